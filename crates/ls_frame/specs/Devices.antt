@@ -1,0 +1,20 @@
+-- Readers and writers whose failed calls are counted.
+use Rattle.std.specs.Prelude.{ℕ, ◌+◌, ◌-◌, ◌^◌, min, Bool, if◌then◌else◌}
+use Rattle.ls_frame.specs.declared.device.Counted.{Counted}
+
+-- the count of failed calls after one more: it stays at the greatest `u64`
+abbrev pub risen : ℕ → ℕ
+risen count = min (count + 1) (2 ^ 64 - 1)
+
+-- the count after a call: risen where the call failed, else as it was
+abbrev pub count_after : Bool → ℕ → ℕ
+count_after failed count = if failed then risen count else count
+
+module _ {X : Type 0} where
+  -- what a `Counted` wraps
+  abbrev pub wrapped : Counted X → X
+  wrapped c = c.inner
+
+  -- how many of its calls have failed
+  abbrev pub failed_calls : Counted X → ℕ
+  failed_calls c = c.failed

@@ -1,0 +1,137 @@
+//! Readers and writers whose failed calls are counted.
+ghost use Rattle.std.specs.Prelude.{◌≡◌, ℕ, ◌<◌, List, OnOk, OnErr, IfOk, is_err, length};
+ghost use Rattle.std.specs.Io.{ReadsAtMost, WritesAtMost};
+ghost use Rattle.std.specs.Io.KnownBytes.{ReadConsumes, WriteAppends};
+ghost use Rattle.ls_frame.specs.Devices.{count_after};
+
+use std::io;
+use std::io::{Read, Write};
+
+/// A read or a write that the device refused, or a write of a non-empty slice that took nothing.
+#[derive(Clone, Copy, Debug, PartialEq, Eq)]
+pub struct Failed;
+
+/// A reader that counts its failed calls.
+pub trait Feed: Read {
+    /// How many calls of `feed` have failed.
+    ghost failed_reads: { Self → ℕ };
+
+    /// Reads into `buf`, as `read` does. `Ok(0)` with room in `buf` is the end of input.
+    fn feed(&mut self, buf: &mut [u8]) -> Result<usize, Failed>
+        ensures bound { ReadsAtMost result buf.new }
+        ensures bytes { ReadConsumes (Self.remaining self.old) (Self.remaining self.new) result buf.new }
+        ensures failures { failed_reads self.new ≡ count_after (is_err result) (failed_reads self.old) };
+
+    /// How many calls of `feed` have failed; the count stays at the greatest `u64`.
+    fn failures(&self) -> u64
+        ensures { result ≡ failed_reads self.now };
+}
+
+/// A writer that counts its failed calls.
+pub trait Outlet: Write {
+    /// How many calls of `give` have failed.
+    ghost failed_writes: { Self → ℕ };
+
+    /// Writes some of `buf`, as `write` does. A non-empty slice loses a byte or the call fails.
+    fn give(&mut self, buf: &[u8]) -> Result<usize, Failed>
+        ensures bound { WritesAtMost result buf.now }
+        ensures takes { 0 < length buf.now → IfOk result (λ taken. 0 < taken) }
+        ensures bytes { WriteAppends (Self.contents self.old) (Self.contents self.new) result buf.now }
+        ensures failures { failed_writes self.new ≡ count_after (is_err result) (failed_writes self.old) };
+
+    /// How many calls of `give` have failed; the count stays at the greatest `u64`.
+    fn failures(&self) -> u64
+        ensures { result ≡ failed_writes self.now };
+}
+
+/// A reader or a writer with the count of its failed calls.
+///
+/// Its plain `read`, `write` and `flush` are those of what it wraps, and aren't counted.
+#[derive(Drop)]
+pub struct Counted<X> {
+    inner: X,
+    failed: u64,
+}
+
+impl<X> Counted<X> {
+    ghost use Rattle.ls_frame.specs.Devices.{wrapped, failed_calls};
+
+    /// Wraps a reader or a writer, with no failed call yet.
+    pub fn new(inner: X) -> Counted<X>
+        ensures inner { wrapped result ≡ inner }
+        ensures none { failed_calls result ≡ 0 }
+    {
+        Counted { inner, failed: 0 }
+    }
+
+    /// What was wrapped.
+    pub fn into_inner(self) -> X
+        ensures { result ≡ wrapped self }
+    {
+        self.inner
+    }
+}
+
+impl<R: Read> Read for Counted<R> {
+    ghost use Rattle.ls_frame.specs.Devices.{wrapped};
+
+    ghost remaining = { λ c. R.remaining (wrapped c) };
+
+    fn read(&mut self, buf: &mut [u8]) -> io::Result<usize> {
+        self.inner.read(buf)
+    }
+}
+
+impl<R: Read> Feed for Counted<R> {
+    ghost use Rattle.ls_frame.specs.Devices.{failed_calls};
+
+    ghost failed_reads = { failed_calls };
+
+    fn feed(&mut self, buf: &mut [u8]) -> Result<usize, Failed> {
+        match self.inner.read(buf) {
+            Ok(given) => Ok(given),
+            Err(_) => {
+                self.failed = self.failed.saturating_add(1);
+                Err(Failed)
+            }
+        }
+    }
+
+    fn failures(&self) -> u64 {
+        self.failed
+    }
+}
+
+impl<W: Write> Write for Counted<W> {
+    ghost use Rattle.ls_frame.specs.Devices.{wrapped};
+
+    ghost contents = { λ c. W.contents (wrapped c) };
+
+    fn write(&mut self, buf: &[u8]) -> io::Result<usize> {
+        self.inner.write(buf)
+    }
+
+    fn flush(&mut self) -> io::Result<()> {
+        self.inner.flush()
+    }
+}
+
+impl<W: Write> Outlet for Counted<W> {
+    ghost use Rattle.ls_frame.specs.Devices.{failed_calls};
+
+    ghost failed_writes = { failed_calls };
+
+    fn give(&mut self, buf: &[u8]) -> Result<usize, Failed> {
+        match self.inner.write(buf) {
+            Ok(taken) if taken > 0 || buf.is_empty() => Ok(taken),
+            _ => {
+                self.failed = self.failed.saturating_add(1);
+                Err(Failed)
+            }
+        }
+    }
+
+    fn failures(&self) -> u64 {
+        self.failed
+    }
+}

@@ -1,0 +1,6 @@
+//! Frames.
+#![tactic(auto)]
+
+pub mod device;
+
+pub use device::{Counted, Failed, Feed, Outlet};
