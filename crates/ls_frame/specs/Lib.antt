@@ -1,1 +1,3 @@
+pub mod Alike
 pub mod Devices
+pub mod Picture

@@ -2,5 +2,7 @@
 #![tactic(auto)]
 
 pub mod device;
+pub mod frame;
 
 pub use device::{Counted, Failed, Feed, Outlet};
+pub use frame::{Frame, FrameFault, Kind};

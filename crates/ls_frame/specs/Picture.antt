@@ -1,0 +1,64 @@
+-- What a frame is: a picture within the limits.
+use Rattle.std.specs.Prelude.{◌≡◌, ℕ, ◌*◌, ◌^◌, ◌<◌, ◌≤◌, Bool, true, false, ◌&&◌, ◌||◌, ◌==◌, not, nat_lt, List, length, Option, Some, if◌then◌else◌, position, option_map}
+use Rattle.std.specs.List.{AllByRecursion}
+use lib.Pointwise.{pointwise}
+use Rattle.ls_frame.specs.declared.frame.Kind.{Kind}
+use Rattle.ls_frame.specs.declared.frame.Kind.TheVariants.{Gray, Color}
+use Rattle.ls_frame.specs.declared.frame.FrameFault.{FrameFault}
+use Rattle.ls_frame.specs.declared.frame.FrameFault.TheVariants.{ZeroSize, TooManySamples, WrongCount, ZeroMaxval, SampleTooLarge}
+
+-- A picture. Its samples go from the top row down, in a row from the left, in a pixel component by component.
+pub record Picture : Type 0 where
+  pub kind : Kind
+  pub width : ℕ
+  pub height : ℕ
+  pub maxval : ℕ
+  pub samples : List ℕ
+
+-- how many samples a pixel has
+abbrev pub components : Kind → ℕ
+components Gray = 1
+components Color = 3
+
+-- how many samples a picture of this kind and size has
+abbrev pub sample_count : Kind → ℕ → ℕ → ℕ
+sample_count kind width height = width * height * components kind
+
+-- the most samples that a frame has, and the greatest side and sample
+abbrev pub most_samples : ℕ
+most_samples = 2 ^ 28
+
+abbrev pub greatest : ℕ
+greatest = 65535
+
+-- A frame is a picture with at least one sample and not too many, one for each place, each at most maxval.
+pub record IsFrame (f : Picture) : Type 0 where
+  pub some_width : 0 < f.width
+  pub width : f.width ≤ greatest
+  pub some_height : 0 < f.height
+  pub height : f.height ≤ greatest
+  pub some_maxval : 0 < f.maxval
+  pub maxval : f.maxval ≤ greatest
+  pub few : sample_count f.kind f.width f.height ≤ most_samples
+  pub count : length f.samples ≡ sample_count f.kind f.width f.height
+  pub each : AllByRecursion (λ sample. sample ≤ f.maxval) f.samples
+
+-- what keeps a picture from being a frame: the first of these that is so
+abbrev pub frame_fault : Picture → Option FrameFault
+frame_fault f =
+    if f.width == 0 || f.height == 0 then Some ZeroSize
+    else (if nat_lt most_samples (sample_count f.kind f.width f.height) then Some TooManySamples
+    else (if not (length f.samples == sample_count f.kind f.width f.height) then Some WrongCount
+    else (if f.maxval == 0 then Some ZeroMaxval
+    else option_map SampleTooLarge (position (λ sample. nat_lt f.maxval sample) f.samples))))
+
+-- pictures are equal where they are alike in all five
+abbrev pub same_kind : Kind → Kind → Bool
+same_kind Gray Gray = true
+same_kind Gray Color = false
+same_kind Color Gray = false
+same_kind Color Color = true
+
+abbrev pub same_picture : Picture → Picture → Bool
+same_picture f g =
+    same_kind f.kind g.kind && f.width == g.width && f.height == g.height && f.maxval == g.maxval && pointwise ◌==◌ f.samples g.samples

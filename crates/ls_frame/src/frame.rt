@@ -1,0 +1,192 @@
+//! Frames: pictures within the limits of this recorder.
+ghost use Rattle.std.specs.Prelude.{◌≡◌, ◌<◌, ◌↔◌, IsTrue, None, Some, IfErr, MatchResult, nat_lt, position};
+ghost use Rattle.ls_frame.specs.Picture.{frame_fault, sample_count};
+
+use std::marker::Model;
+use thiserror::Error;
+
+/// The most samples that a frame has, in all components together.
+pub const MOST_SAMPLES: u64 = 1 << 28;
+
+/// Gray pixels have one sample, colour pixels three: red, green, blue.
+#[derive(Clone, Copy, Debug, PartialEq, Eq)]
+pub enum Kind {
+    Gray,
+    Color,
+}
+
+impl Kind {
+    ghost use Rattle.ls_frame.specs.Picture.{components};
+
+    /// How many samples a pixel has.
+    pub fn components(self) -> u8
+        ensures { result ≡ components self }
+    {
+        match self {
+            Kind::Gray => 1,
+            Kind::Color => 3,
+        }
+    }
+}
+
+/// Why a picture is no frame. `Frame::new` looks in this order.
+#[derive(Clone, Copy, Debug, Drop, PartialEq, Eq, Error)]
+pub enum FrameFault {
+    #[error("a side is 0")]
+    ZeroSize,
+    #[error("over 2^28 samples")]
+    TooManySamples,
+    #[error("another number of samples than the size asks for")]
+    WrongCount,
+    #[error("maxval is 0")]
+    ZeroMaxval,
+    /// The place of the first sample over maxval.
+    #[error("sample {0} is over maxval")]
+    SampleTooLarge(usize),
+}
+
+/// A picture of 1 to 65535 pixels a side and at most 2^28 samples, each of them at most maxval.
+///
+/// Samples go from the top row down, in a row from the left, in a pixel component by component.
+#[derive(Debug, Drop)]
+pub struct Frame {
+    kind: Kind,
+    width: u16,
+    height: u16,
+    maxval: u16,
+    samples: Vec<u16>,
+}
+
+impl Model for Frame {
+    ghost use Rattle.ls_frame.specs.Picture.{Picture, IsFrame};
+
+    ghost Value = { Picture };
+
+    ghost view = { λ f. record { kind = f.kind; width = f.width; height = f.height; maxval = f.maxval; samples = f.samples.items } };
+
+    ghost invariant = { λ f. IsFrame (record { kind = f.kind; width = f.width; height = f.height; maxval = f.maxval; samples = f.samples.items }) };
+}
+
+/// How many samples a picture of this kind and size has, in all components together.
+pub(crate) fn samples_in(kind: Kind, width: u16, height: u16) -> u64
+    ensures { result ≡ sample_count kind width height }
+{
+    u64::from(width) * u64::from(height) * u64::from(kind.components())
+}
+
+impl Frame {
+    ghost use Rattle.ls_frame.specs.Picture.{Picture, IsFrame};
+
+    /// A frame of these samples, which come back where they make none.
+    pub fn new(
+        kind: Kind,
+        width: u16,
+        height: u16,
+        maxval: u16,
+        samples: Vec<u16>,
+    ) -> Result<Frame, (FrameFault, Vec<u16>)>
+        ensures exactly { let picture : Picture = record {
+          kind = kind;
+          width = width;
+          height = height;
+          maxval = maxval;
+          samples = samples.items;
+        } in
+            MatchResult result
+            (λ f. (frame_fault picture ≡ None) × (f ≡ picture))
+            (λ refused. frame_fault picture ≡ Some refused.0) }
+        ensures returned { IfErr result (λ refused. refused.1 ≡ samples) }
+    {
+        if width == 0 || height == 0 {
+            return Err((FrameFault::ZeroSize, samples));
+        }
+        let count = samples_in(kind, width, height);
+        if count > MOST_SAMPLES {
+            return Err((FrameFault::TooManySamples, samples));
+        }
+        if samples.len() as u64 != count {
+            return Err((FrameFault::WrongCount, samples));
+        }
+        if maxval == 0 {
+            return Err((FrameFault::ZeroMaxval, samples));
+        }
+        if let Some(place) = first_above(&samples, maxval) {
+            return Err((FrameFault::SampleTooLarge(place), samples));
+        }
+        Ok(Frame {
+            kind,
+            width,
+            height,
+            maxval,
+            samples,
+        })
+    }
+
+    /// Gray or colour.
+    pub fn kind(&self) -> Kind
+        ensures value { result ≡ self.now.kind }
+        ensures lawful { IsFrame self.now }
+    {
+        self.kind
+    }
+
+    /// Pixels in a row, 1 to 65535.
+    pub fn width(&self) -> u16
+        ensures value { result ≡ self.now.width }
+        ensures lawful { IsFrame self.now }
+    {
+        self.width
+    }
+
+    /// Rows, 1 to 65535.
+    pub fn height(&self) -> u16
+        ensures value { result ≡ self.now.height }
+        ensures lawful { IsFrame self.now }
+    {
+        self.height
+    }
+
+    /// The greatest value that a sample may have, 1 to 65535.
+    pub fn maxval(&self) -> u16
+        ensures value { result ≡ self.now.maxval }
+        ensures some { 0 < result }
+        ensures lawful { IsFrame self.now }
+    {
+        self.maxval
+    }
+
+    /// The samples, from the top row down, in a row from the left, in a pixel component by component.
+    pub fn samples(&self) -> &[u16]
+        ensures value { result.now ≡ self.now.samples }
+        ensures lawful { IsFrame self.now }
+    {
+        self.samples.as_slice()
+    }
+}
+
+impl PartialEq for Frame {
+    ghost use Rattle.ls_frame.specs.Picture.{same_picture};
+    ghost use Rattle.ls_frame.specs.Alike.{same_picture-laws};
+
+    ghost eq = { same_picture };
+
+    ghost laws = { same_picture-laws };
+
+    fn eq(&self, other: &Frame) -> bool
+        ensures value { result ≡ same_picture self.now other.now }
+        ensures same { IsTrue result ↔ (self.now ≡ other.now) }
+    {
+        self.kind == other.kind
+            && self.width == other.width
+            && self.height == other.height
+            && self.maxval == other.maxval
+            && self.samples == other.samples
+    }
+}
+
+/// Where the first sample over `maxval` is.
+fn first_above(samples: &[u16], maxval: u16) -> Option<usize>
+    ensures { result ≡ position (λ sample. nat_lt maxval sample) samples.now }
+{
+    samples.iter().position(|sample| *sample > maxval)
+}
