@@ -1,1 +1,2 @@
+pub mod ExponentLemmas
 pub mod SampleLemmas

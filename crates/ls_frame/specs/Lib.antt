@@ -1,3 +1,4 @@
 pub mod Alike
 pub mod Devices
+pub mod Parameters
 pub mod Picture

@@ -3,6 +3,8 @@
 
 pub mod device;
 pub mod frame;
+pub mod presets;
 
 pub use device::{Counted, Failed, Feed, Outlet};
 pub use frame::{Frame, FrameFault, Kind};
+pub use presets::Presets;

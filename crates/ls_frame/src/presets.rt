@@ -1,0 +1,175 @@
+//! The coding parameters of T.87 (A.2.1, C.2.4.1).
+ghost use Rattle.std.specs.Prelude.{◌≡◌, ◌<◌, ◌≤◌, ◌+◌, ◌↔◌, IsTrue};
+ghost use Rattle.ls_frame.specs.Parameters.{ceil_log2, clamped, unclamped_thresholds, default_parameters, range_of, qbpp_of, bpp_of, limit_of, IsLegal};
+
+use std::marker::Model;
+
+/// The default of RESET (C.2.4.1.1).
+const DEFAULT_RESET: u16 = 64;
+
+/// The parameters that a scan is coded with, within the ranges of Table C.2:
+/// 1 <= T1 <= T2 <= T3 <= MAXVAL and 3 <= RESET <= max(255, MAXVAL).
+#[derive(Clone, Copy, Debug, PartialEq, Eq)]
+pub struct Presets {
+    maxval: u16,
+    t1: u16,
+    t2: u16,
+    t3: u16,
+    reset: u16,
+}
+
+impl Model for Presets {
+    ghost use Rattle.ls_frame.specs.Parameters.{Parameters, IsLegal};
+
+    ghost Value = { Parameters };
+
+    ghost view = { λ p. record { maxval = p.maxval; t1 = p.t1; t2 = p.t2; t3 = p.t3; reset = p.reset } };
+
+    ghost invariant = { λ p. IsLegal (record { maxval = p.maxval; t1 = p.t1; t2 = p.t2; t3 = p.t3; reset = p.reset }) };
+
+    ghost inverse = { λ p. record { maxval = p.maxval; t1 = p.t1; t2 = p.t2; t3 = p.t3; reset = p.reset } };
+}
+
+impl Presets {
+    ghost use Rattle.ls_frame.specs.Parameters.{Parameters, IsLegal};
+
+    /// The parameters of a codestream that says nothing of them (C.2.4.1.1).
+    #[tactic(auto, unfolding(crate::specs::Parameters::default_parameters))]
+    pub fn default_of(maxval: u16) -> Presets
+        requires { 0 < maxval }
+        ensures { result ≡ default_parameters maxval }
+    {
+        let (first, second, third) = unclamped(maxval);
+        let t1 = clamp(first, 1, maxval);
+        let t2 = clamp(second, t1, maxval);
+        let t3 = clamp(third, t2, maxval);
+        Presets {
+            maxval,
+            t1,
+            t2,
+            t3,
+            reset: DEFAULT_RESET,
+        }
+    }
+
+    /// MAXVAL, 1 to 65535.
+    pub fn maxval(self) -> u16
+        ensures value { result ≡ self.maxval }
+        ensures legal { IsLegal self }
+    {
+        self.maxval
+    }
+
+    /// The threshold T1.
+    pub fn t1(self) -> u16
+        ensures value { result ≡ self.t1 }
+        ensures legal { IsLegal self }
+    {
+        self.t1
+    }
+
+    /// The threshold T2.
+    pub fn t2(self) -> u16
+        ensures value { result ≡ self.t2 }
+        ensures legal { IsLegal self }
+    {
+        self.t2
+    }
+
+    /// The threshold T3.
+    pub fn t3(self) -> u16
+        ensures value { result ≡ self.t3 }
+        ensures legal { IsLegal self }
+    {
+        self.t3
+    }
+
+    /// RESET: a context's counters are halved when it has coded so many samples.
+    pub fn reset(self) -> u16
+        ensures value { result ≡ self.reset }
+        ensures legal { IsLegal self }
+    {
+        self.reset
+    }
+
+    /// RANGE (A.2.1): how many values a sample may have.
+    pub fn range(self) -> u32
+        ensures { result ≡ range_of self.maxval }
+    {
+        u32::from(self.maxval) + 1
+    }
+
+    /// bpp (A.2.1): the bits of a sample, at least 2.
+    pub fn bpp(self) -> u32
+        ensures value { result ≡ bpp_of self.maxval }
+        ensures low { 2 ≤ result }
+        ensures high { result ≤ 16 }
+    {
+        bits_up_to(self.maxval).max(2)
+    }
+
+    /// qbpp (A.2.1): the bits of a reduced error.
+    pub fn qbpp(self) -> u32
+        ensures value { result ≡ qbpp_of self.maxval }
+        ensures low { 0 < result }
+        ensures high { result ≤ 16 }
+    {
+        bits_up_to(self.maxval)
+    }
+
+    /// LIMIT (A.2.1): the most bits of a regular sample's word.
+    pub fn limit(self) -> u32
+        ensures value { result ≡ limit_of self.maxval }
+        ensures low { 20 ≤ result }
+        ensures high { result ≤ 64 }
+    {
+        let bpp = self.bpp();
+        2 * (bpp + bpp.max(8))
+    }
+
+    /// Whether these are the defaults of their MAXVAL.
+    pub fn is_default(self) -> bool
+        ensures { IsTrue result ↔ (self ≡ default_parameters self.maxval) }
+    {
+        self == Presets::default_of(self.maxval)
+    }
+}
+
+/// The default thresholds before they are clamped (C.2.4.1.1.1).
+fn unclamped(maxval: u16) -> (u16, u16, u16)
+    requires { 0 < maxval }
+    ensures { result ≡ unclamped_thresholds maxval }
+{
+    if maxval >= 128 {
+        let factor = (maxval.min(4095) + 128) / 256;
+        (factor + 2, 4 * factor + 3, 17 * factor + 4)
+    } else {
+        let factor = 256 / (maxval + 1);
+        (
+            (3 / factor).max(2),
+            (7 / factor).max(3),
+            (21 / factor).max(4),
+        )
+    }
+}
+
+/// The least exponent whose power of two is over `greatest`.
+#[tactic(auto, using(crate::proofs::ExponentLemmas::exponent_lemmas))]
+fn bits_up_to(greatest: u16) -> u32
+    ensures value { result ≡ ceil_log2 (greatest + 1) }
+    ensures low { 0 < greatest → 0 < result }
+    ensures high { result ≤ 16 }
+{
+    u16::BITS - greatest.leading_zeros()
+}
+
+/// `value`, or `low` where `value` is outside of `low` to `maxval`.
+fn clamp(value: u16, low: u16, maxval: u16) -> u16
+    ensures { result ≡ clamped value low maxval }
+{
+    if value > maxval || value < low {
+        low
+    } else {
+        value
+    }
+}
