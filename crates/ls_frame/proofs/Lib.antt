@@ -1,2 +1,3 @@
 pub mod ExponentLemmas
 pub mod SampleLemmas
+pub mod StepLemmas

@@ -1,4 +1,7 @@
 pub mod Alike
 pub mod Devices
+pub mod Faults
+pub mod Netpbm
 pub mod Parameters
 pub mod Picture
+pub mod Reading

@@ -3,8 +3,10 @@
 
 pub mod device;
 pub mod frame;
+pub mod netpbm;
 pub mod presets;
 
 pub use device::{Counted, Failed, Feed, Outlet};
 pub use frame::{Frame, FrameFault, Kind};
+pub use netpbm::NetpbmFault;
 pub use presets::Presets;

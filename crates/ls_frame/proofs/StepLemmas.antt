@@ -1,0 +1,107 @@
+-- One byte more of a header, for each loop that reads it.
+use Rattle.std.proofs.Common.{◌≡◌, ℕ, zero, suc, ◌≤◌, Bool, true, false, cond, not, List, [], ◌∷◌, Ok, Err, refl, arith, leb}
+use Rattle.std.proofs.lemmas.Bool.{eq-eqb, ne_eqb, leb-true, and_parts, or_from}
+use Rattle.ls_frame.specs.declared.netpbm.NetpbmFault.{NetpbmFault}
+use Rattle.ls_frame.specs.declared.netpbm.NetpbmFault.TheVariants.{BadHeader}
+use Rattle.ls_frame.specs.Netpbm.{is_white, is_line_end, is_digit, is_hash}
+use Rattle.ls_frame.specs.Reading.{◌>>=◌, Step, byte_at, more, digits_at, gap_at}
+
+-- ---- digits
+
+digit_step : ℕ → ℕ × ℕ × List ℕ → Step ℕ
+digit_step n found =
+    cond (is_digit found.0) (digits_at (more n found.0) found.1 found.2) (cond (is_white found.0) (Ok (n, found.1, found.2)) (Err BadHeader))
+
+digits_at-byte : (n room : ℕ) (bytes : List ℕ) → digits_at n room bytes ≡ (byte_at room bytes >>= digit_step n)
+unfolding digits_at digit_step
+digits_at-byte n zero bytes = refl
+digits_at-byte n (suc room) [] = refl
+digits_at-byte n (suc room) (c ∷ bytes) = refl
+
+pub digits_at-digit : (n room c room' : ℕ) (bytes bytes' : List ℕ) → byte_at room bytes ≡ Ok (c, room', bytes') → is_digit c ≡ true
+    → digits_at n room bytes ≡ digits_at (more n c) room' bytes'
+unfolding digit_step
+digits_at-digit n room c room' bytes bytes' found digit = rw (digits_at-byte n room bytes, found, digit) refl
+
+pub digits_at-white : (n room c room' : ℕ) (bytes bytes' : List ℕ) → byte_at room bytes ≡ Ok (c, room', bytes') → is_digit c ≡ false → is_white c ≡ true
+    → digits_at n room bytes ≡ Ok (n, room', bytes')
+unfolding digit_step
+digits_at-white n room c room' bytes bytes' found digit white = rw (digits_at-byte n room bytes, found, digit, white) refl
+
+pub digits_at-other : (n room c room' : ℕ) (bytes bytes' : List ℕ) → byte_at room bytes ≡ Ok (c, room', bytes') → is_digit c ≡ false → is_white c ≡ false
+    → digits_at n room bytes ≡ Err BadHeader
+unfolding digit_step
+digits_at-other n room c room' bytes bytes' found digit white = rw (digits_at-byte n room bytes, found, digit, white) refl
+
+pub digits_at-fault : (n room : ℕ) (bytes : List ℕ) (fault : NetpbmFault) → byte_at room bytes ≡ Err fault → digits_at n room bytes ≡ Err fault
+digits_at-fault n room bytes fault found = rw (digits_at-byte n room bytes, found) refl
+
+pub ruleset digit_lemmas = (digits_at-digit, digits_at-white, digits_at-other, digits_at-fault)
+
+-- ---- gaps
+
+gap_step : Bool → ℕ × ℕ × List ℕ → Step ℕ
+gap_step true found = cond (is_line_end found.0) (gap_at false found.1 found.2) (gap_at true found.1 found.2)
+gap_step false found =
+    cond (is_white found.0) (gap_at false found.1 found.2)
+    (cond (is_hash found.0) (gap_at true found.1 found.2)
+    (cond (is_digit found.0) (Ok (found.0, found.1, found.2)) (Err BadHeader)))
+
+gap_at-byte : (in_comment : Bool) (room : ℕ) (bytes : List ℕ) → gap_at in_comment room bytes ≡ (byte_at room bytes >>= gap_step in_comment)
+unfolding gap_at gap_step
+gap_at-byte true zero bytes = refl
+gap_at-byte true (suc room) [] = refl
+gap_at-byte true (suc room) (c ∷ bytes) = refl
+gap_at-byte false zero bytes = refl
+gap_at-byte false (suc room) [] = refl
+gap_at-byte false (suc room) (c ∷ bytes) = refl
+
+-- a comment goes on to its line end
+comment_step : (end : Bool) (room : ℕ) (bytes : List ℕ) → cond end (gap_at false room bytes) (gap_at true room bytes) ≡ gap_at (not end) room bytes
+comment_step true room bytes = refl
+comment_step false room bytes = refl
+
+pub gap_at-comment : (room c room' : ℕ) (bytes bytes' : List ℕ) → byte_at room bytes ≡ Ok (c, room', bytes')
+    → gap_at true room bytes ≡ gap_at (not (is_line_end c)) room' bytes'
+unfolding gap_step
+gap_at-comment room c room' bytes bytes' found = rw (gap_at-byte true room bytes, found) (comment_step (is_line_end c) room' bytes')
+
+-- of white space, `#` and digits no two have a character in common
+white_no_hash : (c : ℕ) → c ≡ 35 → is_white c ≡ false
+white_no_hash c h = rw h refl
+
+digit_least : (c : ℕ) → is_digit c ≡ true → 48 ≤ c
+digit_least c h = leb-true 48 c (and_parts (leb 48 c) (leb c 57) h).0
+
+white_no_digit : (c : ℕ) → is_digit c ≡ true → is_white c ≡ false
+white_no_digit c h =
+    let low = digit_least c h in
+    or_from _ _ (or_from _ _ (or_from _ _ (ne_eqb c 32 (λ e. omega arith)) (ne_eqb c 9 (λ e. omega arith))) (ne_eqb c 13 (λ e. omega arith))) (ne_eqb c 10 (λ e. omega arith))
+
+hash_no_digit : (c : ℕ) → is_digit c ≡ true → is_hash c ≡ false
+hash_no_digit c h = let low = digit_least c h in ne_eqb c 35 (λ e. omega arith)
+
+pub gap_at-hash : (room c room' : ℕ) (bytes bytes' : List ℕ) → byte_at room bytes ≡ Ok (c, room', bytes') → c ≡ 35
+    → gap_at false room bytes ≡ gap_at true room' bytes'
+unfolding gap_step
+gap_at-hash room c room' bytes bytes' found hash = rw (gap_at-byte false room bytes, found, white_no_hash c hash, eq-eqb c 35 hash) refl
+
+pub gap_at-digit : (room c room' : ℕ) (bytes bytes' : List ℕ) → byte_at room bytes ≡ Ok (c, room', bytes') → is_digit c ≡ true
+    → gap_at false room bytes ≡ Ok (c, room', bytes')
+unfolding gap_step
+gap_at-digit room c room' bytes bytes' found digit = rw (gap_at-byte false room bytes, found, white_no_digit c digit, hash_no_digit c digit, digit) refl
+
+pub gap_at-white : (room c room' : ℕ) (bytes bytes' : List ℕ) → byte_at room bytes ≡ Ok (c, room', bytes') → is_white c ≡ true
+    → gap_at false room bytes ≡ gap_at false room' bytes'
+unfolding gap_step
+gap_at-white room c room' bytes bytes' found white = rw (gap_at-byte false room bytes, found, white) refl
+
+pub gap_at-other : (room c room' : ℕ) (bytes bytes' : List ℕ) → byte_at room bytes ≡ Ok (c, room', bytes') → is_white c ≡ false → (c ≡ 35 → ⊥) → is_digit c ≡ false
+    → gap_at false room bytes ≡ Err BadHeader
+unfolding gap_step
+gap_at-other room c room' bytes bytes' found white hash digit = rw (gap_at-byte false room bytes, found, white, ne_eqb c 35 hash, digit) refl
+
+pub gap_at-fault : (in_comment : Bool) (room : ℕ) (bytes : List ℕ) (fault : NetpbmFault) → byte_at room bytes ≡ Err fault → gap_at in_comment room bytes ≡ Err fault
+gap_at-fault in_comment room bytes fault found = rw (gap_at-byte in_comment room bytes, found) refl
+
+pub ruleset gap_lemmas = (gap_at-comment, gap_at-hash, gap_at-digit, gap_at-white, gap_at-other, gap_at-fault)

@@ -1,0 +1,14 @@
+use Rattle.std.proofs.Common.{◌≡◌, IsSome, false}
+use Rattle.ls_frame.specs.Reading.{known, gap_at}
+use Rattle.ls_frame.proofs.netpbm.header.read_gap.Given as goal
+
+-- what is left reads on, in a comment or not, as everything did from the start
+abbrev pub invariant-loop-byte : goal.invariant-loop-byte
+invariant-loop-byte g l =
+    let remaining = g.R.Read.remaining in
+    (g.R.Feed.failed_reads l.reader ≡ g.R.Feed.failed_reads l.fn.reader)
+    × (IsSome (remaining l.fn.reader) → IsSome (remaining l.reader)
+    × (gap_at false l.fn.room (known (remaining l.fn.reader)) ≡ gap_at l.in_comment l.room (known (remaining l.reader))))
+
+abbrev pub decreases-loop-byte : goal.decreases-loop-byte
+decreases-loop-byte g l = l.room

@@ -1,0 +1,234 @@
+-- How bytes break the grammar of an image: its legal pieces, and then what breaks the next one.
+use Rattle.std.specs.Prelude.{◌≡◌, ℕ, ◌<◌, ◌≤◌, ◌||◌, ◌==◌, not, Bool, true, false, IsTrue, List, [], ◌∷◌, ◌++◌, length, ◌⊎◌, Result, Ok, Err}
+use Rattle.std.specs.List.{AllByRecursion}
+use Rattle.ls_frame.specs.declared.frame.Kind.{Kind}
+use Rattle.ls_frame.specs.declared.netpbm.NetpbmFault.{NetpbmFault}
+use Rattle.ls_frame.specs.declared.netpbm.NetpbmFault.TheVariants.{BadMagic, BadHeader, HeaderTooLong, SizeOutOfRange, MaxvalOutOfRange, SampleTooLarge, Truncated, Io, NoMemory}
+use Rattle.ls_frame.specs.Picture.{sample_count, most_samples}
+use Rattle.ls_frame.specs.Netpbm.{is_white, is_line_end, is_digit, is_hash, Gap, IsGap, gap_bytes, IsNumber, Field, IsField, field_bytes, field_number, magic, Heading, heading_bytes, IsHeading, most_heading, InRange, is_wide, IsSample, IsRaster}
+
+-- a fault of the bytes, and not of a device or of memory
+abbrev pub blames_bytes : NetpbmFault → Bool
+blames_bytes BadMagic = true
+blames_bytes BadHeader = true
+blames_bytes HeaderTooLong = true
+blames_bytes SizeOutOfRange = true
+blames_bytes MaxvalOutOfRange = true
+blames_bytes SampleTooLarge = true
+blames_bytes Truncated = true
+blames_bytes Io = false
+blames_bytes NoMemory = false
+
+-- a fault of the reader's device
+abbrev pub blames_device : NetpbmFault → Bool
+blames_device BadMagic = false
+blames_device BadHeader = false
+blames_device HeaderTooLong = false
+blames_device SizeOutOfRange = false
+blames_device MaxvalOutOfRange = false
+blames_device SampleTooLarge = false
+blames_device Truncated = false
+blames_device Io = true
+blames_device NoMemory = false
+
+-- whether a call failed by its device
+abbrev pub failed_device : {X : Type 0} → Result X NetpbmFault → Bool
+failed_device (Ok x) = false
+failed_device (Err fault) = blames_device fault
+
+-- ---- a header's beginnings
+
+-- what may come behind the beginning of a header
+pub data Due : Type 0 where
+  letter : Due
+  kind_digit : Due
+  gap_start : Due
+  blank_or_digit : Due
+  comment_text : Due
+  digit_or_white : Due
+
+abbrev pub allows : Due → ℕ → Bool
+allows letter c = c == 80
+allows kind_digit c = c == 53 || c == 54
+allows gap_start c = is_white c
+allows blank_or_digit c = is_white c || is_hash c || is_digit c
+allows comment_text c = true
+allows digit_or_white c = is_digit c || is_white c
+
+-- the fault of a byte that isn't allowed there
+abbrev pub fault_at : Due → NetpbmFault
+fault_at letter = BadMagic
+fault_at kind_digit = BadMagic
+fault_at gap_start = BadHeader
+fault_at blank_or_digit = BadHeader
+fault_at comment_text = BadHeader
+fault_at digit_or_white = BadHeader
+
+-- The beginning of a field: nothing; a gap so far; a gap and an open comment; a gap and digits.
+pub data Start : Type 0 where
+  nothing : Start
+  gap : Gap → Start
+  open_comment : Gap → List ℕ → Start
+  digits : Gap → List ℕ → Start
+
+abbrev pub IsStart : Start → Type 0
+IsStart nothing = Unit {0}
+IsStart (gap g) = IsGap g
+IsStart (open_comment g text) = IsGap g × AllByRecursion (λ c. IsTrue (not (is_line_end c))) text
+IsStart (digits g ds) = IsGap g × IsNumber ds
+
+abbrev pub start_bytes : Start → List ℕ
+start_bytes nothing = []
+start_bytes (gap g) = gap_bytes g
+start_bytes (open_comment g text) = gap_bytes g ++ 35 ∷ text
+start_bytes (digits g ds) = gap_bytes g ++ ds
+
+abbrev pub start_due : Start → Due
+start_due nothing = gap_start
+start_due (gap g) = blank_or_digit
+start_due (open_comment g text) = comment_text
+start_due (digits g ds) = digit_or_white
+
+-- The beginning of a header: less than the magic, or the magic, whole fields within their ranges, and a start.
+pub data Beginning : Type 0 where
+  empty : Beginning
+  one_letter : Beginning
+  in_width : Kind → Start → Beginning
+  in_height : Kind → Field → Start → Beginning
+  in_maxval : Kind → Field → Field → Start → Beginning
+
+-- a width, and a width with a height, that passed their test
+pub record IsWidth (w : Field) : Type 0 where
+  pub field : IsField w
+  pub range : InRange (field_number w)
+
+pub record IsSize (kind : Kind) (w h : Field) : Type 0 where
+  pub width : IsWidth w
+  pub field : IsField h
+  pub range : InRange (field_number h)
+  pub few : sample_count kind (field_number w) (field_number h) ≤ most_samples
+
+abbrev pub IsBeginning : Beginning → Type 0
+IsBeginning empty = Unit {0}
+IsBeginning one_letter = Unit {0}
+IsBeginning (in_width kind s) = IsStart s
+IsBeginning (in_height kind w s) = IsWidth w × IsStart s
+IsBeginning (in_maxval kind w h s) = IsSize kind w h × IsStart s
+
+abbrev pub beginning_bytes : Beginning → List ℕ
+beginning_bytes empty = []
+beginning_bytes one_letter = 80 ∷ []
+beginning_bytes (in_width kind s) = magic kind ++ start_bytes s
+beginning_bytes (in_height kind w s) = magic kind ++ field_bytes w ++ start_bytes s
+beginning_bytes (in_maxval kind w h s) = magic kind ++ field_bytes w ++ field_bytes h ++ start_bytes s
+
+abbrev pub due : Beginning → Due
+due empty = letter
+due one_letter = kind_digit
+due (in_width kind s) = start_due s
+due (in_height kind w s) = start_due s
+due (in_maxval kind w h s) = start_due s
+
+-- ---- where reading stops
+
+-- Reading stops behind `front`, of the `room` bytes that a header may have: the room is used up, or the
+-- input ends, or a byte follows that isn't allowed.
+pub data Stops (room : ℕ) (bytes front : List ℕ) (d : Due) (fault : NetpbmFault) : Type 0 where
+  too_long : (rest : List ℕ) → bytes ≡ front ++ rest → length front ≡ room → fault ≡ HeaderTooLong → Stops room bytes front d fault
+  ends : bytes ≡ front → length front < room → fault ≡ Truncated → Stops room bytes front d fault
+  refuses : (c : ℕ) (rest : List ℕ) → bytes ≡ front ++ c ∷ rest → length front < room → allows d c ≡ false → fault ≡ fault_at d → Stops room bytes front d fault
+
+-- It stops in a header, and some byte was there.
+pub record StopsInHeading (bytes : List ℕ) (fault : NetpbmFault) : Type 0 where
+  pub some : 0 < length bytes
+  pub beginning : Beginning
+  pub lawful : IsBeginning beginning
+  pub stops : Stops most_heading bytes (beginning_bytes beginning) (due beginning) fault
+
+-- ---- numbers out of range, seen with the white space behind them
+
+pub record BreaksWidth (bytes : List ℕ) : Type 0 where
+  pub kind : Kind
+  pub width : Field
+  pub white : ℕ
+  pub rest : List ℕ
+  pub whole : bytes ≡ magic kind ++ field_bytes width ++ white ∷ rest
+  pub short : length (magic kind ++ field_bytes width ++ white ∷ []) ≤ most_heading
+  pub width_field : IsField width
+  pub behind : IsTrue (is_white white)
+  pub out : ¬ InRange (field_number width)
+
+pub record BreaksHeight (bytes : List ℕ) : Type 0 where
+  pub kind : Kind
+  pub width : Field
+  pub height : Field
+  pub white : ℕ
+  pub rest : List ℕ
+  pub whole : bytes ≡ magic kind ++ field_bytes width ++ field_bytes height ++ white ∷ rest
+  pub short : length (magic kind ++ field_bytes width ++ field_bytes height ++ white ∷ []) ≤ most_heading
+  pub in_width : IsWidth width
+  pub height_field : IsField height
+  pub behind : IsTrue (is_white white)
+  pub out : (¬ InRange (field_number height)) ⊎ (most_samples < sample_count kind (field_number width) (field_number height))
+
+pub record BreaksMaxval (bytes : List ℕ) : Type 0 where
+  pub kind : Kind
+  pub width : Field
+  pub height : Field
+  pub maxval : Field
+  pub white : ℕ
+  pub rest : List ℕ
+  pub whole : bytes ≡ magic kind ++ field_bytes width ++ field_bytes height ++ field_bytes maxval ++ white ∷ rest
+  pub short : length (magic kind ++ field_bytes width ++ field_bytes height ++ field_bytes maxval ++ white ∷ []) ≤ most_heading
+  pub size : IsSize kind width height
+  pub maxval_field : IsField maxval
+  pub behind : IsTrue (is_white white)
+  pub out : ¬ InRange (field_number maxval)
+
+-- ---- rasters
+
+-- a header and samples within maxval, fewer than the size asks for, and then rest
+pub record BeginsRaster (bytes rest : List ℕ) (heading : Heading) : Type 0 where
+  pub raster : List ℕ
+  pub samples : List ℕ
+  pub whole : bytes ≡ heading_bytes heading ++ raster ++ rest
+  pub lawful : IsHeading heading
+  pub said : IsRaster (is_wide (field_number heading.maxval)) raster samples
+  pub within : AllByRecursion (λ sample. sample ≤ field_number heading.maxval) samples
+  pub more : length samples < sample_count heading.kind (field_number heading.width) (field_number heading.height)
+
+-- the bytes of a sample
+abbrev pub sample_size : Bool → ℕ
+sample_size false = 1
+sample_size true = 2
+
+-- the raster ends before the next sample does
+pub record EndsInRaster (bytes : List ℕ) : Type 0 where
+  pub heading : Heading
+  pub rest : List ℕ
+  pub begins : BeginsRaster bytes rest heading
+  pub ends : length rest < sample_size (is_wide (field_number heading.maxval))
+
+-- the next sample is over maxval
+pub record ExceedsMaxval (bytes : List ℕ) : Type 0 where
+  pub heading : Heading
+  pub next : List ℕ
+  pub sample : ℕ
+  pub rest : List ℕ
+  pub begins : BeginsRaster bytes (next ++ rest) heading
+  pub said : IsSample (is_wide (field_number heading.maxval)) next sample
+  pub over : field_number heading.maxval < sample
+
+-- ---- the faults
+
+-- The bytes break with this fault.
+abbrev pub Breaks : List ℕ → NetpbmFault → Type 0
+Breaks bytes BadMagic = StopsInHeading bytes BadMagic
+Breaks bytes BadHeader = StopsInHeading bytes BadHeader
+Breaks bytes HeaderTooLong = StopsInHeading bytes HeaderTooLong
+Breaks bytes SizeOutOfRange = BreaksWidth bytes ⊎ BreaksHeight bytes
+Breaks bytes MaxvalOutOfRange = BreaksMaxval bytes
+Breaks bytes SampleTooLarge = ExceedsMaxval bytes
+Breaks bytes Truncated = StopsInHeading bytes Truncated ⊎ EndsInRaster bytes
+Breaks bytes Io = ⊥
+Breaks bytes NoMemory = ⊥

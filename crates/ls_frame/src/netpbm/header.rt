@@ -1,0 +1,203 @@
+//! The header of an image, byte by byte.
+ghost use Rattle.std.specs.Prelude.{◌≡◌, ◌+◌, ◌<◌, ◌≤◌, ◌&&◌, true, false, MatchOption, OnOk, IfErr, IfOk, MatchResult, nat_lt, nat_le, Ok, Err, None, Some, if◌then◌else◌};
+ghost use Rattle.ls_frame.specs.Devices.{count_after};
+ghost use Rattle.ls_frame.specs.Netpbm.{is_white, is_line_end, is_digit, is_hash};
+ghost use Rattle.ls_frame.specs.Reading.{GivesStep, known, byte_at, digits_at, gap_at, number_at, in_range_at, magic_at, white_at, heading_at, more};
+ghost use Rattle.ls_frame.specs.Faults.{blames_device, failed_device};
+
+use super::NetpbmFault;
+use crate::device::{Failed, Feed};
+use crate::frame::{Kind, MOST_SAMPLES, samples_in};
+
+/// The most bytes of a header.
+const HEADER_BYTES: u32 = 65_536;
+
+/// What a header says: a size and a maxval within their ranges.
+#[derive(Clone, Copy)]
+pub(super) struct Header {
+    pub kind: Kind,
+    pub width: u16,
+    pub height: u16,
+    pub maxval: u16,
+}
+
+/// What numbers over 65535 are read as.
+const TOO_LARGE: u32 = 65536;
+
+/// Blank, TAB, CR or LF.
+fn is_white(byte: u8) -> bool
+    ensures { result ≡ is_white byte }
+{
+    byte == b' ' || byte == b'\t' || byte == b'\r' || byte == b'\n'
+}
+
+fn is_line_end(byte: u8) -> bool
+    ensures { result ≡ is_line_end byte }
+{
+    byte == b'\r' || byte == b'\n'
+}
+
+fn is_digit(byte: u8) -> bool
+    ensures { result ≡ is_digit byte }
+{
+    b'0' <= byte && byte <= b'9'
+}
+
+/// The next byte of the header, while there is room for one.
+fn next_byte<R: Feed>(reader: &mut R, room: &mut u32) -> Result<u8, NetpbmFault>
+    ensures bytes { GivesStep (R.remaining reader.old) (R.remaining reader.new) room.new result
+        (byte_at room.old (known (R.remaining reader.old))) }
+    ensures spent { OnOk result (room.new + 1 ≡ room.old) }
+    ensures failures { R.failed_reads reader.new ≡ count_after (failed_device result) (R.failed_reads reader.old) }
+{
+    if *room == 0 {
+        return Err(NetpbmFault::HeaderTooLong);
+    }
+    let mut byte = [0u8; 1];
+    match reader.feed(&mut byte) {
+        Err(Failed) => Err(NetpbmFault::Io),
+        Ok(0) => Err(NetpbmFault::Truncated),
+        Ok(_) => {
+            *room -= 1;
+            Ok(byte[0])
+        }
+    }
+}
+
+/// The digits behind those that made `number`, and the white space character behind them.
+#[tactic(auto, using(crate::proofs::StepLemmas::digit_lemmas))]
+fn read_digits<R: Feed>(reader: &mut R, room: &mut u32, mut number: u32) -> Result<u32, NetpbmFault>
+    requires { number ≤ 65536 }
+    ensures bytes { GivesStep (R.remaining reader.old) (R.remaining reader.new) room.new result
+        (digits_at number room.old (known (R.remaining reader.old))) }
+    ensures failures { R.failed_reads reader.new ≡ count_after (failed_device result) (R.failed_reads reader.old) }
+{
+    loop {
+        let byte = next_byte(reader, room)?;
+        if is_digit(byte) {
+            number = with_digit(number, byte);
+        } else if is_white(byte) {
+            return Ok(number);
+        } else {
+            return Err(NetpbmFault::BadHeader);
+        }
+    }
+}
+
+/// `number` with one more digit, at most `TOO_LARGE`.
+fn with_digit(number: u32, digit: u8) -> u32
+    requires small { number ≤ 65536 }
+    requires digit { 48 ≤ digit }
+    ensures value { result ≡ more number digit }
+    ensures small { result ≤ 65536 }
+{
+    (10 * number + u32::from(digit - b'0')).min(TOO_LARGE)
+}
+
+/// The first digit behind the rest of a gap.
+#[tactic(auto, using(crate::proofs::StepLemmas::gap_lemmas))]
+fn read_gap<R: Feed>(reader: &mut R, room: &mut u32) -> Result<u8, NetpbmFault>
+    ensures bytes { GivesStep (R.remaining reader.old) (R.remaining reader.new) room.new result
+        (gap_at false room.old (known (R.remaining reader.old))) }
+    ensures digit { IfOk result (λ byte. is_digit byte ≡ true) }
+    ensures failures { R.failed_reads reader.new ≡ count_after (failed_device result) (R.failed_reads reader.old) }
+{
+    let mut in_comment = false;
+    loop {
+        let byte = next_byte(reader, room)?;
+        if in_comment {
+            in_comment = !is_line_end(byte);
+        } else if byte == b'#' {
+            in_comment = true;
+        } else if is_digit(byte) {
+            return Ok(byte);
+        } else if !is_white(byte) {
+            return Err(NetpbmFault::BadHeader);
+        }
+    }
+}
+
+/// The number behind the rest of a gap, and the white space character behind it.
+fn read_number<R: Feed>(reader: &mut R, room: &mut u32) -> Result<u32, NetpbmFault>
+    ensures bytes { GivesStep (R.remaining reader.old) (R.remaining reader.new) room.new result
+        (number_at room.old (known (R.remaining reader.old))) }
+    ensures failures { R.failed_reads reader.new ≡ count_after (failed_device result) (R.failed_reads reader.old) }
+{
+    let digit = read_gap(reader, room)?;
+    read_digits(reader, room, u32::from(digit - b'0'))
+}
+
+/// The number behind the rest of a gap, and the white space character behind it; `fault` where it
+/// isn't 1 to 65535.
+fn read_in_range<R: Feed>(
+    reader: &mut R,
+    room: &mut u32,
+    fault: NetpbmFault,
+) -> Result<u16, NetpbmFault>
+    requires { blames_device fault ≡ false }
+    ensures bytes { GivesStep (R.remaining reader.old) (R.remaining reader.new) room.new result
+        (in_range_at fault room.old (known (R.remaining reader.old))) }
+    ensures some { IfOk result (λ number. 0 < number) }
+    ensures failures { R.failed_reads reader.new ≡ count_after (failed_device result) (R.failed_reads reader.old) }
+{
+    match u16::try_from(read_number(reader, room)?) {
+        Ok(number) if number > 0 => Ok(number),
+        _ => Err(fault),
+    }
+}
+
+/// The kind that the magic says, whose first byte was read.
+fn read_magic<R: Feed>(reader: &mut R, room: &mut u32, first: u8) -> Result<Kind, NetpbmFault>
+    ensures bytes { GivesStep (R.remaining reader.old) (R.remaining reader.new) room.new result
+        (magic_at first room.old (known (R.remaining reader.old))) }
+    ensures failures { R.failed_reads reader.new ≡ count_after (failed_device result) (R.failed_reads reader.old) }
+{
+    if first != b'P' {
+        return Err(NetpbmFault::BadMagic);
+    }
+    match next_byte(reader, room)? {
+        b'5' => Ok(Kind::Gray),
+        b'6' => Ok(Kind::Color),
+        _ => Err(NetpbmFault::BadMagic),
+    }
+}
+
+/// The white space character that a gap begins with.
+fn read_white<R: Feed>(reader: &mut R, room: &mut u32) -> Result<(), NetpbmFault>
+    ensures bytes { GivesStep (R.remaining reader.old) (R.remaining reader.new) room.new result
+        (white_at room.old (known (R.remaining reader.old))) }
+    ensures failures { R.failed_reads reader.new ≡ count_after (failed_device result) (R.failed_reads reader.old) }
+{
+    if is_white(next_byte(reader, room)?) {
+        Ok(())
+    } else {
+        Err(NetpbmFault::BadHeader)
+    }
+}
+
+/// The header behind its first byte.
+#[tactic(auto, unfolding(crate::specs::Reading::heading_at))]
+pub(super) fn read_header<R: Feed>(
+    reader: &mut R,
+    room: &mut u32,
+    first: u8,
+) -> Result<Header, NetpbmFault>
+    ensures bytes { GivesStep (R.remaining reader.old) (R.remaining reader.new) room.new result
+        (heading_at first room.old (known (R.remaining reader.old))) }
+    ensures failures { R.failed_reads reader.new ≡ count_after (failed_device result) (R.failed_reads reader.old) }
+{
+    let kind = read_magic(reader, room, first)?;
+    read_white(reader, room)?;
+    let width = read_in_range(reader, room, NetpbmFault::SizeOutOfRange)?;
+    let height = read_in_range(reader, room, NetpbmFault::SizeOutOfRange)?;
+    if samples_in(kind, width, height) > MOST_SAMPLES {
+        return Err(NetpbmFault::SizeOutOfRange);
+    }
+    let maxval = read_in_range(reader, room, NetpbmFault::MaxvalOutOfRange)?;
+    Ok(Header {
+        kind,
+        width,
+        height,
+        maxval,
+    })
+}
