@@ -1,4 +1,5 @@
 pub mod ExponentLemmas
+pub mod FilmLemmas
 pub mod KnownLemmas
 pub mod RasterLemmas
 pub mod SampleLemmas

@@ -1,7 +1,8 @@
 -- Samples in the bytes of a raster.
 use Rattle.std.proofs.Common.{◌≡◌, ℕ, zero, suc, ◌+◌, ◌-◌, ◌*◌, ◌/◌, ◌%◌, ◌&&◌, cond, leb, get_or, set, ◌⊎◌, inl, inr, Ok, Err, take, ◌<◌, ◌≤◌, Bool, true, false, List, [], ◌∷◌, ◌++◌, length, drop, refl, sym, ap, ◌∙◌, min, subst, arith, append_assoc, append-nil}
 use Rattle.std.proofs.lemmas.List.{drop-drop, length-drop, length-take, length-take-le, length-append, get_or-take, take_more_set}
-use Rattle.std.proofs.lemmas.Bool.{and_parts, and_from}
+use Rattle.std.proofs.lemmas.Bool.{and_parts, and_from, leb-true}
+use Rattle.std.specs.List.{AllByRecursion}
 use Rattle.byteorder.specs.Endian.{big_number}
 use Rattle.ls_frame.specs.declared.netpbm.NetpbmFault.TheVariants.{SampleTooLarge, Truncated}
 use Rattle.ls_frame.specs.Faults.{sample_size}
@@ -241,3 +242,10 @@ pub part-last : (wide : Bool) (piece kept : List ℕ) (filled left begun : ℕ) 
 part-last wide piece kept filled left begun within few room same last =
     let count : begun ≡ length (begun_of wide (take filled piece)) = sym (length-take-le begun kept room) ∙ ap length same in
     count ∙ piece-last wide left _ _ filled (piece-size wide (take filled piece) ∙ length-take-le filled piece within) few last
+
+-- what is within maxval all together is so one by one
+pub within-each : (maxval : ℕ) (samples : List ℕ) → are_within maxval samples ≡ true → AllByRecursion (λ sample. sample ≤ maxval) samples
+within-each maxval [] all = tt
+within-each maxval (s ∷ samples) all =
+    let here = and_parts (leb s maxval) (are_within maxval samples) all in
+    (leb-true s maxval here.0, within-each maxval samples here.1)

@@ -44,6 +44,22 @@ pub trait Outlet: Write {
         ensures { result ≡ failed_writes self.now };
 }
 
+/// Bytes in memory, which never fail.
+impl Feed for &[u8] {
+    ghost failed_reads = { λ _. 0 };
+
+    fn feed(&mut self, buf: &mut [u8]) -> Result<usize, Failed> {
+        match self.read(buf) {
+            Ok(given) => Ok(given),
+            Err(_) => unreachable!(),
+        }
+    }
+
+    fn failures(&self) -> u64 {
+        0
+    }
+}
+
 /// A reader or a writer with the count of its failed calls.
 ///
 /// Its plain `read`, `write` and `flush` are those of what it wraps, and aren't counted.

@@ -113,13 +113,39 @@ impl Frame {
         if let Some(place) = first_above(&samples, maxval) {
             return Err((FrameFault::SampleTooLarge(place), samples));
         }
-        Ok(Frame {
+        Ok(Frame::from_parts(kind, width, height, maxval, samples))
+    }
+
+    /// A frame of parts that make one.
+    pub(crate) fn from_parts(
+        kind: Kind,
+        width: u16,
+        height: u16,
+        maxval: u16,
+        samples: Vec<u16>,
+    ) -> Frame
+        requires { let picture : Picture = record {
+          kind = kind;
+          width = width;
+          height = height;
+          maxval = maxval;
+          samples = samples.items;
+        } in IsFrame picture }
+        ensures { let picture : Picture = record {
+          kind = kind;
+          width = width;
+          height = height;
+          maxval = maxval;
+          samples = samples.items;
+        } in result ≡ picture }
+    {
+        Frame {
             kind,
             width,
             height,
             maxval,
             samples,
-        })
+        }
     }
 
     /// Gray or colour.

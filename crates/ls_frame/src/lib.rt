@@ -4,9 +4,11 @@
 pub mod device;
 pub mod frame;
 pub mod netpbm;
+pub mod output;
 pub mod presets;
 
 pub use device::{Counted, Failed, Feed, Outlet};
 pub use frame::{Frame, FrameFault, Kind};
-pub use netpbm::NetpbmFault;
+pub use netpbm::{NetpbmFault, next_frame};
+pub use output::{WriteFault, write_bytes};
 pub use presets::Presets;

@@ -1,6 +1,7 @@
 //! The header of an image, byte by byte.
 ghost use Rattle.std.specs.Prelude.{◌≡◌, ◌+◌, ◌<◌, ◌≤◌, ◌&&◌, true, false, MatchOption, OnOk, IfErr, IfOk, MatchResult, nat_lt, nat_le, Ok, Err, None, Some, if◌then◌else◌};
 ghost use Rattle.ls_frame.specs.Devices.{count_after};
+ghost use Rattle.ls_frame.specs.Picture.{sample_count, most_samples};
 ghost use Rattle.ls_frame.specs.Netpbm.{is_white, is_line_end, is_digit, is_hash};
 ghost use Rattle.ls_frame.specs.Reading.{GivesStep, known, byte_at, digits_at, gap_at, number_at, in_range_at, magic_at, white_at, heading_at, more};
 ghost use Rattle.ls_frame.specs.Faults.{blames_device, failed_device};
@@ -10,7 +11,7 @@ use crate::device::{Failed, Feed};
 use crate::frame::{Kind, MOST_SAMPLES, samples_in};
 
 /// The most bytes of a header.
-const HEADER_BYTES: u32 = 65_536;
+pub(super) const HEADER_BYTES: u32 = 65_536;
 
 /// What a header says: a size and a maxval within their ranges.
 #[derive(Clone, Copy)]
@@ -184,6 +185,10 @@ pub(super) fn read_header<R: Feed>(
 ) -> Result<Header, NetpbmFault>
     ensures bytes { GivesStep (R.remaining reader.old) (R.remaining reader.new) room.new result
         (heading_at first room.old (known (R.remaining reader.old))) }
+    ensures width { IfOk result (λ h. 0 < h.width) }
+    ensures height { IfOk result (λ h. 0 < h.height) }
+    ensures maxval { IfOk result (λ h. 0 < h.maxval) }
+    ensures few { IfOk result (λ h. sample_count h.kind h.width h.height ≤ most_samples) }
     ensures failures { R.failed_reads reader.new ≡ count_after (failed_device result) (R.failed_reads reader.old) }
 {
     let kind = read_magic(reader, room, first)?;

@@ -2,8 +2,8 @@ use Rattle.std.proofs.Common.{◌≡◌, None, arith, nat_lt, position}
 use Rattle.ls_frame.proofs.SampleLemmas.{none_above}
 use Rattle.ls_frame.proofs.frame.Frame.new.Goals as goal
 
-pub invariant_of-result : goal.invariant_of-result
-invariant_of-result c =
+pub from_parts-requires : goal.from_parts-requires
+from_parts-requires c =
     let unfound : position (λ s. nat_lt c.args.maxval s) c.deref.result.now ≡ None = cc in
     record {
       some_width = omega arith;

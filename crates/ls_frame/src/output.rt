@@ -1,0 +1,32 @@
+//! Writing bytes whole.
+ghost use Rattle.std.specs.Prelude.{◌≡◌, ◌<◌, OnOk, IfErr, is_err, length, take};
+ghost use Rattle.std.specs.Io.KnownBytes.{Appends};
+ghost use Rattle.ls_frame.specs.Devices.{count_after};
+
+use crate::device::{Failed, Outlet};
+use thiserror::Error;
+
+/// A write failed when exactly the first `written` bytes had gone out.
+#[derive(Clone, Copy, Debug, Drop, PartialEq, Eq, Error)]
+#[error("output failed after {written} bytes")]
+pub struct WriteFault {
+    pub written: usize,
+}
+
+/// Writes all of `bytes`, in as many calls of `give` as it takes.
+pub fn write_bytes<W: Outlet>(writer: &mut W, bytes: &[u8]) -> Result<(), WriteFault>
+    ensures ok { OnOk result (Appends (W.contents writer.old) (W.contents writer.new) bytes.now) }
+    ensures fault { IfErr result
+        (λ fault. Appends (W.contents writer.old) (W.contents writer.new) (take fault.written bytes.now)) }
+    ensures part { IfErr result (λ fault. fault.written < length bytes.now) }
+    ensures failures { W.failed_writes writer.new ≡ count_after (is_err result) (W.failed_writes writer.old) }
+{
+    let mut written = 0;
+    while written < bytes.len() {
+        match writer.give(&bytes[written..]) {
+            Ok(taken) => written += taken,
+            Err(Failed) => return Err(WriteFault { written }),
+        }
+    }
+    Ok(())
+}
