@@ -1,5 +1,6 @@
 pub mod Alike
 pub mod Devices
+pub mod Engine
 pub mod Faults
 pub mod Film
 pub mod Laws

@@ -37,7 +37,8 @@ impl Presets {
     #[tactic(auto, unfolding(crate::specs::Parameters::default_parameters))]
     pub fn default_of(maxval: u16) -> Presets
         requires { 0 < maxval }
-        ensures { result ≡ default_parameters maxval }
+        ensures value { result ≡ default_parameters maxval }
+        ensures maxval { result.maxval ≡ maxval }
     {
         let (first, second, third) = unclamped(maxval);
         let t1 = clamp(first, 1, maxval);

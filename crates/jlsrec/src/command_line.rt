@@ -1,0 +1,64 @@
+//! The words of the command line, read by `clap`.
+use clap::error::ErrorKind;
+use clap::{Arg, Command, Error};
+use std::alloc::{AllocError, Global};
+
+/// What the words ask for.
+#[derive(Clone, Copy, Debug, PartialEq, Eq)]
+pub enum Request<'a> {
+    /// The lines of a film's frames.
+    List { file: &'a str },
+}
+
+const LIST_HELP: &str = "\
+Writes a line for each frame of FILE to standard output.
+
+FILE is a film: binary Netpbm images (PGM, PPM; 1 to 16 bits a sample) one behind the other.
+The eleven columns of a line, one blank between:
+  number   of the frame, from 0
+  kind     gray or color
+  width    in pixels
+  height   in pixels
+  maxval   the greatest value of a sample
+  P        bits a sample (bpp of T.87)
+  T1       the first threshold of T.87 for this maxval
+  T2       the second
+  T3       the third
+  RESET    samples until a context's counters are halved
+  LIMIT    the most bits of a sample's code word";
+
+/// The program's commands, options and help.
+pub fn command<'a>(alloc: Global) -> Result<Command<'a>, AllocError> {
+    let file = Arg::new(alloc, "FILE")
+        .required(true)
+        .help("The film to read");
+    let list = Command::new(alloc, "list")
+        .about("Lists the frames of a film")
+        .long_about(LIST_HELP)
+        .arg(file)?;
+    Command::new(alloc, "jlsrec")
+        .version("0.1.0")
+        .about("A lossless recorder of image sequences: JPEG-LS, ITU-T T.87")
+        .bin_name("jlsrec")
+        .no_binary_name(true)
+        .subcommand_required(true)
+        .subcommand(list)
+}
+
+/// What the words behind the program's name ask for.
+///
+/// The error is `clap`'s: a usage fault, help or the version that was asked for, or want of memory.
+pub fn read_words<'a>(alloc: Global, words: &'a [String]) -> Result<Request<'a>, Error> {
+    let matches = command(alloc)?.try_get_matches_from(words)?;
+    if let Some(("list", list)) = matches.subcommand() {
+        if let Some(file) = list.get_str("FILE") {
+            return Ok(Request::List { file });
+        }
+    }
+    Err(usage_fault(alloc, "a command is wanted")?)
+}
+
+/// A usage fault that `clap` doesn't find by itself.
+pub fn usage_fault<'a>(alloc: Global, message: &str) -> Result<Error, AllocError> {
+    command(alloc)?.error(ErrorKind::InvalidValue, message)
+}

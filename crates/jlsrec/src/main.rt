@@ -1,0 +1,22 @@
+//! `jlsrec`: a lossless recorder of image sequences.
+#![tactic(auto)]
+
+mod command_line;
+mod faults;
+mod listing;
+mod program;
+
+use ls_frame::Counted;
+use std::io::BufWriter;
+use std::process::ExitCode;
+
+fn main(rt: HostRuntime) -> ExitCode {
+    let mut errors = Counted::new(rt.stderr());
+    match BufWriter::new(rt.alloc(), rt.stdout()) {
+        Ok(buffered) => {
+            let mut output = Counted::new(buffered);
+            ExitCode::from(program::start(&rt, &mut output, &mut errors))
+        }
+        Err(_) => ExitCode::from(program::no_memory(rt.alloc(), &mut errors)),
+    }
+}
