@@ -39,7 +39,7 @@ pub fn command<'a>(alloc: Global) -> Result<Command<'a>, AllocError> {
     Command::new(alloc, "jlsrec")
         .version("0.1.0")
         .about("A lossless recorder of image sequences: JPEG-LS, ITU-T T.87")
-        .bin_name("jlsrec")
+        .bin_name("jlsrec")?
         .no_binary_name(true)
         .subcommand_required(true)
         .subcommand(list)
