@@ -1,6 +1,7 @@
 pub mod Alike
 pub mod Devices
 pub mod Faults
+pub mod Laws
 pub mod Netpbm
 pub mod Parameters
 pub mod Picture
