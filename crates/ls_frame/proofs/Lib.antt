@@ -1,3 +1,5 @@
 pub mod ExponentLemmas
+pub mod KnownLemmas
+pub mod RasterLemmas
 pub mod SampleLemmas
 pub mod StepLemmas

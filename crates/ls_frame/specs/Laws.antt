@@ -1,8 +1,8 @@
 -- The laws that tie reading to the grammar.
-use Rattle.std.specs.Prelude.{◌≡◌, ℕ, List, [], ◌∷◌, ◌++◌, Option, None, Some, Result, Ok, Err}
+use Rattle.std.specs.Prelude.{◌≡◌, ℕ, List, [], ◌++◌, None, Some, Ok, Err}
 use Rattle.ls_frame.specs.declared.netpbm.NetpbmFault.{NetpbmFault}
 use Rattle.ls_frame.specs.Picture.{Picture}
-use Rattle.ls_frame.specs.Netpbm.{Spells, NoImage}
+use Rattle.ls_frame.specs.Netpbm.{Spells}
 use Rattle.ls_frame.specs.Faults.{Breaks}
 use Rattle.ls_frame.specs.Reading.{image_at}
 

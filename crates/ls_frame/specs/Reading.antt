@@ -1,5 +1,6 @@
 -- Reading an image off a list of bytes, piece by piece. The grammar is in `Netpbm`, and tied to this by laws.
 use Rattle.std.specs.Prelude.{◌≡◌, ℕ, zero, suc, ◌+◌, ◌-◌, ◌*◌, min, ◌&&◌, ◌==◌, Bool, true, false, nat_lt, nat_le, IsTrue, IsSome, if◌then◌else◌, List, [], ◌∷◌, ◌++◌, Option, None, Some, unwrap_or, Result, Ok, Err, MatchResult}
+use Rattle.std.specs.List.{list_all}
 use Rattle.ls_frame.specs.declared.frame.Kind.{Kind}
 use Rattle.ls_frame.specs.declared.frame.Kind.TheVariants.{Gray, Color}
 use Rattle.ls_frame.specs.declared.netpbm.header.Header.{Header}
@@ -116,6 +117,27 @@ within maxval sample = if nat_le sample maxval then Ok sample else Err SampleToo
 abbrev pub with_front : List ℕ → Take (List ℕ) → Take (List ℕ)
 with_front front read = read >>= λ found. Ok (front ++ found.0, found.1)
 
+-- the whole samples that bytes say, and the byte of a sample begun
+unfoldable pub samples_of : Bool → List ℕ → List ℕ
+samples_of false bytes = bytes
+samples_of true [] = []
+samples_of true (high ∷ []) = []
+samples_of true (high ∷ low ∷ bytes) = (256 * high + low) ∷ samples_of true bytes
+
+unfoldable pub begun_of : Bool → List ℕ → List ℕ
+begun_of false bytes = []
+begun_of true [] = []
+begun_of true (high ∷ []) = high ∷ []
+begun_of true (high ∷ low ∷ bytes) = begun_of true bytes
+
+-- the bytes that so many samples take
+abbrev pub byte_count : Bool → ℕ → ℕ
+byte_count false samples = samples
+byte_count true samples = 2 * samples
+
+abbrev pub are_within : ℕ → List ℕ → Bool
+are_within maxval samples = list_all (λ sample. nat_le sample maxval) samples
+
 unfoldable pub samples_at : Bool → ℕ → ℕ → List ℕ → Take (List ℕ)
 samples_at wide maxval zero bytes = Ok ([], bytes)
 samples_at wide maxval (suc count) bytes = do
@@ -153,7 +175,7 @@ GivesStep old new room result step = IsSome old → MatchResult result
     (λ x. IsSome new × (step ≡ Ok (x, room, known new)))
     (λ fault. IsTrue (blames_bytes fault) → step ≡ Err fault)
 
-abbrev pub GivesTake : {X : Type 0} → Option (List ℕ) → Option (List ℕ) → Result X NetpbmFault → Take X → Type 0
-GivesTake old new result take = IsSome old → MatchResult result
-    (λ x. IsSome new × (take ≡ Ok (x, known new)))
-    (λ fault. IsTrue (blames_bytes fault) → take ≡ Err fault)
+abbrev pub GivesTake : {X Y : Type 0} → (X → Y) → Option (List ℕ) → Option (List ℕ) → Result X NetpbmFault → Take Y → Type 0
+GivesTake view old new result take = IsSome old → MatchResult result
+  (λ x. IsSome new × (take ≡ Ok (view x, known new)))
+  (λ fault. IsTrue (blames_bytes fault) → take ≡ Err fault)

@@ -1,6 +1,8 @@
 //! Reading Netpbm images (pgm and ppm pages, the binary forms P5 and P6).
 mod header;
+mod raster;
 
+use std::alloc::AllocError;
 use thiserror::Error;
 
 /// Why the next image can't be read. Faults come in the order of the bytes.
@@ -33,4 +35,14 @@ pub enum NetpbmFault {
     /// The room for the raster was refused.
     #[error("no memory")]
     NoMemory,
+}
+
+impl From<AllocError> for NetpbmFault {
+    ghost use Rattle.std.specs.Prelude.{◌≡◌};
+    ghost use Rattle.ls_frame.specs.declared.netpbm.NetpbmFault.TheVariants.{NoMemory};
+    ghost from_gives = { λ _ fault. fault ≡ NoMemory };
+
+    fn from(_refused: AllocError) -> NetpbmFault {
+        NetpbmFault::NoMemory
+    }
 }

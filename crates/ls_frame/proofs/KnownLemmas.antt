@@ -1,0 +1,20 @@
+-- What is known of a reader's bytes after it was read.
+use Rattle.std.proofs.Common.{◌≡◌, ℕ, ◌+◌, ◌≤◌, List, ◌++◌, length, take, Option, None, Some, IsSome, refl, sym, ap, ◌∙◌}
+use Rattle.std.specs.Io.KnownBytes.{Consumes}
+use Rattle.std.proofs.lemmas.List.{length-take-le, take-append-le}
+use Rattle.std.proofs.Math.Seq.{take-append-add}
+use Rattle.ls_frame.specs.Reading.{known}
+
+pub known-consumed : (old new : Option (List ℕ)) (bytes : List ℕ) → IsSome old → Consumes old new bytes → IsSome new × (known old ≡ bytes ++ known new)
+known-consumed None new bytes told h = let never : ⊥ = cc in absurd never
+known-consumed (Some xs) None bytes told h = absurd h
+known-consumed (Some xs) (Some ys) bytes told h = (refl, h)
+
+-- a read that wrote `given` bytes of `read` behind the first `held` of `piece`
+pub piece-read : (piece read post : List ℕ) (held given : ℕ) → held ≤ length piece → given ≤ length read
+  → take (held + given) (take held piece ++ (read ++ post)) ≡ take held piece ++ take given read
+piece-read piece read post held given within some =
+  let front : length (take held piece) ≡ held = length-take-le held piece within in
+  ap (λ n. take (n + given) (take held piece ++ (read ++ post))) (sym front)
+  ∙ take-append-add (take held piece) (read ++ post) given
+  ∙ ap (λ s. take held piece ++ s) (take-append-le given read post some)

@@ -1,0 +1,141 @@
+-- Samples in the bytes of a raster.
+use Rattle.std.proofs.Common.{◌≡◌, ℕ, suc, ◌+◌, ◌-◌, ◌*◌, ◌/◌, ◌%◌, ◌&&◌, cond, leb, get_or, set, ◌⊎◌, inl, inr, Ok, Err, take, ◌<◌, ◌≤◌, Bool, true, false, List, [], ◌∷◌, ◌++◌, length, drop, refl, sym, ap, ◌∙◌, min, arith, append_assoc, append-nil}
+use Rattle.std.proofs.lemmas.List.{drop-drop, length-drop, length-take-le, get_or-take, take_more_set}
+use Rattle.byteorder.specs.Endian.{big_number}
+use Rattle.ls_frame.specs.declared.netpbm.NetpbmFault.TheVariants.{SampleTooLarge}
+use Rattle.ls_frame.specs.Faults.{sample_size}
+use Rattle.ls_frame.specs.Reading.{◌>>=◌, Take, samples_of, begun_of, byte_count, are_within, within, with_front, samples_at}
+
+-- ---- pairs of bytes
+
+pub samples_of-pair : (bytes : List ℕ) → 2 ≤ length bytes → samples_of true bytes ≡ big_number 2 bytes ∷ samples_of true (drop 2 bytes)
+unfolding samples_of
+samples_of-pair [] h = absurd (omega arith)
+samples_of-pair (a ∷ []) h = absurd (omega arith)
+samples_of-pair (a ∷ b ∷ bytes) h = let same : 256 * a + b ≡ a * 256 + (b * 1 + 0) = omega arith in ap (λ s. s ∷ samples_of true bytes) same
+
+pub samples_of-short : (bytes : List ℕ) → length bytes < 2 → samples_of true bytes ≡ []
+unfolding samples_of
+samples_of-short [] h = refl
+samples_of-short (a ∷ []) h = refl
+samples_of-short (a ∷ b ∷ bytes) h = absurd (omega arith)
+
+-- one pair more was appended, and when none is left
+pub samples_of-more : (front bytes all : List ℕ) (i sample : ℕ) → front ++ samples_of true (drop (2 * i) bytes) ≡ all → i < length bytes / 2
+  → sample ≡ big_number 2 (drop (2 * i) bytes) → (front ++ sample ∷ []) ++ samples_of true (drop (2 * (i + 1)) bytes) ≡ all
+samples_of-more front bytes all i sample said more is =
+  let left : 2 ≤ length (drop (2 * i) bytes) = simp length-drop (omega arith) in
+  let behind : drop 2 (drop (2 * i) bytes) ≡ drop (2 * (i + 1)) bytes =
+    drop-drop 2 (2 * i) bytes ∙ (let same : 2 * i + 2 ≡ 2 * (i + 1) = omega arith in ap (λ n. drop n bytes) same) in
+  append_assoc front (sample ∷ []) (samples_of true (drop (2 * (i + 1)) bytes))
+  ∙ ap (λ s. front ++ s ∷ samples_of true (drop (2 * (i + 1)) bytes)) is
+  ∙ ap (λ bs. front ++ big_number 2 (drop (2 * i) bytes) ∷ samples_of true bs) (sym behind)
+  ∙ ap (λ s. front ++ s) (sym (samples_of-pair (drop (2 * i) bytes) left))
+  ∙ said
+
+pub samples_of-all : (front bytes all : List ℕ) (i : ℕ) → front ++ samples_of true (drop (2 * i) bytes) ≡ all → length bytes / 2 ≤ i → front ≡ all
+samples_of-all front bytes all i said none =
+  let short : length (drop (2 * i) bytes) < 2 = simp length-drop (omega arith) in
+  sym (append-nil front) ∙ ap (λ s. front ++ s) (sym (samples_of-short (drop (2 * i) bytes) short)) ∙ said
+
+-- ---- how many samples bytes say, and the byte of a sample begun
+
+pub length-samples_of : (bytes : List ℕ) → length (samples_of true bytes) ≡ length bytes / 2
+unfolding samples_of
+length-samples_of [] = refl
+length-samples_of (a ∷ []) = refl
+length-samples_of (a ∷ b ∷ bytes) = let more = length-samples_of bytes in omega arith
+
+pub begun_of-even : (bytes : List ℕ) → length bytes % 2 ≡ 0 → begun_of true bytes ≡ []
+unfolding begun_of
+begun_of-even [] h = refl
+begun_of-even (a ∷ []) h = absurd (omega arith)
+begun_of-even (a ∷ b ∷ bytes) h = begun_of-even bytes (omega arith)
+
+pub begun_of-odd : (bytes : List ℕ) → length bytes % 2 ≡ 1 → begun_of true bytes ≡ get_or bytes (length bytes - 1) 0 ∷ []
+unfolding begun_of
+begun_of-odd [] h = absurd (omega arith)
+begun_of-odd (a ∷ []) h = refl
+begun_of-odd (a ∷ b ∷ bytes) h =
+  let odd : length bytes % 2 ≡ 1 = omega arith in
+  let place : suc (suc (length bytes)) - 1 ≡ suc (suc (length bytes - 1)) = omega arith in
+  begun_of-odd bytes odd ∙ ap (λ i. get_or (a ∷ b ∷ bytes) i 0 ∷ []) (sym place)
+
+-- The byte of a sample begun is the last of an odd number, brought to the front of the piece.
+pub begun_of-none : (wide : Bool) (piece : List ℕ) (filled : ℕ) → filled ≤ length piece → (wide ≡ false) ⊎ (filled % 2 ≡ 0) → begun_of wide (take filled piece) ≡ []
+unfolding begun_of
+begun_of-none wide piece filled within (inl narrow) = rw narrow refl
+begun_of-none false piece filled within (inr even) = refl
+begun_of-none true piece filled within (inr even) =
+  begun_of-even (take filled piece) (let all : length (take filled piece) ≡ filled = length-take-le filled piece within in rw all even)
+
+pub begun_of-one : (piece : List ℕ) (filled : ℕ) → 0 < filled → filled ≤ length piece → filled % 2 ≡ 1
+  → take 1 (set piece 0 (get_or piece (filled - 1) 0)) ≡ begun_of true (take filled piece)
+begun_of-one piece filled some within odd =
+  let all : length (take filled piece) ≡ filled = length-take-le filled piece within in
+  let last : get_or (take filled piece) (filled - 1) 0 ≡ get_or piece (filled - 1) 0 = get_or-take filled piece (filled - 1) 0 (omega arith) in
+  take_more_set piece 0 _ (omega arith)
+  ∙ ap (λ s. s ∷ []) (sym last)
+  ∙ ap (λ n. get_or (take filled piece) (n - 1) 0 ∷ []) (sym all)
+  ∙ sym (begun_of-odd (take filled piece) (rw all odd))
+
+-- ---- the samples of a piece
+
+with_front-all : (front back : List ℕ) (read : Take (List ℕ)) → with_front front (with_front back read) ≡ with_front (front ++ back) read
+with_front-all front back (Ok found) = ap (λ s. Ok (s, found.1)) (sym (append_assoc front back found.0))
+with_front-all front back (Err fault) = refl
+
+pub with_front-nil : (read : Take (List ℕ)) → with_front [] read ≡ read
+with_front-nil (Ok found) = refl
+with_front-nil (Err fault) = refl
+
+-- what a piece's samples are read as: over maxval, or in front of what is read behind them
+pub piece_read : Bool → List ℕ → Take (List ℕ) → Take (List ℕ)
+piece_read true front read = with_front front read
+piece_read false front read = Err SampleTooLarge
+
+one_more : (here rest : Bool) (s : ℕ) (front : List ℕ) (read : Take (List ℕ))
+  → ((cond here (Ok s) (Err SampleTooLarge)) >>= λ s. with_front (s ∷ []) (piece_read rest front read)) ≡ piece_read (here && rest) (s ∷ front) read
+unfolding piece_read
+one_more true true s front read = with_front-all (s ∷ []) front read
+one_more true false s front read = refl
+one_more false true s front read = refl
+one_more false false s front read = refl
+
+pub samples_at-piece : (wide : Bool) (maxval : ℕ) (bytes rest : List ℕ) (n : ℕ)
+  → samples_at wide maxval (length (samples_of wide bytes) + n) (bytes ++ rest)
+    ≡ piece_read (are_within maxval (samples_of wide bytes)) (samples_of wide bytes) (samples_at wide maxval n (begun_of wide bytes ++ rest))
+unfolding samples_at samples_of begun_of piece_read
+samples_at-piece false maxval [] rest n = (let e : 0 + n ≡ n = omega arith in ap (λ k. samples_at false maxval k rest) e) ∙ sym (with_front-nil _)
+samples_at-piece false maxval (a ∷ bytes) rest n =
+  (let e : suc (length bytes) + n ≡ suc (length bytes + n) = omega arith in ap (λ k. samples_at false maxval k (a ∷ bytes ++ rest)) e)
+  ∙ ap (λ read. within maxval a >>= λ s. with_front (s ∷ []) read) (samples_at-piece false maxval bytes rest n)
+  ∙ one_more (leb a maxval) (are_within maxval bytes) a bytes (samples_at false maxval n rest)
+samples_at-piece true maxval [] rest n = (let e : 0 + n ≡ n = omega arith in ap (λ k. samples_at true maxval k rest) e) ∙ sym (with_front-nil _)
+samples_at-piece true maxval (a ∷ []) rest n = (let e : 0 + n ≡ n = omega arith in ap (λ k. samples_at true maxval k (a ∷ rest)) e) ∙ sym (with_front-nil _)
+samples_at-piece true maxval (a ∷ b ∷ bytes) rest n =
+  (let e : suc (length (samples_of true bytes)) + n ≡ suc (length (samples_of true bytes) + n) = omega arith in ap (λ k. samples_at true maxval k (a ∷ b ∷ bytes ++ rest)) e)
+  ∙ ap (λ read. within maxval (256 * a + b) >>= λ s. with_front (s ∷ []) read) (samples_at-piece true maxval bytes rest n)
+  ∙ one_more (leb (256 * a + b) maxval) (are_within maxval (samples_of true bytes)) (256 * a + b) (samples_of true bytes) (samples_at true maxval n (begun_of true bytes ++ rest))
+
+-- ---- how far a piece brings the loop
+
+pub piece-size : (wide : Bool) (bytes : List ℕ) → byte_count wide (length (samples_of wide bytes)) + length (begun_of wide bytes) ≡ length bytes
+unfolding samples_of begun_of
+piece-size false bytes = omega arith
+piece-size true [] = refl
+piece-size true (a ∷ []) = refl
+piece-size true (a ∷ b ∷ bytes) = let more = piece-size true bytes in omega arith
+
+pub piece-order : (wide : Bool) (left piece held : ℕ) → 0 < left → sample_size wide ≤ piece → held ≤ 1 → (wide ≡ false → held ≡ 0) → held < min (byte_count wide left) piece
+piece-order false left piece held more some few narrow = let none = narrow refl in omega arith
+piece-order true left piece held more some few narrow = omega arith
+
+pub piece-few : (wide : Bool) (left here begun filled : ℕ) → byte_count wide here + begun ≡ filled → filled ≤ byte_count wide left → here ≤ left
+piece-few false left here begun filled all within = omega arith
+piece-few true left here begun filled all within = omega arith
+
+pub piece-less : (wide : Bool) (left here begun filled held : ℕ) → byte_count wide here + begun ≡ filled → filled ≤ byte_count wide left → held < filled
+  → byte_count wide (left - here) - begun < byte_count wide left - held
+piece-less false left here begun filled held all within more = omega arith
+piece-less true left here begun filled held all within more = omega arith

@@ -1,0 +1,129 @@
+//! The raster of an image, in pieces.
+ghost use Rattle.std.specs.Prelude.{◌≡◌, ◌+◌, ◌*◌, ◌/◌, ◌<◌, ◌≤◌, ◌++◌, [], true, false, OnOk, IfOk, IfErr, IsSome, IsTrue, MatchResult, ◌^◌, length, take, vec_len, vec_capacity};
+ghost use Rattle.ls_frame.specs.Devices.{count_after};
+ghost use Rattle.ls_frame.specs.Picture.{sample_count};
+ghost use Rattle.ls_frame.specs.Netpbm.{is_wide};
+ghost use Rattle.ls_frame.specs.Faults.{blames_bytes, failed_device, sample_size};
+ghost use Rattle.ls_frame.specs.Reading.{samples_of,  begun_of, byte_count, are_within, samples_at, known, GivesTake};
+
+use super::NetpbmFault;
+use super::header::Header;
+use crate::device::{Failed, Feed};
+use crate::frame::samples_in;
+use byteorder::{BigEndian, ByteOrder};
+use std::alloc::{AllocError, Global};
+
+/// How many bytes of a raster are asked for at once: an even number.
+const PIECE: usize = 65_536;
+
+/// Whether no sample is over `maxval`.
+fn are_within(samples: &[u16], maxval: u16) -> bool
+    ensures { result ≡ are_within maxval samples.now }
+{
+    samples.iter().all(|sample| *sample <= maxval)
+}
+
+/// Appends the samples that take one byte each.
+fn append_narrow(samples: &mut Vec<u16>, bytes: &[u8]) -> Result<(), AllocError>
+    ensures items { OnOk result (samples.new.items ≡ samples.old.items ++ samples_of false bytes.now) }
+    ensures room { OnOk result (vec_capacity samples.old ≤ vec_capacity samples.new) }
+{
+    samples.extend(bytes.iter().map(|byte| u16::from(*byte)))
+}
+
+/// Appends the samples that take two bytes each, the most significant first, into room that is there.
+fn append_wide(samples: &mut Vec<u16>, bytes: &[u8])
+    requires { vec_len samples.old + length bytes.now / 2 ≤ vec_capacity samples.old }
+    ensures items { samples.new.items ≡ samples.old.items ++ samples_of true bytes.now }
+    ensures room { vec_capacity samples.old ≤ vec_capacity samples.new }
+{
+    for i in 0..bytes.len() / 2 {
+        samples.push_reserved(BigEndian::read_u16(&bytes[2 * i..]));
+    }
+}
+
+/// Appends the whole samples that `bytes` say, into room that is there, unless one is over `maxval`.
+fn take_samples(
+    samples: &mut Vec<u16>,
+    wide: bool,
+    bytes: &[u8],
+    maxval: u16,
+) -> Result<(), NetpbmFault>
+    requires { vec_len samples.old + length (samples_of wide bytes.now) ≤ vec_capacity samples.old }
+    ensures items { OnOk result (samples.new.items ≡ samples.old.items ++ samples_of wide bytes.now) }
+    ensures room { OnOk result (vec_capacity samples.old ≤ vec_capacity samples.new) }
+    ensures within { OnOk result (are_within maxval (samples_of wide bytes.now) ≡ true) }
+    ensures over { IfErr result (λ fault. IsTrue (blames_bytes fault) →
+        (fault ≡ NetpbmFault.SampleTooLarge) × (are_within maxval (samples_of wide bytes.now) ≡ false)) }
+    ensures device { failed_device result ≡ false }
+{
+    let start = samples.len();
+    if wide {
+        append_wide(samples, bytes);
+    } else {
+        append_narrow(samples, bytes)?;
+    }
+    if !are_within(&samples[start..], maxval) {
+        return Err(NetpbmFault::SampleTooLarge);
+    }
+    Ok(())
+}
+
+/// Reads behind the `held` bytes at the front of `piece`, up to `end` at most, and says where its bytes
+/// end then.
+fn feed_behind<R: Feed>(
+    reader: &mut R,
+    piece: &mut [u8],
+    held: usize,
+    end: usize,
+) -> Result<usize, NetpbmFault>
+    requires order { held < end }
+    requires within { end ≤ length piece.old }
+    ensures bytes { IsSome (R.remaining reader.old) → MatchResult result
+        (λ filled. IsSome (R.remaining reader.new)
+            × (take held piece.old ++ known (R.remaining reader.old) ≡ take filled piece.new ++ known (R.remaining reader.new)))
+        (λ fault. IsTrue (blames_bytes fault) → (fault ≡ NetpbmFault.Truncated) × (known (R.remaining reader.old) ≡ [])) }
+    ensures order { IfOk result (λ filled. held < filled) }
+    ensures within { IfOk result (λ filled. filled ≤ end) }
+    ensures failures { R.failed_reads reader.new ≡ count_after (failed_device result) (R.failed_reads reader.old) }
+{
+    match reader.feed(&mut piece[held..end]) {
+        Err(Failed) => Err(NetpbmFault::Io),
+        Ok(0) => Err(NetpbmFault::Truncated),
+        Ok(given) => Ok(held + given),
+    }
+}
+
+/// Brings the byte of a sample begun, where the `filled` bytes end in one, to the front of `piece`, and
+/// says how many there are.
+fn keep_begun(piece: &mut [u8], wide: bool, filled: usize) -> usize
+    requires some { 0 < filled }
+    requires within { filled ≤ length piece.old }
+    ensures kept { take result piece.new ≡ begun_of wide (take filled piece.old) }
+    ensures few { result ≤ 1 }
+    ensures narrow { wide ≡ false → result ≡ 0 }
+{
+    if !wide {
+        return 0;
+    }
+    if filled % 2 == 0 {
+        return 0;
+    }
+    piece[0] = piece[filled - 1];
+    1
+}
+
+/// How many bytes so many samples take.
+fn bytes_in(wide: bool, samples: usize) -> usize
+    requires { samples ≤ 2 ^ 28 }
+    ensures { result ≡ byte_count wide samples }
+{
+    if wide { 2 * samples } else { samples }
+}
+
+/// Whether samples take two bytes each.
+fn is_wide(maxval: u16) -> bool
+    ensures { result ≡ is_wide maxval }
+{
+    maxval > 255
+}
