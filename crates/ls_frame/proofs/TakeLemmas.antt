@@ -1,0 +1,65 @@
+-- Bytes taken off the front, where reading stops behind them, and what steps in a row come to.
+use Rattle.std.proofs.Common.{◌≡◌, ℕ, suc, ◌+◌, ◌<◌, List, [], ◌∷◌, ◌++◌, length, Result, Ok, Err, MatchResult, refl, sym, ap, ◌∙◌, arith, length-append, append_assoc}
+use Rattle.ls_frame.specs.declared.netpbm.NetpbmFault.{NetpbmFault}
+use Rattle.ls_frame.specs.Faults.{Due, Stops, too_long, ends, refuses}
+use Rattle.ls_frame.specs.Reading.{◌>>=◌}
+
+-- ---- bytes taken
+
+-- of these bytes and this room, `front` is taken, and `rest` and `left` are left
+pub record Takes (room : ℕ) (bytes front : List ℕ) (left : ℕ) (rest : List ℕ) : Type 0 where
+  pub whole : bytes ≡ front ++ rest
+  pub room_is : room ≡ length front + left
+
+pub takes_none : (room : ℕ) (bytes : List ℕ) → Takes room bytes [] room bytes
+takes_none room bytes = record { whole = refl; room_is = omega arith }
+
+-- one byte more in front
+pub takes_cons : {room left : ℕ} {bytes front rest : List ℕ} (c : ℕ) → Takes room bytes front left rest → Takes (suc room) (c ∷ bytes) (c ∷ front) left rest
+takes_cons c taken = record { whole = ap (λ bs. c ∷ bs) taken.whole; room_is = omega arith }
+
+pub takes_one : (c room : ℕ) (rest : List ℕ) → Takes (suc room) (c ∷ rest) (c ∷ []) room rest
+takes_one c room rest = takes_cons c (takes_none room rest)
+
+-- one behind the other
+pub takes_more : {room between left : ℕ} {bytes front middle back rest : List ℕ} → Takes room bytes front between middle → Takes between middle back left rest
+  → Takes room bytes (front ++ back) left rest
+takes_more {front = front} {back = back} {rest = rest} first second = record {
+  whole = first.whole ∙ ap (λ bs. front ++ bs) second.whole ∙ sym (append_assoc front back rest);
+  room_is = simp length-append (let e = first.room_is in let f = second.room_is in omega arith)
+}
+
+-- the same bytes by another name
+pub takes_as : {room left : ℕ} {bytes front front' rest : List ℕ} → Takes room bytes front left rest → front ≡ front' → Takes room bytes front' left rest
+takes_as taken same = rw (← same) taken
+
+-- ---- where reading stops
+
+pub stops_cons : {room : ℕ} {bytes front : List ℕ} {d : Due} {fault : NetpbmFault} (c : ℕ) → Stops room bytes front d fault → Stops (suc room) (c ∷ bytes) (c ∷ front) d fault
+stops_cons c (too_long rest whole all is) = too_long rest (ap (λ bs. c ∷ bs) whole) (omega arith) is
+stops_cons c (ends whole some is) = ends (ap (λ bs. c ∷ bs) whole) (omega arith) is
+stops_cons c (refuses b rest whole some not_allowed is) = refuses b rest (ap (λ bs. c ∷ bs) whole) (omega arith) not_allowed is
+
+-- it stops behind what is taken
+pub stops_behind : {room left : ℕ} {bytes front rest back : List ℕ} {d : Due} {fault : NetpbmFault} → Takes room bytes front left rest → Stops left rest back d fault
+  → Stops room bytes (front ++ back) d fault
+stops_behind {front = front} {back = back} taken (too_long rest whole all is) =
+  too_long rest (taken.whole ∙ ap (λ bs. front ++ bs) whole ∙ sym (append_assoc front back rest)) (simp length-append (let e = taken.room_is in omega arith)) is
+stops_behind {front = front} {back = back} taken (ends whole some is) =
+  ends (taken.whole ∙ ap (λ bs. front ++ bs) whole) (simp length-append (let e = taken.room_is in omega arith)) is
+stops_behind {front = front} {back = back} taken (refuses c rest whole some not_allowed is) =
+  refuses c rest (taken.whole ∙ ap (λ bs. front ++ bs) whole ∙ sym (append_assoc front back (c ∷ rest))) (simp length-append (let e = taken.room_is in omega arith)) not_allowed is
+
+-- ---- steps in a row
+
+-- what a second step gives, and how the first may fail
+pub outcome_of_both : {A B : Type 0} (P : A → Type 0) (Q : NetpbmFault → Type 0) (P' : B → Type 0) (Q' : NetpbmFault → Type 0) (r : Result A NetpbmFault) (f : A → Result B NetpbmFault)
+  → MatchResult r P Q → ((x : A) → P x → MatchResult (f x) P' Q') → ((fault : NetpbmFault) → Q fault → Q' fault) → MatchResult (r >>= f) P' Q'
+outcome_of_both P Q P' Q' (Ok x) f first second failed = second x first
+outcome_of_both P Q P' Q' (Err fault) f first second failed = failed fault first
+
+-- the same step with weaker words for it
+pub outcome_weaker : {A : Type 0} (P : A → Type 0) (Q : NetpbmFault → Type 0) (P' : A → Type 0) (Q' : NetpbmFault → Type 0) (r : Result A NetpbmFault)
+  → MatchResult r P Q → ((x : A) → P x → P' x) → ((fault : NetpbmFault) → Q fault → Q' fault) → MatchResult r P' Q'
+outcome_weaker P Q P' Q' (Ok x) outcome found failed = found x outcome
+outcome_weaker P Q P' Q' (Err fault) outcome found failed = failed fault outcome
