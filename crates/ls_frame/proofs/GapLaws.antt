@@ -43,8 +43,8 @@ pub record OpenGapRead (room : ℕ) (bytes : List ℕ) (found : ℕ × ℕ × Li
 -- ---- where reading stops
 
 pub data GapStops (room : ℕ) (bytes : List ℕ) (fault : NetpbmFault) : Type 0 where
-  between : (blanks : List Blank) → AreBlanks blanks → Stops room bytes (blanks_bytes blanks) blank_or_digit fault → GapStops room bytes fault
-  inside : (blanks : List Blank) (text : List ℕ) → AreBlanks blanks → IsText text → Stops room bytes (blanks_bytes blanks ++ 35 ∷ text) comment_text fault → GapStops room bytes fault
+  among_blanks : (blanks : List Blank) → AreBlanks blanks → Stops room bytes (blanks_bytes blanks) blank_or_digit fault → GapStops room bytes fault
+  within_comment : (blanks : List Blank) (text : List ℕ) → AreBlanks blanks → IsText text → Stops room bytes (blanks_bytes blanks ++ 35 ∷ text) comment_text fault → GapStops room bytes fault
 
 pub data OpenGapStops (room : ℕ) (bytes : List ℕ) (fault : NetpbmFault) : Type 0 where
   still_inside : (text : List ℕ) → IsText text → Stops room bytes text comment_text fault → OpenGapStops room bytes fault
@@ -56,9 +56,9 @@ gap_more : {room left : ℕ} {bytes rest : List ℕ} {found : ℕ × ℕ × List
 gap_more b is taken read = record { blanks = b ∷ read.blanks; each = (is, read.each); digit = read.digit; takes = takes_more taken read.takes }
 
 gap_stops_more : {room left : ℕ} {bytes rest : List ℕ} {fault : NetpbmFault} (b : Blank) → IsBlank b → Takes room bytes (blank_bytes b) left rest → GapStops left rest fault → GapStops room bytes fault
-gap_stops_more b is taken (between blanks each stops) = between (b ∷ blanks) (is, each) (stops_behind taken stops)
-gap_stops_more b is taken (inside blanks text each those stops) =
-  inside (b ∷ blanks) text (is, each) those
+gap_stops_more b is taken (among_blanks blanks each stops) = among_blanks (b ∷ blanks) (is, each) (stops_behind taken stops)
+gap_stops_more b is taken (within_comment blanks text each those stops) =
+  within_comment (b ∷ blanks) text (is, each) those
     (rw append_assoc (stops_behind taken stops))
 
 -- ---- one byte more
@@ -87,7 +87,7 @@ open_stops_more c is (still_inside text each stops) = still_inside (c ∷ text) 
 open_stops_more c is (behind left rest read stops) = behind left rest (comment_more c is read) stops
 
 hash_stops_more : {room : ℕ} {bytes : List ℕ} {fault : NetpbmFault} (c : ℕ) → IsTrue (is_hash c) → OpenGapStops room bytes fault → GapStops (suc room) (c ∷ bytes) fault
-hash_stops_more c is (still_inside text each stops) = let e = eqb-true c 35 is in rw e (inside [] text tt each (stops_cons 35 stops))
+hash_stops_more c is (still_inside text each stops) = let e = eqb-true c 35 is in rw e (within_comment [] text tt each (stops_cons 35 stops))
 hash_stops_more c is (behind left rest read stops) = gap_stops_more (comment read.text read.end) (read.each, read.closes) (comment_part c is read) stops
 
 -- ---- what reading gives
@@ -117,8 +117,8 @@ gap_outcome true (suc room) (c ∷ bytes) =
       (gap_outcome true room bytes)
       (λ found read. open_more c (not_from_false _ goes_on) read)
       (λ fault stops. open_stops_more c (not_from_false _ goes_on) stops))
-gap_outcome false zero bytes = between [] tt (too_long bytes refl refl refl)
-gap_outcome false (suc room) [] = between [] tt (ends refl (omega arith) refl)
+gap_outcome false zero bytes = among_blanks [] tt (too_long bytes refl refl refl)
+gap_outcome false (suc room) [] = among_blanks [] tt (ends refl (omega arith) refl)
 gap_outcome false (suc room) (c ∷ bytes) =
   cond_both (is_white c) (gap_at false room bytes) _ (λ r. MatchResult r (GapFound false (suc room) (c ∷ bytes)) (GapFault false (suc room) (c ∷ bytes)))
     (λ is. outcome_weaker (GapFound false room bytes) (GapFault false room bytes) (GapFound false (suc room) (c ∷ bytes)) (GapFault false (suc room) (c ∷ bytes)) (gap_at false room bytes)
@@ -134,7 +134,7 @@ gap_outcome false (suc room) (c ∷ bytes) =
         (λ no_hash.
           cond_both (is_digit c) (Ok (c, room, bytes)) (Err BadHeader) (λ r. MatchResult r (GapFound false (suc room) (c ∷ bytes)) (GapFault false (suc room) (c ∷ bytes)))
             (λ is. digit_here room c bytes is)
-            (λ no_digit. between [] tt (refuses c bytes refl (omega arith) (none_allowed c no_white no_hash no_digit) refl))))
+            (λ no_digit. among_blanks [] tt (refuses c bytes refl (omega arith) (none_allowed c no_white no_hash no_digit) refl))))
 
 -- ---- what a gap says is read
 

@@ -50,6 +50,9 @@ stops_behind {front = front} {back = back} taken (ends whole some is) =
 stops_behind {front = front} {back = back} taken (refuses c rest whole some not_allowed is) =
   refuses c rest (taken.whole ∙ ap (λ bs. front ++ bs) whole ∙ sym (append_assoc front back (c ∷ rest))) (simp length-append (let e = taken.room_is in omega arith)) not_allowed is
 
+pub stops_as : {room : ℕ} {bytes front front' : List ℕ} {d : Due} {fault : NetpbmFault} → Stops room bytes front d fault → front ≡ front' → Stops room bytes front' d fault
+stops_as stops same = rw (← same) stops
+
 -- ---- steps in a row
 
 -- what a second step gives, and how the first may fail
