@@ -1,5 +1,6 @@
 pub mod ExponentLemmas
 pub mod GapLaws
+pub mod HeadingLaws
 pub mod KnownLemmas
 pub mod NumberLaws
 pub mod RasterLemmas

@@ -1,8 +1,8 @@
 -- Bytes taken off the front, where reading stops behind them, and what steps in a row come to.
-use Rattle.std.proofs.Common.{◌≡◌, ℕ, suc, ◌+◌, ◌<◌, List, [], ◌∷◌, ◌++◌, length, Result, Ok, Err, MatchResult, refl, sym, ap, ◌∙◌, arith, length-append, append_assoc}
+use Rattle.std.proofs.Common.{◌≡◌, ℕ, suc, ◌+◌, ◌<◌, Bool, true, false, List, [], ◌∷◌, ◌++◌, length, Result, Ok, Err, MatchResult, refl, sym, ap, ◌∙◌, arith, length-append, append_assoc}
 use Rattle.ls_frame.specs.declared.netpbm.NetpbmFault.{NetpbmFault}
 use Rattle.ls_frame.specs.Faults.{Due, Stops, too_long, ends, refuses}
-use Rattle.ls_frame.specs.Reading.{◌>>=◌}
+use Rattle.ls_frame.specs.Reading.{◌>>=◌, wanted}
 
 -- ---- bytes taken
 
@@ -66,3 +66,14 @@ pub outcome_weaker : {A : Type 0} (P : A → Type 0) (Q : NetpbmFault → Type 0
   → MatchResult r P Q → ((x : A) → P x → P' x) → ((fault : NetpbmFault) → Q fault → Q' fault) → MatchResult r P' Q'
 outcome_weaker P Q P' Q' (Ok x) outcome found failed = found x outcome
 outcome_weaker P Q P' Q' (Err fault) outcome found failed = failed fault outcome
+
+-- a test, and what follows it
+pub wanted_outcome : {A : Type 0} (P : A → Type 0) (Q : NetpbmFault → Type 0) (test : Bool) (fault : NetpbmFault) (next : Result A NetpbmFault)
+  → (test ≡ true → MatchResult next P Q) → (test ≡ false → Q fault) → MatchResult (wanted test fault >>= λ passed. next) P Q
+wanted_outcome P Q true fault next passes fails = passes refl
+wanted_outcome P Q false fault next passes fails = fails refl
+
+pub wanted_next_outcome : {A B : Type 0} (P : B → Type 0) (Q : NetpbmFault → Type 0) (test : Bool) (fault : NetpbmFault) (x : A) (f : A → Result B NetpbmFault)
+  → (test ≡ true → MatchResult (f x) P Q) → (test ≡ false → Q fault) → MatchResult ((wanted test fault >>= λ passed. Ok x) >>= f) P Q
+wanted_next_outcome P Q true fault x f passes fails = passes refl
+wanted_next_outcome P Q false fault x f passes fails = fails refl
