@@ -3,6 +3,7 @@ pub mod GapLaws
 pub mod HeadingLaws
 pub mod KnownLemmas
 pub mod NumberLaws
+pub mod RasterLaws
 pub mod RasterLemmas
 pub mod SampleLemmas
 pub mod StepLemmas
