@@ -1,6 +1,7 @@
 pub mod ExponentLemmas
 pub mod GapLaws
 pub mod HeadingLaws
+pub mod ImageLaws
 pub mod KnownLemmas
 pub mod NumberLaws
 pub mod RasterLaws
