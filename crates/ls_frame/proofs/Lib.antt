@@ -7,5 +7,6 @@ pub mod NumberLaws
 pub mod RasterLaws
 pub mod RasterLemmas
 pub mod SampleLemmas
+pub mod SpellingLaws
 pub mod StepLemmas
 pub mod TakeLemmas

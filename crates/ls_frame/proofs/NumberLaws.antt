@@ -153,7 +153,7 @@ number_outcome room between bytes before middle w white taken =
 
 -- ---- within its range
 
-in_range_if : (n m : ℕ) → n ≡ capped m → (ltb 0 n && leb n greatest) ≡ true → InRange m
+pub in_range_if : (n m : ℕ) → n ≡ capped m → (ltb 0 n && leb n greatest) ≡ true → InRange m
 in_range_if n m is test =
   let parts = and_parts (ltb 0 n) (leb n greatest) test in
   let some : 0 < n = ltb-true 0 n parts.0 in
@@ -163,7 +163,7 @@ in_range_if n m is test =
 pub same_in_range : (n m : ℕ) → n ≡ capped m → InRange m → n ≡ m
 same_in_range n m is range = omega arith
 
-out_of_range_if : (n m : ℕ) → n ≡ capped m → (ltb 0 n && leb n greatest) ≡ false → ¬ InRange m
+pub out_of_range_if : (n m : ℕ) → n ≡ capped m → (ltb 0 n && leb n greatest) ≡ false → ¬ InRange m
 out_of_range_if n m is test range = elim (and_cases (ltb 0 n) (leb n greatest) test) [
   | inl none ↦ let e : n ≤ 0 = ltb-false 0 n none in absurd (omega arith)
   | inr over ↦ let e : greatest < n = leb-false n greatest over in absurd (omega arith)
