@@ -1,5 +1,5 @@
 -- Reading an image and its grammar say the same.
-use Rattle.std.proofs.Common.{◌≡◌, ℕ, suc, ◌-◌, ◌<◌, ◌≤◌, Bool, true, false, inl, inr, List, [], ◌∷◌, ◌++◌, length, Option, None, Some, MatchOption, Result, MatchResult, Ok, Err, refl, sym, ap, ◌∙◌, arith, append_assoc}
+use Rattle.std.proofs.Common.{◌≡◌, ℕ, suc, ◌-◌, ◌<◌, ◌≤◌, Bool, true, false, inl, inr, List, [], ◌∷◌, ◌++◌, length, Option, None, Some, MatchOption, Result, MatchResult, Ok, Err, refl, sym, ap, ◌∙◌, arith, length-append, append_assoc}
 use Rattle.std.proofs.lemmas.Result.{MatchResult-at_ok, MatchResult-at_err}
 use Rattle.ls_frame.specs.declared.netpbm.header.Header.{Header}
 use Rattle.ls_frame.specs.declared.netpbm.NetpbmFault.{NetpbmFault}
@@ -9,9 +9,10 @@ use Rattle.ls_frame.specs.Netpbm.{field_number, Heading, heading_bytes, IsHeadin
 use Rattle.ls_frame.specs.Faults.{Due, letter, kind_digit, gap_start, blank_or_digit, comment_text, digit_or_white, fault_at, Stops, too_long, ends, refuses, StopsInHeading, BeginsRaster, EndsInRaster, ExceedsMaxval, Breaks}
 use Rattle.ls_frame.specs.Reading.{◌>>=◌, heading_at, samples_at, picture_of, raster_at, image_at}
 use Rattle.ls_frame.specs.Laws.{ReadsSpellings, SpellingsAreRead, ReadsNothingAtEnd, FaultsBreak, BreaksAreFaults}
-use Rattle.ls_frame.proofs.TakeLemmas.{outcome_of_both}
+use Rattle.ls_frame.proofs.TakeLemmas.{Takes, outcome_of_both}
 use Rattle.ls_frame.proofs.HeadingLaws.{HeadingRead, HeadingFault, in_heading, of_size, of_maxval, heading_outcome}
-use Rattle.ls_frame.proofs.RasterLaws.{RasterRead, RasterBegun, RasterFault, ends_early, exceeds, samples_outcome}
+use Rattle.ls_frame.proofs.RasterLaws.{RasterRead, RasterBegun, RasterFault, ends_early, exceeds, samples_outcome, raster_read}
+use Rattle.ls_frame.proofs.SpellingLaws.{header_of, heading_passes}
 
 -- ---- faults in the header
 
@@ -140,7 +141,35 @@ image_outcome (first ∷ bytes) =
       (raster_outcome all found read) (λ picture said. said) (λ fault failed. failed))
     (λ fault failed. heading_breaks all fault failed)
 
+-- ---- what the grammar says is read
+
+-- bytes that begin with a header
+pub behind_heading : (bytes rest : List ℕ) (h : Heading) → IsHeading h → bytes ≡ heading_bytes h ++ rest → image_at bytes ≡ (raster_at (header_of h) rest >>= λ found. Ok (Some found))
+unfolding image_at
+behind_heading [] rest h lawful whole = absurd (let size = simp length-append at (ap length whole) in omega arith)
+behind_heading (first ∷ bytes) rest h lawful whole =
+  let short = lawful.short in
+  let left : ℕ = most_heading - length (heading_bytes h) in
+  let taken : Takes most_heading (first ∷ bytes) (heading_bytes h) left rest = record { whole = whole; room_is = omega arith } in
+  ap (λ r. r >>= λ found. (raster_at found.0 found.2 >>= λ picture. Ok (Some picture))) (heading_passes h first (most_heading - 1) left bytes rest refl lawful taken)
+
+-- a picture's header
+abbrev frame_header : Picture → Header
+frame_header f = record { kind = f.kind; width = f.width; height = f.height; maxval = f.maxval }
+
+heading_says : (front : List ℕ) (f : Picture) (said : Spells front f) → header_of said.heading ≡ frame_header f
+heading_says front f said = rw (said.kind, said.width, said.height, said.maxval) refl
+
 -- ---- the laws
+
+pub spellings_are_read : SpellingsAreRead
+spellings_are_read front rest f said =
+  let whole : front ++ rest ≡ heading_bytes said.heading ++ (said.raster ++ rest) =
+    ap (λ bs. bs ++ rest) said.whole ∙ append_assoc (heading_bytes said.heading) said.raster rest in
+  behind_heading (front ++ rest) (said.raster ++ rest) said.heading said.lawful whole
+  ∙ ap (λ h. raster_at h (said.raster ++ rest) >>= λ found. Ok (Some found)) (heading_says front f said)
+  ∙ ap (λ r. (r >>= λ found. Ok (picture_of (frame_header f) found.0, found.1)) >>= λ found. Ok (Some found))
+      (raster_read (is_wide f.maxval) f.maxval (sample_count f.kind f.width f.height) f.samples said.raster rest said.samples said.frame.each said.frame.count)
 
 pub reads_spellings : ReadsSpellings
 reads_spellings bytes rest f read = MatchResult-at_ok (ImageRead bytes) (Breaks bytes) (Some (f, rest)) read (image_outcome bytes)
