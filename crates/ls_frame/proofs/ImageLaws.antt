@@ -9,10 +9,11 @@ use Rattle.ls_frame.specs.Netpbm.{field_number, Heading, heading_bytes, IsHeadin
 use Rattle.ls_frame.specs.Faults.{Due, letter, kind_digit, gap_start, blank_or_digit, comment_text, digit_or_white, fault_at, Stops, too_long, ends, refuses, StopsInHeading, BeginsRaster, EndsInRaster, ExceedsMaxval, Breaks}
 use Rattle.ls_frame.specs.Reading.{◌>>=◌, heading_at, samples_at, picture_of, raster_at, image_at}
 use Rattle.ls_frame.specs.Laws.{ReadsSpellings, SpellingsAreRead, ReadsNothingAtEnd, FaultsBreak, BreaksAreFaults}
-use Rattle.ls_frame.proofs.TakeLemmas.{Takes, outcome_of_both}
+use Rattle.ls_frame.proofs.TakeLemmas.{outcome_of_both}
 use Rattle.ls_frame.proofs.HeadingLaws.{HeadingRead, HeadingFault, in_heading, of_size, of_maxval, heading_outcome}
 use Rattle.ls_frame.proofs.RasterLaws.{RasterRead, RasterBegun, RasterFault, ends_early, exceeds, samples_outcome, raster_read}
-use Rattle.ls_frame.proofs.SpellingLaws.{header_of, heading_passes}
+use Rattle.ls_frame.proofs.BreakLaws.{stop_fails, width_fails, height_fails, maxval_fails, over_fails, short_fails}
+use Rattle.ls_frame.proofs.SpellingLaws.{header_of, behind_heading}
 
 -- ---- faults in the header
 
@@ -143,16 +144,6 @@ image_outcome (first ∷ bytes) =
 
 -- ---- what the grammar says is read
 
--- bytes that begin with a header
-pub behind_heading : (bytes rest : List ℕ) (h : Heading) → IsHeading h → bytes ≡ heading_bytes h ++ rest → image_at bytes ≡ (raster_at (header_of h) rest >>= λ found. Ok (Some found))
-unfolding image_at
-behind_heading [] rest h lawful whole = absurd (let size = simp length-append at (ap length whole) in omega arith)
-behind_heading (first ∷ bytes) rest h lawful whole =
-  let short = lawful.short in
-  let left : ℕ = most_heading - length (heading_bytes h) in
-  let taken : Takes most_heading (first ∷ bytes) (heading_bytes h) left rest = record { whole = whole; room_is = omega arith } in
-  ap (λ r. r >>= λ found. (raster_at found.0 found.2 >>= λ picture. Ok (Some picture))) (heading_passes h first (most_heading - 1) left bytes rest refl lawful taken)
-
 -- a picture's header
 abbrev frame_header : Picture → Header
 frame_header f = record { kind = f.kind; width = f.width; height = f.height; maxval = f.maxval }
@@ -179,3 +170,16 @@ reads_nothing_at_end bytes read = MatchResult-at_ok (ImageRead bytes) (Breaks by
 
 pub faults_break : FaultsBreak
 faults_break bytes fault read = MatchResult-at_err (ImageRead bytes) (Breaks bytes) fault read (image_outcome bytes)
+
+pub breaks_are_faults : BreaksAreFaults
+breaks_are_faults bytes BadMagic stop = stop_fails bytes BadMagic stop
+breaks_are_faults bytes BadHeader stop = stop_fails bytes BadHeader stop
+breaks_are_faults bytes HeaderTooLong stop = stop_fails bytes HeaderTooLong stop
+breaks_are_faults bytes SizeOutOfRange (inl width) = width_fails bytes width
+breaks_are_faults bytes SizeOutOfRange (inr height) = height_fails bytes height
+breaks_are_faults bytes MaxvalOutOfRange maxval = maxval_fails bytes maxval
+breaks_are_faults bytes SampleTooLarge over = over_fails bytes over
+breaks_are_faults bytes Truncated (inl stop) = stop_fails bytes Truncated stop
+breaks_are_faults bytes Truncated (inr short) = short_fails bytes short
+breaks_are_faults bytes Io none = absurd none
+breaks_are_faults bytes NoMemory none = absurd none

@@ -1,3 +1,4 @@
+pub mod BreakLaws
 pub mod ExponentLemmas
 pub mod GapLaws
 pub mod HeadingLaws

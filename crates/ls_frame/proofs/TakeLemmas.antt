@@ -1,8 +1,8 @@
 -- Bytes taken off the front, where reading stops behind them, and what steps in a row come to.
-use Rattle.std.proofs.Common.{◌≡◌, ℕ, suc, ◌+◌, ◌<◌, Bool, true, false, List, [], ◌∷◌, ◌++◌, length, Result, Ok, Err, MatchResult, refl, sym, ap, ◌∙◌, arith, length-append, append_assoc}
+use Rattle.std.proofs.Common.{◌≡◌, ℕ, suc, ◌+◌, ◌-◌, ◌<◌, Bool, true, false, List, [], ◌∷◌, ◌++◌, length, Result, Ok, Err, MatchResult, refl, sym, ap, ◌∙◌, arith, length-append, append_assoc, append-nil}
 use Rattle.ls_frame.specs.declared.netpbm.NetpbmFault.{NetpbmFault}
-use Rattle.ls_frame.specs.Faults.{Due, Stops, too_long, ends, refuses}
-use Rattle.ls_frame.specs.Reading.{◌>>=◌, wanted}
+use Rattle.ls_frame.specs.Faults.{Due, allows, fault_at, Stops, too_long, ends, refuses}
+use Rattle.ls_frame.specs.Reading.{◌>>=◌, wanted, byte_at}
 
 -- ---- bytes taken
 
@@ -33,6 +33,17 @@ takes_more {front = front} {back = back} {rest = rest} first second = record {
 pub takes_as : {room left : ℕ} {bytes front front' rest : List ℕ} → Takes room bytes front left rest → front ≡ front' → Takes room bytes front' left rest
 takes_as taken same = rw (← same) taken
 
+-- ---- bytes taken, in two parts
+
+pub takes_first : (front back : List ℕ) {room left : ℕ} {bytes rest : List ℕ} → Takes room bytes (front ++ back) left rest → Takes room bytes front (length back + left) (back ++ rest)
+takes_first front back {rest = rest} taken = record { whole = taken.whole ∙ append_assoc front back rest; room_is = let e = simp length-append at taken.room_is in omega arith }
+
+pub takes_second : (back : List ℕ) (left : ℕ) (rest : List ℕ) → Takes (length back + left) (back ++ rest) back left rest
+takes_second back left rest = record { whole = refl; room_is = refl }
+
+pub takes_last : (front : List ℕ) (c : ℕ) {room left : ℕ} {bytes rest : List ℕ} → Takes room bytes (front ++ c ∷ []) left rest → Takes room bytes front (suc left) (c ∷ rest)
+takes_last front c {rest = rest} taken = record { whole = taken.whole ∙ append_assoc front (c ∷ []) rest; room_is = let e = simp length-append at taken.room_is in omega arith }
+
 -- ---- where reading stops
 
 pub stops_cons : {room : ℕ} {bytes front : List ℕ} {d : Due} {fault : NetpbmFault} (c : ℕ) → Stops room bytes front d fault → Stops (suc room) (c ∷ bytes) (c ∷ front) d fault
@@ -52,6 +63,26 @@ stops_behind {front = front} {back = back} taken (refuses c rest whole some not_
 
 pub stops_as : {room : ℕ} {bytes front front' : List ℕ} {d : Due} {fault : NetpbmFault} → Stops room bytes front d fault → front ≡ front' → Stops room bytes front' d fault
 stops_as stops same = rw (← same) stops
+
+-- ---- where reading stops, seen from there
+
+pub data StopsHere (room : ℕ) (bytes : List ℕ) (d : Due) (fault : NetpbmFault) : Type 0 where
+  no_byte : byte_at room bytes ≡ Err fault → StopsHere room bytes d fault
+  refused : (c left : ℕ) (rest : List ℕ) → byte_at room bytes ≡ Ok (c, left, rest) → allows d c ≡ false → fault ≡ fault_at d → StopsHere room bytes d fault
+
+pub record StopsBehind (room : ℕ) (bytes front : List ℕ) (d : Due) (fault : NetpbmFault) : Type 0 where
+  pub left : ℕ
+  pub rest : List ℕ
+  pub takes : Takes room bytes front left rest
+  pub here : StopsHere left rest d fault
+
+pub stops_seen : {room : ℕ} {bytes front : List ℕ} {d : Due} {fault : NetpbmFault} → Stops room bytes front d fault → StopsBehind room bytes front d fault
+stops_seen (too_long rest whole all is) = record { left = 0; rest = rest; takes = record { whole = whole; room_is = omega arith }; here = no_byte (rw is refl) }
+stops_seen {room = room} {front = front} (ends whole some is) = record {
+  left = suc (room - suc (length front)); rest = []; takes = record { whole = whole ∙ sym (append-nil front); room_is = omega arith }; here = no_byte (rw is refl) }
+stops_seen {room = room} {front = front} (refuses c rest whole some not_allowed is) = record {
+  left = suc (room - suc (length front)); rest = c ∷ rest; takes = record { whole = whole; room_is = omega arith };
+  here = refused c (room - suc (length front)) rest refl not_allowed is }
 
 -- ---- steps in a row
 
