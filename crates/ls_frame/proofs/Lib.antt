@@ -1,6 +1,14 @@
+pub mod BreakLaws
 pub mod ExponentLemmas
 pub mod FilmLemmas
+pub mod GapLaws
+pub mod HeadingLaws
+pub mod ImageLaws
 pub mod KnownLemmas
+pub mod NumberLaws
+pub mod RasterLaws
 pub mod RasterLemmas
 pub mod SampleLemmas
+pub mod SpellingLaws
 pub mod StepLemmas
+pub mod TakeLemmas

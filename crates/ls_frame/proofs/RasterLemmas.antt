@@ -83,7 +83,7 @@ begun_of-one piece filled some within odd =
 
 -- ---- the samples of a piece
 
-with_front-all : (front back : List ℕ) (read : Take (List ℕ)) → with_front front (with_front back read) ≡ with_front (front ++ back) read
+pub with_front-all : (front back : List ℕ) (read : Take (List ℕ)) → with_front front (with_front back read) ≡ with_front (front ++ back) read
 with_front-all front back (Ok found) = ap (λ s. Ok (s, found.1)) (sym (append_assoc front back found.0))
 with_front-all front back (Err fault) = refl
 

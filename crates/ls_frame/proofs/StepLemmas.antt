@@ -73,7 +73,7 @@ white_no_hash c h = rw h refl
 digit_least : (c : ℕ) → is_digit c ≡ true → 48 ≤ c
 digit_least c h = leb-true 48 c (and_parts (leb 48 c) (leb c 57) h).0
 
-white_no_digit : (c : ℕ) → is_digit c ≡ true → is_white c ≡ false
+pub white_no_digit : (c : ℕ) → is_digit c ≡ true → is_white c ≡ false
 white_no_digit c h =
     let low = digit_least c h in
     or_from _ _ (or_from _ _ (or_from _ _ (ne_eqb c 32 (λ e. omega arith)) (ne_eqb c 9 (λ e. omega arith))) (ne_eqb c 13 (λ e. omega arith))) (ne_eqb c 10 (λ e. omega arith))

@@ -64,35 +64,33 @@ fault_at blank_or_digit = BadHeader
 fault_at comment_text = BadHeader
 fault_at digit_or_white = BadHeader
 
--- The beginning of a field: nothing; a gap so far; a gap and an open comment; a gap and digits.
+-- The beginning of a field: a gap so far; a gap and an open comment; a gap and digits.
 pub data Start : Type 0 where
-  nothing : Start
   gap : Gap → Start
   open_comment : Gap → List ℕ → Start
   digits : Gap → List ℕ → Start
 
 abbrev pub IsStart : Start → Type 0
-IsStart nothing = Unit {0}
 IsStart (gap g) = IsGap g
 IsStart (open_comment g text) = IsGap g × AllByRecursion (λ c. IsTrue (not (is_line_end c))) text
 IsStart (digits g ds) = IsGap g × IsNumber ds
 
 abbrev pub start_bytes : Start → List ℕ
-start_bytes nothing = []
 start_bytes (gap g) = gap_bytes g
 start_bytes (open_comment g text) = gap_bytes g ++ 35 ∷ text
 start_bytes (digits g ds) = gap_bytes g ++ ds
 
 abbrev pub start_due : Start → Due
-start_due nothing = gap_start
 start_due (gap g) = blank_or_digit
 start_due (open_comment g text) = comment_text
 start_due (digits g ds) = digit_or_white
 
--- The beginning of a header: less than the magic, or the magic, whole fields within their ranges, and a start.
+-- The beginning of a header: the magic or less, or the magic, whole fields within their ranges, and a start. Digits
+-- with nothing behind them are a start, and not a whole field: a digit may follow.
 pub data Beginning : Type 0 where
   empty : Beginning
   one_letter : Beginning
+  only_magic : Kind → Beginning
   in_width : Kind → Start → Beginning
   in_height : Kind → Field → Start → Beginning
   in_maxval : Kind → Field → Field → Start → Beginning
@@ -111,6 +109,7 @@ pub record IsSize (kind : Kind) (w h : Field) : Type 0 where
 abbrev pub IsBeginning : Beginning → Type 0
 IsBeginning empty = Unit {0}
 IsBeginning one_letter = Unit {0}
+IsBeginning (only_magic kind) = Unit {0}
 IsBeginning (in_width kind s) = IsStart s
 IsBeginning (in_height kind w s) = IsWidth w × IsStart s
 IsBeginning (in_maxval kind w h s) = IsSize kind w h × IsStart s
@@ -118,6 +117,7 @@ IsBeginning (in_maxval kind w h s) = IsSize kind w h × IsStart s
 abbrev pub beginning_bytes : Beginning → List ℕ
 beginning_bytes empty = []
 beginning_bytes one_letter = 80 ∷ []
+beginning_bytes (only_magic kind) = magic kind
 beginning_bytes (in_width kind s) = magic kind ++ start_bytes s
 beginning_bytes (in_height kind w s) = magic kind ++ field_bytes w ++ start_bytes s
 beginning_bytes (in_maxval kind w h s) = magic kind ++ field_bytes w ++ field_bytes h ++ start_bytes s
@@ -125,6 +125,7 @@ beginning_bytes (in_maxval kind w h s) = magic kind ++ field_bytes w ++ field_by
 abbrev pub due : Beginning → Due
 due empty = letter
 due one_letter = kind_digit
+due (only_magic kind) = gap_start
 due (in_width kind s) = start_due s
 due (in_height kind w s) = start_due s
 due (in_maxval kind w h s) = start_due s
