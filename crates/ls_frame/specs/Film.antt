@@ -14,6 +14,15 @@ Tells bytes = IsSome bytes
 abbrev pub Gave : Option (List ℕ) → Option (List ℕ) → (List ℕ → Type 0) → Type 0
 Gave old new P = Tells old → Tells new × (bytes : List ℕ) × (known old ≡ bytes ++ known new) × P bytes
 
+-- The reader was at its end, and no byte was read.
+abbrev pub WasAtEnd : Option (List ℕ) → Option (List ℕ) → Type 0
+WasAtEnd old new = Tells old → Tells new × (known old ≡ []) × (known new ≡ [])
+
+-- The bytes break with this fault, and no image stands at their front.
+pub record IsBroken (bytes : List ℕ) (fault : NetpbmFault) : Type 0 where
+  pub breaks : Breaks bytes fault
+  pub no_image : NoImage bytes
+
 -- The bytes are a film: images of these frames, one behind the other with nothing between.
 abbrev pub IsFilm : List ℕ → List Picture → Type 0
 IsFilm bytes [] = bytes ≡ []
@@ -26,11 +35,6 @@ GaveFrames old new frames = Gave old new (λ bytes. IsFilm bytes frames)
 -- The reader gave this film, and is at its end.
 abbrev pub GaveFilm : Option (List ℕ) → Option (List ℕ) → List Picture → Type 0
 GaveFilm old new frames = Tells old → Tells new × (known new ≡ []) × IsFilm (known old) frames
-
--- The bytes break with this fault, and no image stands at their front.
-pub record IsBroken (bytes : List ℕ) (fault : NetpbmFault) : Type 0 where
-  pub breaks : Breaks bytes fault
-  pub no_image : NoImage bytes
 
 -- The input begins with these frames, and what follows them is broken.
 abbrev pub IsBrokenBehind : Option (List ℕ) → List Picture → NetpbmFault → Type 0

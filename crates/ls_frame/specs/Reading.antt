@@ -1,5 +1,5 @@
 -- Reading an image off a list of bytes, piece by piece. The grammar is in `Netpbm`, and tied to this by laws.
-use Rattle.std.specs.Prelude.{◌≡◌, ℕ, zero, suc, ◌+◌, ◌-◌, ◌*◌, min, ◌&&◌, ◌==◌, Bool, true, false, nat_lt, nat_le, IsTrue, IsSome, if◌then◌else◌, List, [], ◌∷◌, ◌++◌, Option, None, Some, unwrap_or, Result, Ok, Err, MatchResult}
+use Rattle.std.specs.Prelude.{◌≡◌, ℕ, zero, suc, ◌+◌, ◌-◌, ◌*◌, min, ◌&&◌, ◌==◌, Bool, true, false, nat_lt, nat_le, IsTrue, IsSome, if◌then◌else◌, List, [], ◌∷◌, ◌++◌, Option, None, Some, unwrap_or, Result, Ok, Err, MatchResult, MatchOption}
 use Rattle.std.specs.List.{list_all}
 use Rattle.ls_frame.specs.declared.frame.Kind.{Kind}
 use Rattle.ls_frame.specs.declared.frame.Kind.TheVariants.{Gray, Color}
@@ -179,3 +179,11 @@ abbrev pub GivesTake : {X Y : Type 0} → (X → Y) → Option (List ℕ) → Op
 GivesTake view old new result take = IsSome old → MatchResult result
     (λ x. IsSome new × (take ≡ Ok (view x, known new)))
     (λ fault. IsTrue (blames_bytes fault) → take ≡ Err fault)
+
+-- The same of the next image: `Ok(None)` is the end, and no byte was read.
+abbrev pub GivesImage : Option (List ℕ) → Option (List ℕ) → Result (Option Picture) NetpbmFault → Type 0
+GivesImage old new result = IsSome old → MatchResult result
+  (λ next. IsSome new × MatchOption next
+    ((known new ≡ []) × (image_at (known old) ≡ Ok None))
+    (λ f. image_at (known old) ≡ Ok (Some (f, known new))))
+  (λ fault. IsTrue (blames_bytes fault) → image_at (known old) ≡ Err fault)

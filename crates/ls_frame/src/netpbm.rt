@@ -2,10 +2,12 @@
 mod header;
 mod raster;
 
-ghost use Rattle.std.specs.Prelude.{◌≡◌, IsSome, IsTrue, Ok, Err, None, Some, [], MatchResult, MatchOption};
+ghost use Rattle.std.specs.Prelude.{◌≡◌, ◌≤◌, ◌⊎◌, IsTrue, IfOk, IfErr, IfSome, IfNone, [], length, take};
 ghost use Rattle.ls_frame.specs.Devices.{count_after};
 ghost use Rattle.ls_frame.specs.Faults.{blames_bytes, failed_device};
-ghost use Rattle.ls_frame.specs.Reading.{known, image_at};
+ghost use Rattle.ls_frame.specs.Film.{Tells, Gave, WasAtEnd, IsBroken};
+ghost use Rattle.ls_frame.specs.Netpbm.{Spells};
+ghost use Rattle.ls_frame.specs.Reading.{known, GivesImage};
 
 use crate::device::{Failed, Feed};
 use crate::frame::Frame;
@@ -60,11 +62,7 @@ impl From<AllocError> for NetpbmFault {
 /// The next image, read as `image_at` reads.
 #[tactic(auto, unfolding(crate::specs::Reading::image_at))]
 fn read_image<R: Feed>(alloc: Global, reader: &mut R) -> Result<Option<Frame>, NetpbmFault>
-    ensures bytes { IsSome (R.remaining reader.old) → MatchResult result
-        (λ next. IsSome (R.remaining reader.new) × MatchOption next
-        ((known (R.remaining reader.new) ≡ []) × (image_at (known (R.remaining reader.old)) ≡ Ok None))
-        (λ f. image_at (known (R.remaining reader.old)) ≡ Ok (Some (f, known (R.remaining reader.new)))))
-        (λ fault. IsTrue (blames_bytes fault) → image_at (known (R.remaining reader.old)) ≡ Err fault) }
+    ensures bytes { GivesImage (R.remaining reader.old) (R.remaining reader.new) result }
     ensures failures { R.failed_reads reader.new ≡ count_after (failed_device result) (R.failed_reads reader.old) }
 {
     let mut first = [0u8; 1];
@@ -87,9 +85,32 @@ fn read_image<R: Feed>(alloc: Global, reader: &mut R) -> Result<Option<Frame>, N
 
 /// Reads one image and not a byte more; `None` exactly at the end of input.
 ///
-/// After a fault nothing is said of the reader's place.
+/// Where the reader tells its bytes, the clauses say which they were. After a fault nothing is said of the
+/// reader's place.
 pub fn next_frame<R: Feed>(alloc: Global, reader: &mut R) -> Result<Option<Frame>, NetpbmFault>
+    // The bytes that were read spell the frame.
+    ensures frame { IfOk result (λ next. IfSome next
+        (λ f. Gave (R.remaining reader.old) (R.remaining reader.new) (λ image. Spells image f))) }
+    ensures end { IfOk result (λ next. IfNone next (WasAtEnd (R.remaining reader.old) (R.remaining reader.new))) }
+    // What was left breaks so, and begins with no image.
+    ensures broken { IfErr result (λ fault. IsTrue (blames_bytes fault) →
+        Tells (R.remaining reader.old) → IsBroken (known (R.remaining reader.old)) fault) }
     ensures failures { R.failed_reads reader.new ≡ count_after (failed_device result) (R.failed_reads reader.old) }
 {
     read_image(alloc, reader)
+}
+
+/// Reads the image at the front of `bytes`, and says how many of them it takes; `None` exactly where
+/// there are none.
+pub fn first_frame(alloc: Global, bytes: &[u8]) -> Result<Option<(Frame, usize)>, NetpbmFault>
+    ensures frame { IfOk result (λ next. IfSome next (λ found. Spells (take found.1 bytes.now) found.0)) }
+    ensures within { IfOk result (λ next. IfSome next (λ found. found.1 ≤ length bytes.now)) }
+    ensures end { IfOk result (λ next. IfNone next (bytes.now ≡ [])) }
+    ensures broken { IfErr result (λ fault. (fault ≡ NetpbmFault.NoMemory) ⊎ IsBroken bytes.now fault) }
+{
+    let mut rest = bytes;
+    match next_frame(alloc, &mut rest)? {
+        None => Ok(None),
+        Some(frame) => Ok(Some((frame, bytes.len() - rest.len()))),
+    }
 }
