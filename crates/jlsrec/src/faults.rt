@@ -3,29 +3,34 @@ use ls_frame::NetpbmFault;
 use std::alloc::AllocError;
 use thiserror::Error;
 
+/// The most frames of a film.
+pub const MOST_FRAMES: u64 = 4_294_967_295;
+
 /// Why an engine that reads a film and writes a text of its frames stopped.
 #[derive(Clone, Copy, Debug, Drop, PartialEq, Eq, Error)]
 pub enum FilmFault {
-    /// The frame of this number, from 0, can't be read. What belongs to the frames before it was written.
+    /// The frame of this number, from 0, can't be read. The text of exactly the frames before it was written.
     #[error("frame {0}: {1}")]
     Input(u64, NetpbmFault),
-    /// A write failed when exactly so many bytes had gone out.
+    /// A write failed when exactly so many bytes of the text had gone out.
     #[error("output failed after {0} bytes")]
     Output(u64),
-    /// Memory was refused. What belongs to the first frames was written.
+    /// Memory was refused. The text of the first frames was written.
     #[error("no memory")]
     NoMemory,
-    /// A frame numbered 4,294,967,295. What belongs to the frames before it was written.
+    /// A frame numbered 4,294,967,295. The text of the frames before it was written.
     #[error("too many frames")]
     TooMany,
 }
 
-/// The most frames of a film.
-pub const MOST_FRAMES: u64 = 4_294_967_295;
-
 impl FilmFault {
+    ghost use Rattle.std.specs.Prelude.{◌≡◌};
+    ghost use Rattle.jlsrec.specs.Stopping.{input_fault};
+
     /// What a fault of the frame of this number is to the engine that reads it.
-    pub fn of_frame(number: u64, fault: NetpbmFault) -> FilmFault {
+    pub fn of_frame(number: u64, fault: NetpbmFault) -> FilmFault
+        ensures { result ≡ input_fault number fault }
+    {
         match fault {
             NetpbmFault::NoMemory => FilmFault::NoMemory,
             fault => FilmFault::Input(number, fault),
@@ -34,6 +39,10 @@ impl FilmFault {
 }
 
 impl From<AllocError> for FilmFault {
+    ghost use Rattle.std.specs.Prelude.{◌≡◌};
+    ghost use Rattle.jlsrec.specs.declared.faults.FilmFault.TheVariants.{NoMemory};
+    ghost from_gives = { λ _ fault. fault ≡ NoMemory };
+
     fn from(_refused: AllocError) -> FilmFault {
         FilmFault::NoMemory
     }

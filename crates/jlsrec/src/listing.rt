@@ -1,10 +1,14 @@
 //! `list`: a line for each frame of a film.
 ghost use Rattle.std.specs.Prelude.{◌≡◌, ◌≤◌, IfOk, IfErr, length, string_bytes};
-ghost use Rattle.jlsrec.specs.Listing.{kind_text, columns, line};
+ghost use Rattle.ls_frame.specs.Devices.{count_after};
+ghost use Rattle.ls_frame.specs.Engine.{Completes};
+ghost use Rattle.jlsrec.specs.Listing.{kind_text, columns, line, lines};
+ghost use Rattle.jlsrec.specs.Stopping.{Stops, failed_reader, failed_writer};
 
 use crate::faults::{FilmFault, MOST_FRAMES};
 use itoa::Buffer;
-use ls_frame::{Feed, Frame, Kind, Outlet, Presets, next_frame, write_bytes};
+use crate::film::{next_of_film, write_piece};
+use ls_frame::{Feed, Frame, Kind, Outlet, Presets};
 use std::alloc::{AllocError, Global};
 
 fn kind_text(kind: Kind) -> &'static str
@@ -51,27 +55,31 @@ fn line_of(alloc: Global, number: u64, frame: &Frame) -> Result<String, AllocErr
     Ok(line)
 }
 
-/// Writes a line for each frame of a film.
+/// Writes the line of each frame of a film, and says how many there were.
+///
+/// Where reader and writer tell their bytes, the clauses say which were read and written. After a fault
+/// nothing is said of the reader's place.
 pub fn list_film<R: Feed, W: Outlet>(
     alloc: Global,
     reader: &mut R,
     writer: &mut W,
-) -> Result<u64, FilmFault> {
-    let mut written = 0u64;
+) -> Result<u64, FilmFault>
+    ensures completes { IfOk result (Completes lines
+        (R.remaining reader.old) (R.remaining reader.new) (W.contents writer.old) (W.contents writer.new)) }
+    ensures stops { IfErr result (Stops lines
+        (R.remaining reader.old) (R.remaining reader.new) (W.contents writer.old) (W.contents writer.new)) }
+    ensures reads { R.failed_reads reader.new ≡ count_after (failed_reader result) (R.failed_reads reader.old) }
+    ensures writes { W.failed_writes writer.new ≡ count_after (failed_writer result) (W.failed_writes writer.old) }
+{
+    let mut written = 0;
     for number in 0..MOST_FRAMES {
-        let Some(frame) = next_frame(alloc, reader).map_err(|fault| FilmFault::of_frame(
-            number, fault,
-        ))?
-        else {
+        let Some(frame) = next_of_film(alloc, reader, number)? else {
             return Ok(number);
         };
         let line = line_of(alloc, number, &frame)?;
-        if let Err(fault) = write_bytes(writer, line.as_bytes()) {
-            return Err(FilmFault::Output(written.wrapping_add(fault.written as u64)));
-        }
-        written = written.wrapping_add(line.len() as u64);
+        written = write_piece(writer, line.as_bytes(), written)?;
     }
-    match next_frame(alloc, reader).map_err(|fault| FilmFault::of_frame(MOST_FRAMES, fault))? {
+    match next_of_film(alloc, reader, MOST_FRAMES)? {
         None => Ok(MOST_FRAMES),
         Some(_) => Err(FilmFault::TooMany),
     }

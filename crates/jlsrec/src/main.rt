@@ -3,6 +3,7 @@
 
 mod command_line;
 mod faults;
+mod film;
 mod listing;
 mod program;
 

@@ -1,4 +1,5 @@
 pub mod BreakLaws
+pub mod EngineLemmas
 pub mod ExponentLemmas
 pub mod FilmLemmas
 pub mod GapLaws

@@ -49,3 +49,11 @@ module _ (text : List Picture → List ℕ) (read read' written written' : Optio
     pub count : length frames ≡ most_frames
     pub gave : GaveFrames read read' (frames ++ last ∷ [])
     pub wrote : Appends written written' (text frames)
+
+  -- So far n frames were read, and their text, of this many bytes, was written.
+  pub record HasRun (n bytes : ℕ) : Type 0 where
+    pub frames : List Picture
+    pub count : length frames ≡ n
+    pub gave : GaveFrames read read' frames
+    pub wrote : Appends written written' (text frames)
+    pub bytes_are : bytes ≡ length (text frames)
