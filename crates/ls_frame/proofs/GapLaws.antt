@@ -1,13 +1,13 @@
 -- The rest of a gap: what reading takes of it, where reading stops in it, and that what a gap says is read.
-use Rattle.std.proofs.Common.{◌≡◌, ℕ, zero, suc, ◌+◌, Bool, true, false, ◌||◌, cond, not, IsTrue, List, [], ◌∷◌, ◌++◌, length, MatchResult, Ok, Err, refl, sym, ap, ◌∙◌, arith, length-append, append_assoc}
+use Rattle.std.proofs.Common.{◌≡◌, ℕ, zero, suc, ◌+◌, Bool, true, false, ◌||◌, not, IsTrue, List, [], ◌∷◌, ◌++◌, length, MatchResult, Ok, Err, refl, ap, ◌∙◌, arith, length-append, append_assoc}
 use Rattle.std.specs.List.{AllByRecursion}
 use Rattle.std.proofs.lemmas.Bool.{cond_both, cond-true, cond-false, eqb-true, not_from_false, not-true}
 use Rattle.ls_frame.specs.declared.netpbm.NetpbmFault.{NetpbmFault}
-use Rattle.ls_frame.specs.declared.netpbm.NetpbmFault.TheVariants.{BadHeader, HeaderTooLong, Truncated}
+use Rattle.ls_frame.specs.declared.netpbm.NetpbmFault.TheVariants.{BadHeader}
 use Rattle.ls_frame.specs.Netpbm.{is_white, is_line_end, is_digit, is_hash, Blank, white, comment, IsBlank, blank_bytes, blanks_bytes}
-use Rattle.ls_frame.specs.Faults.{Due, blank_or_digit, comment_text, Stops, too_long, ends, refuses}
-use Rattle.ls_frame.specs.Reading.{Step, gap_at}
-use Rattle.ls_frame.proofs.TakeLemmas.{Takes, takes_one, takes_cons, takes_more, takes_none, takes_as, stops_cons, stops_behind, outcome_weaker}
+use Rattle.ls_frame.specs.Faults.{blank_or_digit, comment_text, Stops, too_long, ends, refuses}
+use Rattle.ls_frame.specs.Reading.{gap_at}
+use Rattle.ls_frame.proofs.TakeLemmas.{Takes, takes_one, takes_cons, takes_more, takes_none, stops_cons, stops_behind, outcome_weaker}
 
 -- the characters of a comment's text
 abbrev pub IsText : List ℕ → Type 0
@@ -58,7 +58,7 @@ gap_more b is taken read = record { blanks = b ∷ read.blanks; each = (is, read
 gap_stops_more : {room left : ℕ} {bytes rest : List ℕ} {fault : NetpbmFault} (b : Blank) → IsBlank b → Takes room bytes (blank_bytes b) left rest → GapStops left rest fault → GapStops room bytes fault
 gap_stops_more b is taken (among_blanks blanks each stops) = among_blanks (b ∷ blanks) (is, each) (stops_behind taken stops)
 gap_stops_more b is taken (within_comment blanks text each those stops) =
-  within_comment (b ∷ blanks) text (is, each) those
+    within_comment (b ∷ blanks) text (is, each) those
     (rw append_assoc (stops_behind taken stops))
 
 -- ---- one byte more
@@ -108,33 +108,33 @@ unfolding gap_at
 gap_outcome true zero bytes = still_inside [] tt (too_long bytes refl refl refl)
 gap_outcome true (suc room) [] = still_inside [] tt (ends refl (omega arith) refl)
 gap_outcome true (suc room) (c ∷ bytes) =
-  cond_both (is_line_end c) (gap_at false room bytes) (gap_at true room bytes) (λ r. MatchResult r (GapFound true (suc room) (c ∷ bytes)) (GapFault true (suc room) (c ∷ bytes)))
+    cond_both (is_line_end c) (gap_at false room bytes) (gap_at true room bytes) (λ r. MatchResult r (GapFound true (suc room) (c ∷ bytes)) (GapFault true (suc room) (c ∷ bytes)))
     (λ closes. outcome_weaker (GapFound false room bytes) (GapFault false room bytes) (GapFound true (suc room) (c ∷ bytes)) (GapFault true (suc room) (c ∷ bytes)) (gap_at false room bytes)
-      (gap_outcome false room bytes)
-      (λ found read. record { left = room; rest = bytes; first = comment_end room c bytes closes; then = read })
-      (λ fault stops. behind room bytes (comment_end room c bytes closes) stops))
+    (gap_outcome false room bytes)
+    (λ found read. record { left = room; rest = bytes; first = comment_end room c bytes closes; then = read })
+    (λ fault stops. behind room bytes (comment_end room c bytes closes) stops))
     (λ goes_on. outcome_weaker (GapFound true room bytes) (GapFault true room bytes) (GapFound true (suc room) (c ∷ bytes)) (GapFault true (suc room) (c ∷ bytes)) (gap_at true room bytes)
-      (gap_outcome true room bytes)
-      (λ found read. open_more c (not_from_false _ goes_on) read)
-      (λ fault stops. open_stops_more c (not_from_false _ goes_on) stops))
+    (gap_outcome true room bytes)
+    (λ found read. open_more c (not_from_false _ goes_on) read)
+    (λ fault stops. open_stops_more c (not_from_false _ goes_on) stops))
 gap_outcome false zero bytes = among_blanks [] tt (too_long bytes refl refl refl)
 gap_outcome false (suc room) [] = among_blanks [] tt (ends refl (omega arith) refl)
 gap_outcome false (suc room) (c ∷ bytes) =
-  cond_both (is_white c) (gap_at false room bytes) _ (λ r. MatchResult r (GapFound false (suc room) (c ∷ bytes)) (GapFault false (suc room) (c ∷ bytes)))
+    cond_both (is_white c) (gap_at false room bytes) _ (λ r. MatchResult r (GapFound false (suc room) (c ∷ bytes)) (GapFault false (suc room) (c ∷ bytes)))
     (λ is. outcome_weaker (GapFound false room bytes) (GapFault false room bytes) (GapFound false (suc room) (c ∷ bytes)) (GapFault false (suc room) (c ∷ bytes)) (gap_at false room bytes)
-      (gap_outcome false room bytes)
-      (λ found read. gap_more (white c) is (takes_one c room bytes) read)
-      (λ fault stops. gap_stops_more (white c) is (takes_one c room bytes) stops))
+    (gap_outcome false room bytes)
+    (λ found read. gap_more (white c) is (takes_one c room bytes) read)
+    (λ fault stops. gap_stops_more (white c) is (takes_one c room bytes) stops))
     (λ no_white.
-      cond_both (is_hash c) (gap_at true room bytes) _ (λ r. MatchResult r (GapFound false (suc room) (c ∷ bytes)) (GapFault false (suc room) (c ∷ bytes)))
-        (λ is. outcome_weaker (GapFound true room bytes) (GapFault true room bytes) (GapFound false (suc room) (c ∷ bytes)) (GapFault false (suc room) (c ∷ bytes)) (gap_at true room bytes)
-          (gap_outcome true room bytes)
-          (λ found read. hash_more c is read)
-          (λ fault stops. hash_stops_more c is stops))
-        (λ no_hash.
-          cond_both (is_digit c) (Ok (c, room, bytes)) (Err BadHeader) (λ r. MatchResult r (GapFound false (suc room) (c ∷ bytes)) (GapFault false (suc room) (c ∷ bytes)))
-            (λ is. digit_here room c bytes is)
-            (λ no_digit. among_blanks [] tt (refuses c bytes refl (omega arith) (none_allowed c no_white no_hash no_digit) refl))))
+    cond_both (is_hash c) (gap_at true room bytes) _ (λ r. MatchResult r (GapFound false (suc room) (c ∷ bytes)) (GapFault false (suc room) (c ∷ bytes)))
+    (λ is. outcome_weaker (GapFound true room bytes) (GapFault true room bytes) (GapFound false (suc room) (c ∷ bytes)) (GapFault false (suc room) (c ∷ bytes)) (gap_at true room bytes)
+    (gap_outcome true room bytes)
+    (λ found read. hash_more c is read)
+    (λ fault stops. hash_stops_more c is stops))
+    (λ no_hash.
+    cond_both (is_digit c) (Ok (c, room, bytes)) (Err BadHeader) (λ r. MatchResult r (GapFound false (suc room) (c ∷ bytes)) (GapFault false (suc room) (c ∷ bytes)))
+    (λ is. digit_here room c bytes is)
+    (λ no_digit. among_blanks [] tt (refuses c bytes refl (omega arith) (none_allowed c no_white no_hash no_digit) refl))))
 
 -- ---- what a gap says is read
 
@@ -144,28 +144,28 @@ unfolding gap_at
 comment_passes [] bytes room left each is = let e : room ≡ left = omega arith in ap (λ r. gap_at true r bytes) e
 comment_passes (c ∷ text) bytes zero left each is = absurd (omega arith)
 comment_passes (c ∷ text) bytes (suc room) left each is =
-  cond-false (is_line_end c) _ _ (not-true _ each.0) ∙ comment_passes text bytes room left each.1 (omega arith)
+    cond-false (is_line_end c) _ _ (not-true _ each.0) ∙ comment_passes text bytes room left each.1 (omega arith)
 
 -- and behind a whole comment
 comment_ends : (text bytes : List ℕ) (end room left : ℕ) → IsText text → IsTrue (is_line_end end) → room ≡ length text + suc left
-  → gap_at true room (text ++ end ∷ bytes) ≡ gap_at false left bytes
+    → gap_at true room (text ++ end ∷ bytes) ≡ gap_at false left bytes
 unfolding gap_at
 comment_ends text bytes end room left each closes is =
-  comment_passes text (end ∷ bytes) room (suc left) each is ∙ cond-true (is_line_end end) _ _ closes
+    comment_passes text (end ∷ bytes) room (suc left) each is ∙ cond-true (is_line_end end) _ _ closes
 
 -- and behind parts of a gap
 pub gap_passes : (blanks : List Blank) (bytes : List ℕ) (room left : ℕ) → AreBlanks blanks → room ≡ length (blanks_bytes blanks) + left
-  → gap_at false room (blanks_bytes blanks ++ bytes) ≡ gap_at false left bytes
+    → gap_at false room (blanks_bytes blanks ++ bytes) ≡ gap_at false left bytes
 unfolding gap_at
 gap_passes [] bytes room left each is = let e : room ≡ left = omega arith in ap (λ r. gap_at false r bytes) e
 gap_passes (white c ∷ blanks) bytes zero left each is = absurd (omega arith)
 gap_passes (white c ∷ blanks) bytes (suc room) left each is = cond-true (is_white c) _ _ each.0 ∙ gap_passes blanks bytes room left each.1 (omega arith)
 gap_passes (comment text end ∷ blanks) bytes zero left each is = absurd (omega arith)
 gap_passes (comment text end ∷ blanks) bytes (suc room) left each is =
-  let regrouped : ((text ++ end ∷ []) ++ blanks_bytes blanks) ++ bytes ≡ text ++ (end ∷ (blanks_bytes blanks ++ bytes)) = simp append_assoc in
-  let size = simp length-append at is in
-  let behind : ℕ = length (blanks_bytes blanks) + left in
-  let far : room ≡ length text + suc behind = omega arith in
-  ap (λ bs. gap_at true room bs) regrouped
-  ∙ comment_ends text (blanks_bytes blanks ++ bytes) end room behind each.0.0 each.0.1 far
-  ∙ gap_passes blanks bytes behind left each.1 refl
+    let regrouped : ((text ++ end ∷ []) ++ blanks_bytes blanks) ++ bytes ≡ text ++ (end ∷ (blanks_bytes blanks ++ bytes)) = simp append_assoc in
+    let size = simp length-append at is in
+    let behind : ℕ = length (blanks_bytes blanks) + left in
+    let far : room ≡ length text + suc behind = omega arith in
+    ap (λ bs. gap_at true room bs) regrouped
+    ∙ comment_ends text (blanks_bytes blanks ++ bytes) end room behind each.0.0 each.0.1 far
+    ∙ gap_passes blanks bytes behind left each.1 refl

@@ -1,5 +1,5 @@
 -- Bytes taken off the front, where reading stops behind them, and what steps in a row come to.
-use Rattle.std.proofs.Common.{◌≡◌, ℕ, suc, ◌+◌, ◌-◌, ◌<◌, Bool, true, false, List, [], ◌∷◌, ◌++◌, length, Result, Ok, Err, MatchResult, refl, sym, ap, ◌∙◌, arith, length-append, append_assoc, append-nil}
+use Rattle.std.proofs.Common.{◌≡◌, ℕ, suc, ◌+◌, ◌-◌, Bool, true, false, List, [], ◌∷◌, ◌++◌, length, Result, Ok, Err, MatchResult, refl, sym, ap, ◌∙◌, arith, length-append, append_assoc, append-nil}
 use Rattle.ls_frame.specs.declared.netpbm.NetpbmFault.{NetpbmFault}
 use Rattle.ls_frame.specs.Faults.{Due, allows, fault_at, Stops, too_long, ends, refuses}
 use Rattle.ls_frame.specs.Reading.{◌>>=◌, wanted, byte_at}
@@ -23,10 +23,10 @@ takes_one c room rest = takes_cons c (takes_none room rest)
 
 -- one behind the other
 pub takes_more : {room between left : ℕ} {bytes front middle back rest : List ℕ} → Takes room bytes front between middle → Takes between middle back left rest
-  → Takes room bytes (front ++ back) left rest
+    → Takes room bytes (front ++ back) left rest
 takes_more {front = front} {back = back} {rest = rest} first second = record {
   whole = first.whole ∙ ap (λ bs. front ++ bs) second.whole ∙ sym (append_assoc front back rest);
-  room_is = simp length-append (let e = first.room_is in let f = second.room_is in omega arith)
+  room_is = simp length-append (let e = first.room_is in let f = second.room_is in omega arith);
 }
 
 -- the same bytes by another name
@@ -53,13 +53,13 @@ stops_cons c (refuses b rest whole some not_allowed is) = refuses b rest (ap (λ
 
 -- it stops behind what is taken
 pub stops_behind : {room left : ℕ} {bytes front rest back : List ℕ} {d : Due} {fault : NetpbmFault} → Takes room bytes front left rest → Stops left rest back d fault
-  → Stops room bytes (front ++ back) d fault
+    → Stops room bytes (front ++ back) d fault
 stops_behind {front = front} {back = back} taken (too_long rest whole all is) =
-  too_long rest (taken.whole ∙ ap (λ bs. front ++ bs) whole ∙ sym (append_assoc front back rest)) (simp length-append (let e = taken.room_is in omega arith)) is
+    too_long rest (taken.whole ∙ ap (λ bs. front ++ bs) whole ∙ sym (append_assoc front back rest)) (simp length-append (let e = taken.room_is in omega arith)) is
 stops_behind {front = front} {back = back} taken (ends whole some is) =
-  ends (taken.whole ∙ ap (λ bs. front ++ bs) whole) (simp length-append (let e = taken.room_is in omega arith)) is
+    ends (taken.whole ∙ ap (λ bs. front ++ bs) whole) (simp length-append (let e = taken.room_is in omega arith)) is
 stops_behind {front = front} {back = back} taken (refuses c rest whole some not_allowed is) =
-  refuses c rest (taken.whole ∙ ap (λ bs. front ++ bs) whole ∙ sym (append_assoc front back (c ∷ rest))) (simp length-append (let e = taken.room_is in omega arith)) not_allowed is
+    refuses c rest (taken.whole ∙ ap (λ bs. front ++ bs) whole ∙ sym (append_assoc front back (c ∷ rest))) (simp length-append (let e = taken.room_is in omega arith)) not_allowed is
 
 pub stops_as : {room : ℕ} {bytes front front' : List ℕ} {d : Due} {fault : NetpbmFault} → Stops room bytes front d fault → front ≡ front' → Stops room bytes front' d fault
 stops_as stops same = rw (← same) stops
@@ -79,32 +79,39 @@ pub record StopsBehind (room : ℕ) (bytes front : List ℕ) (d : Due) (fault : 
 pub stops_seen : {room : ℕ} {bytes front : List ℕ} {d : Due} {fault : NetpbmFault} → Stops room bytes front d fault → StopsBehind room bytes front d fault
 stops_seen (too_long rest whole all is) = record { left = 0; rest = rest; takes = record { whole = whole; room_is = omega arith }; here = no_byte (rw is refl) }
 stops_seen {room = room} {front = front} (ends whole some is) = record {
-  left = suc (room - suc (length front)); rest = []; takes = record { whole = whole ∙ sym (append-nil front); room_is = omega arith }; here = no_byte (rw is refl) }
+  left = suc (room - suc (length front));
+  rest = [];
+  takes = record { whole = whole ∙ sym (append-nil front); room_is = omega arith };
+  here = no_byte (rw is refl);
+}
 stops_seen {room = room} {front = front} (refuses c rest whole some not_allowed is) = record {
-  left = suc (room - suc (length front)); rest = c ∷ rest; takes = record { whole = whole; room_is = omega arith };
-  here = refused c (room - suc (length front)) rest refl not_allowed is }
+  left = suc (room - suc (length front));
+  rest = c ∷ rest;
+  takes = record { whole = whole; room_is = omega arith };
+  here = refused c (room - suc (length front)) rest refl not_allowed is;
+}
 
 -- ---- steps in a row
 
 -- what a second step gives, and how the first may fail
 pub outcome_of_both : {A B : Type 0} (P : A → Type 0) (Q : NetpbmFault → Type 0) (P' : B → Type 0) (Q' : NetpbmFault → Type 0) (r : Result A NetpbmFault) (f : A → Result B NetpbmFault)
-  → MatchResult r P Q → ((x : A) → P x → MatchResult (f x) P' Q') → ((fault : NetpbmFault) → Q fault → Q' fault) → MatchResult (r >>= f) P' Q'
+    → MatchResult r P Q → ((x : A) → P x → MatchResult (f x) P' Q') → ((fault : NetpbmFault) → Q fault → Q' fault) → MatchResult (r >>= f) P' Q'
 outcome_of_both P Q P' Q' (Ok x) f first second failed = second x first
 outcome_of_both P Q P' Q' (Err fault) f first second failed = failed fault first
 
 -- the same step with weaker words for it
 pub outcome_weaker : {A : Type 0} (P : A → Type 0) (Q : NetpbmFault → Type 0) (P' : A → Type 0) (Q' : NetpbmFault → Type 0) (r : Result A NetpbmFault)
-  → MatchResult r P Q → ((x : A) → P x → P' x) → ((fault : NetpbmFault) → Q fault → Q' fault) → MatchResult r P' Q'
+    → MatchResult r P Q → ((x : A) → P x → P' x) → ((fault : NetpbmFault) → Q fault → Q' fault) → MatchResult r P' Q'
 outcome_weaker P Q P' Q' (Ok x) outcome found failed = found x outcome
 outcome_weaker P Q P' Q' (Err fault) outcome found failed = failed fault outcome
 
 -- a test, and what follows it
 pub wanted_outcome : {A : Type 0} (P : A → Type 0) (Q : NetpbmFault → Type 0) (test : Bool) (fault : NetpbmFault) (next : Result A NetpbmFault)
-  → (test ≡ true → MatchResult next P Q) → (test ≡ false → Q fault) → MatchResult (wanted test fault >>= λ passed. next) P Q
+    → (test ≡ true → MatchResult next P Q) → (test ≡ false → Q fault) → MatchResult (wanted test fault >>= λ passed. next) P Q
 wanted_outcome P Q true fault next passes fails = passes refl
 wanted_outcome P Q false fault next passes fails = fails refl
 
 pub wanted_next_outcome : {A B : Type 0} (P : B → Type 0) (Q : NetpbmFault → Type 0) (test : Bool) (fault : NetpbmFault) (x : A) (f : A → Result B NetpbmFault)
-  → (test ≡ true → MatchResult (f x) P Q) → (test ≡ false → Q fault) → MatchResult ((wanted test fault >>= λ passed. Ok x) >>= f) P Q
+    → (test ≡ true → MatchResult (f x) P Q) → (test ≡ false → Q fault) → MatchResult ((wanted test fault >>= λ passed. Ok x) >>= f) P Q
 wanted_next_outcome P Q true fault x f passes fails = passes refl
 wanted_next_outcome P Q false fault x f passes fails = fails refl
