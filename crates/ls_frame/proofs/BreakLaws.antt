@@ -18,6 +18,7 @@ use Rattle.ls_frame.proofs.SpellingLaws.{digit_found, field_number_at, field_res
 
 -- ---- gaps and digits
 
+-- a byte that is no part of a gap and no digit
 gap_fails : (room : ℕ) (bytes : List ℕ) (fault : NetpbmFault) → StopsHere room bytes blank_or_digit fault → gap_at false room bytes ≡ Err fault
 gap_fails room bytes fault (no_byte none) = gap_at-fault false room bytes fault none
 gap_fails room bytes fault (refused c left rest found not_allowed is) =
@@ -25,10 +26,12 @@ gap_fails room bytes fault (refused c left rest found not_allowed is) =
     let neither = or_parts (is_white c) (is_hash c) no_digit.0 in
     gap_at-other room c left bytes rest found neither.0 (λ hash. both_ways (is_hash c) neither.1 (rw hash refl)) no_digit.1 ∙ ap Err (sym is)
 
+-- the end within a comment
 comment_fails : (room : ℕ) (bytes : List ℕ) (fault : NetpbmFault) → StopsHere room bytes comment_text fault → gap_at true room bytes ≡ Err fault
 comment_fails room bytes fault (no_byte none) = gap_at-fault true room bytes fault none
 comment_fails room bytes fault (refused c left rest found not_allowed is) = absurd (let bad : ⊥ = cc in bad)
 
+-- a byte behind digits that is neither one nor white space
 digits_fail : (n room : ℕ) (bytes : List ℕ) (fault : NetpbmFault) → StopsHere room bytes digit_or_white fault → digits_at n room bytes ≡ Err fault
 digits_fail n room bytes fault (no_byte none) = digits_at-fault n room bytes fault none
 digits_fail n room bytes fault (refused c left rest found not_allowed is) =
@@ -37,6 +40,7 @@ digits_fail n room bytes fault (refused c left rest found not_allowed is) =
 
 -- ---- the beginning of a field
 
+-- its first white space, and the rest
 abbrev start_first : Start → ℕ
 start_first (gap g) = g.first
 start_first (open_comment g text) = g.first
@@ -47,11 +51,13 @@ start_rest (gap g) = blanks_bytes g.blanks
 start_rest (open_comment g text) = blanks_bytes g.blanks ++ 35 ∷ text
 start_rest (digits g ds) = blanks_bytes g.blanks ++ ds
 
+-- these are its bytes
 start_parts : (s : Start) → start_bytes s ≡ start_first s ∷ start_rest s
 start_parts (gap g) = refl
 start_parts (open_comment g text) = refl
 start_parts (digits g ds) = refl
 
+-- it begins with white space
 start_white : (s : Start) → IsStart s → IsTrue (is_white (start_first s))
 start_white (gap g) lawful = lawful.first
 start_white (open_comment g text) lawful = lawful.0.first
@@ -61,9 +67,11 @@ start_white (digits g ds) lawful = lawful.0.first
 gap_failed : (room : ℕ) (bytes : List ℕ) (fault : NetpbmFault) → gap_at false room bytes ≡ Err fault → number_at room bytes ≡ Err fault
 gap_failed room bytes fault failed = rw failed refl
 
+-- `#` opens a comment
 hash_passes : (room : ℕ) (bytes : List ℕ) → gap_at false (suc room) (35 ∷ bytes) ≡ gap_at true room bytes
 hash_passes room bytes = gap_at-hash (suc room) 35 room (35 ∷ bytes) bytes refl refl
 
+-- a number fails where its start stops
 start_fails : (s : Start) (room left : ℕ) (bytes rest : List ℕ) (fault : NetpbmFault) → IsStart s → Takes room bytes (start_rest s) left rest → StopsHere left rest (start_due s) fault
     → number_at room bytes ≡ Err fault
 start_fails (gap g) room left bytes rest fault lawful taken here =
@@ -85,24 +93,29 @@ start_fails (digits g (d ∷ ds)) room left bytes rest fault lawful taken here =
     ∙ digits_pass ds rest (d - 48) (length ds + left) left lawful.1.each.1 refl
     ∙ digits_fail (followed_capped (d - 48) ds) left rest fault here
 
+-- and with it the field
 in_range_start_fails : (range_fault : NetpbmFault) (s : Start) (room left : ℕ) (bytes rest : List ℕ) (fault : NetpbmFault) → IsStart s → Takes room bytes (start_rest s) left rest → StopsHere left rest (start_due s) fault
     → in_range_at range_fault room bytes ≡ Err fault
 in_range_start_fails range_fault s room left bytes rest fault lawful taken here = rw (start_fails s room left bytes rest fault lawful taken here) refl
 
 -- ---- fields
 
+-- a number out of its range fails
 in_range_fails : (fault : NetpbmFault) (n : ℕ) → ¬ InRange n → in_range fault (capped n) ≡ Err fault
 in_range_fails fault n out =
     cond-false (ltb 0 (capped n) && leb (capped n) greatest) _ _ (false_from_ne_true _ (λ test. out (in_range_if (capped n) n refl test)))
 
+-- and with it the field
 field_out : (fault : NetpbmFault) (f : Field) (white room left : ℕ) (bytes rest : List ℕ) → IsField f → ¬ InRange (field_number f) → IsTrue (is_white white) → Takes room bytes (field_rest f white) left rest
     → in_range_at fault room bytes ≡ Err fault
 field_out fault f white room left bytes rest lawful out behind taken =
     rw (field_number_at f white room left bytes rest lawful behind taken, in_range_fails fault (field_number f) out) refl
 
+-- a start behind others, from its first white space on
 start_as : (before : List ℕ) (s : Start) → before ++ start_bytes s ≡ (before ++ start_first s ∷ []) ++ start_rest s
 start_as before s = ap (λ bs. before ++ bs) (start_parts s) ∙ sym (append_assoc before (start_first s ∷ []) (start_rest s))
 
+-- a test that fails
 test_fails : {A : Type 0} (test : Bool) (fault : NetpbmFault) (next : Result A NetpbmFault) → test ≡ false → (wanted test fault >>= λ passed. next) ≡ Err fault
 test_fails test fault next is = rw is refl
 
@@ -113,6 +126,7 @@ start_first_taken before s taken = takes_first (before ++ start_first s ∷ []) 
 
 -- ---- a header that stops
 
+-- no magic
 magic_stops : (first room : ℕ) (bytes : List ℕ) (fault : NetpbmFault) → suc room ≡ most_heading → Stops most_heading (first ∷ bytes) [] letter fault → heading_at first room bytes ≡ Err fault
 magic_stops first room bytes fault all (too_long rest whole none is) = absurd (omega arith)
 magic_stops first room bytes fault all (ends whole some is) = absurd (let bad : ⊥ = cc in bad)
@@ -120,13 +134,16 @@ magic_stops first room bytes fault all (refuses c rest whole some not_allowed is
     let same : first ≡ c = cc in
     rw (heading_at-steps first room bytes, same, not_allowed, is) refl
 
+-- a byte that tells no kind
 kind_refused : (c : ℕ) → allows kind_digit c ≡ false → kind_of c ≡ Err BadMagic
 kind_refused c not_allowed = let neither = or_parts (c == 53) (c == 54) not_allowed in rw (neither.0, neither.1) refl
 
+-- and with it the magic
 kind_stops : (left : ℕ) (rest : List ℕ) (fault : NetpbmFault) → StopsHere left rest kind_digit fault → magic_at 80 left rest ≡ Err fault
 kind_stops left rest fault (no_byte none) = rw none refl
 kind_stops left rest fault (refused c after back found not_allowed is) = rw (found, kind_refused c not_allowed, is) refl
 
+-- the same behind the first byte
 second_stops : (first room : ℕ) (bytes : List ℕ) (fault : NetpbmFault) → suc room ≡ most_heading → StopsBehind most_heading (first ∷ bytes) (80 ∷ []) kind_digit fault → heading_at first room bytes ≡ Err fault
 second_stops first room bytes fault all stop =
     let p : first ≡ 80 = cc (stop.takes.whole) in
@@ -134,10 +151,12 @@ second_stops first room bytes fault all stop =
     let size : room ≡ stop.left = (let e = stop.takes.room_is in omega arith) in
     rw (heading_at-steps first room bytes, p, behind, size, kind_stops stop.left stop.rest fault stop.here) refl
 
+-- no white space behind the magic
 white_stops : (left : ℕ) (rest : List ℕ) (fault : NetpbmFault) → StopsHere left rest gap_start fault → white_at left rest ≡ Err fault
 white_stops left rest fault (no_byte none) = rw none refl
 white_stops left rest fault (refused c after back found not_allowed is) = rw (found, not_allowed, is) refl
 
+-- a header fails where its beginning stops
 beginning_fails : (b : Beginning) (first room : ℕ) (bytes : List ℕ) (fault : NetpbmFault) → suc room ≡ most_heading → IsBeginning b → Stops most_heading (first ∷ bytes) (beginning_bytes b) (due b) fault
     → heading_at first room bytes ≡ Err fault
 beginning_fails empty first room bytes fault all lawful stops = magic_stops first room bytes fault all stops
@@ -164,20 +183,24 @@ beginning_fails (in_maxval kind w h s) first room bytes fault all lawful stops =
     ∙ ap (λ r. r >>= λ found. Ok (record { kind = kind; width = field_number w; height = field_number h; maxval = found.0 }, found.1, found.2))
     (in_range_start_fails MaxvalOutOfRange s (length (start_rest s) + stop.left) stop.left (start_rest s ++ stop.rest) stop.rest fault lawful.1 (takes_second (start_rest s) stop.left stop.rest) stop.here)
 
+-- an image fails where its header does
 image_fails : (first : ℕ) (bytes : List ℕ) (fault : NetpbmFault) → heading_at first (most_heading - 1) bytes ≡ Err fault → image_at (first ∷ bytes) ≡ Err fault
 unfolding image_at
 image_fails first bytes fault failed = rw failed refl
 
+-- bytes that stop in a header
 pub stop_fails : (bytes : List ℕ) (fault : NetpbmFault) → StopsInHeading bytes fault → image_at bytes ≡ Err fault
 stop_fails [] fault stop = absurd (let some = stop.some in omega arith)
 stop_fails (first ∷ bytes) fault stop = image_fails first bytes fault (beginning_fails stop.beginning first (most_heading - 1) bytes fault refl stop.lawful stop.stops)
 
 -- ---- a number out of its range
 
+-- what is taken with the white space behind
 with_last : {bytes : List ℕ} (front rest : List ℕ) (white : ℕ) → bytes ≡ front ++ white ∷ rest → length (front ++ white ∷ []) ≤ most_heading
     → Takes most_heading bytes (front ++ white ∷ []) (most_heading - length (front ++ white ∷ [])) rest
 with_last front rest white whole short = record { whole = whole ∙ sym (append_assoc front (white ∷ []) rest); room_is = omega arith }
 
+-- a width out of its range
 pub width_fails : (bytes : List ℕ) → BreaksWidth bytes → image_at bytes ≡ Err SizeOutOfRange
 width_fails [] b = absurd (let size = simp length-append at (ap length b.whole) in omega arith)
 width_fails (first ∷ bytes) b =
@@ -188,6 +211,7 @@ width_fails (first ∷ bytes) b =
     ∙ ap (λ r. r >>= λ found. height_at b.kind found.0 found.1 found.2)
     (field_out SizeOutOfRange b.width b.white _ left _ b.rest b.width_field b.out b.behind (takes_second (field_rest b.width b.white) left b.rest)))
 
+-- a height out of its range
 height_out : (bytes rest : List ℕ) (kind : Kind) (w h : Field) (white first room left : ℕ) → suc room ≡ most_heading → IsWidth w → IsField h → IsTrue (is_white white)
     → Takes most_heading (first ∷ bytes) (magic kind ++ field_bytes w ++ field_bytes h ++ white ∷ []) left rest → ¬ InRange (field_number h) → heading_at first room bytes ≡ Err SizeOutOfRange
 height_out bytes rest kind w h white first room left all width lawful is taken out =
@@ -195,6 +219,7 @@ height_out bytes rest kind w h white first room left all width lawful is taken o
     ∙ ap (λ r. r >>= λ found. (wanted (leb (sample_count kind (field_number w) found.0) most_samples) SizeOutOfRange >>= λ few. maxval_at kind (field_number w) found.0 found.1 found.2))
     (field_out SizeOutOfRange h white _ left _ rest lawful out is (takes_second (field_rest h white) left rest))
 
+-- a height with too many samples
 height_many : (bytes rest : List ℕ) (kind : Kind) (w h : Field) (white first room left : ℕ) → suc room ≡ most_heading → IsWidth w → IsField h → IsTrue (is_white white)
     → Takes most_heading (first ∷ bytes) (magic kind ++ field_bytes w ++ field_bytes h ++ white ∷ []) left rest → InRange (field_number h)
     → most_samples < sample_count kind (field_number w) (field_number h) → heading_at first room bytes ≡ Err SizeOutOfRange
@@ -202,6 +227,7 @@ height_many bytes rest kind w h white first room left all width lawful is taken 
     at_count kind w h white first room left bytes rest all width lawful range is taken
     ∙ test_fails _ SizeOutOfRange (maxval_at kind (field_number w) (field_number h) left rest) (lt-leb _ most_samples many)
 
+-- a size out of its range
 pub height_fails : (bytes : List ℕ) → BreaksHeight bytes → image_at bytes ≡ Err SizeOutOfRange
 height_fails [] b = absurd (let size = simp length-append at (ap length b.whole) in omega arith)
 height_fails (first ∷ bytes) b =
@@ -215,6 +241,7 @@ height_fails (first ∷ bytes) b =
       ]
     ])
 
+-- a maxval out of its range
 pub maxval_fails : (bytes : List ℕ) → BreaksMaxval bytes → image_at bytes ≡ Err MaxvalOutOfRange
 maxval_fails [] b = absurd (let size = simp length-append at (ap length b.whole) in omega arith)
 maxval_fails (first ∷ bytes) b =
@@ -241,10 +268,12 @@ raster_fails bytes rest h fault begins failed =
     (samples_pass wide (field_number h.maxval) begins.samples begins.raster rest count (suc left) begins.said begins.within (omega arith)
     ∙ ap (λ read. with_front begins.samples read) (failed left))
 
+-- a raster that ends early
 pub short_fails : (bytes : List ℕ) → EndsInRaster bytes → image_at bytes ≡ Err Truncated
 short_fails bytes b =
     raster_fails bytes b.rest b.heading Truncated b.begins (λ left. sample_short (is_wide (field_number b.heading.maxval)) (field_number b.heading.maxval) left b.rest b.ends)
 
+-- a sample over maxval
 pub over_fails : (bytes : List ℕ) → ExceedsMaxval bytes → image_at bytes ≡ Err SampleTooLarge
 over_fails bytes b =
     let maxval : ℕ = field_number b.heading.maxval in

@@ -15,27 +15,33 @@ use Rattle.ls_frame.proofs.NumberLaws.{InRangeRead, FieldFault, field_stops, out
 
 -- ---- the steps of a header, from the last back
 
+-- the maxval, and the header
 abbrev pub maxval_at : Kind → ℕ → ℕ → ℕ → List ℕ → Step Header
 maxval_at kind width height room bytes =
     in_range_at MaxvalOutOfRange room bytes >>= λ maxval. Ok (record { kind = kind; width = width; height = height; maxval = maxval.0 }, maxval.1, maxval.2)
 
+-- the height and what follows
 abbrev pub height_at : Kind → ℕ → ℕ → List ℕ → Step Header
 height_at kind width room bytes =
     in_range_at SizeOutOfRange room bytes >>= λ height.
     wanted (leb (sample_count kind width height.0) most_samples) SizeOutOfRange >>= λ few. maxval_at kind width height.0 height.1 height.2
 
+-- the width and what follows
 abbrev pub width_at : Kind → ℕ → List ℕ → Step Header
 width_at kind room bytes = in_range_at SizeOutOfRange room bytes >>= λ width. height_at kind width.0 width.1 width.2
 
+-- the white space behind the magic, and what follows
 abbrev pub fields_at : Kind → ℕ → List ℕ → Step Header
 fields_at kind room bytes = white_at room bytes >>= λ first. width_at kind first.1 first.2
 
+-- a header is the magic and then these
 pub heading_at-steps : (first room : ℕ) (bytes : List ℕ) → heading_at first room bytes ≡ (magic_at first room bytes >>= λ kind. fields_at kind.0 kind.1 kind.2)
 unfolding heading_at
 heading_at-steps first room bytes = refl
 
 -- ---- what is taken, and how reading fails
 
+-- a header was taken, and says what was read
 pub record HeadingRead (bytes : List ℕ) (found : Header × ℕ × List ℕ) : Type 0 where
   pub heading : Heading
   pub lawful : IsHeading heading
@@ -45,11 +51,13 @@ pub record HeadingRead (bytes : List ℕ) (found : Header × ℕ × List ℕ) : 
   pub maxval : found.0.maxval ≡ field_number heading.maxval
   pub whole : bytes ≡ heading_bytes heading ++ found.2
 
+-- how a header fails
 pub data HeadingFault (bytes : List ℕ) (fault : NetpbmFault) : Type 0 where
   in_heading : StopsInHeading bytes fault → HeadingFault bytes fault
   of_size : BreaksWidth bytes ⊎ BreaksHeight bytes → fault ≡ SizeOutOfRange → HeadingFault bytes fault
   of_maxval : BreaksMaxval bytes → fault ≡ MaxvalOutOfRange → HeadingFault bytes fault
 
+-- reading stops behind a beginning
 stops_at : {bytes : List ℕ} {fault : NetpbmFault} (b : Beginning) → 0 < length bytes → IsBeginning b → Stops most_heading bytes (beginning_bytes b) (due b) fault → HeadingFault bytes fault
 stops_at b some lawful stops = in_heading (record { some = some; beginning = b; lawful = lawful; stops = stops })
 
@@ -57,11 +65,13 @@ stops_at b some lawful stops = in_heading (record { some = some; beginning = b; 
 whole_with_last : {bytes rest : List ℕ} {left : ℕ} (front : List ℕ) (last : ℕ) → Takes most_heading bytes (front ++ last ∷ []) left rest → bytes ≡ front ++ last ∷ rest
 whole_with_last {rest = rest} front last taken = taken.whole ∙ append_assoc front (last ∷ []) rest
 
+-- what was taken fits
 short_enough : {bytes front rest : List ℕ} {left : ℕ} → Takes most_heading bytes front left rest → length front ≤ most_heading
 short_enough taken = let e = taken.room_is in omega arith
 
 -- ---- the maxval
 
+-- with its maxval the header is whole
 maxval_read : {bytes : List ℕ} (kind : Kind) (w h : Field) (width height : ℕ) (found : ℕ × ℕ × List ℕ) → IsSize kind w h → width ≡ field_number w → height ≡ field_number h
     → InRangeRead most_heading bytes (magic kind ++ field_bytes w ++ field_bytes h) found
     → HeadingRead bytes (record { kind = kind; width = width; height = height; maxval = found.0 }, found.1, found.2)
@@ -85,6 +95,7 @@ maxval_read kind w h width height found size width_is height_is read = record {
   whole = read.takes.whole;
 }
 
+-- the maxval fails
 maxval_fault : {bytes : List ℕ} {fault : NetpbmFault} (kind : Kind) (w h : Field) → 0 < length bytes → IsSize kind w h
     → FieldFault most_heading bytes (magic kind ++ field_bytes w ++ field_bytes h) MaxvalOutOfRange fault → HeadingFault bytes fault
 maxval_fault kind w h some size (field_stops at) = stops_at (in_maxval kind w h at.start) some (size, at.lawful) at.stops
@@ -103,6 +114,7 @@ maxval_fault kind w h some size (out_of_range read is) = of_maxval (record {
   out = read.out;
 }) is
 
+-- behind the height
 maxval_outcome : (bytes rest : List ℕ) (room : ℕ) (kind : Kind) (w h : Field) (white width height : ℕ) → 0 < length bytes → IsSize kind w h → width ≡ field_number w → height ≡ field_number h
     → IsTrue (is_white white) → Takes most_heading bytes (magic kind ++ field_bytes w ++ field_bytes h ++ white ∷ []) room rest
     → MatchResult (maxval_at kind width height room rest) (HeadingRead bytes) (HeadingFault bytes)
@@ -115,6 +127,7 @@ maxval_outcome bytes rest room kind w h white width height some size width_is he
 
 -- ---- the height
 
+-- the height fails
 height_fault : {bytes : List ℕ} {fault : NetpbmFault} (kind : Kind) (w : Field) → 0 < length bytes → IsWidth w
     → FieldFault most_heading bytes (magic kind ++ field_bytes w) SizeOutOfRange fault → HeadingFault bytes fault
 height_fault kind w some width (field_stops at) = stops_at (in_height kind w at.start) some (width, at.lawful) at.stops
@@ -132,6 +145,7 @@ height_fault kind w some width (out_of_range read is) = of_size (inr (record {
   out = inl read.out;
 })) is
 
+-- the size has too many samples
 too_many : {bytes : List ℕ} {found : ℕ × ℕ × List ℕ} (kind : Kind) (w : Field) (width : ℕ) → IsWidth w → width ≡ field_number w
     → (read : InRangeRead most_heading bytes (magic kind ++ field_bytes w) found) → leb (sample_count kind width found.0) most_samples ≡ false
     → HeadingFault bytes SizeOutOfRange
@@ -151,12 +165,14 @@ too_many {found = found} kind w width lawful width_is read test =
       out = inr (rw (← width_is, ← read.is) many);
     })) refl
 
+-- or few enough
 size_read : {bytes : List ℕ} {found : ℕ × ℕ × List ℕ} (kind : Kind) (w : Field) (width : ℕ) → IsWidth w → width ≡ field_number w
     → (read : InRangeRead most_heading bytes (magic kind ++ field_bytes w) found) → leb (sample_count kind width found.0) most_samples ≡ true → IsSize kind w read.field
 size_read {found = found} kind w width lawful width_is read test =
     let few : sample_count kind width found.0 ≤ most_samples = leb-true (sample_count kind width found.0) most_samples test in
     record { width = lawful; field = read.lawful; range = read.range; few = rw (← width_is, ← read.is) few }
 
+-- behind the width
 height_outcome : (bytes rest : List ℕ) (room : ℕ) (kind : Kind) (w : Field) (white width : ℕ) → 0 < length bytes → IsWidth w → width ≡ field_number w
     → IsTrue (is_white white) → Takes most_heading bytes (magic kind ++ field_bytes w ++ white ∷ []) room rest
     → MatchResult (height_at kind width room rest) (HeadingRead bytes) (HeadingFault bytes)
@@ -171,6 +187,7 @@ height_outcome bytes rest room kind w white width some lawful width_is is taken 
 
 -- ---- the width
 
+-- the width fails
 width_fault : {bytes : List ℕ} {fault : NetpbmFault} (kind : Kind) → 0 < length bytes → FieldFault most_heading bytes (magic kind) SizeOutOfRange fault → HeadingFault bytes fault
 width_fault kind some (field_stops at) = stops_at (in_width kind at.start) some at.lawful at.stops
 width_fault kind some (out_of_range read is) = of_size (inl (record {
@@ -185,6 +202,7 @@ width_fault kind some (out_of_range read is) = of_size (inl (record {
   out = read.out;
 })) is
 
+-- behind the white space
 width_outcome : (bytes rest : List ℕ) (room : ℕ) (kind : Kind) (white : ℕ) → 0 < length bytes → IsTrue (is_white white) → Takes most_heading bytes (magic kind ++ white ∷ []) room rest
     → MatchResult (width_at kind room rest) (HeadingRead bytes) (HeadingFault bytes)
 width_outcome bytes rest room kind white some is taken =
@@ -195,6 +213,7 @@ width_outcome bytes rest room kind white some is taken =
 
 -- ---- the magic, and the white space behind it
 
+-- behind the magic
 white_outcome : (bytes rest : List ℕ) (room : ℕ) (kind : Kind) → 0 < length bytes → Takes most_heading bytes (magic kind) room rest
     → MatchResult (fields_at kind room rest) (HeadingRead bytes) (HeadingFault bytes)
 white_outcome bytes rest zero kind some taken = let e = taken.room_is in stops_at (only_magic kind) some tt (too_long rest taken.whole (omega arith) refl)
@@ -205,13 +224,16 @@ white_outcome bytes (c ∷ rest) (suc room) kind some taken =
     (λ is. width_outcome bytes rest room kind c some is (takes_more taken (takes_one c room rest)))
     (λ other. stops_at (only_magic kind) some tt (refuses c rest taken.whole (omega arith) other refl))
 
+-- the magic was taken
 abbrev MagicRead : List ℕ → Kind × ℕ × List ℕ → Type 0
 MagicRead bytes found = Takes most_heading bytes (magic found.0) found.1 found.2
 
+-- its two bytes
 magic_taken : (kind : Kind) (first second room : ℕ) (bytes : List ℕ) → suc (suc room) ≡ most_heading → first ∷ second ∷ bytes ≡ magic kind ++ bytes → length (magic kind) ≡ 2
     → Takes most_heading (first ∷ second ∷ bytes) (magic kind) room bytes
 magic_taken kind first second room bytes whole same two = record { whole = same; room_is = omega arith }
 
+-- the second byte tells the kind
 kind_outcome : (first second room : ℕ) (bytes : List ℕ) → suc (suc room) ≡ most_heading → first ≡ 80
     → MatchResult (kind_of second >>= λ kind. Ok (kind, room, bytes)) (MagicRead (first ∷ second ∷ bytes)) (HeadingFault (first ∷ second ∷ bytes))
 kind_outcome first second room bytes whole p =
@@ -223,12 +245,14 @@ kind_outcome first second room bytes whole p =
     (λ color. magic_taken Color first second room bytes whole (rw (p, eqb-true second 54 color) refl) refl)
     (λ not_color. stops_at one_letter (omega arith) tt (refuses second bytes (rw p refl) (omega arith) (or_from _ _ not_gray not_color) refl)))
 
+-- behind the first
 second_outcome : (first room : ℕ) (bytes : List ℕ) → suc room ≡ most_heading → first ≡ 80
     → MatchResult (byte_at room bytes >>= λ second. (kind_of second.0 >>= λ kind. Ok (kind, second.1, second.2))) (MagicRead (first ∷ bytes)) (HeadingFault (first ∷ bytes))
 second_outcome first zero bytes whole p = absurd (omega arith)
 second_outcome first (suc room) [] whole p = stops_at one_letter (omega arith) tt (ends (rw p refl) (omega arith) refl)
 second_outcome first (suc room) (second ∷ bytes) whole p = kind_outcome first second room bytes whole p
 
+-- from the start
 magic_outcome : (first room : ℕ) (bytes : List ℕ) → suc room ≡ most_heading → MatchResult (magic_at first room bytes) (MagicRead (first ∷ bytes)) (HeadingFault (first ∷ bytes))
 magic_outcome first room bytes whole =
     wanted_outcome (MagicRead (first ∷ bytes)) (HeadingFault (first ∷ bytes)) (first == 80) BadMagic (byte_at room bytes >>= λ second. (kind_of second.0 >>= λ kind. Ok (kind, second.1, second.2)))
@@ -237,6 +261,7 @@ magic_outcome first room bytes whole =
 
 -- ---- the header
 
+-- what is read is a header; else it fails in one of these ways
 pub heading_outcome : (first room : ℕ) (bytes : List ℕ) → suc room ≡ most_heading → MatchResult (heading_at first room bytes) (HeadingRead (first ∷ bytes)) (HeadingFault (first ∷ bytes))
 heading_outcome first room bytes whole = rw (heading_at-steps first room bytes)
     (outcome_of_both (MagicRead (first ∷ bytes)) (HeadingFault (first ∷ bytes)) (HeadingRead (first ∷ bytes)) (HeadingFault (first ∷ bytes)) (magic_at first room bytes) (λ kind. fields_at kind.0 kind.1 kind.2)

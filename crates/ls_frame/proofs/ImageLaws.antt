@@ -29,6 +29,7 @@ stops_early Truncated = true
 stops_early Io = false
 stops_early NoMemory = false
 
+-- a byte that is refused has such a fault
 refusal_stops : (d : Due) → stops_early (fault_at d) ≡ true
 unfolding stops_early
 refusal_stops letter = refl
@@ -38,12 +39,14 @@ refusal_stops blank_or_digit = refl
 refusal_stops comment_text = refl
 refusal_stops digit_or_white = refl
 
+-- and so has each stop
 fault_stops : {room : ℕ} {bytes front : List ℕ} {d : Due} {fault : NetpbmFault} → Stops room bytes front d fault → stops_early fault ≡ true
 unfolding stops_early
 fault_stops (too_long rest whole all is) = rw is refl
 fault_stops (ends whole some is) = rw is refl
 fault_stops {d = d} (refuses c rest whole some not_allowed is) = rw is (refusal_stops d)
 
+-- a header that stops early breaks so
 stop_breaks : (bytes : List ℕ) (fault : NetpbmFault) → stops_early fault ≡ true → StopsInHeading bytes fault → Breaks bytes fault
 unfolding stops_early
 stop_breaks bytes BadMagic early stop = stop
@@ -56,6 +59,7 @@ stop_breaks bytes Truncated early stop = inl stop
 stop_breaks bytes Io early stop = absurd (let bad : ⊥ = cc in bad)
 stop_breaks bytes NoMemory early stop = absurd (let bad : ⊥ = cc in bad)
 
+-- a header that fails breaks so
 heading_breaks : (bytes : List ℕ) (fault : NetpbmFault) → HeadingFault bytes fault → Breaks bytes fault
 heading_breaks bytes fault (in_heading stop) = stop_breaks bytes fault (fault_stops stop.stops) stop
 heading_breaks bytes fault (of_size size is) = rw is size
@@ -63,6 +67,7 @@ heading_breaks bytes fault (of_maxval maxval is) = rw is maxval
 
 -- ---- faults in the raster
 
+-- samples behind a header begin its raster
 raster_begins : {bytes rest : List ℕ} (found : Header × ℕ × List ℕ) (read : HeadingRead bytes found)
     → RasterBegun (is_wide found.0.maxval) found.0.maxval (sample_count found.0.kind found.0.width found.0.height) found.2 rest → BeginsRaster bytes rest read.heading
 raster_begins {rest = rest} found read begun = record {
@@ -75,6 +80,7 @@ raster_begins {rest = rest} found read begun = record {
   more = rw (← read.kind, ← read.width, ← read.height) begun.more;
 }
 
+-- a raster that fails breaks so
 raster_breaks : {bytes : List ℕ} {fault : NetpbmFault} (found : Header × ℕ × List ℕ) (read : HeadingRead bytes found)
     → RasterFault (is_wide found.0.maxval) found.0.maxval (sample_count found.0.kind found.0.width found.0.height) found.2 fault → Breaks bytes fault
 raster_breaks {bytes = bytes} found read (ends_early rest begun short is) =
@@ -98,6 +104,7 @@ raster_breaks {bytes = bytes} found read (exceeds next rest sample begun said ov
 abbrev PictureRead : List ℕ → Picture × List ℕ → Type 0
 PictureRead bytes found = (front : List ℕ) × (bytes ≡ front ++ found.1) × Spells front found.0
 
+-- the picture is a frame
 picture_frame : {bytes : List ℕ} (found : Header × ℕ × List ℕ) (samples rest : List ℕ) → HeadingRead bytes found
     → RasterRead (is_wide found.0.maxval) found.0.maxval (sample_count found.0.kind found.0.width found.0.height) found.2 (samples, rest) → IsFrame (picture_of found.0 samples)
 picture_frame found samples rest read raster =
@@ -117,6 +124,7 @@ picture_frame found samples rest read raster =
       each = raster.each;
     }
 
+-- a header and its raster are a spelling
 picture_read : {bytes : List ℕ} (found : Header × ℕ × List ℕ) (samples rest : List ℕ) → HeadingRead bytes found
     → RasterRead (is_wide found.0.maxval) found.0.maxval (sample_count found.0.kind found.0.width found.0.height) found.2 (samples, rest)
     → PictureRead bytes (picture_of found.0 samples, rest)
@@ -137,6 +145,7 @@ picture_read found samples rest read raster = (
   },
 )
 
+-- what is read behind a header is its raster; else the bytes break so
 raster_outcome : (bytes : List ℕ) (found : Header × ℕ × List ℕ) → HeadingRead bytes found → MatchResult (raster_at found.0 found.2) (PictureRead bytes) (Breaks bytes)
 raster_outcome bytes found read =
     let wide : Bool = is_wide found.0.maxval in
@@ -146,9 +155,11 @@ raster_outcome bytes found read =
     (λ samples raster. picture_read found samples.0 samples.1 read raster)
     (λ fault failed. raster_breaks found read failed)
 
+-- nothing is read only at the end
 abbrev ImageRead : List ℕ → Option (Picture × List ℕ) → Type 0
 ImageRead bytes found = MatchOption found (bytes ≡ []) (PictureRead bytes)
 
+-- what is read is a spelling; else the bytes break so
 image_outcome : (bytes : List ℕ) → MatchResult (image_at bytes) (ImageRead bytes) (Breaks bytes)
 unfolding image_at
 image_outcome [] = refl
@@ -166,6 +177,7 @@ image_outcome (first ∷ bytes) =
 abbrev frame_header : Picture → Header
 frame_header f = record { kind = f.kind; width = f.width; height = f.height; maxval = f.maxval }
 
+-- the header of a spelling says the size of its picture
 heading_says : (front : List ℕ) (f : Picture) (said : Spells front f) → header_of said.heading ≡ frame_header f
 heading_says front f said = rw (said.kind, said.width, said.height, said.maxval) refl
 

@@ -10,11 +10,13 @@ use Rattle.ls_frame.specs.Reading.{◌>>=◌, sample_at, within, with_front, sam
 use Rattle.ls_frame.proofs.TakeLemmas.{outcome_of_both}
 use Rattle.ls_frame.proofs.RasterLemmas.{with_front-nil, with_front-all}
 
+-- each at most maxval
 abbrev pub AreWithin : ℕ → List ℕ → Type 0
 AreWithin maxval samples = AllByRecursion (λ sample. sample ≤ maxval) samples
 
 -- ---- what is taken
 
+-- a sample was taken
 pub record SampleRead (wide : Bool) (bytes : List ℕ) (found : ℕ × List ℕ) : Type 0 where
   pub first : List ℕ
   pub whole : bytes ≡ first ++ found.1
@@ -37,6 +39,7 @@ pub record RasterBegun (wide : Bool) (maxval count : ℕ) (bytes rest : List ℕ
   pub each : AreWithin maxval samples
   pub more : length samples < count
 
+-- how a raster fails
 pub data RasterFault (wide : Bool) (maxval count : ℕ) (bytes : List ℕ) (fault : NetpbmFault) : Type 0 where
   ends_early : (rest : List ℕ) → RasterBegun wide maxval count bytes rest → length rest < sample_size wide → fault ≡ Truncated → RasterFault wide maxval count bytes fault
   exceeds : (next rest : List ℕ) (sample : ℕ) → RasterBegun wide maxval count bytes (next ++ rest) → IsSample wide next sample → maxval < sample → fault ≡ SampleTooLarge
@@ -44,9 +47,11 @@ pub data RasterFault (wide : Bool) (maxval count : ℕ) (bytes : List ℕ) (faul
 
 -- ---- one sample
 
+-- too few bytes for one
 abbrev EndsInSample : Bool → List ℕ → NetpbmFault → Type 0
 EndsInSample wide bytes fault = (length bytes < sample_size wide) × (fault ≡ Truncated)
 
+-- what is read is a sample, unless the bytes end
 sample_outcome : (wide : Bool) (bytes : List ℕ) → MatchResult (sample_at wide bytes) (SampleRead wide bytes) (EndsInSample wide bytes)
 sample_outcome false [] = (omega arith, refl)
 sample_outcome false (c ∷ bytes) = record { first = c ∷ []; whole = refl; said = refl }
@@ -54,6 +59,7 @@ sample_outcome true [] = (omega arith, refl)
 sample_outcome true (high ∷ []) = (omega arith, refl)
 sample_outcome true (high ∷ low ∷ bytes) = record { first = high ∷ low ∷ []; whole = refl; said = (high, low, refl, refl) }
 
+-- no sample so far
 begun_none : (wide : Bool) (maxval count : ℕ) (bytes : List ℕ) → RasterBegun wide maxval (suc count) bytes bytes
 begun_none wide maxval count bytes = record { raster = []; samples = []; whole = refl; said = refl; each = tt; more = omega arith }
 
@@ -61,6 +67,7 @@ begun_none wide maxval count bytes = record { raster = []; samples = []; whole =
 whole_more : {bytes middle : List ℕ} (first raster rest : List ℕ) → bytes ≡ first ++ middle → middle ≡ raster ++ rest → bytes ≡ (first ++ raster) ++ rest
 whole_more first raster rest a b = a ∙ ap (λ bs. first ++ bs) b ∙ sym (append_assoc first raster rest)
 
+-- behind it begins the raster
 begun_more : {wide : Bool} {maxval count : ℕ} {bytes rest : List ℕ} (found : ℕ × List ℕ) → SampleRead wide bytes found → found.0 ≤ maxval → RasterBegun wide maxval count found.1 rest
     → RasterBegun wide maxval (suc count) bytes rest
 begun_more found read is begun = record {
@@ -72,6 +79,7 @@ begun_more found read is begun = record {
   more = let m = begun.more in omega arith;
 }
 
+-- or ends
 read_more : {wide : Bool} {maxval count : ℕ} {bytes : List ℕ} (found : ℕ × List ℕ) (behind : List ℕ × List ℕ) → SampleRead wide bytes found → found.0 ≤ maxval → RasterRead wide maxval count found.1 behind
     → RasterRead wide maxval (suc count) bytes (found.0 ∷ behind.0, behind.1)
 read_more found behind read is more = record {
@@ -82,17 +90,20 @@ read_more found behind read is more = record {
   all = ap suc more.all;
 }
 
+-- or fails
 fault_more : {wide : Bool} {maxval count : ℕ} {bytes : List ℕ} {fault : NetpbmFault} (found : ℕ × List ℕ) → SampleRead wide bytes found → found.0 ≤ maxval → RasterFault wide maxval count found.1 fault
     → RasterFault wide maxval (suc count) bytes fault
 fault_more found read is (ends_early rest begun short fault_is) = ends_early rest (begun_more found read is begun) short fault_is
 fault_more found read is (exceeds next rest sample begun said over fault_is) = exceeds next rest sample (begun_more found read is begun) said over fault_is
 
+-- a sample over maxval
 exceeds_here : {wide : Bool} {maxval : ℕ} {bytes : List ℕ} (count : ℕ) (found : ℕ × List ℕ) → SampleRead wide bytes found → maxval < found.0 → RasterFault wide maxval (suc count) bytes SampleTooLarge
 exceeds_here {wide = wide} {maxval = maxval} {bytes = bytes} count found read over =
     exceeds read.first found.1 found.0 (rw (← read.whole) (begun_none wide maxval count bytes)) read.said over refl
 
 -- ---- what reading gives
 
+-- the test of a sample, and the samples behind it
 behind_sample : (wide : Bool) (maxval count : ℕ) (bytes : List ℕ) (found : ℕ × List ℕ) → SampleRead wide bytes found
     → MatchResult (samples_at wide maxval count found.1) (RasterRead wide maxval count found.1) (RasterFault wide maxval count found.1)
     → MatchResult (within maxval found.0 >>= λ s. with_front (s ∷ []) (samples_at wide maxval count found.1)) (RasterRead wide maxval (suc count) bytes) (RasterFault wide maxval (suc count) bytes)
@@ -106,6 +117,7 @@ behind_sample wide maxval count bytes found read outcome =
     (λ fault failed. fault_more found read (leb-true found.0 maxval test) failed))
     (λ test. exceeds_here count found read (leb-false found.0 maxval test))
 
+-- what is read is a raster; else it fails in one of these ways
 pub samples_outcome : (wide : Bool) (maxval count : ℕ) (bytes : List ℕ) → MatchResult (samples_at wide maxval count bytes) (RasterRead wide maxval count bytes) (RasterFault wide maxval count bytes)
 unfolding samples_at
 samples_outcome wide maxval zero bytes = record { raster = []; whole = refl; said = refl; each = tt; all = refl }
@@ -117,20 +129,24 @@ samples_outcome wide maxval (suc count) bytes =
 
 -- ---- what a raster says is read
 
+-- a sample that is said is read
 pub sample_passes : (wide : Bool) (first bytes : List ℕ) (sample : ℕ) → IsSample wide first sample → sample_at wide (first ++ bytes) ≡ Ok (sample, bytes)
 sample_passes false first bytes sample said = rw said refl
 sample_passes true first bytes sample said = rw (said.2, said.3) refl
 
+-- one within maxval is the first of what is read
 sample_read : (wide : Bool) (maxval count sample : ℕ) (bytes rest : List ℕ) → sample_at wide bytes ≡ Ok (sample, rest) → sample ≤ maxval
     → samples_at wide maxval (suc count) bytes ≡ with_front (sample ∷ []) (samples_at wide maxval count rest)
 unfolding samples_at
 sample_read wide maxval count sample bytes rest found is = rw (found, le-leb sample maxval is) refl
 
+-- one over maxval isn't
 pub sample_over : (wide : Bool) (maxval count sample : ℕ) (bytes rest : List ℕ) → sample_at wide bytes ≡ Ok (sample, rest) → maxval < sample
     → samples_at wide maxval (suc count) bytes ≡ Err SampleTooLarge
 unfolding samples_at
 sample_over wide maxval count sample bytes rest found over = rw (found, lt-leb sample maxval over) refl
 
+-- too few bytes are no sample
 short_sample : (wide : Bool) (bytes : List ℕ) → length bytes < sample_size wide → sample_at wide bytes ≡ Err Truncated
 short_sample false [] short = refl
 short_sample false (c ∷ bytes) short = absurd (omega arith)
@@ -138,6 +154,7 @@ short_sample true [] short = refl
 short_sample true (high ∷ []) short = refl
 short_sample true (high ∷ low ∷ bytes) short = absurd (omega arith)
 
+-- and no raster
 pub sample_short : (wide : Bool) (maxval count : ℕ) (bytes : List ℕ) → length bytes < sample_size wide → samples_at wide maxval (suc count) bytes ≡ Err Truncated
 unfolding samples_at
 sample_short wide maxval count bytes short = rw (short_sample wide bytes short) refl

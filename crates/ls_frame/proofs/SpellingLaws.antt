@@ -1,4 +1,4 @@
--- What the grammar says is read: fields and headers, and how reading fails where they break.
+-- What the grammar says of fields and headers is read.
 use Rattle.std.proofs.Common.{◌≡◌, ℕ, suc, ◌+◌, ◌-◌, Bool, true, false, leb, IsTrue, List, [], ◌∷◌, ◌++◌, length, Some, Result, Ok, refl, ap, ◌∙◌, arith, length-append, append_assoc}
 use Rattle.std.proofs.lemmas.Bool.{lt-ltb, le-leb, false_from_ne_true, both_ways}
 use Rattle.ls_frame.specs.declared.frame.Kind.{Kind}
@@ -18,6 +18,7 @@ use Rattle.ls_frame.proofs.HeadingLaws.{maxval_at, height_at, width_at, fields_a
 
 -- ---- numbers
 
+-- white space is no digit
 no_digit_if_white : (c : ℕ) → IsTrue (is_white c) → is_digit c ≡ false
 no_digit_if_white c is = false_from_ne_true (is_digit c) (λ digit. both_ways (is_white c) (white_no_digit c digit) is)
 
@@ -28,6 +29,7 @@ digit_found blanks bytes d room left each digit is =
     ap (λ r. r >>= λ found. digits_at (found.0 - 48) found.1 found.2)
     (gap_passes blanks (d ∷ bytes) room (suc left) each is ∙ gap_at-digit (suc left) d left (d ∷ bytes) bytes refl digit)
 
+-- parts of a gap, digits and white space
 number_passes : (blanks : List Blank) (ds rest : List ℕ) (white room left : ℕ) → AreBlanks blanks → IsNumber ds → IsTrue (is_white white) → room ≡ length (blanks_bytes blanks) + (length ds + suc left)
     → number_at room (blanks_bytes blanks ++ (ds ++ white ∷ rest)) ≡ Ok (capped (number_of ds), left, rest)
 number_passes blanks [] rest white room left each number behind is = absurd (let some = number.some in omega arith)
@@ -39,6 +41,7 @@ number_passes blanks (d ∷ ds) rest white room left each number behind is =
 
 -- ---- fields
 
+-- a number in its range passes
 pub in_range_passes : (fault : NetpbmFault) (n : ℕ) → InRange n → in_range fault (capped n) ≡ Ok n
 in_range_passes fault n range =
     let same : capped n ≡ n = omega arith in
@@ -48,6 +51,7 @@ in_range_passes fault n range =
 abbrev pub field_rest : Field → ℕ → List ℕ
 field_rest f white = blanks_bytes f.gap.blanks ++ (f.digits ++ white ∷ [])
 
+-- a field's number
 pub field_number_at : (f : Field) (white room left : ℕ) (bytes rest : List ℕ) → IsField f → IsTrue (is_white white) → Takes room bytes (field_rest f white) left rest
     → number_at room bytes ≡ Ok (capped (field_number f), left, rest)
 field_number_at f white room left bytes rest lawful behind taken =
@@ -56,6 +60,7 @@ field_number_at f white room left bytes rest lawful behind taken =
     ap (λ bs. number_at room bs) (taken.whole ∙ regrouped)
     ∙ number_passes f.gap.blanks f.digits rest white room left lawful.gap.blanks lawful.digits behind (omega arith)
 
+-- and in its range it is read
 pub field_passes : (fault : NetpbmFault) (f : Field) (white room left : ℕ) (bytes rest : List ℕ) → IsField f → InRange (field_number f) → IsTrue (is_white white) → Takes room bytes (field_rest f white) left rest
     → in_range_at fault room bytes ≡ Ok (field_number f, left, rest)
 field_passes fault f white room left bytes rest lawful range behind taken =
@@ -63,6 +68,7 @@ field_passes fault f white room left bytes rest lawful range behind taken =
 
 -- ---- the header, one field after the other
 
+-- the magic is read
 magic_passes : (kind : Kind) (first room left : ℕ) (bytes rest : List ℕ) → suc room ≡ most_heading → Takes most_heading (first ∷ bytes) (magic kind) left rest → magic_at first room bytes ≡ Ok (kind, left, rest)
 magic_passes Gray first room left bytes rest all taken =
     let p : first ≡ 80 = cc (taken.whole) in
@@ -75,14 +81,17 @@ magic_passes Color first room left bytes rest all taken =
     let size : room ≡ suc left = (let e = taken.room_is in omega arith) in
     rw (p, behind, size) refl
 
+-- and the white space behind it
 pub white_passes : (w left : ℕ) (rest : List ℕ) → IsTrue (is_white w) → white_at (suc left) (w ∷ rest) ≡ Ok (tt, left, rest)
 white_passes w left rest is = rw is refl
 
+-- reading goes on behind the magic
 pub behind_magic : (kind : Kind) (first room left : ℕ) (bytes rest : List ℕ) → suc room ≡ most_heading → Takes most_heading (first ∷ bytes) (magic kind) left rest
     → heading_at first room bytes ≡ fields_at kind left rest
 behind_magic kind first room left bytes rest all taken =
     heading_at-steps first room bytes ∙ ap (λ r. r >>= λ found. fields_at found.0 found.1 found.2) (magic_passes kind first room left bytes rest all taken)
 
+-- and behind the white space behind it
 pub at_width : (kind : Kind) (white first room left : ℕ) (bytes rest : List ℕ) → suc room ≡ most_heading → IsTrue (is_white white) → Takes most_heading (first ∷ bytes) (magic kind ++ white ∷ []) left rest
     → heading_at first room bytes ≡ width_at kind left rest
 at_width kind white first room left bytes rest all is taken =
@@ -93,12 +102,14 @@ at_width kind white first room left bytes rest all is taken =
 pub field_as : (before : List ℕ) (f : Field) (white : ℕ) → before ++ field_bytes f ++ white ∷ [] ≡ (before ++ f.gap.first ∷ []) ++ field_rest f white
 field_as before f white = simp append_assoc
 
+-- behind a width this is left to read, from the width on
 pub in_width_at : (kind : Kind) (w : Field) (white first room left : ℕ) (bytes rest : List ℕ) → suc room ≡ most_heading → IsField w → Takes most_heading (first ∷ bytes) (magic kind ++ field_bytes w ++ white ∷ []) left rest
     → heading_at first room bytes ≡ width_at kind (length (field_rest w white) + left) (field_rest w white ++ rest)
 in_width_at kind w white first room left bytes rest all lawful taken =
     at_width kind w.gap.first first room (length (field_rest w white) + left) bytes (field_rest w white ++ rest) all lawful.gap.first
     (takes_first (magic kind ++ w.gap.first ∷ []) (field_rest w white) (takes_as taken (field_as (magic kind) w white)))
 
+-- reading goes on behind a width
 pub at_height : (kind : Kind) (w : Field) (white first room left : ℕ) (bytes rest : List ℕ) → suc room ≡ most_heading → IsWidth w → IsTrue (is_white white)
     → Takes most_heading (first ∷ bytes) (magic kind ++ field_bytes w ++ white ∷ []) left rest → heading_at first room bytes ≡ height_at kind (field_number w) left rest
 at_height kind w white first room left bytes rest all width is taken =
@@ -106,6 +117,7 @@ at_height kind w white first room left bytes rest all width is taken =
     ∙ ap (λ r. r >>= λ found. height_at kind found.0 found.1 found.2)
     (field_passes SizeOutOfRange w white (length (field_rest w white) + left) left (field_rest w white ++ rest) rest width.field width.range is (takes_second (field_rest w white) left rest))
 
+-- behind a height this is left to read, from the height on
 pub in_height_at : (kind : Kind) (w h : Field) (white first room left : ℕ) (bytes rest : List ℕ) → suc room ≡ most_heading → IsWidth w → IsField h
     → Takes most_heading (first ∷ bytes) (magic kind ++ field_bytes w ++ field_bytes h ++ white ∷ []) left rest
     → heading_at first room bytes ≡ height_at kind (field_number w) (length (field_rest h white) + left) (field_rest h white ++ rest)
@@ -114,6 +126,7 @@ in_height_at kind w h white first room left bytes rest all width lawful taken =
     at_height kind w h.gap.first first room (length (field_rest h white) + left) bytes (field_rest h white ++ rest) all width lawful.gap.first
     (takes_first (before ++ h.gap.first ∷ []) (field_rest h white) (takes_as taken (field_as before h white)))
 
+-- a test that passes
 pub test_passes : {A : Type 0} (test : Bool) (fault : NetpbmFault) (next : Result A NetpbmFault) → test ≡ true → (wanted test fault >>= λ passed. next) ≡ next
 test_passes test fault next is = rw is refl
 
@@ -126,6 +139,7 @@ at_count kind w h white first room left bytes rest all width lawful range is tak
     ∙ ap (λ r. r >>= λ found. (wanted (leb (sample_count kind (field_number w) found.0) most_samples) SizeOutOfRange >>= λ few. maxval_at kind (field_number w) found.0 found.1 found.2))
     (field_passes SizeOutOfRange h white (length (field_rest h white) + left) left (field_rest h white ++ rest) rest lawful range is (takes_second (field_rest h white) left rest))
 
+-- reading goes on behind a size
 pub at_maxval : (kind : Kind) (w h : Field) (white first room left : ℕ) (bytes rest : List ℕ) → suc room ≡ most_heading → IsSize kind w h → IsTrue (is_white white)
     → Takes most_heading (first ∷ bytes) (magic kind ++ field_bytes w ++ field_bytes h ++ white ∷ []) left rest
     → heading_at first room bytes ≡ maxval_at kind (field_number w) (field_number h) left rest
@@ -133,6 +147,7 @@ at_maxval kind w h white first room left bytes rest all size is taken =
     at_count kind w h white first room left bytes rest all size.width size.field size.range is taken
     ∙ test_passes _ SizeOutOfRange (maxval_at kind (field_number w) (field_number h) left rest) (le-leb _ most_samples size.few)
 
+-- behind a maxval this is left to read, from the maxval on
 pub in_maxval_at : (kind : Kind) (w h m : Field) (white first room left : ℕ) (bytes rest : List ℕ) → suc room ≡ most_heading → IsSize kind w h → IsField m
     → Takes most_heading (first ∷ bytes) (magic kind ++ field_bytes w ++ field_bytes h ++ field_bytes m ++ white ∷ []) left rest
     → heading_at first room bytes ≡ maxval_at kind (field_number w) (field_number h) (length (field_rest m white) + left) (field_rest m white ++ rest)
@@ -147,6 +162,7 @@ in_maxval_at kind w h m white first room left bytes rest all size lawful taken =
 abbrev pub header_of : Heading → Header
 header_of h = record { kind = h.kind; width = field_number h.width; height = field_number h.height; maxval = field_number h.maxval }
 
+-- a header is read
 pub heading_passes : (h : Heading) (first room left : ℕ) (bytes rest : List ℕ) → suc room ≡ most_heading → IsHeading h → Takes most_heading (first ∷ bytes) (heading_bytes h) left rest
     → heading_at first room bytes ≡ Ok (header_of h, left, rest)
 heading_passes h first room left bytes rest all lawful taken =
