@@ -1,18 +1,19 @@
 -- The rest of a gap: what reading takes of it, where reading stops in it, and that what a gap says is read.
-use Rattle.std.proofs.Common.{◌≡◌, ℕ, zero, suc, ◌+◌, Bool, true, false, ◌||◌, cond, not, IsTrue, List, [], ◌∷◌, ◌++◌, length, MatchResult, Ok, Err, refl, sym, ap, ◌∙◌, arith, length-append, append_assoc}
+use Rattle.std.proofs.Common.{◌≡◌, ℕ, zero, suc, ◌+◌, Bool, true, false, cond, ◌||◌, not, IsTrue, List, [], ◌∷◌, ◌++◌, length, MatchResult, Ok, Err, refl, ap, ◌∙◌, arith, length-append, append_assoc}
 use Rattle.std.specs.List.{AllByRecursion}
 use Rattle.std.proofs.lemmas.Bool.{cond_both, cond-true, cond-false, eqb-true, not_from_false, not-true}
 use Rattle.ls_frame.specs.declared.netpbm.NetpbmFault.{NetpbmFault}
-use Rattle.ls_frame.specs.declared.netpbm.NetpbmFault.TheVariants.{BadHeader, HeaderTooLong, Truncated}
+use Rattle.ls_frame.specs.declared.netpbm.NetpbmFault.TheVariants.{BadHeader}
 use Rattle.ls_frame.specs.Netpbm.{is_white, is_line_end, is_digit, is_hash, Blank, white, comment, IsBlank, blank_bytes, blanks_bytes}
-use Rattle.ls_frame.specs.Faults.{Due, blank_or_digit, comment_text, Stops, too_long, ends, refuses}
+use Rattle.ls_frame.specs.Faults.{blank_or_digit, comment_text, Stops, too_long, ends, refuses}
 use Rattle.ls_frame.specs.Reading.{Step, gap_at}
-use Rattle.ls_frame.proofs.TakeLemmas.{Takes, takes_one, takes_cons, takes_more, takes_none, takes_as, stops_cons, stops_behind, outcome_weaker}
+use Rattle.ls_frame.proofs.TakeLemmas.{Takes, takes_one, takes_cons, takes_more, takes_none, stops_cons, stops_behind}
 
 -- the characters of a comment's text
 abbrev pub IsText : List ℕ → Type 0
 IsText text = AllByRecursion (λ c. IsTrue (not (is_line_end c))) text
 
+-- parts of a gap
 abbrev pub AreBlanks : List Blank → Type 0
 AreBlanks blanks = AllByRecursion IsBlank blanks
 
@@ -42,30 +43,36 @@ pub record OpenGapRead (room : ℕ) (bytes : List ℕ) (found : ℕ × ℕ × Li
 
 -- ---- where reading stops
 
+-- behind parts of a gap, or in a comment behind them
 pub data GapStops (room : ℕ) (bytes : List ℕ) (fault : NetpbmFault) : Type 0 where
   among_blanks : (blanks : List Blank) → AreBlanks blanks → Stops room bytes (blanks_bytes blanks) blank_or_digit fault → GapStops room bytes fault
   within_comment : (blanks : List Blank) (text : List ℕ) → AreBlanks blanks → IsText text → Stops room bytes (blanks_bytes blanks ++ 35 ∷ text) comment_text fault → GapStops room bytes fault
 
+-- in the open comment, or behind it
 pub data OpenGapStops (room : ℕ) (bytes : List ℕ) (fault : NetpbmFault) : Type 0 where
   still_inside : (text : List ℕ) → IsText text → Stops room bytes text comment_text fault → OpenGapStops room bytes fault
   behind : (left : ℕ) (rest : List ℕ) → CommentRead room bytes left rest → GapStops left rest fault → OpenGapStops room bytes fault
 
--- ---- one part more
+-- ---- one part more in front
 
+-- of what is taken
 gap_more : {room left : ℕ} {bytes rest : List ℕ} {found : ℕ × ℕ × List ℕ} (b : Blank) → IsBlank b → Takes room bytes (blank_bytes b) left rest → GapRead left rest found → GapRead room bytes found
 gap_more b is taken read = record { blanks = b ∷ read.blanks; each = (is, read.each); digit = read.digit; takes = takes_more taken read.takes }
 
+-- of where reading stops
 gap_stops_more : {room left : ℕ} {bytes rest : List ℕ} {fault : NetpbmFault} (b : Blank) → IsBlank b → Takes room bytes (blank_bytes b) left rest → GapStops left rest fault → GapStops room bytes fault
 gap_stops_more b is taken (among_blanks blanks each stops) = among_blanks (b ∷ blanks) (is, each) (stops_behind taken stops)
 gap_stops_more b is taken (within_comment blanks text each those stops) =
-  within_comment (b ∷ blanks) text (is, each) those
+    within_comment (b ∷ blanks) text (is, each) those
     (rw append_assoc (stops_behind taken stops))
 
--- ---- one byte more
+-- ---- one byte more in front
 
+-- the digit behind a gap is left where it is
 digit_here : (room c : ℕ) (bytes : List ℕ) → IsTrue (is_digit c) → GapRead (suc room) (c ∷ bytes) (c, room, bytes)
 digit_here room c bytes digit = record { blanks = []; each = tt; digit = digit; takes = takes_none _ _ }
 
+-- a character of the text, and the line end behind the text
 comment_more : {room left : ℕ} {bytes rest : List ℕ} (c : ℕ) → IsTrue (not (is_line_end c)) → CommentRead room bytes left rest → CommentRead (suc room) (c ∷ bytes) left rest
 comment_more c is read = record { text = c ∷ read.text; end = read.end; each = (is, read.each); closes = read.closes; takes = takes_cons c read.takes }
 
@@ -76,12 +83,15 @@ comment_end room c bytes is = record { text = []; end = c; each = tt; closes = i
 comment_part : {room left : ℕ} {bytes rest : List ℕ} (c : ℕ) → IsTrue (is_hash c) → (read : CommentRead room bytes left rest) → Takes (suc room) (c ∷ bytes) (blank_bytes (comment read.text read.end)) left rest
 comment_part c is read = let e = eqb-true c 35 is in rw e (takes_cons 35 read.takes)
 
+-- the same with what follows the comment
 open_more : {room : ℕ} {bytes : List ℕ} {found : ℕ × ℕ × List ℕ} (c : ℕ) → IsTrue (not (is_line_end c)) → OpenGapRead room bytes found → OpenGapRead (suc room) (c ∷ bytes) found
 open_more c is read = record { left = read.left; rest = read.rest; first = comment_more c is read.first; then = read.then }
 
+-- `#` in front of a comment and what follows it
 hash_more : {room : ℕ} {bytes : List ℕ} {found : ℕ × ℕ × List ℕ} (c : ℕ) → IsTrue (is_hash c) → OpenGapRead room bytes found → GapRead (suc room) (c ∷ bytes) found
 hash_more c is read = gap_more (comment read.first.text read.first.end) (read.first.each, read.first.closes) (comment_part c is read.first) read.then
 
+-- the same where reading stops
 open_stops_more : {room : ℕ} {bytes : List ℕ} {fault : NetpbmFault} (c : ℕ) → IsTrue (not (is_line_end c)) → OpenGapStops room bytes fault → OpenGapStops (suc room) (c ∷ bytes) fault
 open_stops_more c is (still_inside text each stops) = still_inside (c ∷ text) (is, each) (stops_cons c stops)
 open_stops_more c is (behind left rest read stops) = behind left rest (comment_more c is read) stops
@@ -92,6 +102,7 @@ hash_stops_more c is (behind left rest read stops) = gap_stops_more (comment rea
 
 -- ---- what reading gives
 
+-- where a comment is open and where none is
 abbrev pub GapFound : Bool → ℕ → List ℕ → ℕ × ℕ × List ℕ → Type 0
 GapFound true room bytes found = OpenGapRead room bytes found
 GapFound false room bytes found = GapRead room bytes found
@@ -100,41 +111,58 @@ abbrev pub GapFault : Bool → ℕ → List ℕ → NetpbmFault → Type 0
 GapFault true room bytes fault = OpenGapStops room bytes fault
 GapFault false room bytes fault = GapStops room bytes fault
 
+-- what a step of a gap gives
+abbrev pub GapGives : Bool → ℕ → List ℕ → Step ℕ → Type 0
+GapGives in_comment room bytes step = MatchResult step (GapFound in_comment room bytes) (GapFault in_comment room bytes)
+
+-- a byte that none of the three tests takes is refused
 none_allowed : (c : ℕ) → is_white c ≡ false → is_hash c ≡ false → is_digit c ≡ false → (is_white c || is_hash c || is_digit c) ≡ false
 none_allowed c a b d = rw (a, b, d) refl
 
-pub gap_outcome : (in_comment : Bool) (room : ℕ) (bytes : List ℕ) → MatchResult (gap_at in_comment room bytes) (GapFound in_comment room bytes) (GapFault in_comment room bytes)
+-- a line end closes the comment
+line_end_gives : (room c : ℕ) (bytes : List ℕ) (step : Step ℕ) → IsTrue (is_line_end c) → GapGives false room bytes step → GapGives true (suc room) (c ∷ bytes) step
+line_end_gives room c bytes (Ok found) is read = record { left = room; rest = bytes; first = comment_end room c bytes is; then = read }
+line_end_gives room c bytes (Err fault) is stops = behind room bytes (comment_end room c bytes is) stops
+
+-- another character goes on with it
+text_gives : (room c : ℕ) (bytes : List ℕ) (step : Step ℕ) → IsTrue (not (is_line_end c)) → GapGives true room bytes step → GapGives true (suc room) (c ∷ bytes) step
+text_gives room c bytes (Ok found) is read = open_more c is read
+text_gives room c bytes (Err fault) is stops = open_stops_more c is stops
+
+-- white space is a part of the gap
+white_gives : (room c : ℕ) (bytes : List ℕ) (step : Step ℕ) → IsTrue (is_white c) → GapGives false room bytes step → GapGives false (suc room) (c ∷ bytes) step
+white_gives room c bytes (Ok found) is read = gap_more (white c) is (takes_one c room bytes) read
+white_gives room c bytes (Err fault) is stops = gap_stops_more (white c) is (takes_one c room bytes) stops
+
+-- `#` begins a comment
+hash_gives : (room c : ℕ) (bytes : List ℕ) (step : Step ℕ) → IsTrue (is_hash c) → GapGives true room bytes step → GapGives false (suc room) (c ∷ bytes) step
+hash_gives room c bytes (Ok found) is read = hash_more c is read
+hash_gives room c bytes (Err fault) is stops = hash_stops_more c is stops
+
+-- what isn't white space or `#` ends the gap
+digit_gives : (room c : ℕ) (bytes : List ℕ) → is_white c ≡ false → is_hash c ≡ false → GapGives false (suc room) (c ∷ bytes) (cond (is_digit c) (Ok (c, room, bytes)) (Err BadHeader))
+digit_gives room c bytes no_white no_hash =
+    cond_both (is_digit c) _ _ (GapGives false (suc room) (c ∷ bytes))
+    (λ is. digit_here room c bytes is)
+    (λ no_digit. among_blanks [] tt (refuses c bytes refl (omega arith) (none_allowed c no_white no_hash no_digit) refl))
+
+-- what is read is a gap, and where it fails it stops
+pub gap_outcome : (in_comment : Bool) (room : ℕ) (bytes : List ℕ) → GapGives in_comment room bytes (gap_at in_comment room bytes)
 unfolding gap_at
 gap_outcome true zero bytes = still_inside [] tt (too_long bytes refl refl refl)
 gap_outcome true (suc room) [] = still_inside [] tt (ends refl (omega arith) refl)
 gap_outcome true (suc room) (c ∷ bytes) =
-  cond_both (is_line_end c) (gap_at false room bytes) (gap_at true room bytes) (λ r. MatchResult r (GapFound true (suc room) (c ∷ bytes)) (GapFault true (suc room) (c ∷ bytes)))
-    (λ closes. outcome_weaker (GapFound false room bytes) (GapFault false room bytes) (GapFound true (suc room) (c ∷ bytes)) (GapFault true (suc room) (c ∷ bytes)) (gap_at false room bytes)
-      (gap_outcome false room bytes)
-      (λ found read. record { left = room; rest = bytes; first = comment_end room c bytes closes; then = read })
-      (λ fault stops. behind room bytes (comment_end room c bytes closes) stops))
-    (λ goes_on. outcome_weaker (GapFound true room bytes) (GapFault true room bytes) (GapFound true (suc room) (c ∷ bytes)) (GapFault true (suc room) (c ∷ bytes)) (gap_at true room bytes)
-      (gap_outcome true room bytes)
-      (λ found read. open_more c (not_from_false _ goes_on) read)
-      (λ fault stops. open_stops_more c (not_from_false _ goes_on) stops))
+    cond_both (is_line_end c) (gap_at false room bytes) (gap_at true room bytes) (GapGives true (suc room) (c ∷ bytes))
+    (λ is. line_end_gives room c bytes (gap_at false room bytes) is (gap_outcome false room bytes))
+    (λ other. text_gives room c bytes (gap_at true room bytes) (not_from_false _ other) (gap_outcome true room bytes))
 gap_outcome false zero bytes = among_blanks [] tt (too_long bytes refl refl refl)
 gap_outcome false (suc room) [] = among_blanks [] tt (ends refl (omega arith) refl)
 gap_outcome false (suc room) (c ∷ bytes) =
-  cond_both (is_white c) (gap_at false room bytes) _ (λ r. MatchResult r (GapFound false (suc room) (c ∷ bytes)) (GapFault false (suc room) (c ∷ bytes)))
-    (λ is. outcome_weaker (GapFound false room bytes) (GapFault false room bytes) (GapFound false (suc room) (c ∷ bytes)) (GapFault false (suc room) (c ∷ bytes)) (gap_at false room bytes)
-      (gap_outcome false room bytes)
-      (λ found read. gap_more (white c) is (takes_one c room bytes) read)
-      (λ fault stops. gap_stops_more (white c) is (takes_one c room bytes) stops))
-    (λ no_white.
-      cond_both (is_hash c) (gap_at true room bytes) _ (λ r. MatchResult r (GapFound false (suc room) (c ∷ bytes)) (GapFault false (suc room) (c ∷ bytes)))
-        (λ is. outcome_weaker (GapFound true room bytes) (GapFault true room bytes) (GapFound false (suc room) (c ∷ bytes)) (GapFault false (suc room) (c ∷ bytes)) (gap_at true room bytes)
-          (gap_outcome true room bytes)
-          (λ found read. hash_more c is read)
-          (λ fault stops. hash_stops_more c is stops))
-        (λ no_hash.
-          cond_both (is_digit c) (Ok (c, room, bytes)) (Err BadHeader) (λ r. MatchResult r (GapFound false (suc room) (c ∷ bytes)) (GapFault false (suc room) (c ∷ bytes)))
-            (λ is. digit_here room c bytes is)
-            (λ no_digit. among_blanks [] tt (refuses c bytes refl (omega arith) (none_allowed c no_white no_hash no_digit) refl))))
+    cond_both (is_white c) (gap_at false room bytes) _ (GapGives false (suc room) (c ∷ bytes))
+    (λ is. white_gives room c bytes (gap_at false room bytes) is (gap_outcome false room bytes))
+    (λ no_white. cond_both (is_hash c) (gap_at true room bytes) _ (GapGives false (suc room) (c ∷ bytes))
+    (λ is. hash_gives room c bytes (gap_at true room bytes) is (gap_outcome true room bytes))
+    (λ no_hash. digit_gives room c bytes no_white no_hash))
 
 -- ---- what a gap says is read
 
@@ -144,28 +172,28 @@ unfolding gap_at
 comment_passes [] bytes room left each is = let e : room ≡ left = omega arith in ap (λ r. gap_at true r bytes) e
 comment_passes (c ∷ text) bytes zero left each is = absurd (omega arith)
 comment_passes (c ∷ text) bytes (suc room) left each is =
-  cond-false (is_line_end c) _ _ (not-true _ each.0) ∙ comment_passes text bytes room left each.1 (omega arith)
+    cond-false (is_line_end c) _ _ (not-true _ each.0) ∙ comment_passes text bytes room left each.1 (omega arith)
 
 -- and behind a whole comment
 comment_ends : (text bytes : List ℕ) (end room left : ℕ) → IsText text → IsTrue (is_line_end end) → room ≡ length text + suc left
-  → gap_at true room (text ++ end ∷ bytes) ≡ gap_at false left bytes
+    → gap_at true room (text ++ end ∷ bytes) ≡ gap_at false left bytes
 unfolding gap_at
 comment_ends text bytes end room left each closes is =
-  comment_passes text (end ∷ bytes) room (suc left) each is ∙ cond-true (is_line_end end) _ _ closes
+    comment_passes text (end ∷ bytes) room (suc left) each is ∙ cond-true (is_line_end end) _ _ closes
 
 -- and behind parts of a gap
 pub gap_passes : (blanks : List Blank) (bytes : List ℕ) (room left : ℕ) → AreBlanks blanks → room ≡ length (blanks_bytes blanks) + left
-  → gap_at false room (blanks_bytes blanks ++ bytes) ≡ gap_at false left bytes
+    → gap_at false room (blanks_bytes blanks ++ bytes) ≡ gap_at false left bytes
 unfolding gap_at
 gap_passes [] bytes room left each is = let e : room ≡ left = omega arith in ap (λ r. gap_at false r bytes) e
 gap_passes (white c ∷ blanks) bytes zero left each is = absurd (omega arith)
 gap_passes (white c ∷ blanks) bytes (suc room) left each is = cond-true (is_white c) _ _ each.0 ∙ gap_passes blanks bytes room left each.1 (omega arith)
 gap_passes (comment text end ∷ blanks) bytes zero left each is = absurd (omega arith)
 gap_passes (comment text end ∷ blanks) bytes (suc room) left each is =
-  let regrouped : ((text ++ end ∷ []) ++ blanks_bytes blanks) ++ bytes ≡ text ++ (end ∷ (blanks_bytes blanks ++ bytes)) = simp append_assoc in
-  let size = simp length-append at is in
-  let behind : ℕ = length (blanks_bytes blanks) + left in
-  let far : room ≡ length text + suc behind = omega arith in
-  ap (λ bs. gap_at true room bs) regrouped
-  ∙ comment_ends text (blanks_bytes blanks ++ bytes) end room behind each.0.0 each.0.1 far
-  ∙ gap_passes blanks bytes behind left each.1 refl
+    let regrouped : ((text ++ end ∷ []) ++ blanks_bytes blanks) ++ bytes ≡ text ++ (end ∷ (blanks_bytes blanks ++ bytes)) = simp append_assoc in
+    let size = simp length-append at is in
+    let behind : ℕ = length (blanks_bytes blanks) + left in
+    let far : room ≡ length text + suc behind = omega arith in
+    ap (λ bs. gap_at true room bs) regrouped
+    ∙ comment_ends text (blanks_bytes blanks ++ bytes) end room behind each.0.0 each.0.1 far
+    ∙ gap_passes blanks bytes behind left each.1 refl

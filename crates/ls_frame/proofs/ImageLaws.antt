@@ -1,11 +1,11 @@
 -- Reading an image and its grammar say the same.
-use Rattle.std.proofs.Common.{◌≡◌, ℕ, suc, ◌-◌, ◌<◌, ◌≤◌, Bool, true, false, inl, inr, List, [], ◌∷◌, ◌++◌, length, Option, None, Some, MatchOption, Result, MatchResult, Ok, Err, refl, sym, ap, ◌∙◌, arith, length-append, append_assoc}
+use Rattle.std.proofs.Common.{◌≡◌, ℕ, ◌-◌, Bool, true, false, inl, inr, List, [], ◌∷◌, ◌++◌, Option, None, Some, MatchOption, MatchResult, Ok, refl, sym, ap, ◌∙◌, append_assoc}
 use Rattle.std.proofs.lemmas.Result.{MatchResult-at_ok, MatchResult-at_err}
 use Rattle.ls_frame.specs.declared.netpbm.header.Header.{Header}
 use Rattle.ls_frame.specs.declared.netpbm.NetpbmFault.{NetpbmFault}
 use Rattle.ls_frame.specs.declared.netpbm.NetpbmFault.TheVariants.{BadMagic, BadHeader, HeaderTooLong, SizeOutOfRange, MaxvalOutOfRange, SampleTooLarge, Truncated, Io, NoMemory}
 use Rattle.ls_frame.specs.Picture.{Picture, sample_count, IsFrame}
-use Rattle.ls_frame.specs.Netpbm.{field_number, Heading, heading_bytes, IsHeading, most_heading, is_wide, Spells}
+use Rattle.ls_frame.specs.Netpbm.{heading_bytes, most_heading, is_wide, Spells}
 use Rattle.ls_frame.specs.Faults.{Due, letter, kind_digit, gap_start, blank_or_digit, comment_text, digit_or_white, fault_at, Stops, too_long, ends, refuses, StopsInHeading, BeginsRaster, EndsInRaster, ExceedsMaxval, Breaks}
 use Rattle.ls_frame.specs.Reading.{◌>>=◌, heading_at, samples_at, picture_of, raster_at, image_at}
 use Rattle.ls_frame.specs.Laws.{ReadsSpellings, SpellingsAreRead, ReadsNothingAtEnd, FaultsBreak, BreaksAreFaults}
@@ -29,6 +29,7 @@ stops_early Truncated = true
 stops_early Io = false
 stops_early NoMemory = false
 
+-- a byte that is refused has such a fault
 refusal_stops : (d : Due) → stops_early (fault_at d) ≡ true
 unfolding stops_early
 refusal_stops letter = refl
@@ -38,12 +39,14 @@ refusal_stops blank_or_digit = refl
 refusal_stops comment_text = refl
 refusal_stops digit_or_white = refl
 
+-- and so has each stop
 fault_stops : {room : ℕ} {bytes front : List ℕ} {d : Due} {fault : NetpbmFault} → Stops room bytes front d fault → stops_early fault ≡ true
 unfolding stops_early
 fault_stops (too_long rest whole all is) = rw is refl
 fault_stops (ends whole some is) = rw is refl
 fault_stops {d = d} (refuses c rest whole some not_allowed is) = rw is (refusal_stops d)
 
+-- a header that stops early breaks so
 stop_breaks : (bytes : List ℕ) (fault : NetpbmFault) → stops_early fault ≡ true → StopsInHeading bytes fault → Breaks bytes fault
 unfolding stops_early
 stop_breaks bytes BadMagic early stop = stop
@@ -56,6 +59,7 @@ stop_breaks bytes Truncated early stop = inl stop
 stop_breaks bytes Io early stop = absurd (let bad : ⊥ = cc in bad)
 stop_breaks bytes NoMemory early stop = absurd (let bad : ⊥ = cc in bad)
 
+-- a header that fails breaks so
 heading_breaks : (bytes : List ℕ) (fault : NetpbmFault) → HeadingFault bytes fault → Breaks bytes fault
 heading_breaks bytes fault (in_heading stop) = stop_breaks bytes fault (fault_stops stop.stops) stop
 heading_breaks bytes fault (of_size size is) = rw is size
@@ -63,27 +67,36 @@ heading_breaks bytes fault (of_maxval maxval is) = rw is maxval
 
 -- ---- faults in the raster
 
+-- samples behind a header begin its raster
 raster_begins : {bytes rest : List ℕ} (found : Header × ℕ × List ℕ) (read : HeadingRead bytes found)
-  → RasterBegun (is_wide found.0.maxval) found.0.maxval (sample_count found.0.kind found.0.width found.0.height) found.2 rest → BeginsRaster bytes rest read.heading
+    → RasterBegun (is_wide found.0.maxval) found.0.maxval (sample_count found.0.kind found.0.width found.0.height) found.2 rest → BeginsRaster bytes rest read.heading
 raster_begins {rest = rest} found read begun = record {
-  raster = begun.raster; samples = begun.samples;
+  raster = begun.raster;
+  samples = begun.samples;
   whole = read.whole ∙ ap (λ bs. heading_bytes read.heading ++ bs) begun.whole ∙ sym (append_assoc (heading_bytes read.heading) begun.raster rest);
   lawful = read.lawful;
   said = rw (← read.maxval) begun.said;
   within = rw (← read.maxval) begun.each;
-  more = rw (← read.kind, ← read.width, ← read.height) begun.more
+  more = rw (← read.kind, ← read.width, ← read.height) begun.more;
 }
 
+-- a raster that fails breaks so
 raster_breaks : {bytes : List ℕ} {fault : NetpbmFault} (found : Header × ℕ × List ℕ) (read : HeadingRead bytes found)
-  → RasterFault (is_wide found.0.maxval) found.0.maxval (sample_count found.0.kind found.0.width found.0.height) found.2 fault → Breaks bytes fault
+    → RasterFault (is_wide found.0.maxval) found.0.maxval (sample_count found.0.kind found.0.width found.0.height) found.2 fault → Breaks bytes fault
 raster_breaks {bytes = bytes} found read (ends_early rest begun short is) =
-  let broken : EndsInRaster bytes = record { heading = read.heading; rest = rest; begins = raster_begins found read begun; ends = rw (← read.maxval) short } in
-  rw is (inr broken)
+    let broken : EndsInRaster bytes = record { heading = read.heading; rest = rest; begins = raster_begins found read begun; ends = rw (← read.maxval) short } in
+    rw is (inr broken)
 raster_breaks {bytes = bytes} found read (exceeds next rest sample begun said over is) =
-  let broken : ExceedsMaxval bytes = record {
-    heading = read.heading; next = next; sample = sample; rest = rest; begins = raster_begins found read begun;
-    said = rw (← read.maxval) said; over = rw (← read.maxval) over } in
-  rw is broken
+    let broken : ExceedsMaxval bytes = record {
+      heading = read.heading;
+      next = next;
+      sample = sample;
+      rest = rest;
+      begins = raster_begins found read begun;
+      said = rw (← read.maxval) said;
+      over = rw (← read.maxval) over;
+    } in
+    rw is broken
 
 -- ---- what is read
 
@@ -91,55 +104,71 @@ raster_breaks {bytes = bytes} found read (exceeds next rest sample begun said ov
 abbrev PictureRead : List ℕ → Picture × List ℕ → Type 0
 PictureRead bytes found = (front : List ℕ) × (bytes ≡ front ++ found.1) × Spells front found.0
 
+-- the picture is a frame
 picture_frame : {bytes : List ℕ} (found : Header × ℕ × List ℕ) (samples rest : List ℕ) → HeadingRead bytes found
-  → RasterRead (is_wide found.0.maxval) found.0.maxval (sample_count found.0.kind found.0.width found.0.height) found.2 (samples, rest) → IsFrame (picture_of found.0 samples)
+    → RasterRead (is_wide found.0.maxval) found.0.maxval (sample_count found.0.kind found.0.width found.0.height) found.2 (samples, rest) → IsFrame (picture_of found.0 samples)
 picture_frame found samples rest read raster =
-  let h = read.lawful in
-  let w = read.width in
-  let t = read.height in
-  let m = read.maxval in
-  record {
-    some_width = rw w h.width_range.some; width = rw w h.width_range.most;
-    some_height = rw t h.height_range.some; height = rw t h.height_range.most;
-    some_maxval = rw m h.maxval_range.some; maxval = rw m h.maxval_range.most;
-    few = rw (read.kind, w, t) h.few;
-    count = raster.all;
-    each = raster.each
-  }
+    let h = read.lawful in
+    let w = read.width in
+    let t = read.height in
+    let m = read.maxval in
+    record {
+      some_width = rw w h.width_range.some;
+      width = rw w h.width_range.most;
+      some_height = rw t h.height_range.some;
+      height = rw t h.height_range.most;
+      some_maxval = rw m h.maxval_range.some;
+      maxval = rw m h.maxval_range.most;
+      few = rw (read.kind, w, t) h.few;
+      count = raster.all;
+      each = raster.each;
+    }
 
+-- a header and its raster are a spelling
 picture_read : {bytes : List ℕ} (found : Header × ℕ × List ℕ) (samples rest : List ℕ) → HeadingRead bytes found
-  → RasterRead (is_wide found.0.maxval) found.0.maxval (sample_count found.0.kind found.0.width found.0.height) found.2 (samples, rest)
-  → PictureRead bytes (picture_of found.0 samples, rest)
-picture_read found samples rest read raster =
-  (heading_bytes read.heading ++ raster.raster,
-   read.whole ∙ ap (λ bs. heading_bytes read.heading ++ bs) raster.whole ∙ sym (append_assoc (heading_bytes read.heading) raster.raster rest),
-   record {
-     heading = read.heading; raster = raster.raster; whole = refl; lawful = read.lawful;
-     kind = read.kind; width = read.width; height = read.height; maxval = read.maxval;
-     samples = raster.said; frame = picture_frame found samples rest read raster
-   })
+    → RasterRead (is_wide found.0.maxval) found.0.maxval (sample_count found.0.kind found.0.width found.0.height) found.2 (samples, rest)
+    → PictureRead bytes (picture_of found.0 samples, rest)
+picture_read found samples rest read raster = (
+  heading_bytes read.heading ++ raster.raster,
+  read.whole ∙ ap (λ bs. heading_bytes read.heading ++ bs) raster.whole ∙ sym (append_assoc (heading_bytes read.heading) raster.raster rest),
+  record {
+    heading = read.heading;
+    raster = raster.raster;
+    whole = refl;
+    lawful = read.lawful;
+    kind = read.kind;
+    width = read.width;
+    height = read.height;
+    maxval = read.maxval;
+    samples = raster.said;
+    frame = picture_frame found samples rest read raster;
+  },
+)
 
+-- what is read behind a header is its raster; else the bytes break so
 raster_outcome : (bytes : List ℕ) (found : Header × ℕ × List ℕ) → HeadingRead bytes found → MatchResult (raster_at found.0 found.2) (PictureRead bytes) (Breaks bytes)
 raster_outcome bytes found read =
-  let wide : Bool = is_wide found.0.maxval in
-  let count : ℕ = sample_count found.0.kind found.0.width found.0.height in
-  outcome_of_both (RasterRead wide found.0.maxval count found.2) (RasterFault wide found.0.maxval count found.2) (PictureRead bytes) (Breaks bytes) (samples_at wide found.0.maxval count found.2) _
+    let wide : Bool = is_wide found.0.maxval in
+    let count : ℕ = sample_count found.0.kind found.0.width found.0.height in
+    outcome_of_both (RasterRead wide found.0.maxval count found.2) (RasterFault wide found.0.maxval count found.2) (PictureRead bytes) (Breaks bytes) (samples_at wide found.0.maxval count found.2) _
     (samples_outcome wide found.0.maxval count found.2)
     (λ samples raster. picture_read found samples.0 samples.1 read raster)
     (λ fault failed. raster_breaks found read failed)
 
+-- nothing is read only at the end
 abbrev ImageRead : List ℕ → Option (Picture × List ℕ) → Type 0
 ImageRead bytes found = MatchOption found (bytes ≡ []) (PictureRead bytes)
 
+-- what is read is a spelling; else the bytes break so
 image_outcome : (bytes : List ℕ) → MatchResult (image_at bytes) (ImageRead bytes) (Breaks bytes)
 unfolding image_at
 image_outcome [] = refl
 image_outcome (first ∷ bytes) =
-  let all : List ℕ = first ∷ bytes in
-  outcome_of_both (HeadingRead all) (HeadingFault all) (ImageRead all) (Breaks all) (heading_at first (most_heading - 1) bytes) _
+    let all : List ℕ = first ∷ bytes in
+    outcome_of_both (HeadingRead all) (HeadingFault all) (ImageRead all) (Breaks all) (heading_at first (most_heading - 1) bytes) _
     (heading_outcome first (most_heading - 1) bytes refl)
     (λ found read. outcome_of_both (PictureRead all) (Breaks all) (ImageRead all) (Breaks all) (raster_at found.0 found.2) (λ picture. Ok (Some picture))
-      (raster_outcome all found read) (λ picture said. said) (λ fault failed. failed))
+    (raster_outcome all found read) (λ picture said. said) (λ fault failed. failed))
     (λ fault failed. heading_breaks all fault failed)
 
 -- ---- what the grammar says is read
@@ -148,6 +177,7 @@ image_outcome (first ∷ bytes) =
 abbrev frame_header : Picture → Header
 frame_header f = record { kind = f.kind; width = f.width; height = f.height; maxval = f.maxval }
 
+-- the header of a spelling says the size of its picture
 heading_says : (front : List ℕ) (f : Picture) (said : Spells front f) → header_of said.heading ≡ frame_header f
 heading_says front f said = rw (said.kind, said.width, said.height, said.maxval) refl
 
@@ -155,12 +185,12 @@ heading_says front f said = rw (said.kind, said.width, said.height, said.maxval)
 
 pub spellings_are_read : SpellingsAreRead
 spellings_are_read front rest f said =
-  let whole : front ++ rest ≡ heading_bytes said.heading ++ (said.raster ++ rest) =
+    let whole : front ++ rest ≡ heading_bytes said.heading ++ (said.raster ++ rest) =
     ap (λ bs. bs ++ rest) said.whole ∙ append_assoc (heading_bytes said.heading) said.raster rest in
-  behind_heading (front ++ rest) (said.raster ++ rest) said.heading said.lawful whole
-  ∙ ap (λ h. raster_at h (said.raster ++ rest) >>= λ found. Ok (Some found)) (heading_says front f said)
-  ∙ ap (λ r. (r >>= λ found. Ok (picture_of (frame_header f) found.0, found.1)) >>= λ found. Ok (Some found))
-      (raster_read (is_wide f.maxval) f.maxval (sample_count f.kind f.width f.height) f.samples said.raster rest said.samples said.frame.each said.frame.count)
+    behind_heading (front ++ rest) (said.raster ++ rest) said.heading said.lawful whole
+    ∙ ap (λ h. raster_at h (said.raster ++ rest) >>= λ found. Ok (Some found)) (heading_says front f said)
+    ∙ ap (λ r. (r >>= λ found. Ok (picture_of (frame_header f) found.0, found.1)) >>= λ found. Ok (Some found))
+    (raster_read (is_wide f.maxval) f.maxval (sample_count f.kind f.width f.height) f.samples said.raster rest said.samples said.frame.each said.frame.count)
 
 pub reads_spellings : ReadsSpellings
 reads_spellings bytes rest f read = MatchResult-at_ok (ImageRead bytes) (Breaks bytes) (Some (f, rest)) read (image_outcome bytes)

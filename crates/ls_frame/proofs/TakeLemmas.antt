@@ -1,5 +1,5 @@
 -- Bytes taken off the front, where reading stops behind them, and what steps in a row come to.
-use Rattle.std.proofs.Common.{◌≡◌, ℕ, suc, ◌+◌, ◌-◌, ◌<◌, Bool, true, false, List, [], ◌∷◌, ◌++◌, length, Result, Ok, Err, MatchResult, refl, sym, ap, ◌∙◌, arith, length-append, append_assoc, append-nil}
+use Rattle.std.proofs.Common.{◌≡◌, ℕ, suc, ◌+◌, ◌-◌, Bool, true, false, List, [], ◌∷◌, ◌++◌, length, Result, Ok, Err, MatchResult, refl, sym, ap, ◌∙◌, arith, length-append, append_assoc, append-nil}
 use Rattle.ls_frame.specs.declared.netpbm.NetpbmFault.{NetpbmFault}
 use Rattle.ls_frame.specs.Faults.{Due, allows, fault_at, Stops, too_long, ends, refuses}
 use Rattle.ls_frame.specs.Reading.{◌>>=◌, wanted, byte_at}
@@ -11,6 +11,7 @@ pub record Takes (room : ℕ) (bytes front : List ℕ) (left : ℕ) (rest : List
   pub whole : bytes ≡ front ++ rest
   pub room_is : room ≡ length front + left
 
+-- nothing
 pub takes_none : (room : ℕ) (bytes : List ℕ) → Takes room bytes [] room bytes
 takes_none room bytes = record { whole = refl; room_is = omega arith }
 
@@ -18,15 +19,16 @@ takes_none room bytes = record { whole = refl; room_is = omega arith }
 pub takes_cons : {room left : ℕ} {bytes front rest : List ℕ} (c : ℕ) → Takes room bytes front left rest → Takes (suc room) (c ∷ bytes) (c ∷ front) left rest
 takes_cons c taken = record { whole = ap (λ bs. c ∷ bs) taken.whole; room_is = omega arith }
 
+-- one byte
 pub takes_one : (c room : ℕ) (rest : List ℕ) → Takes (suc room) (c ∷ rest) (c ∷ []) room rest
 takes_one c room rest = takes_cons c (takes_none room rest)
 
 -- one behind the other
 pub takes_more : {room between left : ℕ} {bytes front middle back rest : List ℕ} → Takes room bytes front between middle → Takes between middle back left rest
-  → Takes room bytes (front ++ back) left rest
+    → Takes room bytes (front ++ back) left rest
 takes_more {front = front} {back = back} {rest = rest} first second = record {
   whole = first.whole ∙ ap (λ bs. front ++ bs) second.whole ∙ sym (append_assoc front back rest);
-  room_is = simp length-append (let e = first.room_is in let f = second.room_is in omega arith)
+  room_is = simp length-append (let e = first.room_is in let f = second.room_is in omega arith);
 }
 
 -- the same bytes by another name
@@ -35,6 +37,7 @@ takes_as taken same = rw (← same) taken
 
 -- ---- bytes taken, in two parts
 
+-- the first part of what is taken, the second, and all but the last byte
 pub takes_first : (front back : List ℕ) {room left : ℕ} {bytes rest : List ℕ} → Takes room bytes (front ++ back) left rest → Takes room bytes front (length back + left) (back ++ rest)
 takes_first front back {rest = rest} taken = record { whole = taken.whole ∙ append_assoc front back rest; room_is = let e = simp length-append at taken.room_is in omega arith }
 
@@ -46,6 +49,7 @@ takes_last front c {rest = rest} taken = record { whole = taken.whole ∙ append
 
 -- ---- where reading stops
 
+-- it stops at the same place with one byte more in front
 pub stops_cons : {room : ℕ} {bytes front : List ℕ} {d : Due} {fault : NetpbmFault} (c : ℕ) → Stops room bytes front d fault → Stops (suc room) (c ∷ bytes) (c ∷ front) d fault
 stops_cons c (too_long rest whole all is) = too_long rest (ap (λ bs. c ∷ bs) whole) (omega arith) is
 stops_cons c (ends whole some is) = ends (ap (λ bs. c ∷ bs) whole) (omega arith) is
@@ -53,58 +57,70 @@ stops_cons c (refuses b rest whole some not_allowed is) = refuses b rest (ap (λ
 
 -- it stops behind what is taken
 pub stops_behind : {room left : ℕ} {bytes front rest back : List ℕ} {d : Due} {fault : NetpbmFault} → Takes room bytes front left rest → Stops left rest back d fault
-  → Stops room bytes (front ++ back) d fault
+    → Stops room bytes (front ++ back) d fault
 stops_behind {front = front} {back = back} taken (too_long rest whole all is) =
-  too_long rest (taken.whole ∙ ap (λ bs. front ++ bs) whole ∙ sym (append_assoc front back rest)) (simp length-append (let e = taken.room_is in omega arith)) is
+    too_long rest (taken.whole ∙ ap (λ bs. front ++ bs) whole ∙ sym (append_assoc front back rest)) (simp length-append (let e = taken.room_is in omega arith)) is
 stops_behind {front = front} {back = back} taken (ends whole some is) =
-  ends (taken.whole ∙ ap (λ bs. front ++ bs) whole) (simp length-append (let e = taken.room_is in omega arith)) is
+    ends (taken.whole ∙ ap (λ bs. front ++ bs) whole) (simp length-append (let e = taken.room_is in omega arith)) is
 stops_behind {front = front} {back = back} taken (refuses c rest whole some not_allowed is) =
-  refuses c rest (taken.whole ∙ ap (λ bs. front ++ bs) whole ∙ sym (append_assoc front back (c ∷ rest))) (simp length-append (let e = taken.room_is in omega arith)) not_allowed is
+    refuses c rest (taken.whole ∙ ap (λ bs. front ++ bs) whole ∙ sym (append_assoc front back (c ∷ rest))) (simp length-append (let e = taken.room_is in omega arith)) not_allowed is
 
+-- the same bytes by another name
 pub stops_as : {room : ℕ} {bytes front front' : List ℕ} {d : Due} {fault : NetpbmFault} → Stops room bytes front d fault → front ≡ front' → Stops room bytes front' d fault
 stops_as stops same = rw (← same) stops
 
 -- ---- where reading stops, seen from there
 
+-- reading has no byte here, or one that is refused
 pub data StopsHere (room : ℕ) (bytes : List ℕ) (d : Due) (fault : NetpbmFault) : Type 0 where
   no_byte : byte_at room bytes ≡ Err fault → StopsHere room bytes d fault
   refused : (c left : ℕ) (rest : List ℕ) → byte_at room bytes ≡ Ok (c, left, rest) → allows d c ≡ false → fault ≡ fault_at d → StopsHere room bytes d fault
 
+-- `front` is taken, and then reading stops
 pub record StopsBehind (room : ℕ) (bytes front : List ℕ) (d : Due) (fault : NetpbmFault) : Type 0 where
   pub left : ℕ
   pub rest : List ℕ
   pub takes : Takes room bytes front left rest
   pub here : StopsHere left rest d fault
 
+-- where it stops, `front` was taken
 pub stops_seen : {room : ℕ} {bytes front : List ℕ} {d : Due} {fault : NetpbmFault} → Stops room bytes front d fault → StopsBehind room bytes front d fault
 stops_seen (too_long rest whole all is) = record { left = 0; rest = rest; takes = record { whole = whole; room_is = omega arith }; here = no_byte (rw is refl) }
 stops_seen {room = room} {front = front} (ends whole some is) = record {
-  left = suc (room - suc (length front)); rest = []; takes = record { whole = whole ∙ sym (append-nil front); room_is = omega arith }; here = no_byte (rw is refl) }
+  left = suc (room - suc (length front));
+  rest = [];
+  takes = record { whole = whole ∙ sym (append-nil front); room_is = omega arith };
+  here = no_byte (rw is refl);
+}
 stops_seen {room = room} {front = front} (refuses c rest whole some not_allowed is) = record {
-  left = suc (room - suc (length front)); rest = c ∷ rest; takes = record { whole = whole; room_is = omega arith };
-  here = refused c (room - suc (length front)) rest refl not_allowed is }
+  left = suc (room - suc (length front));
+  rest = c ∷ rest;
+  takes = record { whole = whole; room_is = omega arith };
+  here = refused c (room - suc (length front)) rest refl not_allowed is;
+}
 
 -- ---- steps in a row
 
 -- what a second step gives, and how the first may fail
 pub outcome_of_both : {A B : Type 0} (P : A → Type 0) (Q : NetpbmFault → Type 0) (P' : B → Type 0) (Q' : NetpbmFault → Type 0) (r : Result A NetpbmFault) (f : A → Result B NetpbmFault)
-  → MatchResult r P Q → ((x : A) → P x → MatchResult (f x) P' Q') → ((fault : NetpbmFault) → Q fault → Q' fault) → MatchResult (r >>= f) P' Q'
+    → MatchResult r P Q → ((x : A) → P x → MatchResult (f x) P' Q') → ((fault : NetpbmFault) → Q fault → Q' fault) → MatchResult (r >>= f) P' Q'
 outcome_of_both P Q P' Q' (Ok x) f first second failed = second x first
 outcome_of_both P Q P' Q' (Err fault) f first second failed = failed fault first
 
 -- the same step with weaker words for it
 pub outcome_weaker : {A : Type 0} (P : A → Type 0) (Q : NetpbmFault → Type 0) (P' : A → Type 0) (Q' : NetpbmFault → Type 0) (r : Result A NetpbmFault)
-  → MatchResult r P Q → ((x : A) → P x → P' x) → ((fault : NetpbmFault) → Q fault → Q' fault) → MatchResult r P' Q'
+    → MatchResult r P Q → ((x : A) → P x → P' x) → ((fault : NetpbmFault) → Q fault → Q' fault) → MatchResult r P' Q'
 outcome_weaker P Q P' Q' (Ok x) outcome found failed = found x outcome
 outcome_weaker P Q P' Q' (Err fault) outcome found failed = failed fault outcome
 
 -- a test, and what follows it
 pub wanted_outcome : {A : Type 0} (P : A → Type 0) (Q : NetpbmFault → Type 0) (test : Bool) (fault : NetpbmFault) (next : Result A NetpbmFault)
-  → (test ≡ true → MatchResult next P Q) → (test ≡ false → Q fault) → MatchResult (wanted test fault >>= λ passed. next) P Q
+    → (test ≡ true → MatchResult next P Q) → (test ≡ false → Q fault) → MatchResult (wanted test fault >>= λ passed. next) P Q
 wanted_outcome P Q true fault next passes fails = passes refl
 wanted_outcome P Q false fault next passes fails = fails refl
 
+-- a test, a value, and what follows
 pub wanted_next_outcome : {A B : Type 0} (P : B → Type 0) (Q : NetpbmFault → Type 0) (test : Bool) (fault : NetpbmFault) (x : A) (f : A → Result B NetpbmFault)
-  → (test ≡ true → MatchResult (f x) P Q) → (test ≡ false → Q fault) → MatchResult ((wanted test fault >>= λ passed. Ok x) >>= f) P Q
+    → (test ≡ true → MatchResult (f x) P Q) → (test ≡ false → Q fault) → MatchResult ((wanted test fault >>= λ passed. Ok x) >>= f) P Q
 wanted_next_outcome P Q true fault x f passes fails = passes refl
 wanted_next_outcome P Q false fault x f passes fails = fails refl
