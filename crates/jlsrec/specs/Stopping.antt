@@ -1,13 +1,13 @@
 -- Why an engine that reads a film stopped, and what had happened then.
-use Rattle.std.specs.Prelude.{◌≡◌, ◌≢◌, ℕ, ◌+◌, ◌<◌, Bool, true, false, IsTrue, List, length, take, Option, Result, Ok, Err}
+use Rattle.std.specs.Prelude.{◌≡◌, ◌≢◌, ℕ, ◌+◌, ◌<◌, Bool, true, false, IsTrue, List, [], ◌∷◌, ◌++◌, length, take, Option, Result, Ok, Err}
 use Rattle.std.specs.Io.KnownBytes.{Appends}
 use Rattle.ls_frame.specs.declared.netpbm.NetpbmFault.{NetpbmFault}
 use Rattle.ls_frame.specs.declared.netpbm.NetpbmFault.TheVariants as netpbm
 use Rattle.ls_frame.specs.Picture.{Picture}
 use Rattle.ls_frame.specs.Faults.{blames_bytes, blames_device}
 use Rattle.ls_frame.specs.Reading.{known}
-use Rattle.ls_frame.specs.Film.{Tells, IsBroken}
-use Rattle.ls_frame.specs.Engine.{StopsAtInput, StopsAtOutput, StopsForMemory, StopsAtMost}
+use Rattle.ls_frame.specs.Film.{Tells, IsFilm, IsBroken}
+use Rattle.ls_frame.specs.Engine.{most_frames, StopsAtInput, StopsAtOutput, StopsForMemory, StopsAtMost}
 use Rattle.jlsrec.specs.declared.faults.FilmFault.{FilmFault}
 use Rattle.jlsrec.specs.declared.faults.FilmFault.TheVariants.{Input, Output, NoMemory, TooMany}
 
@@ -64,3 +64,37 @@ StopsPiece written written' bytes piece (Input m fault) = ⊥
 StopsPiece written written' bytes piece (Output n) = (here : ℕ) × (n ≡ bytes + here) × (here < length piece) × Appends written written' (take here piece)
 StopsPiece written written' bytes piece NoMemory = ⊥
 StopsPiece written written' bytes piece TooMany = ⊥
+
+-- ---- the same over bytes in memory, where nothing is left unknown
+
+-- The film is n images, and out is the text of their frames.
+pub record IsTextOf (text : List Picture → List ℕ) (film out : List ℕ) (n : ℕ) : Type 0 where
+  pub frames : List Picture
+  pub count : length frames ≡ n
+  pub whole : IsFilm film frames
+  pub wrote : out ≡ text frames
+
+-- The film begins with m images, what follows them is broken, and out is the text of the frames of these m.
+pub record IsTextBefore (text : List Picture → List ℕ) (film out : List ℕ) (m : ℕ) (fault : NetpbmFault) : Type 0 where
+  pub frames : List Picture
+  pub front : List ℕ
+  pub rest : List ℕ
+  pub count : length frames ≡ m
+  pub whole : film ≡ front ++ rest
+  pub begins : IsFilm front frames
+  pub broken : IsBroken rest fault
+  pub wrote : out ≡ text frames
+
+-- The film begins with these frames.
+pub record BeginsFilm (film : List ℕ) (frames : List Picture) : Type 0 where
+  pub front : List ℕ
+  pub rest : List ℕ
+  pub whole : film ≡ front ++ rest
+  pub begins : IsFilm front frames
+
+-- what each fault says of the film and of what was written
+abbrev pub StopsOver : (List Picture → List ℕ) → List ℕ → List ℕ → FilmFault → Type 0
+StopsOver text film out (Input m fault) = IsTextBefore text film out m fault
+StopsOver text film out (Output bytes) = (frames : List Picture) × BeginsFilm film frames × (bytes < length (text frames)) × (out ≡ take bytes (text frames))
+StopsOver text film out NoMemory = (frames : List Picture) × (more : List Picture) × BeginsFilm film (frames ++ more) × (out ≡ text frames)
+StopsOver text film out TooMany = (frames : List Picture) × (last : Picture) × BeginsFilm film (frames ++ last ∷ []) × (length frames ≡ most_frames) × (out ≡ text frames)

@@ -3,12 +3,12 @@ ghost use Rattle.std.specs.Prelude.{◌≡◌, ◌≤◌, IfOk, IfErr, length, s
 ghost use Rattle.ls_frame.specs.Devices.{count_after};
 ghost use Rattle.ls_frame.specs.Engine.{Completes};
 ghost use Rattle.jlsrec.specs.Listing.{kind_text, columns, line, lines};
-ghost use Rattle.jlsrec.specs.Stopping.{Stops, failed_reader, failed_writer};
+ghost use Rattle.jlsrec.specs.Stopping.{Stops, StopsOver, IsTextOf, failed_reader, failed_writer};
 
 use crate::faults::{FilmFault, MOST_FRAMES};
-use itoa::Buffer;
 use crate::film::{next_of_film, write_piece};
-use ls_frame::{Feed, Frame, Kind, Outlet, Presets};
+use itoa::Buffer;
+use ls_frame::{Counted, Feed, Frame, Kind, Outlet, Presets};
 use std::alloc::{AllocError, Global};
 
 fn kind_text(kind: Kind) -> &'static str
@@ -83,4 +83,15 @@ pub fn list_film<R: Feed, W: Outlet>(
         None => Ok(MOST_FRAMES),
         Some(_) => Err(FilmFault::TooMany),
     }
+}
+
+/// The lines of a film in memory, as far as they were written, and how the listing ended.
+pub fn list_bytes(alloc: Global, film: &[u8]) -> (Vec<u8>, Result<u64, FilmFault>)
+    ensures completes { IfOk result.1 (IsTextOf lines film.now result.0.items) }
+    ensures stops { IfErr result.1 (StopsOver lines film.now result.0.items) }
+{
+    let mut reader = film;
+    let mut writer = Counted::new(Vec::new(alloc));
+    let ended = list_film(alloc, &mut reader, &mut writer);
+    (writer.into_inner(), ended)
 }

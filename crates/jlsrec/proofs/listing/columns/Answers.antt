@@ -1,4 +1,4 @@
-use Rattle.std.proofs.Common.{◌≡◌, ℕ, List, [], ◌∷◌, sym, ap, refl, ◌∙◌}
+use Rattle.std.proofs.Common.{◌≡◌, ℕ, List, [], ◌∷◌, ap, ◌∙◌}
 use Rattle.ls_frame.specs.Parameters.{Parameters, default_parameters, bpp_of, limit_of}
 use Rattle.jlsrec.specs.Listing.{columns}
 use Rattle.jlsrec.proofs.listing.columns.Goals as goal
