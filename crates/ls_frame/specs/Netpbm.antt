@@ -1,5 +1,7 @@
--- The grammar of a Netpbm image, as the pgm and ppm pages give it for the binary forms:
+-- The grammar of a Netpbm image, after the pgm and ppm pages, for the binary forms:
 -- magic, gap, width, gap, height, gap, maxval, one white space character, raster.
+-- Narrower than the pages: a comment stands in a gap alone, behind white space, and touches neither the magic nor a
+-- number. The recorder's own limits are those on the sides, on the count of samples and on the header's length.
 use Rattle.std.specs.Prelude.{◌≡◌, ℕ, ◌+◌, ◌-◌, ◌*◌, ◌<◌, ◌≤◌, ◌&&◌, ◌||◌, ◌==◌, not, Bool, true, false, nat_le, IsTrue, List, [], ◌∷◌, ◌++◌, length, fold, flat_map}
 use Rattle.std.specs.List.{AllByRecursion}
 use Rattle.ls_frame.specs.declared.frame.Kind.{Kind}
