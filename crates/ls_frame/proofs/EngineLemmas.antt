@@ -26,8 +26,8 @@ module _ (text : List Picture → List ℕ) where
 
   -- a frame was read and its piece written
   pub HasRun-more : (read mid new written midway out : Option (List ℕ)) (n bytes : ℕ) (f : Picture) (piece : List ℕ) (run : HasRun text read mid written midway n bytes)
-    → Gave mid new (λ image. Spells image f) → text (run.frames ++ f ∷ []) ≡ text run.frames ++ piece → Appends midway out piece
-    → HasRun text read new written out (n + 1) (bytes + length piece)
+      → Gave mid new (λ image. Spells image f) → text (run.frames ++ f ∷ []) ≡ text run.frames ++ piece → Appends midway out piece
+      → HasRun text read new written out (n + 1) (bytes + length piece)
   HasRun-more read mid new written midway out n bytes f piece run next grows wrote = record {
     frames = run.frames ++ f ∷ [];
     count = length_push run.frames f ∙ ap (λ k. k + 1) run.count;
@@ -38,7 +38,7 @@ module _ (text : List Picture → List ℕ) where
 
   -- the end of the input
   pub HasRun-completes : (read mid new written out : Option (List ℕ)) (n bytes : ℕ) → HasRun text read mid written out n bytes → WasAtEnd mid new
-    → Completes text read new written out n
+      → Completes text read new written out n
   HasRun-completes read mid new written out n bytes run end = record {
     frames = run.frames;
     count = run.count;
@@ -48,7 +48,7 @@ module _ (text : List Picture → List ℕ) where
 
   -- the next frame can't be read
   pub HasRun-input : (read mid new written out : Option (List ℕ)) (n bytes : ℕ) (fault : NetpbmFault) → HasRun text read mid written out n bytes
-    → (IsTrue (blames_bytes fault) → Tells mid → IsBroken (known mid) fault) → StopsAtInput text read new written out n fault
+      → (IsTrue (blames_bytes fault) → Tells mid → IsBroken (known mid) fault) → StopsAtInput text read new written out n fault
   HasRun-input read mid new written out n bytes fault run broken = record {
     frames = run.frames;
     count = run.count;
@@ -59,19 +59,19 @@ module _ (text : List Picture → List ℕ) where
 
   -- a frame was read and a part of its piece written
   pub HasRun-output : (read mid new written midway out : Option (List ℕ)) (n bytes here : ℕ) (f : Picture) (piece : List ℕ) (run : HasRun text read mid written midway n bytes)
-    → Gave mid new (λ image. Spells image f) → text (run.frames ++ f ∷ []) ≡ text run.frames ++ piece → here < length piece → Appends midway out (take here piece)
-    → StopsAtOutput text read new written out (bytes + here)
+      → Gave mid new (λ image. Spells image f) → text (run.frames ++ f ∷ []) ≡ text run.frames ++ piece → here < length piece → Appends midway out (take here piece)
+      → StopsAtOutput text read new written out (bytes + here)
   HasRun-output read mid new written midway out n bytes here f piece run next grows part wrote =
-    let size : length (text (run.frames ++ f ∷ [])) ≡ bytes + length piece =
+      let size : length (text (run.frames ++ f ∷ [])) ≡ bytes + length piece =
       ap length grows ∙ length-append (text run.frames) piece ∙ ap (λ k. k + length piece) (sym run.bytes_are) in
-    let front : take (bytes + here) (text (run.frames ++ f ∷ [])) ≡ text run.frames ++ take here piece =
+      let front : take (bytes + here) (text (run.frames ++ f ∷ [])) ≡ text run.frames ++ take here piece =
       ap (take (bytes + here)) grows ∙ ap (λ k. take (k + here) (text run.frames ++ piece)) run.bytes_are ∙ take-append-add (text run.frames) piece here in
-    record {
-      frames = run.frames ++ f ∷ [];
-      gave = GaveFrames-more read mid new run.frames f run.gave next;
-      part = omega (arith, size, part);
-      wrote = subst (Appends written out) (sym front) (Appends-trans written midway out (text run.frames) (take here piece) run.wrote wrote);
-    }
+      record {
+        frames = run.frames ++ f ∷ [];
+        gave = GaveFrames-more read mid new run.frames f run.gave next;
+        part = omega (arith, size, part);
+        wrote = subst (Appends written out) (sym front) (Appends-trans written midway out (text run.frames) (take here piece) run.wrote wrote);
+      }
 
   -- memory was refused where the next frame was read, or where the piece of one that was read was made
   pub HasRun-no_memory : (read mid new written out : Option (List ℕ)) (n bytes : ℕ) → HasRun text read mid written out n bytes → StopsForMemory text read new written out
@@ -83,7 +83,7 @@ module _ (text : List Picture → List ℕ) where
   }
 
   pub HasRun-no_piece : (read mid new written out : Option (List ℕ)) (n bytes : ℕ) (f : Picture) → HasRun text read mid written out n bytes
-    → Gave mid new (λ image. Spells image f) → StopsForMemory text read new written out
+      → Gave mid new (λ image. Spells image f) → StopsForMemory text read new written out
   HasRun-no_piece read mid new written out n bytes f run next = record {
     frames = run.frames;
     more = f ∷ [];
@@ -93,7 +93,7 @@ module _ (text : List Picture → List ℕ) where
 
   -- a frame was read behind the most that a film has
   pub HasRun-most : (read mid new written out : Option (List ℕ)) (bytes : ℕ) (f : Picture) → HasRun text read mid written out most_frames bytes
-    → Gave mid new (λ image. Spells image f) → StopsAtMost text read new written out
+      → Gave mid new (λ image. Spells image f) → StopsAtMost text read new written out
   HasRun-most read mid new written out bytes f run next = record {
     frames = run.frames;
     last = f;

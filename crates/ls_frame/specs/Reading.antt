@@ -183,7 +183,7 @@ GivesTake view old new result take = IsSome old → MatchResult result
 -- The same of the next image: `Ok(None)` is the end, and no byte was read.
 abbrev pub GivesImage : Option (List ℕ) → Option (List ℕ) → Result (Option Picture) NetpbmFault → Type 0
 GivesImage old new result = IsSome old → MatchResult result
-  (λ next. IsSome new × MatchOption next
+    (λ next. IsSome new × MatchOption next
     ((known new ≡ []) × (image_at (known old) ≡ Ok None))
     (λ f. image_at (known old) ≡ Ok (Some (f, known new))))
-  (λ fault. IsTrue (blames_bytes fault) → image_at (known old) ≡ Err fault)
+    (λ fault. IsTrue (blames_bytes fault) → image_at (known old) ≡ Err fault)

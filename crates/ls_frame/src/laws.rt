@@ -9,31 +9,26 @@ ghost use Rattle.ls_frame.specs.Parameters.{ceil_log2};
 /// No Netpbm image begins another: what follows one inside the bytes of another is nothing.
 pub fn no_image_begins_another()
     ensures { (front rest : List ℕ) (f g : Picture) → Spells front f → Spells (front ++ rest) g → rest ≡ [] }
-{
-}
+{}
 
 /// An image has one frame.
 pub fn images_have_one_frame()
     ensures { (bytes : List ℕ) (f g : Picture) → Spells bytes f → Spells bytes g → f ≡ g }
-{
-}
+{}
 
 /// Bytes break the grammar in one way.
 pub fn bytes_break_in_one_way()
     ensures { (bytes : List ℕ) (fault other : NetpbmFault) → Breaks bytes fault → Breaks bytes other → fault ≡ other }
-{
-}
+{}
 
 /// Bytes that break the grammar begin with no image, and no bytes do neither.
 pub fn bytes_break_or_hold_an_image()
     ensures broken { (bytes : List ℕ) (fault : NetpbmFault) → Breaks bytes fault → NoImage bytes }
     ensures none { (fault : NetpbmFault) → Breaks [] fault → ⊥ }
-{
-}
+{}
 
 /// `ceil_log2` is the least exponent whose power of two is at least the number.
 pub fn ceil_log2_is_least()
     ensures reaches { (n : ℕ) → n ≤ 2 ^ 16 → n ≤ 2 ^ ceil_log2 n }
     ensures least { (n exponent : ℕ) → n ≤ 2 ^ exponent → ceil_log2 n ≤ exponent }
-{
-}
+{}
