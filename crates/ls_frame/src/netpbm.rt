@@ -93,3 +93,6 @@ pub fn next_frame<R: Feed>(alloc: Global, reader: &mut R) -> Result<Option<Frame
 {
     read_image(alloc, reader)
 }
+
+#[cfg(test)]
+mod tests;
