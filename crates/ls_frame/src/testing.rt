@@ -15,7 +15,7 @@ pub struct Pieces<'a> {
     calls: usize,
     /// How many bytes were given.
     pub given: usize,
-    /// How many bytes would have been given at most, had some call filled its buffer.
+    /// The farthest byte that a call had room for, counted from 1.
     pub furthest: usize,
     /// How many bytes were given before the first call with room for more than one.
     pub singly: Option<usize>,
