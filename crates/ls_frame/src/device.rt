@@ -151,3 +151,6 @@ impl<W: Write> Outlet for Counted<W> {
         self.failed
     }
 }
+
+#[cfg(test)]
+mod tests;

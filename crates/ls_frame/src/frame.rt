@@ -216,3 +216,6 @@ fn first_above(samples: &[u16], maxval: u16) -> Option<usize>
 {
     samples.iter().position(|sample| *sample > maxval)
 }
+
+#[cfg(test)]
+mod tests;

@@ -7,6 +7,8 @@ pub mod laws;
 pub mod netpbm;
 pub mod output;
 pub mod presets;
+#[cfg(test)]
+mod testing;
 
 pub use device::{Counted, Failed, Feed, Outlet};
 pub use frame::{Frame, FrameFault, Kind};

@@ -174,3 +174,6 @@ fn clamp(value: u16, low: u16, maxval: u16) -> u16
         value
     }
 }
+
+#[cfg(test)]
+mod tests;

@@ -1,0 +1,410 @@
+mod failures;
+mod long;
+
+use super::*;
+use crate::device::Counted;
+use crate::frame::Kind;
+use crate::testing::Pieces;
+use std::io;
+use std::io::Read;
+use std::process::Abort;
+
+/// Kind, width, height, maxval, samples.
+type Parts<'a> = (Kind, u16, u16, u16, &'a [u16]);
+
+/// Where memory may be refused, the want of it is an answer too.
+#[derive(Clone, Copy, Debug, PartialEq, Eq)]
+enum Memory {
+    Ample,
+    Refusable,
+}
+
+/// The parts of what was read.
+fn seen(got: &Result<Option<Frame>, NetpbmFault>) -> Result<Option<Parts<'_>>, NetpbmFault> {
+    match got {
+        Ok(None) => Ok(None),
+        Ok(Some(f)) => Ok(Some((f.kind(), f.width(), f.height(), f.maxval(), f.samples()))),
+        Err(fault) => Err(*fault),
+    }
+}
+
+/// That the wanted image or fault was read. Says whether memory was wanting instead.
+fn is_refused(
+    rt: &impl Abort,
+    memory: Memory,
+    got: &Result<Option<Frame>, NetpbmFault>,
+    want: Result<Parts<'_>, NetpbmFault>,
+    case: &str,
+) -> bool {
+    let got = seen(got);
+    if memory == Memory::Refusable && got == Err(NetpbmFault::NoMemory) {
+        return true;
+    }
+    assert_eq!(rt; got, want.map(Some), "at {case}");
+    false
+}
+
+const BAD_HEADERS: [(&str, &[u8], NetpbmFault); 15] = [
+    ("another letter", b"X", NetpbmFault::BadMagic),
+    ("another digit", b"P4 1 1\n", NetpbmFault::BadMagic),
+    ("a lone letter", b"P", NetpbmFault::Truncated),
+    ("no gap", b"P51 1 255\n", NetpbmFault::BadHeader),
+    (
+        "a comment at the magic",
+        b"P5#c\n1 1 255\n",
+        NetpbmFault::BadHeader,
+    ),
+    (
+        "a comment at the width",
+        b"P5 1#c\n1 255\n",
+        NetpbmFault::BadHeader,
+    ),
+    (
+        "a comment at maxval",
+        b"P5 1 1 255#",
+        NetpbmFault::BadHeader,
+    ),
+    ("a width of 0", b"P5 0 1 255\n", NetpbmFault::SizeOutOfRange),
+    (
+        "a height of 0",
+        b"P5 1 0 255\n",
+        NetpbmFault::SizeOutOfRange,
+    ),
+    (
+        "a width of 65536",
+        b"P5 65536 1 255\n",
+        NetpbmFault::SizeOutOfRange,
+    ),
+    (
+        "a height of 65536",
+        b"P5 1 65536 255\n",
+        NetpbmFault::SizeOutOfRange,
+    ),
+    (
+        "a width of forty digits",
+        b"P5 1000000000000000000000000000000000000001 1 255\n",
+        NetpbmFault::SizeOutOfRange,
+    ),
+    (
+        "3 * 2^28 samples",
+        b"P6 16384 16384 255\n",
+        NetpbmFault::SizeOutOfRange,
+    ),
+    (
+        "a maxval of 0",
+        b"P5 1 1 0\n",
+        NetpbmFault::MaxvalOutOfRange,
+    ),
+    (
+        "a maxval of 65536",
+        b"P5 1 1 65536\n",
+        NetpbmFault::MaxvalOutOfRange,
+    ),
+];
+
+#[test]
+fn bad_headers_are_named_without_memory(rt: HostRuntime) {
+    for (case, bytes, want) in BAD_HEADERS {
+        let mut rest = bytes;
+        let got = next_frame(rt.alloc(), &mut rest);
+        assert_eq!(rt; seen(&got), Err(want), "at {case}");
+        let mut reader = Counted::new(Pieces::new(bytes, 1, &[]));
+        let got = next_frame(rt.alloc(), &mut reader);
+        assert_eq!(rt; seen(&got), Err(want), "at {case}, by pieces");
+        assert_eq!(rt; Feed::failures(&reader), 0, "at {case}");
+    }
+}
+
+#[test]
+fn no_bytes_are_no_image(rt: HostRuntime) {
+    let mut rest = b"".as_slice();
+    assert_eq!(rt; seen(&next_frame(rt.alloc(), &mut rest)), Ok(None));
+    let mut reader = Counted::new(Pieces::new(b"", 1, &[]));
+    assert_eq!(rt; seen(&next_frame(rt.alloc(), &mut reader)), Ok(None));
+    assert_eq!(rt; Feed::failures(&reader), 0);
+    assert_eq!(rt; reader.into_inner().furthest, 1);
+}
+
+const IMAGES: [(&str, &[u8], Result<Parts<'static>, NetpbmFault>); 20] = [
+    (
+        "a comment in the gap",
+        b"P5 #c\n1 1\n255\n\x00",
+        Ok((Kind::Gray, 1, 1, 255, &[0])),
+    ),
+    (
+        "a comment that ends in CR",
+        b"P5\n#a\r1 1 255\n\x07",
+        Ok((Kind::Gray, 1, 1, 255, &[7])),
+    ),
+    (
+        "a comment behind a comment",
+        b"P5\n#a\n#b\n1 1 255\n\x07",
+        Ok((Kind::Gray, 1, 1, 255, &[7])),
+    ),
+    (
+        "each white space character",
+        b"P5\t\r\n 1\t1\r255 \x07",
+        Ok((Kind::Gray, 1, 1, 255, &[7])),
+    ),
+    (
+        "zeros in front",
+        b"P5 0001 01 00255\n\x07",
+        Ok((Kind::Gray, 1, 1, 255, &[7])),
+    ),
+    (
+        "forty zeros in front",
+        b"P5 00000000000000000000000000000000000000001 1 255\n\x07",
+        Ok((Kind::Gray, 1, 1, 255, &[7])),
+    ),
+    (
+        "a sample like a comment",
+        b"P5 1 1 255\n#",
+        Ok((Kind::Gray, 1, 1, 255, &[35])),
+    ),
+    (
+        "colour",
+        b"P6 1 1 255\n\x00\x00\x00",
+        Ok((Kind::Color, 1, 1, 255, &[0, 0, 0])),
+    ),
+    (
+        "colour of two bytes a sample",
+        b"P6 1 1 256\n\x00\x01\x00\x02\x01\x00",
+        Ok((Kind::Color, 1, 1, 256, &[1, 2, 256])),
+    ),
+    (
+        "four rows",
+        b"P5\n4 4\n255\n\x00\x00\x5a\x4a\x44\x32\x2b\xcd\x40\x91\x91\x91\x64\x91\x91\x91",
+        Ok((
+            Kind::Gray,
+            4,
+            4,
+            255,
+            &[
+                0, 0, 90, 74, 68, 50, 43, 205, 64, 145, 145, 145, 100, 145, 145, 145,
+            ],
+        )),
+    ),
+    (
+        "a maxval of 1",
+        b"P5 1 1 1\n\x01",
+        Ok((Kind::Gray, 1, 1, 1, &[1])),
+    ),
+    (
+        "a maxval of 65535",
+        b"P5 1 1 65535\n\xff\xff",
+        Ok((Kind::Gray, 1, 1, 65535, &[65535])),
+    ),
+    (
+        "two samples",
+        b"P5 2 1 255\n\x00\x01",
+        Ok((Kind::Gray, 2, 1, 255, &[0, 1])),
+    ),
+    (
+        "two samples of two bytes",
+        b"P5 2 1 256\n\x01\x00\x00\xff",
+        Ok((Kind::Gray, 2, 1, 256, &[256, 255])),
+    ),
+    (
+        "a sample over maxval",
+        b"P5 1 1 7\n\x08",
+        Err(NetpbmFault::SampleTooLarge),
+    ),
+    (
+        "a sample of two bytes over maxval",
+        b"P5 1 1 256\n\x01\x01",
+        Err(NetpbmFault::SampleTooLarge),
+    ),
+    (
+        "a sample over maxval, and then the end",
+        b"P5 2 1 7\n\x08",
+        Err(NetpbmFault::SampleTooLarge),
+    ),
+    (
+        "a sample too few",
+        b"P5 2 1 255\n\x00",
+        Err(NetpbmFault::Truncated),
+    ),
+    (
+        "a byte too few",
+        b"P5 2 1 300\n\x01\x2c\x01",
+        Err(NetpbmFault::Truncated),
+    ),
+    ("no raster", b"P5 2 1 255\n", Err(NetpbmFault::Truncated)),
+];
+
+/// That each image is read as it is, whole and in pieces.
+fn check_images(rt: &impl Abort, alloc: Global, memory: Memory) {
+    for (case, bytes, want) in IMAGES {
+        let mut rest = bytes;
+        let got = next_frame(alloc, &mut rest);
+        if !is_refused(rt, memory, &got, want, case) && want.is_ok() {
+            assert!(rt; rest.is_empty(), "at {case}");
+        }
+        for most in [1, 2, 3, 7] {
+            let mut reader = Counted::new(Pieces::new(bytes, most, &[]));
+            let got = next_frame(alloc, &mut reader);
+            let is_refused = is_refused(rt, memory, &got, want, case);
+            assert_eq!(rt; Feed::failures(&reader), 0, "at {case}");
+            if !is_refused && want.is_ok() {
+                let furthest = reader.into_inner().furthest;
+                assert_eq!(rt; furthest, bytes.len(), "at {case}, {most} bytes a call");
+            }
+        }
+    }
+}
+
+#[test]
+fn images_are_read_as_they_are_with_ample_memory(rt: HostRuntime) {
+    check_images(&rt, rt.alloc(), Memory::Ample);
+}
+
+#[test]
+fn images_are_read_as_they_are_or_memory_is_wanting(rt: HostRuntime) {
+    check_images(&rt, rt.alloc(), Memory::Refusable);
+}
+
+#[test]
+fn each_beginning_of_an_image_is_truncated(rt: HostRuntime) {
+    let image = b"P5 2 1 255\n\x00\x01";
+    for end in 1..image.len() {
+        let bytes = &image[..end];
+        let mut rest = bytes;
+        let got = next_frame(rt.alloc(), &mut rest).err();
+        // Memory is asked for behind the header.
+        if end < 11 || got != Some(NetpbmFault::NoMemory) {
+            assert_eq!(rt; got, Some(NetpbmFault::Truncated), "of {end} bytes");
+        }
+    }
+}
+
+/// A header of so many blanks behind the magic, and then these bytes.
+const LONG_HEADERS: [(&str, u64, &[u8], Result<Parts<'static>, NetpbmFault>); 4] = [
+    (
+        "65535 bytes and then the end",
+        65533,
+        b"",
+        Err(NetpbmFault::Truncated),
+    ),
+    (
+        "65536 bytes and then the end",
+        65534,
+        b"",
+        Err(NetpbmFault::HeaderTooLong),
+    ),
+    (
+        "a header of 65536 bytes",
+        65526,
+        b"1 1 255\n\x07",
+        Ok((Kind::Gray, 1, 1, 255, &[7])),
+    ),
+    (
+        "a header of 65537 bytes",
+        65527,
+        b"1 1 255\n\x07",
+        Err(NetpbmFault::HeaderTooLong),
+    ),
+];
+
+#[test]
+fn a_header_has_65536_bytes_at_most(rt: HostRuntime) {
+    for (case, blanks, tail, want) in LONG_HEADERS {
+        let front = b"P5".as_slice().chain(io::repeat(b' ').take(blanks));
+        let mut reader = Counted::new(front.chain(tail));
+        let got = next_frame(rt.alloc(), &mut reader);
+        // A bad header takes no memory.
+        let memory = match want {
+            Ok(_) => Memory::Refusable,
+            Err(_) => Memory::Ample,
+        };
+        is_refused(&rt, memory, &got, want, case);
+    }
+}
+
+#[test]
+fn not_a_byte_behind_an_image_is_asked_for(rt: HostRuntime) {
+    let first: Parts<'static> = (Kind::Gray, 3, 1, 255, &[7, 8, 9]);
+    let second: Parts<'static> = (Kind::Color, 1, 1, 255, &[1, 2, 3]);
+    let bytes = b"P5 3 1 255\n\x07\x08\x09P6 1 1 255\n\x01\x02\x03";
+    let mut rest = bytes.as_slice();
+    let got = next_frame(rt.alloc(), &mut rest);
+    if is_refused(&rt, Memory::Refusable, &got, Ok(first), "the first image") {
+        return;
+    }
+    assert_eq!(rt; rest, b"P6 1 1 255\n\x01\x02\x03".as_slice());
+    let got = next_frame(rt.alloc(), &mut rest);
+    if is_refused(&rt, Memory::Refusable, &got, Ok(second), "the second image") {
+        return;
+    }
+    assert!(rt; rest.is_empty());
+    assert_eq!(rt; seen(&next_frame(rt.alloc(), &mut rest)), Ok(None));
+    for most in [1, 2, 7, 100] {
+        let mut reader = Counted::new(Pieces::new(bytes, most, &[]));
+        let got = next_frame(rt.alloc(), &mut reader);
+        let is_refused = is_refused(&rt, Memory::Refusable, &got, Ok(first), "the pieces");
+        let pieces = reader.into_inner();
+        if is_refused {
+            // The room for the raster is made before its first byte is asked for.
+            assert_eq!(rt; pieces.given, 11, "at {most} bytes a call");
+        } else {
+            assert_eq!(rt; pieces.singly, Some(11), "at {most} bytes a call");
+            assert_eq!(rt; pieces.given, 14, "at {most} bytes a call");
+            assert_eq!(rt; pieces.furthest, 14, "at {most} bytes a call");
+        }
+    }
+}
+
+const TEXTS: [(NetpbmFault, &str); 9] = [
+    (NetpbmFault::BadMagic, "bad magic"),
+    (NetpbmFault::BadHeader, "bad header"),
+    (NetpbmFault::HeaderTooLong, "header too long"),
+    (NetpbmFault::SizeOutOfRange, "size out of range"),
+    (NetpbmFault::MaxvalOutOfRange, "maxval out of range"),
+    (NetpbmFault::SampleTooLarge, "sample too large"),
+    (NetpbmFault::Truncated, "truncated"),
+    (NetpbmFault::Io, "read failed"),
+    (NetpbmFault::NoMemory, "no memory"),
+];
+
+#[test]
+fn faults_say_what_is_wrong(rt: HostRuntime) {
+    for (fault, want) in TEXTS {
+        let Ok(text) = fault.to_string(rt.alloc()) else {
+            return;
+        };
+        assert_eq!(rt; text.as_str(), want, "at {fault:?}");
+    }
+    assert_eq!(rt; NetpbmFault::from(AllocError), NetpbmFault::NoMemory);
+}
+
+#[test]
+fn the_image_in_front_is_found_with_its_length_with_ample_memory(rt: HostRuntime) {
+    let cases: [(&str, &[u8], Result<Option<(u16, usize)>, NetpbmFault>); 4] = [
+        ("nothing", b"", Ok(None)),
+        (
+            "an image and another",
+            b"P5\n1 1\n255\n\x07P5\n1 1\n255\n\x08",
+            Ok(Some((7, 12))),
+        ),
+        (
+            "an image and no other",
+            b"P5\n1 1\n255\n\x07P4",
+            Ok(Some((7, 12))),
+        ),
+        (
+            "half an image",
+            b"P5\n1 1\n255\n",
+            Err(NetpbmFault::Truncated),
+        ),
+    ];
+    for (case, bytes, want) in cases {
+        let got = match first_frame(rt.alloc(), bytes) {
+            Ok(None) => Ok(None),
+            Ok(Some((frame, length))) => Ok(Some((
+                frame.samples().first().copied().unwrap_or(0),
+                length,
+            ))),
+            Err(fault) => Err(fault),
+        };
+        assert_eq!(rt; got, want, "at {case}");
+    }
+}

@@ -1,0 +1,130 @@
+//! Readers and writers for the tests. They take no memory.
+ghost use Rattle.std.specs.Prelude.{◌≤◌};
+ghost use Rattle.ls_frame.specs.declared.testing.TheConstants.{ROOM};
+
+use std::io;
+use std::io::{Read, Write};
+
+/// A reader over memory that gives at most `most` bytes a call. Its calls of the numbers `failing`,
+/// counted from 0, fail and give nothing.
+#[derive(Drop)]
+pub struct Pieces<'a> {
+    rest: &'a [u8],
+    most: usize,
+    failing: &'a [usize],
+    calls: usize,
+    /// How many bytes were given.
+    pub given: usize,
+    /// The farthest byte that a call had room for, counted from 1.
+    pub furthest: usize,
+    /// How many bytes were given before the first call with room for more than one.
+    pub singly: Option<usize>,
+}
+
+impl<'a> Pieces<'a> {
+    pub fn new(bytes: &'a [u8], most: usize, failing: &'a [usize]) -> Pieces<'a> {
+        Pieces {
+            rest: bytes,
+            most,
+            failing,
+            calls: 0,
+            given: 0,
+            furthest: 0,
+            singly: None,
+        }
+    }
+}
+
+impl<'a> Read for Pieces<'a> {
+    fn read(&mut self, buf: &mut [u8]) -> io::Result<usize> {
+        let call = self.calls;
+        self.calls = call.saturating_add(1);
+        self.furthest = self.furthest.max(self.given.saturating_add(buf.len()));
+        if buf.len() > 1 && self.singly.is_none() {
+            self.singly = Some(self.given);
+        }
+        if is_among(call, self.failing) {
+            return Err(io::Error::from(io::ErrorKind::BrokenPipe));
+        }
+        let room = buf.len().min(self.most);
+        let given = self.rest.read(&mut buf[..room])?;
+        self.given = self.given.saturating_add(given);
+        Ok(given)
+    }
+}
+
+/// What becomes of a call that is to go wrong.
+#[derive(Clone, Copy, Debug)]
+pub enum Mishap {
+    Fails,
+    TakesNothing,
+}
+
+/// The most bytes that a `Sink` holds.
+const ROOM: usize = 16;
+
+/// A writer into an array that takes at most `most` bytes a call. Its calls of the numbers `failing`,
+/// counted from 0, take nothing.
+#[derive(Drop)]
+pub struct Sink<'a> {
+    room: [u8; ROOM],
+    filled: usize,
+    most: usize,
+    failing: &'a [usize],
+    mishap: Mishap,
+    /// How many calls of `write` there were.
+    pub calls: usize,
+    /// How many calls of `flush` there were. Those of the numbers `failing` fail.
+    pub flushes: usize,
+    ghost fits: { filled ≤ ROOM },
+}
+
+impl<'a> Sink<'a> {
+    pub fn new(most: usize, failing: &'a [usize], mishap: Mishap) -> Sink<'a> {
+        Sink {
+            room: [0; ROOM],
+            filled: 0,
+            most,
+            failing,
+            mishap,
+            calls: 0,
+            flushes: 0,
+        }
+    }
+
+    /// The bytes that went out.
+    pub fn written(&self) -> &[u8] {
+        &self.room[..self.filled]
+    }
+}
+
+impl<'a> Write for Sink<'a> {
+    fn write(&mut self, buf: &[u8]) -> io::Result<usize> {
+        let call = self.calls;
+        self.calls = call.saturating_add(1);
+        if is_among(call, self.failing) {
+            return match self.mishap {
+                Mishap::Fails => Err(io::Error::from(io::ErrorKind::BrokenPipe)),
+                Mishap::TakesNothing => Ok(0),
+            };
+        }
+        let start = self.filled;
+        let taken = buf.len().min(self.most).min(ROOM - start);
+        self.room[start..start + taken].copy_from_slice(&buf[..taken]);
+        self.filled = start + taken;
+        Ok(taken)
+    }
+
+    fn flush(&mut self) -> io::Result<()> {
+        let call = self.flushes;
+        self.flushes = call.saturating_add(1);
+        if is_among(call, self.failing) {
+            return Err(io::Error::from(io::ErrorKind::BrokenPipe));
+        }
+        Ok(())
+    }
+}
+
+fn is_among(call: usize, calls: &[usize]) -> bool {
+    calls.iter().any(|one| *one == call)
+}
