@@ -41,9 +41,13 @@ impl FilmFault {
 impl From<AllocError> for FilmFault {
     ghost use Rattle.std.specs.Prelude.{◌≡◌};
     ghost use Rattle.jlsrec.specs.declared.faults.FilmFault.TheVariants.{NoMemory};
+
     ghost from_gives = { λ _ fault. fault ≡ NoMemory };
 
     fn from(_refused: AllocError) -> FilmFault {
         FilmFault::NoMemory
     }
 }
+
+#[cfg(test)]
+mod tests;

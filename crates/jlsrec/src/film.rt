@@ -29,11 +29,7 @@ pub fn next_of_film<R: Feed>(
 }
 
 /// Writes a piece of the text behind the `written` bytes of it, and says how many there are then.
-pub fn write_piece<W: Outlet>(
-    writer: &mut W,
-    piece: &[u8],
-    written: u64,
-) -> Result<u64, FilmFault>
+pub fn write_piece<W: Outlet>(writer: &mut W, piece: &[u8], written: u64) -> Result<u64, FilmFault>
     requires { written + length piece.now < 2 ^ 64 }
     ensures all { OnOk result (Appends (W.contents writer.old) (W.contents writer.new) piece.now) }
     ensures count { IfOk result (λ count. count ≡ written + length piece.now) }
@@ -45,3 +41,6 @@ pub fn write_piece<W: Outlet>(
         Err(fault) => Err(FilmFault::Output(written + fault.written as u64)),
     }
 }
+
+#[cfg(test)]
+mod tests;

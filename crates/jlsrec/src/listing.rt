@@ -6,8 +6,8 @@ ghost use Rattle.jlsrec.specs.Listing.{kind_text, columns, line, lines};
 ghost use Rattle.jlsrec.specs.Stopping.{Stops, failed_reader, failed_writer};
 
 use crate::faults::{FilmFault, MOST_FRAMES};
-use itoa::Buffer;
 use crate::film::{next_of_film, write_piece};
+use itoa::Buffer;
 use ls_frame::{Feed, Frame, Kind, Outlet, Presets};
 use std::alloc::{AllocError, Global};
 
@@ -84,3 +84,6 @@ pub fn list_film<R: Feed, W: Outlet>(
         Some(_) => Err(FilmFault::TooMany),
     }
 }
+
+#[cfg(test)]
+mod tests;
