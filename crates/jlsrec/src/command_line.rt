@@ -62,3 +62,6 @@ pub fn read_words<'a>(alloc: Global, words: &'a [String]) -> Result<Request<'a>,
 pub fn usage_fault<'a>(alloc: Global, message: &str) -> Result<Error, AllocError> {
     command(alloc)?.error(ErrorKind::InvalidValue, message)
 }
+
+#[cfg(test)]
+mod tests;

@@ -48,3 +48,6 @@ impl From<AllocError> for FilmFault {
         FilmFault::NoMemory
     }
 }
+
+#[cfg(test)]
+mod tests;

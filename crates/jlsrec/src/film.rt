@@ -41,3 +41,6 @@ pub fn write_piece<W: Outlet>(writer: &mut W, piece: &[u8], written: u64) -> Res
         Err(fault) => Err(FilmFault::Output(written + fault.written as u64)),
     }
 }
+
+#[cfg(test)]
+mod tests;

@@ -95,3 +95,6 @@ pub fn list_bytes(alloc: Global, film: &[u8]) -> (Vec<u8>, Result<u64, FilmFault
     let ended = list_film(alloc, &mut reader, &mut writer);
     (writer.into_inner(), ended)
 }
+
+#[cfg(test)]
+mod tests;

@@ -6,6 +6,8 @@ mod faults;
 mod film;
 mod listing;
 mod program;
+#[cfg(test)]
+mod testing;
 
 use ls_frame::Counted;
 use std::io::BufWriter;

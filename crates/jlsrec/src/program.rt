@@ -150,3 +150,6 @@ pub fn finish<W: Outlet, E: Outlet>(
         }
     }
 }
+
+#[cfg(test)]
+mod tests;

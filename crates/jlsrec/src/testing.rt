@@ -1,0 +1,148 @@
+//! Films, words, readers and writers for the tests. Only the words take memory.
+ghost use Rattle.std.specs.Prelude.{◌≤◌};
+ghost use Rattle.jlsrec.specs.declared.testing.TheConstants.{ROOM};
+
+use std::alloc::{AllocError, Global};
+use std::io;
+use std::io::{Read, Write};
+
+/// Where memory may be refused, the want of it is an answer too.
+#[derive(Clone, Copy, Debug, PartialEq, Eq)]
+pub enum Memory {
+    Ample,
+    Refusable,
+}
+
+/// Three gray images joined: 4 by 4 up to 255, 1 by 1 up to 1 and 1 by 1 up to 65535.
+pub const FILM: &[u8] = b"P5\n4 4\n255\n\
+\x00\x00\x5a\x4a\x44\x32\x2b\xcd\x40\x91\x91\x91\x64\x91\x91\x91\
+P5\n1 1\n1\n\x01\
+P5\n1 1\n65535\n\xff\xff";
+
+pub const FILM_LINES: &[u8] = b"0 gray 4 4 255 8 3 7 21 64 32\n\
+1 gray 1 1 1 2 1 1 1 64 20\n\
+2 gray 1 1 65535 16 18 67 276 64 64\n";
+
+/// An image of one black sample up to 255.
+pub const BLACK: &[u8] = b"P5\n1 1\n255\n\x00";
+
+/// The line of the frame 0, of one gray sample up to 255.
+pub const FIRST_LINE: &[u8] = b"0 gray 1 1 255 8 3 7 21 64 32\n";
+
+/// The words as a program gets them.
+pub fn words_of(alloc: Global, words: &[&str]) -> Result<Vec<String>, AllocError> {
+    let mut all = Vec::new(alloc);
+    for word in words {
+        all.push(String::from_str(alloc, *word)?)?;
+    }
+    Ok(all)
+}
+
+/// A header of 65,536 bytes that hasn't ended.
+pub fn endless_header() -> [u8; 65_536] {
+    let mut header = [b' '; 65_536];
+    header[0] = b'P';
+    header[1] = b'5';
+    header
+}
+
+/// A reader over memory that gives at most `most` bytes a call. Its call number `failing`, from 0, fails
+/// and gives nothing.
+#[derive(Drop)]
+pub struct Pieces<'a> {
+    rest: &'a [u8],
+    most: usize,
+    failing: Option<usize>,
+    calls: usize,
+}
+
+impl<'a> Pieces<'a> {
+    pub fn new(bytes: &'a [u8], most: usize, failing: Option<usize>) -> Pieces<'a> {
+        Pieces {
+            rest: bytes,
+            most,
+            failing,
+            calls: 0,
+        }
+    }
+}
+
+impl<'a> Read for Pieces<'a> {
+    fn read(&mut self, buf: &mut [u8]) -> io::Result<usize> {
+        let call = self.calls;
+        self.calls = call.saturating_add(1);
+        if self.failing == Some(call) {
+            return Err(io::Error::from(io::ErrorKind::BrokenPipe));
+        }
+        let room = buf.len().min(self.most);
+        self.rest.read(&mut buf[..room])
+    }
+}
+
+/// What goes wrong with a `Sink`.
+#[derive(Clone, Copy, Debug, PartialEq, Eq)]
+pub enum Mishap {
+    Nothing,
+    /// The call of `write` of this number, from 0, fails.
+    Fails(usize),
+    /// The call of `write` of this number, from 0, takes nothing.
+    TakesNothing(usize),
+    /// Each call of `flush` fails.
+    FailsToFlush,
+}
+
+/// The most bytes that a `Sink` holds.
+const ROOM: usize = 4096;
+
+/// A writer into an array that takes at most `most` bytes a call.
+#[derive(Drop)]
+pub struct Sink {
+    room: [u8; ROOM],
+    filled: usize,
+    most: usize,
+    mishap: Mishap,
+    calls: usize,
+    ghost fits: { filled ≤ ROOM },
+}
+
+impl Sink {
+    pub fn new(most: usize, mishap: Mishap) -> Sink {
+        Sink {
+            room: [0; ROOM],
+            filled: 0,
+            most,
+            mishap,
+            calls: 0,
+        }
+    }
+
+    /// The bytes that went out.
+    pub fn written(&self) -> &[u8] {
+        &self.room[..self.filled]
+    }
+}
+
+impl Write for Sink {
+    fn write(&mut self, buf: &[u8]) -> io::Result<usize> {
+        let call = self.calls;
+        self.calls = call.saturating_add(1);
+        if self.mishap == Mishap::Fails(call) {
+            return Err(io::Error::from(io::ErrorKind::BrokenPipe));
+        }
+        if self.mishap == Mishap::TakesNothing(call) {
+            return Ok(0);
+        }
+        let start = self.filled;
+        let taken = buf.len().min(self.most).min(ROOM - start);
+        self.room[start..start + taken].copy_from_slice(&buf[..taken]);
+        self.filled = start + taken;
+        Ok(taken)
+    }
+
+    fn flush(&mut self) -> io::Result<()> {
+        if self.mishap == Mishap::FailsToFlush {
+            return Err(io::Error::from(io::ErrorKind::BrokenPipe));
+        }
+        Ok(())
+    }
+}
