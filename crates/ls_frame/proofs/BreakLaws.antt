@@ -234,10 +234,10 @@ height_fails (first ∷ bytes) b =
     let taken = with_last (magic b.kind ++ field_bytes b.width ++ field_bytes b.height) b.rest b.white b.whole b.short in
     let n : ℕ = field_number b.height in
     image_fails first bytes SizeOutOfRange (elim b.out [
-      | inl out ↦ height_out bytes b.rest b.kind b.width b.height b.white first (most_heading - 1) _ refl b.in_width b.height_field b.behind taken out
+      | inl out ↦ height_out bytes b.rest b.kind b.width b.height b.white first (most_heading - 1) _ refl b.width_passed b.height_field b.behind taken out
       | inr many ↦ elim (cases_Bool (ltb 0 (capped n) && leb (capped n) greatest)) [
-        | inl test ↦ height_many bytes b.rest b.kind b.width b.height b.white first (most_heading - 1) _ refl b.in_width b.height_field b.behind taken (in_range_if (capped n) n refl test) many
-        | inr test ↦ height_out bytes b.rest b.kind b.width b.height b.white first (most_heading - 1) _ refl b.in_width b.height_field b.behind taken (out_of_range_if (capped n) n refl test)
+        | inl test ↦ height_many bytes b.rest b.kind b.width b.height b.white first (most_heading - 1) _ refl b.width_passed b.height_field b.behind taken (in_range_if (capped n) n refl test) many
+        | inr test ↦ height_out bytes b.rest b.kind b.width b.height b.white first (most_heading - 1) _ refl b.width_passed b.height_field b.behind taken (out_of_range_if (capped n) n refl test)
       ]
     ])
 

@@ -139,7 +139,7 @@ height_fault kind w some width (out_of_range read is) = of_size (inr (record {
   rest = read.rest;
   whole = whole_with_last _ _ read.takes;
   short = short_enough read.takes;
-  in_width = width;
+  width_passed = width;
   height_field = read.lawful;
   behind = read.behind;
   out = inl read.out;
@@ -159,7 +159,7 @@ too_many {found = found} kind w width lawful width_is read test =
       rest = found.2;
       whole = whole_with_last _ _ read.takes;
       short = short_enough read.takes;
-      in_width = lawful;
+      width_passed = lawful;
       height_field = read.lawful;
       behind = read.behind;
       out = inr (rw (← width_is, ← read.is) many);

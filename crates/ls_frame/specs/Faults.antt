@@ -167,7 +167,7 @@ pub record BreaksHeight (bytes : List ℕ) : Type 0 where
   pub rest : List ℕ
   pub whole : bytes ≡ magic kind ++ field_bytes width ++ field_bytes height ++ white ∷ rest
   pub short : length (magic kind ++ field_bytes width ++ field_bytes height ++ white ∷ []) ≤ most_heading
-  pub in_width : IsWidth width
+  pub width_passed : IsWidth width
   pub height_field : IsField height
   pub behind : IsTrue (is_white white)
   pub out : (¬ InRange (field_number height)) ⊎ (most_samples < sample_count kind (field_number width) (field_number height))
