@@ -1,5 +1,5 @@
 -- An engine that reads a film and writes its text, step by step.
-use Rattle.std.proofs.Common.{◌≡◌, ℕ, suc, ◌+◌, ◌<◌, List, [], ◌∷◌, ◌++◌, length, take, Option, IsTrue, refl, sym, ap, subst, ◌∙◌, arith, append-nil}
+use Rattle.std.proofs.Common.{◌≡◌, ℕ, ◌+◌, ◌<◌, List, [], ◌∷◌, ◌++◌, length, take, Option, IsTrue, refl, sym, ap, subst, ◌∙◌, arith, append-nil}
 use Rattle.std.specs.Io.KnownBytes.{Appends}
 use Rattle.std.proofs.KnownBytes.{Appends-nil, Appends-trans}
 use Rattle.std.proofs.Math.Seq.{take-append-add}
@@ -9,7 +9,7 @@ use Rattle.ls_frame.specs.Picture.{Picture}
 use Rattle.ls_frame.specs.Netpbm.{Spells}
 use Rattle.ls_frame.specs.Faults.{blames_bytes}
 use Rattle.ls_frame.specs.Reading.{known}
-use Rattle.ls_frame.specs.Film.{Tells, Gave, WasAtEnd, IsBroken, GaveFrames}
+use Rattle.ls_frame.specs.Film.{Tells, Gave, WasAtEnd, IsBroken}
 use Rattle.ls_frame.specs.Engine.{most_frames, Completes, StopsAtInput, StopsAtOutput, StopsForMemory, StopsAtMost, HasRun}
 use Rattle.ls_frame.proofs.FilmLemmas.{GaveFrames-none, GaveFrames-more, GaveFilm-end, IsBrokenBehind-next, BeginsWith-gave}
 

@@ -1,5 +1,5 @@
 -- What the next image of a reader means, by the grammar.
-use Rattle.std.proofs.Common.{◌≡◌, ℕ, List, [], ◌∷◌, ◌++◌, Bool, Option, None, Some, Result, Ok, Err, IfOk, IfErr, IfSome, IfNone, IsTrue, refl, sym, ap, ◌∙◌, append-nil}
+use Rattle.std.proofs.Common.{◌≡◌, ℕ, List, [], ◌++◌, Option, None, Some, Result, Ok, Err, IfOk, IfErr, IfSome, IfNone, IsTrue, refl, sym, ap, ◌∙◌, append-nil}
 use Rattle.ls_frame.specs.declared.netpbm.NetpbmFault.{NetpbmFault}
 use Rattle.ls_frame.specs.Picture.{Picture}
 use Rattle.ls_frame.specs.Netpbm.{Spells, NoImage}

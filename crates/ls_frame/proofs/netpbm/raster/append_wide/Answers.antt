@@ -1,4 +1,4 @@
-use Rattle.std.proofs.Common.{◌≡◌, ◌*◌, ◌∙◌, ap, arith, rules}
+use Rattle.std.proofs.Common.{◌*◌, ◌∙◌, ap, arith, rules}
 use Rattle.std.proofs.lemmas.List.{take_rest}
 use Rattle.byteorder.specs.Endian.{big_number}
 use Rattle.ls_frame.proofs.RasterLemmas.{samples_of-more, samples_of-all}

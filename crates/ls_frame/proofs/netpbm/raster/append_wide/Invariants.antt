@@ -1,4 +1,4 @@
-use Rattle.std.proofs.Common.{◌≡◌, ◌+◌, ◌*◌, ◌/◌, ◌≤◌, ◌++◌, true, length, drop, vec_len, vec_capacity}
+use Rattle.std.proofs.Common.{◌≡◌, ◌+◌, ◌*◌, ◌++◌, true, drop, vec_len, vec_capacity}
 use Rattle.ls_frame.specs.Reading.{samples_of}
 use Rattle.ls_frame.proofs.netpbm.raster.append_wide.Given as goal
 

@@ -1,4 +1,4 @@
-use Rattle.std.proofs.Common.{◌≡◌, ◌+◌, ◌-◌, ◌++◌, take, sym, ap, ◌∙◌, arith, append_assoc}
+use Rattle.std.proofs.Common.{◌-◌, ◌++◌, take, sym, ap, ◌∙◌, arith, append_assoc}
 use borrow.Rule.Slice.PartMut.{post_of}
 use Rattle.ls_frame.specs.Reading.{known}
 use Rattle.ls_frame.proofs.KnownLemmas.{known-consumed, piece-read}

@@ -1,4 +1,4 @@
-use Rattle.std.proofs.Common.{◌≡◌, sym, inl, inr, arith}
+use Rattle.std.proofs.Common.{sym, inl, inr, arith}
 use Rattle.ls_frame.proofs.RasterLemmas.{begun_of-none, begun_of-one}
 use Rattle.ls_frame.proofs.netpbm.raster.keep_begun.Goals as goal
 

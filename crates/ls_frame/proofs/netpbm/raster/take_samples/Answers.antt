@@ -1,4 +1,4 @@
-use Rattle.std.proofs.Common.{◌≡◌, ◌+◌, ◌≤◌, length, vec_len, vec_capacity, true, subst, arith}
+use Rattle.std.proofs.Common.{◌+◌, ◌≤◌, length, vec_len, vec_capacity, subst, arith}
 use Rattle.ls_frame.specs.Reading.{samples_of}
 use Rattle.ls_frame.proofs.RasterLemmas.{length-samples_of}
 use Rattle.ls_frame.proofs.netpbm.raster.take_samples.Goals as goal
