@@ -1,0 +1,100 @@
+-- How far the data at the front of bytes goes.
+use Rattle.std.proofs.Common.{◌≡◌, ℕ, zero, suc, ◌+◌, ◌-◌, ◌<◌, ◌≤◌, inl, inr, Bool, true, false, eqb, cond, List, [], ◌∷◌, ◌++◌, length, take, drop, get_or, refl, sym, ◌∙◌, ap, subst, arith}
+use Rattle.std.proofs.lemmas.List.{take_more, drop_more, drop_all, append_assoc}
+use Rattle.std.proofs.lemmas.Bool.{cases_lt, and_parts, and_from, lt-ltb, le-ltb, ne_eqb, true≢false, cond-false}
+use Rattle.ls_bits.specs.Data.{goes_on, is_data, IsData, DataAtFront}
+
+-- ---- data and what stands behind it
+
+goes_append_test : (test : Bool) (bytes more : List ℕ) → cond test (goes_on bytes) true ≡ true → cond test (goes_on (bytes ++ more)) true ≡ true
+goes_append_test false bytes more h = refl
+goes_append_test true [] more h = absurd (true≢false (sym h))
+goes_append_test true (byte ∷ bytes) more h = h
+
+-- data with data behind it is data
+pub data-append : (bytes more : List ℕ) → is_data bytes ≡ true → is_data more ≡ true → is_data (bytes ++ more) ≡ true
+data-append [] more a b = b
+data-append (byte ∷ bytes) more a b =
+    let parts : (cond (eqb byte 255) (goes_on bytes) true ≡ true) × (is_data bytes ≡ true) = and_parts _ _ a in
+    and_from _ _ (goes_append_test (eqb byte 255) bytes more parts.0) (data-append bytes more parts.1 b)
+
+-- the end of data is data
+pub data-behind : (bytes more : List ℕ) → is_data (bytes ++ more) ≡ true → is_data more ≡ true
+data-behind [] more h = h
+data-behind (byte ∷ bytes) more h = data-behind bytes more (and_parts _ _ h).1
+
+-- ---- one step further
+
+data-other : (byte : ℕ) → (byte ≡ 255 → ⊥) → is_data (byte ∷ []) ≡ true
+data-other byte h = and_from _ _ (cond-false (eqb byte 255) false true (ne_eqb byte 255 h)) refl
+
+data-pair : (byte : ℕ) → byte < 128 → is_data (255 ∷ byte ∷ []) ≡ true
+data-pair byte h =
+    let other : byte ≡ 255 → ⊥ = λ e. absurd (omega arith) in
+    and_from _ _ (lt-ltb byte 128 h) (data-other byte other)
+
+pub data-more : (bytes : List ℕ) (len : ℕ) → len < length bytes → IsData (take len bytes) → (get_or bytes len 0 ≡ 255 → ⊥) → IsData (take (len + 1) bytes)
+data-more bytes len h so_far other =
+    subst IsData (sym (take_more bytes len 0 h)) (data-append (take len bytes) (get_or bytes len 0 ∷ []) so_far (data-other (get_or bytes len 0) other))
+
+pub data-more_pair : (bytes : List ℕ) (len : ℕ) → len + 1 < length bytes → IsData (take len bytes) → get_or bytes len 0 ≡ 255 → get_or bytes (len + 1) 0 < 128
+    → IsData (take (len + 2) bytes)
+data-more_pair bytes len h so_far ff below =
+    let second : take (len + 1 + 1) bytes ≡ take (len + 1) bytes ++ get_or bytes (len + 1) 0 ∷ [] = take_more bytes (len + 1) 0 h in
+    let first : take (len + 1) bytes ≡ take len bytes ++ get_or bytes len 0 ∷ [] = take_more bytes len 0 (omega arith) in
+    let sum : len + 1 + 1 ≡ len + 2 = omega arith in
+    let whole : take (len + 2) bytes ≡ take len bytes ++ (255 ∷ get_or bytes (len + 1) 0 ∷ []) =
+    ap (λ n. take n bytes) (sym sum) ∙ second
+    ∙ ap (λ list. list ++ get_or bytes (len + 1) 0 ∷ []) (first ∙ ap (λ n. take len bytes ++ n ∷ []) ff)
+    ∙ append_assoc (take len bytes) (255 ∷ []) (get_or bytes (len + 1) 0 ∷ []) in
+    subst IsData (sym whole) (data-append (take len bytes) (255 ∷ get_or bytes (len + 1) 0 ∷ []) so_far (data-pair (get_or bytes (len + 1) 0) below))
+
+-- ---- no step further
+
+take-none : (n : ℕ) → take {A = ℕ} n [] ≡ []
+take-none zero = refl
+take-none (suc n) = refl
+
+take_parts : (len more : ℕ) (bytes : List ℕ) → len ≤ more → take more bytes ≡ take len bytes ++ take (more - len) (drop len bytes)
+take_parts zero more bytes h = let all : more - 0 ≡ more = omega arith in ap (λ n. take n bytes) (sym all)
+take_parts (suc len) zero bytes h = absurd (omega arith)
+take_parts (suc len) (suc more) [] h = sym (take-none (suc more - suc len))
+take_parts (suc len) (suc more) (byte ∷ bytes) h =
+    let same : suc more - suc len ≡ more - len = omega arith in
+    ap (λ list. byte ∷ list) (take_parts len more bytes (omega arith) ∙ ap (λ n. take len bytes ++ take n (drop len bytes)) (sym same))
+
+blocked : (n : ℕ) (rest : List ℕ) → goes_on rest ≡ false → goes_on (take n rest) ≡ false
+blocked zero rest h = refl
+blocked (suc n) [] h = refl
+blocked (suc n) (byte ∷ rest) h = h
+
+no_more : (bytes : List ℕ) (len more : ℕ) → len < length bytes → get_or bytes len 0 ≡ 255 → goes_on (drop (len + 1) bytes) ≡ false → IsData (take more bytes) → more ≤ len
+no_more bytes len more h ff stop data_is = elim (cases_lt len more) [
+  | inr done ↦ done
+  | inl further ↦
+      let n : ℕ = more - len - 1 in
+      let size : more - len ≡ suc n = omega arith in
+      let front : take more bytes ≡ take len bytes ++ take (suc n) (drop len bytes) = take_parts len more bytes (omega arith) ∙ ap (λ k. take len bytes ++ take k (drop len bytes)) size in
+      let head : drop len bytes ≡ 255 ∷ drop (len + 1) bytes = drop_more bytes len 0 h ∙ ap (λ byte. byte ∷ drop (len + 1) bytes) ff in
+      let whole : take more bytes ≡ take len bytes ++ (255 ∷ take n (drop (len + 1) bytes)) = front ∙ ap (λ list. take len bytes ++ take (suc n) list) head in
+      let both : is_data (take len bytes ++ (255 ∷ take n (drop (len + 1) bytes))) ≡ true = sym (ap is_data whole) ∙ data_is in
+      let tail : is_data (255 ∷ take n (drop (len + 1) bytes)) ≡ true = data-behind (take len bytes) _ both in
+      let goes : goes_on (take n (drop (len + 1) bytes)) ≡ true = (and_parts _ _ tail).0 in
+      absurd (true≢false (sym goes ∙ blocked n (drop (len + 1) bytes) stop))
+]
+
+pub data-longest : (bytes : List ℕ) (len : ℕ) → len < length bytes → IsData (take len bytes) → get_or bytes len 0 ≡ 255 → goes_on (drop (len + 1) bytes) ≡ false
+    → DataAtFront bytes len
+data-longest bytes len h so_far ff stop = record {
+  within = omega arith;
+  is_data = so_far;
+  longest = λ more within is_data. no_more bytes len more h ff stop is_data;
+}
+
+-- where the bytes end
+pub data-stop_end : (bytes : List ℕ) (len : ℕ) → len + 1 ≡ length bytes → goes_on (drop (len + 1) bytes) ≡ false
+data-stop_end bytes len e = ap goes_on (drop_all (len + 1) bytes (omega arith))
+
+-- where a marker stands
+pub data-stop_marker : (bytes : List ℕ) (len : ℕ) → len + 1 < length bytes → 128 ≤ get_or bytes (len + 1) 0 → goes_on (drop (len + 1) bytes) ≡ false
+data-stop_marker bytes len h high = ap goes_on (drop_more bytes (len + 1) 0 h) ∙ le-ltb (get_or bytes (len + 1) 0) 128 high

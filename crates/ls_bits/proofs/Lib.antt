@@ -1,0 +1,9 @@
+pub mod BitLemmas
+pub mod DataLemmas
+pub mod GolombLaws
+pub mod GolombLemmas
+pub mod MaskLemmas
+pub mod PackingLemmas
+pub mod RoomLemmas
+pub mod StuffingLemmas
+pub mod WindowLemmas

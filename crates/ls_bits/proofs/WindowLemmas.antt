@@ -1,0 +1,182 @@
+-- What a source's steps do to the bits that it has left.
+use Rattle.std.proofs.Common.{◌≡◌, ℕ, suc, ◌+◌, ◌-◌, ◌*◌, ◌/◌, ◌%◌, ◌^◌, ◌<◌, ◌≤◌, ◌⊎◌, inl, inr, Bool, true, false, eqb, List, [], ◌∷◌, ◌++◌, length, take, drop, get_or, refl, sym, ◌∙◌, ap, Fits, w8, subst, arith, append_assoc, length-append}
+use Rattle.std.proofs.lemmas.List.{append-nil, take_all, replicate-append-replicate, drop_more}
+use Rattle.std.proofs.lemmas.Bool.{true≢false}
+use lib.Bits.{bit_or}
+use Rattle.ls_bits.specs.Bits.{bits_of, zeros, BeginsWith, AreBytes}
+use Rattle.ls_bits.specs.Stuffing.{room_behind, unstuff_from}
+use Rattle.ls_bits.specs.Data.{IsData}
+use Rattle.ls_bits.specs.Packing.{room_for, KeepsRoom, bits_left, IsWindow}
+use Rattle.ls_bits.specs.Taking.{LeadingZeros, found, none}
+use Rattle.ls_bits.proofs.BitLemmas.{shifted_in, bits_of-cat, bits_of-split, bits_of-mod, length-bits_of}
+use Rattle.ls_bits.proofs.StuffingLemmas.{room_range, room_behind-other, data-keeps}
+use Rattle.ls_bits.proofs.PackingLemmas.{room_for-room}
+
+-- ---- the beginning
+
+pub bytes-each : (bytes : List ℕ) → ((i : ℕ) → get_or bytes i 0 < 256) → AreBytes bytes
+bytes-each [] each = tt
+bytes-each (byte ∷ bytes) each = (each 0, bytes-each bytes (λ i. each (suc i)))
+
+pub window-new : (bytes : List ℕ) → ((i : ℕ) → Fits w8 (get_or bytes i 0)) → IsData bytes → IsWindow 0 false bytes
+window-new bytes each data_is = record {
+  few = omega arith;
+  keeps = data-keeps 8 bytes (inr refl) (bytes-each bytes (λ i. let fits : Fits w8 (get_or bytes i 0) = each i in omega arith)) data_is (λ e. absurd (omega arith));
+}
+
+-- ---- bytes taken in
+
+pub record TakenIn (word held : ℕ) (behind : Bool) (bytes : List ℕ) (word_after held_after : ℕ) (behind_after : Bool) (rest : List ℕ) : Type 0 where
+  pub window : IsWindow held_after behind_after rest
+  pub left : bits_left word_after held_after behind_after rest ≡ bits_left word held behind bytes
+
+one_in : (word held byte : ℕ) (behind : Bool) (bytes : List ℕ) → IsWindow held behind (byte ∷ bytes) → held ≤ 55
+    → TakenIn word held behind (byte ∷ bytes) (bit_or (word * 2 ^ room_for behind % 2 ^ 64) byte) (held + room_for behind) (eqb byte 255) bytes
+one_in word held byte behind bytes window few =
+    let range : (7 ≤ room_for behind) × (room_for behind ≤ 8) = room_range (room_for behind) (room_for-room behind) in
+    record {
+      window = record { few = omega (arith, range.1); keeps = window.keeps.1 };
+      left = ap (λ bits. bits ++ unstuff_from (room_behind byte) bytes) (shifted_in held (room_for behind) word byte (omega (arith, range.1)) window.keeps.0)
+          ∙ append_assoc (bits_of held word) (bits_of (room_for behind) byte) (unstuff_from (room_behind byte) bytes);
+    }
+
+pub byte_in : (word held room value : ℕ) (behind : Bool) (bytes : List ℕ) → 1 ≤ length bytes → IsWindow held behind bytes → held ≤ 55
+    → room ≡ room_for behind → value ≡ get_or bytes 0 0
+    → TakenIn word held behind bytes (bit_or (word * 2 ^ room % 2 ^ 64) value) (held + room) (eqb (get_or bytes 0 0) 255) (take (length bytes - 1) (drop 1 bytes))
+byte_in word held room value behind [] some window few e v = absurd (omega arith)
+byte_in word held room value behind (byte ∷ bytes) some window few e v =
+    let rest : take (suc (length bytes) - 1) bytes ≡ bytes = take_all (suc (length bytes) - 1) bytes (omega arith) in
+    rw (e, v, rest) (one_in word held byte behind bytes window few)
+
+bits_of-four : (first second third fourth : ℕ) → first < 256 → second < 256 → third < 256 → fourth < 256
+    → bits_of 32 (((first * 256 + second) * 256 + third) * 256 + fourth) ≡ bits_of 8 first ++ (bits_of 8 second ++ (bits_of 8 third ++ bits_of 8 fourth))
+bits_of-four first second third fourth a b c d =
+    let last : bits_of 32 (((first * 256 + second) * 256 + third) * 256 + fourth) ≡ bits_of 24 ((first * 256 + second) * 256 + third) ++ bits_of 8 fourth =
+    bits_of-cat 24 8 ((first * 256 + second) * 256 + third) fourth d in
+    let next : bits_of 24 ((first * 256 + second) * 256 + third) ≡ bits_of 16 (first * 256 + second) ++ bits_of 8 third = bits_of-cat 16 8 (first * 256 + second) third c in
+    let front : bits_of 16 (first * 256 + second) ≡ bits_of 8 first ++ bits_of 8 second = bits_of-cat 8 8 first second b in
+    last
+    ∙ ap (λ bits. bits ++ bits_of 8 fourth) (next ∙ ap (λ bits. bits ++ bits_of 8 third) front)
+    ∙ append_assoc (bits_of 8 first ++ bits_of 8 second) (bits_of 8 third) (bits_of 8 fourth)
+    ∙ append_assoc (bits_of 8 first) (bits_of 8 second) (bits_of 8 third ++ bits_of 8 fourth)
+
+-- four bytes of which none is FF, behind another such
+four_taken_in : (word held first second third fourth value : ℕ) (rest : List ℕ) → IsWindow held false (first ∷ second ∷ third ∷ fourth ∷ rest)
+    → (first ≡ 255 → ⊥) → (second ≡ 255 → ⊥) → (third ≡ 255 → ⊥) → (fourth ≡ 255 → ⊥) → held ≤ 31
+    → value ≡ ((first * 256 + second) * 256 + third) * 256 + fourth
+    → TakenIn word held false (first ∷ second ∷ third ∷ fourth ∷ rest) (bit_or (word * 2 ^ 32 % 2 ^ 64) value) (held + 32) false rest
+four_taken_in word held first second third fourth value rest window a b c d few e =
+    let room_a : room_behind first ≡ 8 = room_behind-other first a in
+    let room_b : room_behind second ≡ 8 = room_behind-other second b in
+    let room_c : room_behind third ≡ 8 = room_behind-other third c in
+    let room_d : room_behind fourth ≡ 8 = room_behind-other fourth d in
+    let keeps_b : KeepsRoom 8 (second ∷ third ∷ fourth ∷ rest) = subst (λ room. KeepsRoom room (second ∷ third ∷ fourth ∷ rest)) room_a window.keeps.1 in
+    let keeps_c : KeepsRoom 8 (third ∷ fourth ∷ rest) = subst (λ room. KeepsRoom room (third ∷ fourth ∷ rest)) room_b keeps_b.1 in
+    let keeps_d : KeepsRoom 8 (fourth ∷ rest) = subst (λ room. KeepsRoom room (fourth ∷ rest)) room_c keeps_c.1 in
+    let keeps_rest : KeepsRoom 8 rest = subst (λ room. KeepsRoom room rest) room_d keeps_d.1 in
+    let small_a : first < 256 = window.keeps.0 in
+    let small_b : second < 256 = keeps_b.0 in
+    let small_c : third < 256 = keeps_c.0 in
+    let small_d : fourth < 256 = keeps_d.0 in
+    let small : value < 2 ^ 32 = omega arith in
+    let more : List Bool = unstuff_from 8 rest in
+    let bits : bits_of 32 value ≡ bits_of 8 first ++ (bits_of 8 second ++ (bits_of 8 third ++ bits_of 8 fourth)) =
+    ap (bits_of 32) e ∙ bits_of-four first second third fourth small_a small_b small_c small_d in
+    let shape : (bits_of 8 first ++ (bits_of 8 second ++ (bits_of 8 third ++ bits_of 8 fourth))) ++ more
+    ≡ bits_of 8 first ++ (bits_of 8 second ++ (bits_of 8 third ++ (bits_of 8 fourth ++ more))) =
+    append_assoc (bits_of 8 first) (bits_of 8 second ++ (bits_of 8 third ++ bits_of 8 fourth)) more
+    ∙ ap (λ tail. bits_of 8 first ++ tail) (append_assoc (bits_of 8 second) (bits_of 8 third ++ bits_of 8 fourth) more
+    ∙ ap (λ tail. bits_of 8 second ++ tail) (append_assoc (bits_of 8 third) (bits_of 8 fourth) more)) in
+    let rooms : unstuff_from 8 (first ∷ second ∷ third ∷ fourth ∷ rest) ≡ bits_of 8 first ++ (bits_of 8 second ++ (bits_of 8 third ++ (bits_of 8 fourth ++ more))) =
+    rw (room_a, room_b, room_c, room_d) refl in
+    record {
+      window = record { few = omega arith; keeps = keeps_rest };
+      left = ap (λ front. front ++ more) (shifted_in held 32 word value (omega arith) small)
+          ∙ append_assoc (bits_of held word) (bits_of 32 value) more
+          ∙ ap (λ tail. bits_of held word ++ tail) (ap (λ front. front ++ more) bits ∙ shape ∙ sym rooms);
+    }
+
+pub four_in : (word held value : ℕ) (bytes : List ℕ) → 4 ≤ length bytes → IsWindow held false bytes
+    → (get_or bytes 0 0 ≡ 255 → ⊥) → (get_or bytes 1 0 ≡ 255 → ⊥) → (get_or bytes 2 0 ≡ 255 → ⊥) → (get_or bytes 3 0 ≡ 255 → ⊥) → held ≤ 31
+    → value ≡ ((get_or bytes 0 0 * 256 + get_or bytes 1 0) * 256 + get_or bytes 2 0) * 256 + get_or bytes 3 0
+    → TakenIn word held false bytes (bit_or (word * 2 ^ 32 % 2 ^ 64) value) (held + 32) false (take (length bytes - 4) (drop 4 bytes))
+four_in word held value [] some window a b c d few e = absurd (omega arith)
+four_in word held value (first ∷ []) some window a b c d few e = absurd (omega arith)
+four_in word held value (first ∷ second ∷ []) some window a b c d few e = absurd (omega arith)
+four_in word held value (first ∷ second ∷ third ∷ []) some window a b c d few e = absurd (omega arith)
+four_in word held value (first ∷ second ∷ third ∷ fourth ∷ bytes) some window a b c d few e =
+    let rest : take (suc (suc (suc (suc (length bytes)))) - 4) bytes ≡ bytes = take_all (suc (suc (suc (suc (length bytes)))) - 4) bytes (omega arith) in
+    rw rest (four_taken_in word held first second third fourth value bytes window a b c d few e)
+
+-- ---- bits taken
+
+pub bits_left-take : (word held count value : ℕ) (behind : Bool) (rest : List ℕ) → count ≤ held → value ≡ word / 2 ^ (held - count) % 2 ^ count
+    → bits_left word held behind rest ≡ bits_of count value ++ bits_left word (held - count) behind rest
+bits_left-take word held count value behind rest h e =
+    let sum : count + (held - count) ≡ held = omega arith in
+    let more : List Bool = unstuff_from (room_for behind) rest in
+    let same : bits_of count (word / 2 ^ (held - count)) ≡ bits_of count value =
+    sym (ap (bits_of count) e ∙ bits_of-mod count count (word / 2 ^ (held - count)) (omega arith)) in
+    ap (λ n. bits_of n word ++ more) (sym sum)
+    ∙ ap (λ bits. bits ++ more) (bits_of-split count (held - count) word ∙ ap (λ bits. bits ++ bits_of (held - count) word) same)
+    ∙ append_assoc (bits_of count value) (bits_of (held - count) word) more
+
+-- where no bytes are left, what is held is all
+pub length-bits_left : (word held : ℕ) (behind : Bool) (rest : List ℕ) → rest ≡ [] → length (bits_left word held behind rest) ≡ held
+length-bits_left word held behind rest e =
+    ap (λ bytes. length (bits_left word held behind bytes)) e ∙ ap length (append-nil (bits_of held word)) ∙ length-bits_of held word
+
+pub few_left : (word held wanted count : ℕ) (behind : Bool) (rest : List ℕ) → (wanted ≤ held) ⊎ (rest ≡ []) → held < count → count ≤ wanted
+    → length (bits_left word held behind rest) < count
+few_left word held wanted count behind rest (inl enough) less most = absurd (omega arith)
+few_left word held wanted count behind rest (inr all) less most = omega (arith, length-bits_left word held behind rest all)
+
+-- ---- how many are left
+
+pub length-byte_more : (room i : ℕ) (bytes : List ℕ) → i < length bytes
+    → length (unstuff_from room (drop i bytes)) ≡ room + length (unstuff_from (room_behind (get_or bytes i 0)) (drop (i + 1) bytes))
+length-byte_more room i bytes h =
+    let byte : ℕ = get_or bytes i 0 in
+    ap (λ list. length (unstuff_from room list)) (drop_more bytes i 0 h)
+    ∙ length-append (bits_of room byte) (unstuff_from (room_behind byte) (drop (i + 1) bytes))
+    ∙ ap (λ n. n + length (unstuff_from (room_behind byte) (drop (i + 1) bytes))) (length-bits_of room byte)
+
+pub length-held : (word held : ℕ) (behind : Bool) (rest : List ℕ)
+    → length (bits_left word held behind rest) ≡ held + length (unstuff_from (room_for behind) rest)
+length-held word held behind rest =
+    length-append (bits_of held word) (unstuff_from (room_for behind) rest) ∙ ap (λ n. n + length (unstuff_from (room_for behind) rest)) (length-bits_of held word)
+
+-- ---- zeros taken
+
+pub zeros-more : (count more : ℕ) (bits tail rest : List Bool) → bits ≡ zeros count ++ tail → tail ≡ zeros more ++ rest → bits ≡ zeros (count + more) ++ rest
+zeros-more count more bits tail rest e f =
+    e ∙ ap (λ list. zeros count ++ list) f ∙ sym (append_assoc (zeros count) (zeros more) rest)
+    ∙ ap (λ list. list ++ rest) (replicate-append-replicate count more false)
+
+pub zeros-begin : (count most : ℕ) (bits rest : List Bool) → bits ≡ zeros count ++ rest → most < count → BeginsWith (zeros (most + 1)) bits
+zeros-begin count most bits rest e h =
+    let sum : (most + 1) + (count - (most + 1)) ≡ count = omega arith in
+    let parts : zeros (most + 1) ++ zeros (count - (most + 1)) ≡ zeros count = replicate-append-replicate (most + 1) (count - (most + 1)) false ∙ ap zeros sum in (
+      zeros (count - (most + 1)) ++ rest,
+      e ∙ ap (λ list. list ++ rest) (sym parts) ∙ append_assoc (zeros (most + 1)) (zeros (count - (most + 1))) rest,
+    )
+
+-- the one behind the zeros that were counted
+pub one-taken : (word held count : ℕ) (behind : Bool) (rest : List ℕ) → LeadingZeros held word count → count < held
+    → bits_left word held behind rest ≡ zeros count ++ true ∷ bits_left word (held - (count + 1)) behind rest
+one-taken word held count behind rest (none all e) h = absurd (omega arith)
+one-taken word held count behind rest (found within e) h =
+    ap (λ bits. bits ++ unstuff_from (room_for behind) rest) e
+    ∙ append_assoc (zeros count) (true ∷ bits_of (held - (count + 1)) word) (unstuff_from (room_for behind) rest)
+
+pub all-taken : (word held count : ℕ) (behind : Bool) (rest : List ℕ) → LeadingZeros held word count → held ≤ count
+    → bits_left word held behind rest ≡ zeros held ++ bits_left word 0 behind rest
+all-taken word held count behind rest (found within e) h = absurd (omega arith)
+all-taken word held count behind rest (none all e) h = ap (λ bits. bits ++ unstuff_from (room_for behind) rest) e
+
+pub four_in_behind : (word held value : ℕ) (behind : Bool) (bytes : List ℕ) → behind ≡ false → 4 ≤ length bytes → IsWindow held behind bytes
+    → (get_or bytes 0 0 ≡ 255 → ⊥) → (get_or bytes 1 0 ≡ 255 → ⊥) → (get_or bytes 2 0 ≡ 255 → ⊥) → (get_or bytes 3 0 ≡ 255 → ⊥) → held ≤ 31
+    → value ≡ ((get_or bytes 0 0 * 256 + get_or bytes 1 0) * 256 + get_or bytes 2 0) * 256 + get_or bytes 3 0
+    → TakenIn word held behind bytes (bit_or (word * 2 ^ 32 % 2 ^ 64) value) (held + 32) behind (take (length bytes - 4) (drop 4 bytes))
+four_in_behind word held value true bytes other some window a b c d few e = absurd (true≢false other)
+four_in_behind word held value false bytes other some window a b c d few e = four_in word held value bytes some window a b c d few e

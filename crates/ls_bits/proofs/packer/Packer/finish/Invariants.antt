@@ -1,0 +1,16 @@
+use Rattle.std.proofs.Common.{◌≡◌, ◌*◌, ◌-◌, ◌<◌, ◌≤◌, vec_len, vec_capacity, take, length}
+use Rattle.ls_bits.specs.Packing.{packed_bits, IsPacked}
+use Rattle.ls_bits.proofs.packer.Packer.finish.Given as goal
+
+abbrev pub invariant-loop-self : goal.invariant-loop-self
+invariant-loop-self l =
+    IsPacked l.self.start l.self.bytes.items l.self.held l.self.behind_ff
+    × (0 < length (packed_bits l.self.start l.self.bytes.items l.self.word l.self.held)
+    → l.self.held < 7 * (vec_capacity l.self.bytes - vec_len l.self.bytes))
+    × (packed_bits l.self.start l.self.bytes.items l.self.word l.self.held
+    ≡ packed_bits l.fn.self.start l.fn.self.bytes.items l.fn.self.word l.fn.self.held)
+    × (take l.self.start l.self.bytes.items ≡ take l.fn.self.start l.fn.self.bytes.items)
+    × (vec_capacity l.fn.self.bytes ≤ vec_capacity l.self.bytes)
+
+abbrev pub decreases-loop-self : goal.decreases-loop-self
+decreases-loop-self l = l.self.held

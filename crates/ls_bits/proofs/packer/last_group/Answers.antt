@@ -1,0 +1,14 @@
+use Rattle.std.proofs.Common.{arith}
+use Rattle.ls_bits.proofs.MaskLemmas.{last_group-is, last_group-lt}
+use Rattle.ls_bits.proofs.packer.last_group.Goals as goal
+
+pub overflow_cast-result-2 : goal.overflow_cast-result-2
+overflow_cast-result-2 c =
+    omega (
+      arith,
+      last_group-is c.args.word c.args.held c.room.result c.args.behind_ff c.requires c.room.ensures,
+      last_group-lt c.args.word c.args.held c.args.behind_ff c.requires,
+    )
+
+pub returns : goal.returns
+returns c = last_group-is c.args.word c.args.held c.room.result c.args.behind_ff c.requires c.room.ensures

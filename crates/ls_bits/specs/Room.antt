@@ -1,0 +1,14 @@
+-- What a sink into a vector of the caller's is seen as.
+use Rattle.std.specs.Prelude.{ℕ, ◌+◌, ◌/◌, ◌≤◌, Bool, List}
+
+pub record Filled : Type 0 where
+  -- the vector's bytes when the sink was made
+  pub front : List ℕ
+  -- how many bytes more it then had room for
+  pub room : ℕ
+  -- the bits put since
+  pub bits : List Bool
+
+-- so many bits fit into so many bytes, however they are stuffed
+abbrev pub Fits : ℕ → ℕ → Type 0
+Fits count room = count / 7 + 1 ≤ room

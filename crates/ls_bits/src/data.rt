@@ -1,0 +1,49 @@
+//! The data at the front of bytes: what a scan's bits are stuffed into, up to the marker that ends it.
+ghost use Rattle.std.specs.Prelude.{◌≡◌, length, drop};
+ghost use Rattle.ls_bits.specs.Data.{DataAtFront, stop_at};
+
+/// Why data ends.
+#[derive(Clone, Copy, Debug, Drop, PartialEq, Eq)]
+pub enum Stop {
+    /// A marker stands behind it: FF and a byte of 80 or more.
+    Marker,
+    /// The bytes end, or their last one is a lone FF.
+    End,
+}
+
+/// The data at the front of bytes.
+#[derive(Clone, Copy, Debug, Drop, PartialEq, Eq)]
+pub struct Data {
+    /// How many bytes it has.
+    pub len: usize,
+    pub stop: Stop,
+}
+
+/// The longest front of `bytes` in which no FF is followed by a byte of 80 or more and whose last byte isn't FF.
+pub fn data_of(bytes: &[u8]) -> Data
+    ensures len { DataAtFront bytes.now result.len }
+    ensures stop { result.stop ≡ stop_at (drop result.len bytes.now) }
+{
+    let mut len = 0;
+    while len < bytes.len() {
+        if bytes[len] != 0xff {
+            len += 1;
+        } else if len + 1 == bytes.len() {
+            return Data {
+                len,
+                stop: Stop::End,
+            };
+        } else if bytes[len + 1] >= 0x80 {
+            return Data {
+                len,
+                stop: Stop::Marker,
+            };
+        } else {
+            len += 2;
+        }
+    }
+    Data {
+        len,
+        stop: Stop::End,
+    }
+}

@@ -1,0 +1,85 @@
+//! A sink of bits into a vector of the caller's, which has the room for them: it takes no memory and can't be refused.
+ghost use Rattle.std.specs.Prelude.{◌≡◌, ◌+◌, ◌-◌, ◌^◌, ◌<◌, ◌≤◌, ◌++◌, [], length, vec_len, vec_capacity};
+ghost use Rattle.ls_bits.specs.Bits.{bits_of};
+ghost use Rattle.ls_bits.specs.Stuffing.{stuff};
+ghost use Rattle.ls_bits.specs.Golomb.{IsGolomb, code_word, most_value};
+ghost use Rattle.ls_bits.specs.Room.{Fits};
+
+use crate::packer::Packer;
+use std::marker::Model;
+
+/// The bytes that a vector had, the room that it had behind them, and the bits put since, which `finish` stuffs into
+/// that room (T.87 C.1).
+#[derive(Drop)]
+pub struct RoomSink {
+    packer: Packer,
+    /// How many bytes the vector had room for behind those that it had.
+    room: usize,
+}
+
+impl Model for RoomSink {
+    ghost use Rattle.std.specs.Prelude.{ℕ, ◌≡◌, ◌+◌, ◌≤◌, ◌<◌, List, length, take, vec_capacity};
+    ghost use Rattle.ls_bits.specs.Packing.{packed_bits, IsPacked};
+    ghost use Rattle.ls_bits.specs.Room.{Filled, Fits};
+
+    ghost Value = { Filled };
+
+    ghost view = { λ s. record {
+      front = take s.packer.start s.packer.bytes.items;
+      room = s.room;
+      bits = packed_bits s.packer.start s.packer.bytes.items s.packer.word s.packer.held;
+    } };
+
+    ghost invariant = { λ s.
+        IsPacked s.packer.start s.packer.bytes.items s.packer.held s.packer.behind_ff
+        × (s.packer.start + s.room ≤ vec_capacity s.packer.bytes)
+        × (0 < length (packed_bits s.packer.start s.packer.bytes.items s.packer.word s.packer.held)
+        → Fits (length (packed_bits s.packer.start s.packer.bytes.items s.packer.word s.packer.held)) s.room) };
+}
+
+impl RoomSink {
+    /// No bits yet, behind the bytes of the vector.
+    pub fn new(bytes: Vec<u8>) -> RoomSink
+        ensures front { result.front ≡ bytes.items }
+        ensures room { result.room ≡ vec_capacity bytes - vec_len bytes }
+        ensures bits { result.bits ≡ [] }
+    {
+        let room = bytes.capacity() - bytes.len();
+        RoomSink {
+            packer: Packer::new(bytes),
+            room,
+        }
+    }
+
+    /// Appends `value` in `count` bits, the most significant first.
+    pub fn put(&mut self, value: u32, count: u32)
+        requires count { count ≤ 32 }
+        requires value { value < 2 ^ count }
+        requires room { Fits (length self.old.bits + count) self.old.room }
+        ensures bits { self.new.bits ≡ self.old.bits ++ bits_of count value }
+        ensures front { self.new.front ≡ self.old.front }
+        ensures room { self.new.room ≡ self.old.room }
+    {
+        self.packer.put(value, count);
+    }
+
+    /// Appends the code word of `v` (T.87 A.5.3).
+    pub fn put_golomb(&mut self, k: u32, glimit: u32, qbpp: u32, v: u32)
+        requires code { IsGolomb k glimit qbpp }
+        requires value { v ≤ most_value qbpp }
+        requires room { Fits (length self.old.bits + length (code_word k glimit qbpp v)) self.old.room }
+        ensures bits { self.new.bits ≡ self.old.bits ++ code_word k glimit qbpp v }
+        ensures front { self.new.front ≡ self.old.front }
+        ensures room { self.new.room ≡ self.old.room }
+    {
+        self.packer.put_golomb(k, glimit, qbpp, v);
+    }
+
+    /// The vector: the bytes that it had, and behind them the bits, stuffed. It has its room still.
+    pub fn finish(self) -> Vec<u8>
+        ensures bytes { result.items ≡ self.front ++ stuff self.bits }
+        ensures capacity { length self.front + self.room ≤ vec_capacity result }
+    {
+        self.packer.finish()
+    }
+}

@@ -1,0 +1,72 @@
+//! A sink of bits into memory of its own.
+ghost use Rattle.std.specs.Prelude.{◌≡◌, ◌^◌, ◌<◌, ◌≤◌, ◌++◌, [], OnOk, OnErr, IfOk};
+ghost use Rattle.ls_bits.specs.Bits.{bits_of};
+ghost use Rattle.ls_bits.specs.Stuffing.{stuff};
+ghost use Rattle.ls_bits.specs.Golomb.{IsGolomb, code_word, most_value};
+
+use crate::packer::Packer;
+use std::alloc::{AllocError, Global};
+use std::marker::Model;
+
+/// The most bytes that the bits in the word and those of one put make.
+const MOST_BYTES: usize = 20;
+
+/// The bits put so far, which `finish` stuffs into bytes (T.87 C.1).
+#[derive(Drop)]
+pub struct BitSink {
+    packer: Packer,
+}
+
+impl Model for BitSink {
+    ghost use Rattle.std.specs.Prelude.{◌≡◌, Bool, List};
+    ghost use Rattle.ls_bits.specs.Packing.{packed_bits, IsPacked};
+
+    ghost Value = { List Bool };
+
+    ghost view = { λ s. packed_bits s.packer.start s.packer.bytes.items s.packer.word s.packer.held };
+
+    ghost invariant = { λ s. IsPacked s.packer.start s.packer.bytes.items s.packer.held s.packer.behind_ff × (s.packer.start ≡ 0) };
+}
+
+impl BitSink {
+    /// No bits yet. `alloc` is for their bytes.
+    pub fn new(alloc: Global) -> BitSink
+        ensures { result ≡ [] }
+    {
+        BitSink {
+            packer: Packer::new(Vec::new(alloc)),
+        }
+    }
+
+    /// Appends `value` in `count` bits, the most significant first. Where memory is refused nothing changes.
+    pub fn put(&mut self, value: u32, count: u32) -> Result<(), AllocError>
+        requires count { count ≤ 32 }
+        requires value { value < 2 ^ count }
+        ensures ok { OnOk result (self.new ≡ self.old ++ bits_of count value) }
+        ensures refused { OnErr result (self.new ≡ self.old) }
+    {
+        self.packer.bytes.reserve(MOST_BYTES)?;
+        self.packer.put(value, count);
+        Ok(())
+    }
+
+    /// Appends the code word of `v` (T.87 A.5.3). Where memory is refused nothing changes.
+    pub fn put_golomb(&mut self, k: u32, glimit: u32, qbpp: u32, v: u32) -> Result<(), AllocError>
+        requires code { IsGolomb k glimit qbpp }
+        requires value { v ≤ most_value qbpp }
+        ensures ok { OnOk result (self.new ≡ self.old ++ code_word k glimit qbpp v) }
+        ensures refused { OnErr result (self.new ≡ self.old) }
+    {
+        self.packer.bytes.reserve(MOST_BYTES)?;
+        self.packer.put_golomb(k, glimit, qbpp, v);
+        Ok(())
+    }
+
+    /// The bits, stuffed. Where memory is refused the sink is gone.
+    pub fn finish(mut self) -> Result<Vec<u8>, AllocError>
+        ensures { IfOk result (λ bytes. bytes.items ≡ stuff self) }
+    {
+        self.packer.bytes.reserve(MOST_BYTES)?;
+        Ok(self.packer.finish())
+    }
+}

@@ -1,0 +1,136 @@
+//! A source of the bits of stuffed bytes.
+ghost use Rattle.std.specs.Prelude.{◌≡◌, ◌+◌, ◌-◌, ◌*◌, ◌^◌, ◌<◌, ◌≤◌, [], ◌++◌, ℕ, Bool, List, length, min, IfOk, IfErr, MatchResult, Ok, Err};
+ghost use Rattle.ls_bits.specs.Bits.{bits_of};
+ghost use Rattle.ls_bits.specs.Stuffing.{unstuff};
+ghost use Rattle.ls_bits.specs.Data.{IsData};
+ghost use Rattle.ls_bits.specs.Golomb.{IsGolomb, most_value, TakesWord, GolombFault};
+
+use crate::window::Window;
+use std::marker::Model;
+use thiserror::Error;
+
+/// Why bits can't be taken. Nothing is said of the source's place then.
+#[derive(Clone, Copy, Debug, Drop, PartialEq, Eq, Error)]
+pub enum CodeFault {
+    /// Fewer bits are left than were asked for, or than a word has.
+    #[error("out of bits")]
+    OutOfBits,
+    /// The bits that are left begin with no word of the code, whatever would follow them.
+    #[error("not canonical")]
+    NotCanonical,
+}
+
+/// The bits that are left of stuffed bytes.
+#[derive(Drop)]
+pub struct BitSource<'a> {
+    window: Window<'a>,
+}
+
+impl<'a> Model for BitSource<'a> {
+    ghost use Rattle.std.specs.Prelude.{Bool, List};
+    ghost use Rattle.ls_bits.specs.Packing.{bits_left, IsWindow};
+
+    ghost Value = { List Bool };
+
+    ghost view = { λ s. bits_left s.window.word s.window.held s.window.behind_ff s.window.rest.now };
+
+    ghost invariant = { λ s. IsWindow s.window.held s.window.behind_ff s.window.rest.now };
+}
+
+impl<'a> BitSource<'a> {
+    /// The bits of stuffed bytes, which are wholly data.
+    pub fn new(bytes: &'a [u8]) -> BitSource<'a>
+        requires { IsData bytes.now }
+        ensures { result ≡ unstuff bytes.now }
+    {
+        BitSource {
+            window: Window {
+                word: 0,
+                held: 0,
+                behind_ff: false,
+                rest: bytes,
+            },
+        }
+    }
+
+    /// The next bit, 0 or 1. OutOfBits exactly where none is left.
+    pub fn bit(&mut self) -> Result<u32, CodeFault>
+        ensures ok { IfOk result (λ value. self.old ≡ bits_of 1 value ++ self.new) }
+        ensures value { IfOk result (λ value. value < 2) }
+        ensures fault { IfErr result (λ fault. (fault ≡ CodeFault.OutOfBits) × (self.old ≡ [])) }
+    {
+        self.window.take(1)
+    }
+
+    /// The next `count` bits, the most significant first. OutOfBits exactly where fewer are left.
+    pub fn bits(&mut self, count: u32) -> Result<u32, CodeFault>
+        requires { count ≤ 32 }
+        ensures ok { IfOk result (λ value. self.old ≡ bits_of count value ++ self.new) }
+        ensures value { IfOk result (λ value. value < 2 ^ count) }
+        ensures fault { IfErr result (λ fault. (fault ≡ CodeFault.OutOfBits) × (length self.old < count)) }
+    {
+        self.window.take(count)
+    }
+
+    /// How many bits are left; 2^64 - 1 where they are more.
+    pub fn left(&self) -> u64
+        ensures { result ≡ min (length self.now) u64.MAX }
+    {
+        self.window.left()
+    }
+
+    /// The value of the code word in front, which is taken (T.87 A.5.3).
+    ///
+    /// NotCanonical where the bits can begin with no word, whatever followed them; else OutOfBits where no whole word
+    /// is in front.
+    pub fn take_golomb(&mut self, k: u32, glimit: u32, qbpp: u32) -> Result<u32, CodeFault>
+        requires { IsGolomb k glimit qbpp }
+        ensures ok { IfOk result (λ v. TakesWord k glimit qbpp self.old v self.new) }
+        ensures fault { IfErr result (λ fault. GolombFault k glimit qbpp self.old fault) }
+        ensures word { (v : ℕ) (rest : List Bool) → TakesWord k glimit qbpp self.old v rest
+            → (result ≡ Ok v) × (self.new ≡ rest) }
+    {
+        self.read_golomb(k, glimit, qbpp)
+    }
+
+    fn read_golomb(&mut self, k: u32, glimit: u32, qbpp: u32) -> Result<u32, CodeFault>
+        requires { IsGolomb k glimit qbpp }
+        ensures ok { IfOk result (λ v. TakesWord k glimit qbpp self.old v self.new) }
+        ensures fault { IfErr result (λ fault. GolombFault k glimit qbpp self.old fault) }
+    {
+        let escape = glimit - qbpp - 1;
+        let zeros = self.window.take_zeros(escape)?;
+        if zeros < escape {
+            let low = self.window.take(k)?;
+            let value = joined(zeros, low, k);
+            if value > most(qbpp) {
+                return Err(CodeFault::NotCanonical);
+            }
+            Ok(value)
+        } else {
+            let value = self.window.take(qbpp)? + 1;
+            if value >> k < escape {
+                return Err(CodeFault::NotCanonical);
+            }
+            Ok(value)
+        }
+    }
+}
+
+/// A number of `high` and the `count` bits of `low` behind it.
+fn joined(high: u32, low: u32, count: u32) -> u32
+    requires high { high < 64 }
+    requires count { count ≤ 17 }
+    requires low { low < 2 ^ count }
+    ensures { result ≡ high * 2 ^ count + low }
+{
+    (high << count) | low
+}
+
+/// The greatest value that has a code word.
+fn most(qbpp: u32) -> u32
+    requires { qbpp ≤ 16 }
+    ensures { result ≡ most_value qbpp }
+{
+    1 << qbpp
+}
