@@ -8,3 +8,4 @@ pub mod Netpbm
 pub mod Parameters
 pub mod Picture
 pub mod Reading
+pub mod Tuning

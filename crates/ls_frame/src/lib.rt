@@ -25,9 +25,11 @@ pub mod output;
 pub mod presets;
 #[cfg(test)]
 mod testing;
+pub mod tuning;
 
 pub use device::{Counted, Failed, Feed, Outlet};
 pub use frame::{Frame, FrameFault, Kind};
 pub use netpbm::{NetpbmFault, first_frame, next_frame};
 pub use output::{WriteFault, write_bytes};
-pub use presets::Presets;
+pub use presets::{PresetFault, Presets};
+pub use tuning::Tuning;
