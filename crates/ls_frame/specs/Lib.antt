@@ -1,4 +1,5 @@
 pub mod Alike
+pub mod Canonical
 pub mod Devices
 pub mod Engine
 pub mod Faults

@@ -1,8 +1,9 @@
 //! Laws over the definitions alone. Each is the contract of a function with nothing to do.
 ghost use Rattle.std.specs.Prelude.{◌≡◌, ◌+◌, ◌^◌, ◌≤◌, ◌++◌, [], List, ℕ, None};
 ghost use Rattle.ls_frame.specs.declared.netpbm.NetpbmFault.{NetpbmFault};
-ghost use Rattle.ls_frame.specs.Picture.{Picture};
+ghost use Rattle.ls_frame.specs.Picture.{Picture, IsFrame};
 ghost use Rattle.ls_frame.specs.Netpbm.{Spells, NoImage};
+ghost use Rattle.ls_frame.specs.Canonical.{canonical};
 ghost use Rattle.ls_frame.specs.Faults.{Breaks};
 ghost use Rattle.ls_frame.specs.Parameters.{Parameters, IsLegal, preset_fault, ceil_log2};
 
@@ -14,6 +15,11 @@ pub fn no_image_begins_another()
 /// An image has one frame.
 pub fn images_have_one_frame()
     ensures { (bytes : List ℕ) (f g : Picture) → Spells bytes f → Spells bytes g → f ≡ g }
+{}
+
+/// What is written of a frame is an image of it.
+pub fn canonical_text_spells_its_frame()
+    ensures { (f : Picture) → IsFrame f → Spells (canonical f) f }
 {}
 
 /// Bytes break the grammar in one way.

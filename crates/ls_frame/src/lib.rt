@@ -29,7 +29,7 @@ pub mod tuning;
 
 pub use device::{Counted, Failed, Feed, Outlet};
 pub use frame::{Frame, FrameFault, Kind};
-pub use netpbm::{NetpbmFault, first_frame, next_frame};
+pub use netpbm::{NetpbmFault, first_frame, next_frame, write_frame};
 pub use output::{WriteFault, write_bytes};
 pub use presets::{PresetFault, Presets};
 pub use tuning::Tuning;
