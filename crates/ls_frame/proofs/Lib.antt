@@ -9,6 +9,7 @@ pub mod ImageLaws
 pub mod KnownLemmas
 pub mod NextLemmas
 pub mod NumberLaws
+pub mod ParameterLemmas
 pub mod PieceLemmas
 pub mod RasterLaws
 pub mod RasterLemmas

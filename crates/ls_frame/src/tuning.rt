@@ -20,6 +20,7 @@ impl Tuning {
     pub fn presets(&self, maxval: u16) -> Result<Presets, PresetFault>
         requires { 0 < maxval }
         ensures value { result ≡ explicit_parameters (tuned self.now maxval) }
+        ensures ok { IfOk result (λ presets. presets ≡ tuned self.now maxval) }
         ensures maxval { IfOk result (λ presets. presets.maxval ≡ maxval) }
     {
         let defaults = Presets::default_of(maxval);
