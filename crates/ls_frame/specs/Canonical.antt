@@ -1,5 +1,5 @@
--- The text that is written of a frame: of its spellings the one with no more than it takes. Magic, LF, width, blank,
--- height, LF, maxval, LF, raster; numbers have no leading zeros, and there is no comment.
+-- The text that is written of a frame, after the pgm and ppm pages: magic, LF, width, blank, height, LF, maxval, LF,
+-- raster. Numbers are decimal without leading zeros, and there is no comment.
 use Rattle.std.specs.Prelude.{ℕ, ◌/◌, ◌%◌, Bool, true, false, List, [], ◌∷◌, ◌++◌, flat_map, codes, decimal}
 use Rattle.ls_frame.specs.Picture.{Picture}
 use Rattle.ls_frame.specs.Netpbm.{magic, is_wide}
