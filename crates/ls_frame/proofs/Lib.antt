@@ -1,4 +1,5 @@
 pub mod BreakLaws
+pub mod CanonicalLaws
 pub mod EngineLemmas
 pub mod ExponentLemmas
 pub mod FilmLemmas
@@ -8,6 +9,8 @@ pub mod ImageLaws
 pub mod KnownLemmas
 pub mod NextLemmas
 pub mod NumberLaws
+pub mod ParameterLemmas
+pub mod PieceLemmas
 pub mod RasterLaws
 pub mod RasterLemmas
 pub mod SampleLemmas

@@ -1,4 +1,5 @@
 pub mod Alike
+pub mod Canonical
 pub mod Devices
 pub mod Engine
 pub mod Faults
@@ -8,3 +9,4 @@ pub mod Netpbm
 pub mod Parameters
 pub mod Picture
 pub mod Reading
+pub mod Tuning

@@ -1,5 +1,7 @@
 -- The coding parameters of T.87 (A.2.1, C.2.4.1), with NEAR 0.
-use Rattle.std.specs.Prelude.{ℕ, zero, suc, ◌+◌, ◌*◌, ◌/◌, ◌^◌, ◌<◌, ◌≤◌, min, max, ◌||◌, nat_lt, nat_le, if◌then◌else◌}
+use Rattle.std.specs.Prelude.{ℕ, zero, suc, ◌+◌, ◌*◌, ◌/◌, ◌^◌, ◌<◌, ◌≤◌, min, max, ◌||◌, ◌==◌, nat_lt, nat_le, if◌then◌else◌, Option, None, Some, Result, Ok, Err}
+use Rattle.ls_frame.specs.declared.presets.PresetFault.{PresetFault}
+use Rattle.ls_frame.specs.declared.presets.PresetFault.TheVariants.{MaxvalRange, T1Range, T2Range, T3Range, ResetRange}
 
 -- What a scan is coded with.
 pub record Parameters : Type 0 where
@@ -88,3 +90,22 @@ pub record IsLegal (p : Parameters) : Type 0 where
   pub t3 : p.t3 ≤ p.maxval
   pub some_reset : 3 ≤ p.reset
   pub reset : p.reset ≤ max 255 p.maxval
+
+-- what keeps parameters from being legal: the first of these that is so
+abbrev pub preset_fault : Parameters → Option PresetFault
+preset_fault p =
+    if p.maxval == 0 then Some MaxvalRange
+    else (if p.t1 == 0 || nat_lt p.maxval p.t1 then Some T1Range
+    else (if nat_lt p.t2 p.t1 || nat_lt p.maxval p.t2 then Some T2Range
+    else (if nat_lt p.t3 p.t2 || nat_lt p.maxval p.t3 then Some T3Range
+    else (if nat_lt p.reset 3 || nat_lt (max 255 p.maxval) p.reset then Some ResetRange
+    else None))))
+
+-- the parameters where no fault was found
+abbrev pub unless_fault : Option PresetFault → Parameters → Result Parameters PresetFault
+unless_fault None p = Ok p
+unless_fault (Some fault) p = Err fault
+
+-- parameters each of which was given, a 0 too, or what keeps them from being legal
+unfoldable pub explicit_parameters : Parameters → Result Parameters PresetFault
+explicit_parameters p = unless_fault (preset_fault p) p

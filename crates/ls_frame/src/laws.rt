@@ -1,10 +1,11 @@
 //! Laws over the definitions alone. Each is the contract of a function with nothing to do.
-ghost use Rattle.std.specs.Prelude.{◌≡◌, ◌+◌, ◌^◌, ◌≤◌, ◌++◌, [], List, ℕ};
+ghost use Rattle.std.specs.Prelude.{◌≡◌, ◌+◌, ◌^◌, ◌≤◌, ◌++◌, [], List, ℕ, None};
 ghost use Rattle.ls_frame.specs.declared.netpbm.NetpbmFault.{NetpbmFault};
-ghost use Rattle.ls_frame.specs.Picture.{Picture};
+ghost use Rattle.ls_frame.specs.Picture.{Picture, IsFrame};
 ghost use Rattle.ls_frame.specs.Netpbm.{Spells, NoImage};
+ghost use Rattle.ls_frame.specs.Canonical.{canonical};
 ghost use Rattle.ls_frame.specs.Faults.{Breaks};
-ghost use Rattle.ls_frame.specs.Parameters.{ceil_log2};
+ghost use Rattle.ls_frame.specs.Parameters.{Parameters, IsLegal, preset_fault, ceil_log2};
 
 /// No Netpbm image begins another: what follows one inside the bytes of another is nothing.
 pub fn no_image_begins_another()
@@ -14,6 +15,11 @@ pub fn no_image_begins_another()
 /// An image has one frame.
 pub fn images_have_one_frame()
     ensures { (bytes : List ℕ) (f g : Picture) → Spells bytes f → Spells bytes g → f ≡ g }
+{}
+
+/// What is written of a frame is an image of it.
+pub fn canonical_text_spells_its_frame()
+    ensures { (f : Picture) → IsFrame f → Spells (canonical f) f }
 {}
 
 /// Bytes break the grammar in one way.
@@ -31,4 +37,10 @@ pub fn bytes_break_or_hold_an_image()
 pub fn ceil_log2_is_least()
     ensures reaches { (n : ℕ) → n ≤ 2 ^ 16 → n ≤ 2 ^ ceil_log2 n }
     ensures least { (n exponent : ℕ) → n ≤ 2 ^ exponent → ceil_log2 n ≤ exponent }
+{}
+
+/// Parameters are within Table C.2 exactly where nothing is found that keeps them from it.
+pub fn parameters_are_legal_or_at_fault()
+    ensures legal { (p : Parameters) → p.maxval ≤ 65535 → preset_fault p ≡ None → IsLegal p }
+    ensures none { (p : Parameters) → IsLegal p → preset_fault p ≡ None }
 {}

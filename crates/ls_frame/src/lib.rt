@@ -1,20 +1,23 @@
-//! Frames: pictures within the recorder's limits, how they are read from Netpbm films, and the parameters that
-//! T.87 codes them with.
+//! Frames: pictures within the recorder's limits, how they are read from Netpbm films and written to them, and the
+//! parameters that T.87 codes them with.
 //!
 //! What it hands on: a `Frame` keeps its ranges, whoever made it; reading is the grammar of the pgm and ppm pages,
-//! fault by fault (`specs/Netpbm.antt`, `specs/Faults.antt`); `Presets` are the formulas of T.87 (A.2.1, C.2.4.1).
-//! Bytes come by a `Feed` and go by an `Outlet`, which count the calls that failed.
+//! fault by fault (`specs/Netpbm.antt`, `specs/Faults.antt`); what is written of a frame is one spelling of it
+//! (`specs/Canonical.antt`); `Presets` are the formulas of T.87 (A.2.1, C.2.4.1), by default, explicit, or chosen in
+//! part by a `Tuning`. Bytes come by a `Feed` and go by an `Outlet`, which count the calls that failed.
 //!
 //! ```
 //! let mut reader = Counted::new(BufReader::new(alloc, file)?);
 //! while let Some(frame) = next_frame(alloc, &mut reader)? {
 //!     let presets = Presets::default_of(frame.maxval());
 //!     // .. frame.width(), frame.samples(), presets.t1() ..
+//!     write_frame(&mut writer, &frame)?;
 //! }
 //! ```
 //!
-//! In reading order: `device` (readers and writers that count), `frame`, `presets`, `netpbm` (reading an image),
-//! `output` (writing bytes whole), `laws` (what follows from the definitions alone).
+//! In reading order: `device` (readers and writers that count), `frame`, `presets`, `tuning` (presets chosen in part),
+//! `output` (writing bytes whole), `netpbm` (reading an image and writing one), `laws` (what follows from the
+//! definitions alone).
 #![tactic(auto)]
 
 pub mod device;
@@ -25,9 +28,11 @@ pub mod output;
 pub mod presets;
 #[cfg(test)]
 mod testing;
+pub mod tuning;
 
 pub use device::{Counted, Failed, Feed, Outlet};
 pub use frame::{Frame, FrameFault, Kind};
-pub use netpbm::{NetpbmFault, first_frame, next_frame};
+pub use netpbm::{NetpbmFault, first_frame, next_frame, write_frame};
 pub use output::{WriteFault, write_bytes};
-pub use presets::Presets;
+pub use presets::{PresetFault, Presets};
+pub use tuning::Tuning;

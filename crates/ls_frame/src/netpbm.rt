@@ -1,6 +1,7 @@
-//! Reading Netpbm images (pgm and ppm pages, the binary forms P5 and P6).
+//! Reading and writing Netpbm images (pgm and ppm pages, the binary forms P5 and P6).
 mod header;
 mod raster;
+mod written;
 
 ghost use Rattle.std.specs.Prelude.{◌≡◌, ◌≤◌, ◌⊎◌, IsTrue, IfOk, IfErr, IfSome, IfNone, [], length, take};
 ghost use Rattle.ls_frame.specs.Devices.{count_after};
@@ -15,6 +16,7 @@ use header::{HEADER_BYTES, read_header};
 use raster::read_raster;
 use std::alloc::{AllocError, Global};
 use thiserror::Error;
+pub use written::write_frame;
 
 /// Why the next image can't be read. Faults come in the order of the bytes.
 #[derive(Clone, Copy, Debug, Drop, PartialEq, Eq, Error)]

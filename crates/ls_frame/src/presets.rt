@@ -1,11 +1,35 @@
 //! The coding parameters of T.87 (A.2.1, C.2.4.1).
-ghost use Rattle.std.specs.Prelude.{◌≡◌, ◌<◌, ◌≤◌, ◌+◌, ◌↔◌, IsTrue};
-ghost use Rattle.ls_frame.specs.Parameters.{ceil_log2, clamped, unclamped_thresholds, default_parameters, range_of, qbpp_of, bpp_of, limit_of, IsLegal};
+ghost use Rattle.std.specs.Prelude.{◌≡◌, ◌<◌, ◌≤◌, ◌+◌, ◌↔◌, IsTrue, IfOk};
+ghost use Rattle.ls_frame.specs.Parameters.{ceil_log2, clamped, unclamped_thresholds, default_parameters, explicit_parameters, range_of, qbpp_of, bpp_of, limit_of, IsLegal};
 
 use std::marker::Model;
+use thiserror::Error;
 
 /// The default of RESET (C.2.4.1.1).
 const DEFAULT_RESET: u16 = 64;
+
+/// The least RESET (Table C.2).
+const LEAST_RESET: u16 = 3;
+
+/// Why parameters aren't within the ranges of Table C.2. `Presets::explicit` looks in this order.
+#[derive(Clone, Copy, Debug, Drop, PartialEq, Eq, Error)]
+pub enum PresetFault {
+    /// MAXVAL is 0.
+    #[error("maxval")]
+    MaxvalRange,
+    /// T1 isn't 1 to MAXVAL.
+    #[error("T1")]
+    T1Range,
+    /// T2 isn't T1 to MAXVAL.
+    #[error("T2")]
+    T2Range,
+    /// T3 isn't T2 to MAXVAL.
+    #[error("T3")]
+    T3Range,
+    /// RESET isn't 3 to the greater of 255 and MAXVAL.
+    #[error("RESET")]
+    ResetRange,
+}
 
 /// The parameters that a scan is coded with, within the ranges of Table C.2:
 /// 1 <= T1 <= T2 <= T3 <= MAXVAL and 3 <= RESET <= max(255, MAXVAL).
@@ -51,6 +75,49 @@ impl Presets {
             t3,
             reset: DEFAULT_RESET,
         }
+    }
+
+    /// Exactly these parameters; a 0 stands for no default. Refused for the first that is out of its range
+    /// (Table C.2).
+    #[tactic(auto, unfolding(crate::specs::Parameters::explicit_parameters))]
+    pub fn explicit(
+        maxval: u16,
+        t1: u16,
+        t2: u16,
+        t3: u16,
+        reset: u16,
+    ) -> Result<Presets, PresetFault>
+        ensures value { let asked : Parameters = record {
+          maxval = maxval;
+          t1 = t1;
+          t2 = t2;
+          t3 = t3;
+          reset = reset;
+        } in result ≡ explicit_parameters asked }
+        ensures maxval { IfOk result (λ presets. presets.maxval ≡ maxval) }
+    {
+        if maxval == 0 {
+            return Err(PresetFault::MaxvalRange);
+        }
+        if t1 == 0 || t1 > maxval {
+            return Err(PresetFault::T1Range);
+        }
+        if t2 < t1 || t2 > maxval {
+            return Err(PresetFault::T2Range);
+        }
+        if t3 < t2 || t3 > maxval {
+            return Err(PresetFault::T3Range);
+        }
+        if reset < LEAST_RESET || reset > maxval.max(255) {
+            return Err(PresetFault::ResetRange);
+        }
+        Ok(Presets {
+            maxval,
+            t1,
+            t2,
+            t3,
+            reset,
+        })
     }
 
     /// MAXVAL, 1 to 65535.

@@ -174,7 +174,7 @@ pub(super) fn read_raster<R: Feed>(
 }
 
 /// Whether samples take two bytes each.
-fn is_wide(maxval: u16) -> bool
+pub(super) fn is_wide(maxval: u16) -> bool
     ensures { result ≡ is_wide maxval }
 {
     maxval > 255

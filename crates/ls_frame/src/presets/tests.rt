@@ -1,4 +1,6 @@
 use super::*;
+use crate::testing::{Mishap, Sink};
+use std::io::Write;
 
 /// MAXVAL, bpp, qbpp, LIMIT, T1, T2, T3.
 type Row = (u16, u32, u32, u32, u16, u16, u16);
@@ -34,5 +36,48 @@ fn the_defaults_follow_from_maxval(rt: HostRuntime) {
         assert_eq!(rt; presets.range(), u32::from(maxval) + 1, "at {maxval}");
         assert_eq!(rt; presets.reset(), 64, "at {maxval}");
         assert!(rt; presets.is_default(), "at {maxval}");
+    }
+}
+
+#[test]
+fn the_first_range_that_is_left_is_named(rt: HostRuntime) {
+    let rows = [
+        ((0, 1, 1, 1, 3), PresetFault::MaxvalRange),
+        ((255, 0, 7, 21, 64), PresetFault::T1Range),
+        ((255, 3, 2, 21, 64), PresetFault::T2Range),
+        ((255, 3, 7, 256, 64), PresetFault::T3Range),
+        ((255, 3, 7, 21, 2), PresetFault::ResetRange),
+        ((255, 3, 7, 21, 256), PresetFault::ResetRange),
+    ];
+    for ((maxval, t1, t2, t3, reset), fault) in rows {
+        let got = Presets::explicit(maxval, t1, t2, t3, reset);
+        assert_eq!(rt; got, Err(fault), "at {maxval} {t1} {t2} {t3} {reset}");
+    }
+}
+
+#[test]
+fn explicit_parameters_are_kept(rt: HostRuntime) {
+    let Ok(presets) = Presets::explicit(1, 1, 1, 1, 255) else {
+        panic!(rt; "these parameters are legal");
+    };
+    assert_eq!(rt; presets.maxval(), 1);
+    assert_eq!(rt; presets.t1(), 1);
+    assert_eq!(rt; presets.t2(), 1);
+    assert_eq!(rt; presets.t3(), 1);
+    assert_eq!(rt; presets.reset(), 255);
+}
+
+#[test]
+fn faults_have_their_texts(rt: HostRuntime) {
+    for (fault, text) in [
+        (PresetFault::MaxvalRange, "maxval"),
+        (PresetFault::T1Range, "T1"),
+        (PresetFault::T2Range, "T2"),
+        (PresetFault::T3Range, "T3"),
+        (PresetFault::ResetRange, "RESET"),
+    ] {
+        let mut sink = Sink::new(16, &[], Mishap::Fails);
+        assert!(rt; write!(sink, "{fault}").is_ok(), "at {text}");
+        assert_eq!(rt; sink.written(), text.as_bytes(), "at {text}");
     }
 }

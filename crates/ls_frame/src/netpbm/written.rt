@@ -1,0 +1,163 @@
+//! Writing Netpbm images: the canonical text of a frame, in pieces.
+ghost use Rattle.std.specs.Prelude.{◌≡◌, ◌+◌, ◌-◌, ◌*◌, ◌<◌, ◌≤◌, ◌^◌, ◌++◌, true, false, OnOk, IfOk, IfErr, is_err, length, take};
+ghost use Rattle.std.specs.List.{AllByRecursion};
+ghost use Rattle.std.specs.Io.KnownBytes.{Appends};
+ghost use Rattle.ls_frame.specs.Devices.{count_after};
+ghost use Rattle.ls_frame.specs.Netpbm.{magic};
+ghost use Rattle.ls_frame.specs.Canonical.{canonical_heading, raster_bytes, canonical};
+ghost use Rattle.ls_frame.specs.Reading.{byte_count};
+
+use super::raster::is_wide;
+use crate::device::Outlet;
+use crate::frame::{Frame, Kind};
+use crate::output::{WriteFault, write_bytes};
+use itoa::Buffer;
+
+/// How many bytes go out at once at most: an even number, and enough for a header.
+const PIECE: usize = 8192;
+
+/// Writes the canonical text of a frame: magic, LF, width, blank, height, LF, maxval, LF, raster.
+///
+/// It takes no memory.
+pub fn write_frame<W: Outlet>(writer: &mut W, frame: &Frame) -> Result<(), WriteFault>
+    ensures ok { OnOk result (Appends (W.contents writer.old) (W.contents writer.new) (canonical frame.now)) }
+    ensures fault { IfErr result
+        (λ fault. Appends (W.contents writer.old) (W.contents writer.new) (take fault.written (canonical frame.now))) }
+    ensures part { IfErr result (λ fault. fault.written < length (canonical frame.now)) }
+    ensures failures { W.failed_writes writer.new ≡ count_after (is_err result) (W.failed_writes writer.old) }
+{
+    let mut piece = [0u8; PIECE];
+    let end = put_heading(&mut piece, frame);
+    let written = write_piece(writer, &piece[..end], 0)?;
+    let wide = is_wide(frame.maxval());
+    write_samples(writer, &mut piece, wide, frame.samples(), written)?;
+    Ok(())
+}
+
+/// Writes a piece of a text of which `before` bytes went out, and says how many that makes. So does a fault.
+fn write_piece<W: Outlet>(writer: &mut W, piece: &[u8], before: usize) -> Result<usize, WriteFault>
+    requires { before + length piece.now < 2 ^ 64 }
+    ensures ok { OnOk result (Appends (W.contents writer.old) (W.contents writer.new) piece.now) }
+    ensures count { IfOk result (λ written. written ≡ before + length piece.now) }
+    ensures fault { IfErr result
+        (λ fault. Appends (W.contents writer.old) (W.contents writer.new) (take (fault.written - before) piece.now)) }
+    ensures behind { IfErr result (λ fault. before ≤ fault.written) }
+    ensures part { IfErr result (λ fault. fault.written < before + length piece.now) }
+    ensures failures { W.failed_writes writer.new ≡ count_after (is_err result) (W.failed_writes writer.old) }
+{
+    match write_bytes(writer, piece) {
+        Ok(()) => Ok(before + piece.len()),
+        Err(fault) => Err(WriteFault {
+            written: before + fault.written,
+        }),
+    }
+}
+
+/// Writes samples by way of `piece`, behind `before` bytes. A fault counts those too.
+fn write_samples<W: Outlet>(
+    writer: &mut W,
+    piece: &mut [u8; PIECE],
+    wide: bool,
+    samples: &[u16],
+    before: usize,
+) -> Result<(), WriteFault>
+    requires few { before + byte_count wide (length samples.now) < 2 ^ 64 }
+    requires each { wide ≡ false → AllByRecursion (λ sample. sample < 256) samples.now }
+    ensures ok { OnOk result (Appends (W.contents writer.old) (W.contents writer.new) (raster_bytes wide samples.now)) }
+    ensures fault { IfErr result
+        (λ fault. Appends (W.contents writer.old) (W.contents writer.new)
+        (take (fault.written - before) (raster_bytes wide samples.now))) }
+    ensures behind { IfErr result (λ fault. before ≤ fault.written) }
+    ensures part { IfErr result (λ fault. fault.written < before + length (raster_bytes wide samples.now)) }
+    ensures failures { W.failed_writes writer.new ≡ count_after (is_err result) (W.failed_writes writer.old) }
+{
+    let most = if wide { PIECE / 2 } else { PIECE };
+    let mut written = before;
+    let mut done = 0;
+    'pieces: while done < samples.len() {
+        let end = done + most.min(samples.len() - done);
+        let filled = put_samples(piece, wide, &samples[done..end]);
+        written = write_piece(writer, &piece[..filled], written)?;
+        done = end;
+    }
+    Ok(())
+}
+
+/// Lays the header of a frame at the front of `piece`, and says where it ends.
+#[tactic(auto, unfolding(crate::specs::Canonical::canonical_heading))]
+fn put_heading(piece: &mut [u8; PIECE], frame: &Frame) -> usize
+    ensures laid { take result piece.new ≡ canonical_heading frame.now }
+    ensures within { result ≤ 21 }
+{
+    let mut number = Buffer::new();
+    let mut end = put(piece, 0, magic(frame.kind()));
+    end = put(piece, end, b"\n");
+    end = put(piece, end, number.format(frame.width()).as_bytes());
+    end = put(piece, end, b" ");
+    end = put(piece, end, number.format(frame.height()).as_bytes());
+    end = put(piece, end, b"\n");
+    end = put(piece, end, number.format(frame.maxval()).as_bytes());
+    put(piece, end, b"\n")
+}
+
+/// Lays `text` behind the `filled` bytes at the front of `piece`, and says where it ends.
+fn put(piece: &mut [u8], filled: usize, text: &[u8]) -> usize
+    requires { filled + length text.now ≤ length piece.old }
+    ensures laid { take result piece.new ≡ take filled piece.old ++ text.now }
+    ensures end { result ≡ filled + length text.now }
+{
+    let end = filled + text.len();
+    piece[filled..end].copy_from_slice(text);
+    end
+}
+
+fn magic(kind: Kind) -> &'static [u8]
+    ensures { result.now ≡ magic kind }
+{
+    match kind {
+        Kind::Gray => b"P5",
+        Kind::Color => b"P6",
+    }
+}
+
+/// Lays the bytes of samples at the front of `piece`, and says where they end.
+fn put_samples(piece: &mut [u8], wide: bool, samples: &[u16]) -> usize
+    requires room { byte_count wide (length samples.now) ≤ length piece.old }
+    requires each { wide ≡ false → AllByRecursion (λ sample. sample < 256) samples.now }
+    ensures laid { take result piece.new ≡ raster_bytes wide samples.now }
+    ensures end { result ≡ byte_count wide (length samples.now) }
+{
+    if wide {
+        put_wide(piece, samples);
+        2 * samples.len()
+    } else {
+        put_narrow(piece, samples);
+        samples.len()
+    }
+}
+
+/// Lays samples that take one byte each at the front of `piece`.
+fn put_narrow(piece: &mut [u8], samples: &[u16])
+    requires room { length samples.now ≤ length piece.old }
+    requires each { AllByRecursion (λ sample. sample < 256) samples.now }
+    ensures { take (length samples.now) piece.new ≡ raster_bytes false samples.now }
+{
+    for i in 0..samples.len() {
+        piece[i] = samples[i] as u8;
+    }
+}
+
+/// Lays samples that take two bytes each, the most significant first, at the front of `piece`.
+fn put_wide(piece: &mut [u8], samples: &[u16])
+    requires { 2 * length samples.now ≤ length piece.old }
+    ensures { take (2 * length samples.now) piece.new ≡ raster_bytes true samples.now }
+{
+    for i in 0..samples.len() {
+        let sample = samples[i];
+        piece[2 * i] = (sample / 256) as u8;
+        piece[2 * i + 1] = (sample % 256) as u8;
+    }
+}
+
+#[cfg(test)]
+mod tests;

@@ -1,0 +1,60 @@
+use super::*;
+
+/// MAXVAL, T1, T2, T3, RESET.
+type Row = (u16, u16, u16, u16, u16);
+
+const PLAIN: Tuning = Tuning {
+    t1: 0,
+    t2: 0,
+    t3: 0,
+    reset: 0,
+};
+
+const SPELLED_OUT: Tuning = Tuning {
+    t1: 3,
+    t2: 7,
+    t3: 21,
+    reset: 64,
+};
+
+/// The parameters of these presets, or the fault.
+fn seen(got: Result<Presets, PresetFault>) -> Result<Row, PresetFault> {
+    let presets = got?;
+    Ok((
+        presets.maxval(),
+        presets.t1(),
+        presets.t2(),
+        presets.t3(),
+        presets.reset(),
+    ))
+}
+
+#[test]
+fn what_is_chosen_stands_beside_the_defaults(rt: HostRuntime) {
+    let rows: [(Tuning, u16, Result<Row, PresetFault>); 4] = [
+        (Tuning { t1: 5, ..PLAIN }, 255, Ok((255, 5, 7, 21, 64))),
+        (Tuning { reset: 32, ..PLAIN }, 255, Ok((255, 3, 7, 21, 32))),
+        (Tuning { t1: 10, ..PLAIN }, 255, Err(PresetFault::T2Range)),
+        (SPELLED_OUT, 1, Err(PresetFault::T1Range)),
+    ];
+    for (tuning, maxval, want) in rows {
+        assert!(rt; maxval > 0);
+        assert_eq!(rt; seen(tuning.presets(maxval)), want, "at {tuning:?}");
+    }
+}
+
+#[test]
+fn nothing_chosen_means_the_defaults(rt: HostRuntime) {
+    for maxval in [1u16, 2, 3, 7, 127, 128, 255, 1023, 4095, 65535] {
+        assert!(rt; maxval > 0);
+        let defaults = Presets::default_of(maxval);
+        assert_eq!(rt; PLAIN.presets(maxval), Ok(defaults), "at {maxval}");
+    }
+}
+
+#[test]
+fn the_defaults_chosen_are_the_defaults(rt: HostRuntime) {
+    let got = SPELLED_OUT.presets(255);
+    assert_eq!(rt; got, Ok(Presets::default_of(255)));
+    assert!(rt; got.is_ok_and(|presets| presets.is_default()));
+}
