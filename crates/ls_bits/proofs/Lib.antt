@@ -1,5 +1,6 @@
 pub mod BitLemmas
 pub mod DataLemmas
+pub mod FfLemmas
 pub mod GolombLaws
 pub mod GolombLemmas
 pub mod MaskLemmas

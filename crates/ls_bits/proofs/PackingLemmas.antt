@@ -1,14 +1,15 @@
 -- What a sink's steps do to its bits.
 use Rattle.std.proofs.Common.{◌≡◌, ℕ, zero, suc, ◌+◌, ◌-◌, ◌*◌, ◌/◌, ◌%◌, ◌^◌, ◌<◌, ◌≤◌, ◌⊎◌, inl, inr, Bool, true, false, eqb, List, [], ◌∷◌, ◌++◌, length, take, drop, refl, sym, ◌∙◌, ap, subst, arith, append_assoc, length-append}
-use Rattle.std.proofs.lemmas.List.{append-nil, drop-append-le, take-append-le, take-append-drop, length-drop, replicate-append-replicate}
+use Rattle.std.proofs.lemmas.List.{append-nil, drop-append-le, take-append-le, take-append-drop, length-drop}
 use Rattle.std.proofs.lemmas.Bool.{ne_eqb}
+use Rattle.std.proofs.lemmas.Nat.{mul-mod_first, shr_below}
 use Rattle.std.proofs.Math.Nat.{mod-one, pow-suc}
 use Rattle.std.proofs.Math.Pow.{pow_mono}
 use lib.Bits.{bit_or}
 use Rattle.ls_bits.specs.Bits.{bits_of, zeros}
 use Rattle.ls_bits.specs.Stuffing.{stuff_into, stuff, unstuff}
-use Rattle.ls_bits.specs.Packing.{room_for, KeepsRoom, room_after, packed_bits, IsPacked}
-use Rattle.ls_bits.proofs.BitLemmas.{bits_of-split, bits_of-mod, bits_of-word, bits_of-zero, shifted_in, length-bits_of}
+use Rattle.ls_bits.specs.Packing.{room_for, KeepsRoom, room_after, packed_bits, IsPacked, HasNoFf}
+use Rattle.ls_bits.proofs.BitLemmas.{bits_of-cat, bits_of-split, bits_of-mod, bits_of-word, shifted_in, length-bits_of}
 use Rattle.ls_bits.proofs.StuffingLemmas.{IsRoom, unstuff_from-append, room_after-append, KeepsRoom-append, length-unstuff_from, stuff_into-front, stuff_into-last, stuff_into-none, stuff_into-behind_ff}
 
 pub room_for-room : (behind : Bool) → IsRoom (room_for behind)
@@ -32,24 +33,23 @@ byte_bits word waiting byte behind next =
     let same : bits_of room byte ≡ bits_of room (word / 2 ^ waiting) = ap (bits_of room) next.is ∙ bits_of-mod room room (word / 2 ^ waiting) (omega arith) in
     bits_of-split room waiting word ∙ ap (λ bits. bits ++ bits_of waiting word) (sym same)
 
-pub packed-byte : (start word held waiting byte : ℕ) (bytes : List ℕ) (behind : Bool) → IsPacked start bytes held behind
-    → room_for behind + waiting ≡ held → IsNextByte word waiting behind byte
+pub packed-byte : (start word other waiting byte : ℕ) (bytes : List ℕ) (behind : Bool) → IsPacked start bytes other behind
+    → waiting ≤ 63 → IsNextByte word waiting behind byte
     → IsPacked start (bytes ++ byte ∷ []) waiting (eqb byte 255)
-packed-byte start word held waiting byte bytes behind packed sum next =
+packed-byte start word other waiting byte bytes behind packed few next =
     let front : drop start (bytes ++ byte ∷ []) ≡ drop start bytes ++ byte ∷ [] = drop-append-le start bytes (byte ∷ []) packed.within in
     let small : byte < 2 ^ room_after 8 (drop start bytes) = subst (λ n. byte < 2 ^ n) (sym packed.room) (byte-lt word waiting byte behind next) in
-    let few : held ≤ 64 = packed.few in
     record {
       within = omega (arith, packed.within, length-append bytes (byte ∷ []));
       keeps = subst (KeepsRoom 8) (sym front) (KeepsRoom-append 8 (drop start bytes) (byte ∷ []) packed.keeps (small, tt));
       room = ap (room_after 8) front ∙ room_after-append 8 (drop start bytes) (byte ∷ []);
-      few = omega arith;
+      few = few;
     }
 
-pub packed_bits-byte : (start word held waiting byte : ℕ) (bytes : List ℕ) (behind : Bool) → IsPacked start bytes held behind
+pub packed_bits-byte : (start word held other waiting byte : ℕ) (bytes : List ℕ) (behind : Bool) → IsPacked start bytes other behind
     → room_for behind + waiting ≡ held → IsNextByte word waiting behind byte
     → packed_bits start (bytes ++ byte ∷ []) word waiting ≡ packed_bits start bytes word held
-packed_bits-byte start word held waiting byte bytes behind packed sum next =
+packed_bits-byte start word held other waiting byte bytes behind packed sum next =
     let stuffed : List ℕ = drop start bytes in
     let front : drop start (bytes ++ byte ∷ []) ≡ stuffed ++ byte ∷ [] = drop-append-le start bytes (byte ∷ []) packed.within in
     let out : unstuff (stuffed ++ byte ∷ []) ≡ unstuff stuffed ++ (bits_of (room_after 8 stuffed) byte ++ []) = unstuff_from-append 8 stuffed (byte ∷ []) in
@@ -63,40 +63,39 @@ packed_bits-byte start word held waiting byte bytes behind packed sum next =
 pub front-byte : (start byte : ℕ) (bytes : List ℕ) → start ≤ length bytes → take start (bytes ++ byte ∷ []) ≡ take start bytes
 front-byte start byte bytes h = take-append-le start bytes (byte ∷ []) h
 
--- four bytes of which none is FF
-pub record AreNextFour (word waiting first second third fourth : ℕ) : Type 0 where
-  pub first_is : first ≡ word / 2 ^ (waiting + 24) % 256
-  pub second_is : second ≡ word / 2 ^ (waiting + 16) % 256
-  pub third_is : third ≡ word / 2 ^ (waiting + 8) % 256
-  pub fourth_is : fourth ≡ word / 2 ^ waiting % 256
-  pub first_other : first ≡ 255 → ⊥
-  pub second_other : second ≡ 255 → ⊥
-  pub third_other : third ≡ 255 → ⊥
-  pub fourth_other : fourth ≡ 255 → ⊥
-
 -- what one byte out leaves, where it isn't FF
 pub record StillPacked (start word : ℕ) (before after : List ℕ) (held waiting : ℕ) : Type 0 where
   pub packed : IsPacked start after waiting false
   pub bits : packed_bits start after word waiting ≡ packed_bits start before word held
 
-one_out : (start word held waiting byte : ℕ) (bytes : List ℕ) → IsPacked start bytes held false → 8 + waiting ≡ held
-    → byte ≡ word / 2 ^ waiting % 256 → (byte ≡ 255 → ⊥) → StillPacked start word bytes (bytes ++ byte ∷ []) held waiting
-one_out start word held waiting byte bytes packed sum is other =
-    let next : IsNextByte word waiting false byte = record { is = is } in
+one_out : (start word held other waiting : ℕ) (bytes : List ℕ) → IsPacked start bytes other false → 8 + waiting ≡ held → waiting ≤ 63
+    → (word / 2 ^ waiting % 256 ≡ 255 → ⊥) → StillPacked start word bytes (bytes ++ word / 2 ^ waiting % 256 ∷ []) held waiting
+one_out start word held other waiting bytes packed sum few not_ff =
+    let byte : ℕ = word / 2 ^ waiting % 256 in
+    let next : IsNextByte word waiting false byte = record { is = refl } in
     record {
-      packed = subst (IsPacked start (bytes ++ byte ∷ []) waiting) (ne_eqb byte 255 other) (packed-byte start word held waiting byte bytes false packed sum next);
-      bits = packed_bits-byte start word held waiting byte bytes false packed sum next;
+      packed = subst (IsPacked start (bytes ++ byte ∷ []) waiting) (ne_eqb byte 255 not_ff) (packed-byte start word other waiting byte bytes false packed few next);
+      bits = packed_bits-byte start word held other waiting byte bytes false packed sum next;
     }
 
-pub four_out : (start word held waiting first second third fourth : ℕ) (bytes : List ℕ) → IsPacked start bytes held false → 32 + waiting ≡ held
-    → AreNextFour word waiting first second third fourth
-    → StillPacked start word bytes ((((bytes ++ first ∷ []) ++ second ∷ []) ++ third ∷ []) ++ fourth ∷ []) held waiting
-four_out start word held waiting first second third fourth bytes packed sum next =
-    let one = one_out start word held (waiting + 24) first bytes packed (omega arith) next.first_is next.first_other in
-    let two = one_out start word (waiting + 24) (waiting + 16) second _ one.packed (omega arith) next.second_is next.second_other in
-    let three = one_out start word (waiting + 16) (waiting + 8) third _ two.packed (omega arith) next.third_is next.third_other in
-    let four = one_out start word (waiting + 8) waiting fourth _ three.packed (omega arith) next.fourth_is next.fourth_other in
-    record { packed = four.packed; bits = four.bits ∙ three.bits ∙ two.bits ∙ one.bits }
+-- a byte of a word
+abbrev pub byte_of : ℕ → ℕ → ℕ
+byte_of word shift = word / 2 ^ shift % 256
+
+pub eight_out : (start word other : ℕ) (bytes : List ℕ) → IsPacked start bytes other false → HasNoFf word
+    → StillPacked start word bytes
+    ((((((((bytes ++ byte_of word 56 ∷ []) ++ byte_of word 48 ∷ []) ++ byte_of word 40 ∷ []) ++ byte_of word 32 ∷ []) ++ byte_of word 24 ∷ [])
+    ++ byte_of word 16 ∷ []) ++ byte_of word 8 ∷ []) ++ byte_of word 0 ∷ []) 64 0
+eight_out start word other bytes packed none =
+    let one = one_out start word 64 other 56 bytes packed refl (omega arith) none.at_56 in
+    let two = one_out start word 56 56 48 _ one.packed refl (omega arith) none.at_48 in
+    let three = one_out start word 48 48 40 _ two.packed refl (omega arith) none.at_40 in
+    let four = one_out start word 40 40 32 _ three.packed refl (omega arith) none.at_32 in
+    let five = one_out start word 32 32 24 _ four.packed refl (omega arith) none.at_24 in
+    let six = one_out start word 24 24 16 _ five.packed refl (omega arith) none.at_16 in
+    let seven = one_out start word 16 16 8 _ six.packed refl (omega arith) none.at_8 in
+    let eight = one_out start word 8 8 0 _ seven.packed refl (omega arith) none.at_0 in
+    record { packed = eight.packed; bits = eight.bits ∙ seven.bits ∙ six.bits ∙ five.bits ∙ four.bits ∙ three.bits ∙ two.bits ∙ one.bits }
 
 -- ---- bits put
 
@@ -106,8 +105,63 @@ packed_bits-put start word held count value bytes fits small =
     ap (λ bits. unstuff (drop start bytes) ++ bits) (shifted_in held count word value fits small)
     ∙ sym (append_assoc (unstuff (drop start bytes)) (bits_of held word) (bits_of count value))
 
-pub packed-held : (start held other : ℕ) (bytes : List ℕ) (behind : Bool) → IsPacked start bytes held behind → other ≤ 64 → IsPacked start bytes other behind
+pub packed-held : (start held other : ℕ) (bytes : List ℕ) (behind : Bool) → IsPacked start bytes held behind → other ≤ 63 → IsPacked start bytes other behind
 packed-held start held other bytes behind packed few = record { within = packed.within; keeps = packed.keeps; room = packed.room; few = few }
+
+-- the first 64 of the bits that wait and those that are put, where they are so many, and those behind them
+pub full_bits : (held count waiting word value : ℕ) → held ≤ 63 → held + count ≡ 64 + waiting → count ≤ 64 → value < 2 ^ count
+    → bits_of 64 (bit_or (word * 2 ^ (63 - held) % 2 ^ 64 * 2 ^ 1 % 2 ^ 64) (value / 2 ^ waiting)) ++ bits_of waiting value ≡ bits_of held word ++ bits_of count value
+full_bits held count waiting word value few sum most small =
+    let high : ℕ = 64 - held in
+    let of_high : count ≡ high + waiting = omega arith in
+    let step : suc (63 - held) ≡ high = omega arith in
+    let power : 2 ^ (63 - held) * 2 ≡ 2 ^ high = sym (pow-suc 2 (63 - held)) ∙ ap (λ n. 2 ^ n) step in
+    let regrouped : word * 2 ^ (63 - held) * 2 ≡ word * (2 ^ (63 - held) * 2) = grind arith in
+    let shifted : word * 2 ^ (63 - held) % 2 ^ 64 * 2 ^ 1 % 2 ^ 64 ≡ word * 2 ^ high % 2 ^ 64 =
+    mul-mod_first (word * 2 ^ (63 - held)) 2 (2 ^ 64) ∙ ap (λ n. n % 2 ^ 64) (regrouped ∙ ap (λ n. word * n) power) in
+    let front_small : value / 2 ^ waiting < 2 ^ high = shr_below value high waiting (subst (λ n. value < 2 ^ n) of_high small) in
+    let all : held + high ≡ 64 = omega arith in
+    let front : bits_of 64 (bit_or (word * 2 ^ high % 2 ^ 64) (value / 2 ^ waiting)) ≡ bits_of held word ++ bits_of high (value / 2 ^ waiting) =
+    sym (ap (λ n. bits_of n (bit_or (word * 2 ^ high % 2 ^ 64) (value / 2 ^ waiting))) all) ∙ shifted_in held high word (value / 2 ^ waiting) (omega arith) front_small in
+    let parts : bits_of count value ≡ bits_of high (value / 2 ^ waiting) ++ bits_of waiting value =
+    ap (λ n. bits_of n value) of_high ∙ bits_of-split high waiting value in
+    ap (λ n. bits_of 64 (bit_or n (value / 2 ^ waiting)) ++ bits_of waiting value) shifted
+    ∙ ap (λ bits. bits ++ bits_of waiting value) front
+    ∙ append_assoc (bits_of held word) (bits_of high (value / 2 ^ waiting)) (bits_of waiting value)
+    ∙ ap (λ bits. bits_of held word ++ bits) (sym parts)
+
+-- a full word out, and the rest of the value in its place
+pub packed_bits-full : (start held count waiting word value : ℕ) (before after : List ℕ) → held ≤ 63 → held + count ≡ 64 + waiting → count ≤ 64 → value < 2 ^ count
+    → packed_bits start after (bit_or (word * 2 ^ (63 - held) % 2 ^ 64 * 2 ^ 1 % 2 ^ 64) (value / 2 ^ waiting)) 0
+    ≡ packed_bits start before (bit_or (word * 2 ^ (63 - held) % 2 ^ 64 * 2 ^ 1 % 2 ^ 64) (value / 2 ^ waiting)) 64
+    → packed_bits start after value waiting ≡ packed_bits start before word held ++ bits_of count value
+packed_bits-full start held count waiting word value before after few sum most small out =
+    let full : ℕ = bit_or (word * 2 ^ (63 - held) % 2 ^ 64 * 2 ^ 1 % 2 ^ 64) (value / 2 ^ waiting) in
+    ap (λ bits. bits ++ bits_of waiting value) (sym (append-nil (unstuff (drop start after))) ∙ out)
+    ∙ append_assoc (unstuff (drop start before)) (bits_of 64 full) (bits_of waiting value)
+    ∙ ap (λ bits. unstuff (drop start before) ++ bits) (full_bits held count waiting word value few sum most small)
+    ∙ sym (append_assoc (unstuff (drop start before)) (bits_of held word) (bits_of count value))
+
+-- the same, as the code has it: the value's copies are given by equations
+pub packed_bits-word_out : (start start_after held count waiting word value copied stored : ℕ) (before after : List ℕ) → held ≤ 63 → held + count ≡ 64 + waiting → count ≤ 64
+    → value < 2 ^ count → copied ≡ value → stored ≡ value → start_after ≡ start
+    → packed_bits start_after after (bit_or (word * 2 ^ (63 - held) % 2 ^ 64 * 2 ^ 1 % 2 ^ 64) (copied / 2 ^ waiting)) 0
+    ≡ packed_bits start before (bit_or (word * 2 ^ (63 - held) % 2 ^ 64 * 2 ^ 1 % 2 ^ 64) (copied / 2 ^ waiting)) 64
+    → packed_bits start_after after stored waiting ≡ packed_bits start before word held ++ bits_of count value
+packed_bits-word_out start start_after held count waiting word value copied stored before after few sum most small copy store same out =
+    let full : ℕ → ℕ = λ n. bit_or (word * 2 ^ (63 - held) % 2 ^ 64 * 2 ^ 1 % 2 ^ 64) (n / 2 ^ waiting) in
+    let out_value : packed_bits start after (full value) 0 ≡ packed_bits start before (full value) 64 =
+    sym (ap (λ n. packed_bits start after (full n) 0) copy) ∙ sym (ap (λ n. packed_bits n after (full copied) 0) same) ∙ out
+    ∙ ap (λ n. packed_bits start before (full n) 64) copy in
+    ap (λ n. packed_bits n after stored waiting) same ∙ ap (λ n. packed_bits start after n waiting) store
+    ∙ packed_bits-full start held count waiting word value before after few sum most small out_value
+
+-- a number in more bits than it needs
+pub bits_of-wide : (front count value : ℕ) (bits : List Bool) → value < 2 ^ count → (bits ++ bits_of front 0) ++ bits_of count value ≡ bits ++ bits_of (front + count) value
+bits_of-wide front count value bits small =
+    let same : 0 * 2 ^ count + value ≡ value = omega arith in
+    append_assoc bits (bits_of front 0) (bits_of count value)
+    ∙ ap (λ list. bits ++ list) (sym (bits_of-cat front count 0 value small) ∙ ap (bits_of (front + count)) same)
 
 -- ---- the end
 
@@ -185,24 +239,14 @@ word_at_once bits count low rest h =
     let sum : count + 1 + low ≡ count + suc low = omega arith in
     ap (λ list. bits ++ list) (ap (λ n. bits_of n (2 ^ low + rest)) sum ∙ bits_of-word count low rest h)
 
-pub word_in_parts : (bits : List Bool) (first second count low rest : ℕ) → first + second ≡ count → rest < 2 ^ low
-    → ((bits ++ bits_of first 0) ++ bits_of second 0) ++ bits_of (low + 1) (2 ^ low + rest) ≡ bits ++ (zeros count ++ true ∷ bits_of low rest)
-word_in_parts bits first second count low rest sum h =
-    let size : low + 1 ≡ 0 + suc low = omega arith in
-    let tail : bits_of (low + 1) (2 ^ low + rest) ≡ true ∷ bits_of low rest = ap (λ n. bits_of n (2 ^ low + rest)) size ∙ bits_of-word 0 low rest h in
-    let both : bits_of first 0 ++ bits_of second 0 ≡ zeros count =
-    ap (λ list. list ++ bits_of second 0) (bits_of-zero first) ∙ ap (λ list. zeros first ++ list) (bits_of-zero second)
-    ∙ replicate-append-replicate first second false ∙ ap zeros sum in
-    append_assoc (bits ++ bits_of first 0) (bits_of second 0) (bits_of (low + 1) (2 ^ low + rest))
-    ∙ append_assoc bits (bits_of first 0) (bits_of second 0 ++ bits_of (low + 1) (2 ^ low + rest))
-    ∙ ap (λ list. bits ++ list)
-    (sym (append_assoc (bits_of first 0) (bits_of second 0) (bits_of (low + 1) (2 ^ low + rest)))
-    ∙ ap (λ list. list ++ bits_of (low + 1) (2 ^ low + rest)) both
-    ∙ ap (λ list. zeros count ++ list) tail)
-
 pub tail-lt : (count low rest : ℕ) → rest < 2 ^ low → 2 ^ low + rest < 2 ^ (count + 1 + low)
 tail-lt count low rest h =
     let size : suc low ≤ count + 1 + low = omega arith in
     let doubled : 2 ^ suc low ≡ 2 ^ low * 2 = pow-suc 2 low in
     let grown : 2 ^ suc low ≤ 2 ^ (count + 1 + low) = pow_mono size in
     omega arith
+
+-- room for the last byte is room for the others
+pub room_for_whole : (count held room : ℕ) → held ≤ count → (0 < count → held < room) → held < room + 7
+room_for_whole zero held room few h = omega arith
+room_for_whole (suc count) held room few h = omega (arith, h (omega arith))

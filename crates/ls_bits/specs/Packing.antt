@@ -1,6 +1,6 @@
 -- How a sink and a source hold bits: whole bytes, and a word of 64 bits whose lowest `held` bits are behind them (in a
 -- sink) or in front of them (in a source).
-use Rattle.std.specs.Prelude.{◌≡◌, ℕ, ◌^◌, ◌<◌, ◌≤◌, Bool, if◌then◌else◌, List, [], ◌∷◌, ◌++◌, length, drop}
+use Rattle.std.specs.Prelude.{◌≡◌, ℕ, ◌/◌, ◌%◌, ◌^◌, ◌<◌, ◌≤◌, Bool, if◌then◌else◌, List, [], ◌∷◌, ◌++◌, length, drop}
 use Rattle.ls_bits.specs.Bits.{bits_of}
 use Rattle.ls_bits.specs.Stuffing.{room_behind, unstuff_from, unstuff}
 
@@ -26,7 +26,18 @@ pub record IsPacked (start : ℕ) (bytes : List ℕ) (held : ℕ) (behind_ff : B
   pub within : start ≤ length bytes
   pub keeps : KeepsRoom 8 (drop start bytes)
   pub room : room_after 8 (drop start bytes) ≡ room_for behind_ff
-  pub few : held ≤ 64
+  pub few : held ≤ 63
+
+-- none of the eight bytes of a word is FF
+pub record HasNoFf (word : ℕ) : Type 0 where
+  pub at_56 : word / 2 ^ 56 % 256 ≡ 255 → ⊥
+  pub at_48 : word / 2 ^ 48 % 256 ≡ 255 → ⊥
+  pub at_40 : word / 2 ^ 40 % 256 ≡ 255 → ⊥
+  pub at_32 : word / 2 ^ 32 % 256 ≡ 255 → ⊥
+  pub at_24 : word / 2 ^ 24 % 256 ≡ 255 → ⊥
+  pub at_16 : word / 2 ^ 16 % 256 ≡ 255 → ⊥
+  pub at_8 : word / 2 ^ 8 % 256 ≡ 255 → ⊥
+  pub at_0 : word / 2 ^ 0 % 256 ≡ 255 → ⊥
 
 -- the bits that a source has left
 abbrev pub bits_left : ℕ → ℕ → Bool → List ℕ → List Bool

@@ -1,12 +1,9 @@
 //! Packing bits into stuffed bytes, behind the bytes that a vector already has.
-ghost use Rattle.std.specs.Prelude.{◌≡◌, ◌+◌, ◌-◌, ◌*◌, ◌/◌, ◌%◌, ◌^◌, ◌<◌, ◌≤◌, [], ◌∷◌, ◌++◌, true, length, take, drop, vec_len, vec_capacity};
+ghost use Rattle.std.specs.Prelude.{◌≡◌, ◌+◌, ◌-◌, ◌*◌, ◌/◌, ◌%◌, ◌^◌, ◌<◌, ◌≤◌, [], ◌∷◌, ◌++◌, true, false, length, take, drop, vec_len, vec_capacity};
 ghost use Rattle.ls_bits.specs.Bits.{bits_of, zeros as zero_bits};
 ghost use Rattle.ls_bits.specs.Stuffing.{stuff};
 ghost use Rattle.ls_bits.specs.Golomb.{IsGolomb, code_word, most_value};
-ghost use Rattle.ls_bits.specs.Packing.{room_for, packed_bits, IsPacked};
-
-/// The most bits that may wait in the word when more are put: as many again then fit.
-const MOST_WAITING: u32 = 32;
+ghost use Rattle.ls_bits.specs.Packing.{room_for, packed_bits, IsPacked, HasNoFf};
 
 /// Stuffed bytes, and the bits behind them that aren't a whole byte yet.
 #[derive(Drop)]
@@ -40,25 +37,37 @@ impl Packer {
     }
 
     /// `value` in `count` bits, behind those that are there.
+    #[inline(always)]
     pub fn put(&mut self, value: u32, count: u32)
         requires packed { IsPacked self.old.start self.old.bytes.items self.old.held self.old.behind_ff }
-        requires room { self.old.held < 7 * (vec_capacity self.old.bytes - vec_len self.old.bytes) + 7 }
-        requires count { count ≤ 32 }
+        requires room { self.old.held + count < 7 * (vec_capacity self.old.bytes - vec_len self.old.bytes) + 7 }
+        requires count { count ≤ 64 }
         requires value { value < 2 ^ count }
         ensures packed { IsPacked self.new.start self.new.bytes.items self.new.held self.new.behind_ff }
         ensures bits { packed_bits self.new.start self.new.bytes.items self.new.word self.new.held
             ≡ packed_bits self.old.start self.old.bytes.items self.old.word self.old.held ++ bits_of count value }
         ensures start { self.new.start ≡ self.old.start }
         ensures front { take self.old.start self.new.bytes.items ≡ take self.old.start self.old.bytes.items }
-        ensures size { 7 * vec_len self.new.bytes + self.new.held ≤ 7 * vec_len self.old.bytes + self.old.held + count }
         ensures capacity { vec_capacity self.old.bytes ≤ vec_capacity self.new.bytes }
     {
-        self.make_way();
-        self.word = (self.word << count) | u64::from(value);
-        self.held += count;
+        let total = self.held + count;
+        if total < 64 {
+            self.append(value, count);
+            return;
+        }
+        let waiting = total - 64;
+        let full = ((self.word << (63 - self.held)) << 1) | (u64::from(value) >> waiting);
+        if self.behind_ff || has_ff(full) {
+            self.put_by_bytes(value, count);
+            return;
+        }
+        self.put_out_word(full);
+        self.word = u64::from(value);
+        self.held = waiting;
     }
 
     /// The code word of `v`.
+    #[inline(always)]
     pub fn put_golomb(&mut self, k: u32, glimit: u32, qbpp: u32, v: u32)
         requires packed { IsPacked self.old.start self.old.bytes.items self.old.held self.old.behind_ff }
         requires room { self.old.held + length (code_word k glimit qbpp v)
@@ -77,16 +86,17 @@ impl Packer {
         if small < escape {
             self.put_word(small, low_bits(v, k), k);
         } else {
-            self.put_word(escape, v - 1, qbpp);
+            self.put_escape(escape, v - 1, qbpp);
         }
     }
 
     /// So many zeros, a one, and `rest` in `count` bits.
+    #[inline(always)]
     fn put_word(&mut self, zeros: u32, rest: u32, count: u32)
         requires packed { IsPacked self.old.start self.old.bytes.items self.old.held self.old.behind_ff }
         requires room { self.old.held + (zeros + 1 + count) < 7 * (vec_capacity self.old.bytes - vec_len self.old.bytes) + 7 }
-        requires zeros { zeros ≤ 64 }
         requires count { count ≤ 17 }
+        requires total { zeros + 1 + count ≤ 64 }
         requires rest { rest < 2 ^ count }
         ensures packed { IsPacked self.new.start self.new.bytes.items self.new.held self.new.behind_ff }
         ensures bits { packed_bits self.new.start self.new.bytes.items self.new.word self.new.held
@@ -95,14 +105,26 @@ impl Packer {
         ensures front { take self.old.start self.new.bytes.items ≡ take self.old.start self.old.bytes.items }
         ensures capacity { vec_capacity self.old.bytes ≤ vec_capacity self.new.bytes }
     {
-        let tail = led_by_one(rest, count);
-        if zeros + count < 32 {
-            self.put(tail, zeros + 1 + count);
-        } else {
-            self.put(0, zeros / 2);
-            self.put(0, zeros - zeros / 2);
-            self.put(tail, count + 1);
-        }
+        self.put(led_by_one(rest, count), zeros + 1 + count);
+    }
+
+    /// As `put_word`, out of the way of the words that are common.
+    #[cold]
+    #[inline(never)]
+    fn put_escape(&mut self, zeros: u32, rest: u32, count: u32)
+        requires packed { IsPacked self.old.start self.old.bytes.items self.old.held self.old.behind_ff }
+        requires room { self.old.held + (zeros + 1 + count) < 7 * (vec_capacity self.old.bytes - vec_len self.old.bytes) + 7 }
+        requires count { count ≤ 17 }
+        requires total { zeros + 1 + count ≤ 64 }
+        requires rest { rest < 2 ^ count }
+        ensures packed { IsPacked self.new.start self.new.bytes.items self.new.held self.new.behind_ff }
+        ensures bits { packed_bits self.new.start self.new.bytes.items self.new.word self.new.held
+            ≡ packed_bits self.old.start self.old.bytes.items self.old.word self.old.held ++ (zero_bits zeros ++ true ∷ bits_of count rest) }
+        ensures start { self.new.start ≡ self.old.start }
+        ensures front { take self.old.start self.new.bytes.items ≡ take self.old.start self.old.bytes.items }
+        ensures capacity { vec_capacity self.old.bytes ≤ vec_capacity self.new.bytes }
+    {
+        self.put_word(zeros, rest, count);
     }
 
     /// The bits stuffed, behind the bytes that the vector had.
@@ -114,9 +136,7 @@ impl Packer {
             ++ stuff (packed_bits self.start self.bytes.items self.word self.held) }
         ensures capacity { vec_capacity self.bytes ≤ vec_capacity result }
     {
-        while self.held >= 8 {
-            self.put_out_byte();
-        }
+        self.put_out_bytes();
         if self.held > 0 || self.behind_ff {
             self.bytes
                 .push_reserved(last_group(self.word, self.held, self.behind_ff));
@@ -124,54 +144,89 @@ impl Packer {
         self.bytes
     }
 
-    /// Puts out whole bytes where more than `MOST_WAITING` bits wait, until no more do.
-    fn make_way(&mut self)
+    /// `value` in `count` bits, where the word has room for them.
+    #[inline(always)]
+    fn append(&mut self, value: u32, count: u32)
         requires packed { IsPacked self.old.start self.old.bytes.items self.old.held self.old.behind_ff }
-        requires room { self.old.held < 7 * (vec_capacity self.old.bytes - vec_len self.old.bytes) + 7 }
+        requires room { self.old.held + count < 64 }
+        requires value { value < 2 ^ count }
         ensures packed { IsPacked self.new.start self.new.bytes.items self.new.held self.new.behind_ff }
         ensures bits { packed_bits self.new.start self.new.bytes.items self.new.word self.new.held
-            ≡ packed_bits self.old.start self.old.bytes.items self.old.word self.old.held }
-        ensures held { self.new.held ≤ MOST_WAITING }
+            ≡ packed_bits self.old.start self.old.bytes.items self.old.word self.old.held ++ bits_of count value }
         ensures start { self.new.start ≡ self.old.start }
         ensures front { take self.old.start self.new.bytes.items ≡ take self.old.start self.old.bytes.items }
-        ensures size { 7 * vec_len self.new.bytes + self.new.held ≤ 7 * vec_len self.old.bytes + self.old.held }
+        ensures held { self.new.held ≡ self.old.held + count }
+        ensures bytes { self.new.bytes ≡ self.old.bytes }
         ensures capacity { vec_capacity self.old.bytes ≤ vec_capacity self.new.bytes }
     {
-        if self.held <= MOST_WAITING {
-            return;
-        }
-        let waiting = self.held - MOST_WAITING;
-        let first = byte_at(self.word, waiting + 24);
-        let second = byte_at(self.word, waiting + 16);
-        let third = byte_at(self.word, waiting + 8);
-        let fourth = byte_at(self.word, waiting);
-        if self.behind_ff || first == 0xff || second == 0xff || third == 0xff || fourth == 0xff {
-            self.put_out_bytes();
-            return;
-        }
-        self.bytes.push_reserved(first);
-        self.bytes.push_reserved(second);
-        self.bytes.push_reserved(third);
-        self.bytes.push_reserved(fourth);
-        self.held = waiting;
+        self.word = (self.word << count) | u64::from(value);
+        self.held += count;
     }
 
-    /// As `make_way`, byte by byte.
+    /// As `put`, byte by byte.
+    #[cold]
+    #[inline(never)]
+    fn put_by_bytes(&mut self, value: u32, count: u32)
+        requires packed { IsPacked self.old.start self.old.bytes.items self.old.held self.old.behind_ff }
+        requires room { self.old.held + count < 7 * (vec_capacity self.old.bytes - vec_len self.old.bytes) + 7 }
+        requires count { count ≤ 64 }
+        requires value { value < 2 ^ count }
+        ensures packed { IsPacked self.new.start self.new.bytes.items self.new.held self.new.behind_ff }
+        ensures bits { packed_bits self.new.start self.new.bytes.items self.new.word self.new.held
+            ≡ packed_bits self.old.start self.old.bytes.items self.old.word self.old.held ++ bits_of count value }
+        ensures start { self.new.start ≡ self.old.start }
+        ensures front { take self.old.start self.new.bytes.items ≡ take self.old.start self.old.bytes.items }
+        ensures capacity { vec_capacity self.old.bytes ≤ vec_capacity self.new.bytes }
+    {
+        self.put_out_bytes();
+        if count > 32 {
+            self.append(0, count - 32);
+            self.put_out_bytes();
+            self.append(value, 32);
+        } else {
+            self.append(value, count);
+        }
+    }
+
+    /// Puts out whole bytes until fewer than eight bits wait.
     fn put_out_bytes(&mut self)
         requires packed { IsPacked self.old.start self.old.bytes.items self.old.held self.old.behind_ff }
         requires room { self.old.held < 7 * (vec_capacity self.old.bytes - vec_len self.old.bytes) + 7 }
         ensures packed { IsPacked self.new.start self.new.bytes.items self.new.held self.new.behind_ff }
         ensures bits { packed_bits self.new.start self.new.bytes.items self.new.word self.new.held
             ≡ packed_bits self.old.start self.old.bytes.items self.old.word self.old.held }
-        ensures held { self.new.held ≤ MOST_WAITING }
         ensures start { self.new.start ≡ self.old.start }
         ensures front { take self.old.start self.new.bytes.items ≡ take self.old.start self.old.bytes.items }
+        ensures held { self.new.held < 8 }
         ensures size { 7 * vec_len self.new.bytes + self.new.held ≤ 7 * vec_len self.old.bytes + self.old.held }
         ensures capacity { vec_capacity self.old.bytes ≤ vec_capacity self.new.bytes }
     {
-        while self.held > MOST_WAITING {
+        while self.held >= 8 {
             self.put_out_byte();
         }
+    }
+
+    /// Puts out the eight bytes of a word of which none is FF, in place of the bits that wait.
+    #[inline(always)]
+    fn put_out_word(&mut self, full: u64)
+        requires packed { IsPacked self.old.start self.old.bytes.items self.old.held self.old.behind_ff }
+        requires room { vec_len self.old.bytes + 8 ≤ vec_capacity self.old.bytes }
+        requires first { self.old.behind_ff ≡ false }
+        requires others { HasNoFf full }
+        ensures packed { IsPacked self.new.start self.new.bytes.items 0 self.new.behind_ff }
+        ensures bits { packed_bits self.new.start self.new.bytes.items full 0 ≡ packed_bits self.old.start self.old.bytes.items full 64 }
+        ensures start { self.new.start ≡ self.old.start }
+        ensures front { take self.old.start self.new.bytes.items ≡ take self.old.start self.old.bytes.items }
+        ensures capacity { vec_capacity self.old.bytes ≤ vec_capacity self.new.bytes }
+    {
+        self.bytes.push_reserved(byte_at(full, 56));
+        self.bytes.push_reserved(byte_at(full, 48));
+        self.bytes.push_reserved(byte_at(full, 40));
+        self.bytes.push_reserved(byte_at(full, 32));
+        self.bytes.push_reserved(byte_at(full, 24));
+        self.bytes.push_reserved(byte_at(full, 16));
+        self.bytes.push_reserved(byte_at(full, 8));
+        self.bytes.push_reserved(byte_at(full, 0));
     }
 
     /// Puts out one whole byte.
@@ -238,6 +293,16 @@ fn last_group(word: u64, held: u32, behind_ff: bool) -> u8
 {
     let bits = word & ((1 << held) - 1);
     (bits << (room(behind_ff) - held)) as u8
+}
+
+/// Whether one of the eight bytes of `word` is FF: where a byte is, the eight ones of it leave one at its lowest bit.
+fn has_ff(word: u64) -> bool
+    ensures { (result ≡ false) → HasNoFf word }
+{
+    let pairs = word & (word >> 1);
+    let fours = pairs & (pairs >> 2);
+    let eights = fours & (fours >> 4);
+    eights & 0x0101_0101_0101_0101 != 0
 }
 
 /// The byte whose lowest bit is bit `shift` of `word`.

@@ -1,14 +1,9 @@
-use Rattle.std.proofs.Common.{◌+◌, ◌*◌, ◌%◌, ◌^◌, ◌++◌, ap, ◌∙◌, arith}
-use lib.Bits.{bit_or}
-use Rattle.ls_bits.specs.Bits.{bits_of}
-use Rattle.ls_bits.specs.Packing.{packed_bits}
-use Rattle.ls_bits.proofs.PackingLemmas.{packed_bits-put}
+use Rattle.std.proofs.Common.{arith}
+use Rattle.ls_bits.proofs.PackingLemmas.{packed_bits-word_out}
 use Rattle.ls_bits.proofs.packer.Packer.put.Goals as goal
 
 pub returns-clause-bits : goal.returns-clause-bits
 returns-clause-bits c =
-    ap (λ value. packed_bits c.make_way.new.self.start c.make_way.new.self.bytes.items (bit_or (c.make_way.new.self.word * 2 ^ c.args.count % 2 ^ 64) value)
-    (c.make_way.new.self.held + c.args.count)) c.from.ensures
-    ∙ packed_bits-put c.make_way.new.self.start c.make_way.new.self.word c.make_way.new.self.held c.args.count c.args.value c.make_way.new.self.bytes.items
-    (omega arith) c.requires.value
-    ∙ ap (λ bits. bits ++ bits_of c.args.count c.args.value) c.make_way.ensures.bits
+    packed_bits-word_out c.args.self.now.start c.put_out_word.new.self.start c.args.self.now.held c.args.count _ c.args.self.now.word c.args.value c.from.result c.from-self.result
+    c.args.self.now.bytes.items c.put_out_word.new.self.bytes.items c.requires.packed.few (omega (arith, c.if-total-lt64.false)) c.requires.count c.requires.value
+    c.from.ensures c.from-self.ensures c.put_out_word.ensures.start c.put_out_word.ensures.bits

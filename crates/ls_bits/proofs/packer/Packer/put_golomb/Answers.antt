@@ -7,8 +7,8 @@ use Rattle.ls_bits.proofs.packer.Packer.put_golomb.Goals as goal
 pub put_word-requires-clause-room : goal.put_word-requires-clause-room
 put_word-requires-clause-room c = omega (arith, length-short c.args.k c.args.glimit c.args.qbpp c.args.v c.if-small-escape.true)
 
-pub put_word-requires-else-small-escape-clause-room : goal.put_word-requires-else-small-escape-clause-room
-put_word-requires-else-small-escape-clause-room c = omega (arith, length-escape c.args.k c.args.glimit c.args.qbpp c.args.v c.if-small-escape.false)
+pub put_escape-requires-clause-room : goal.put_escape-requires-clause-room
+put_escape-requires-clause-room c = omega (arith, length-escape c.args.k c.args.glimit c.args.qbpp c.args.v c.if-small-escape.false)
 
 pub returns-then-small-escape-clause-bits : goal.returns-then-small-escape-clause-bits
 returns-then-small-escape-clause-bits c =
@@ -20,6 +20,6 @@ returns-then-small-escape-clause-bits c =
 
 pub returns-else-small-escape-clause-bits : goal.returns-else-small-escape-clause-bits
 returns-else-small-escape-clause-bits c =
-    c.put_word-else-small-escape.ensures.bits
+    c.put_escape.ensures.bits
     ∙ ap (λ word. packed_bits c.args.self.now.start c.args.self.now.bytes.items c.args.self.now.word c.args.self.now.held ++ word)
     (sym (code_word-escape c.args.k c.args.glimit c.args.qbpp c.args.v c.if-small-escape.false))
