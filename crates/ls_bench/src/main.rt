@@ -1,0 +1,45 @@
+//! `ls_bench` measures, and does nothing else. Its first word says what:
+//!
+//! - `ls_bench words [TIMES [WORDS]]`: code words, put into stuffed bytes and taken back (`words`).
+//!
+//! What it prints to standard output is the same in each run; times go to standard error. `bench/` runs it beside its
+//! twins in C++.
+#![tactic(auto)]
+
+mod events;
+mod words;
+
+use anyhow::{Context, Result, bail};
+use std::env;
+use std::rt::{Clock, Env};
+
+fn main(rt: HostRuntime) -> Result<()> {
+    run(&rt)
+}
+
+/// Measures what the words behind the program's name ask for.
+fn run<R: Env + Clock + Print + Eprint + AllocGlobal>(rt: &R) -> Result<()> {
+    let mut asked = env::args(rt)?.skip(1);
+    let Some(what) = asked.next() else {
+        bail!("what is to be measured?");
+    };
+    match what.as_str() {
+        "words" => {
+            let times = number(asked.next(), 1)?;
+            let count = number(asked.next(), events::USUAL_COUNT)?;
+            words::measure(rt, times, count)
+        }
+        other => bail!("{other} can't be measured"),
+    }
+}
+
+/// The number that a word says, or the usual one where the word is left out.
+fn number(word: Option<String>, usual: u32) -> Result<u32> {
+    match word {
+        Some(word) => Ok(
+            word.parse::<u32>()
+                .context(format_args!("{word} is no count"))?,
+        ),
+        None => Ok(usual),
+    }
+}

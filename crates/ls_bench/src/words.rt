@@ -1,0 +1,127 @@
+//! Code words, put into stuffed bytes by both sinks and taken back by the source.
+ghost use Rattle.ls_bits.specs.Data.{IsData};
+
+use crate::events::{Event, table};
+use anyhow::{Result, bail};
+use ls_bits::laws::words_keep_their_limit;
+use ls_bits::{BitSink, BitSource, CodeFault, RoomSink, data_of};
+use std::alloc::{AllocError, Global};
+use std::io;
+use std::rt::Clock;
+use std::time::{Duration, Instant};
+
+/// The most bits of a word, as T.87 has it for samples of 8 bits.
+const LIMIT: u32 = 32;
+
+/// How many bits an error has.
+const QBPP: u32 = 8;
+
+/// How long each part took, over all times.
+#[derive(Drop)]
+struct Took {
+    growing: Duration,
+    room: Duration,
+    take: Duration,
+}
+
+/// Puts a table of so many events so many times, and takes it back; prints what came of it, and the times.
+pub fn measure<R: Clock + Print + Eprint + AllocGlobal>(
+    rt: &R,
+    times: u32,
+    count: u32,
+) -> Result<()> {
+    let alloc = rt.alloc();
+    let events = table(alloc, count as usize)?;
+    let mut took = Took {
+        growing: Duration::ZERO,
+        room: Duration::ZERO,
+        take: Duration::ZERO,
+    };
+    let mut bytes = Vec::new(alloc);
+    let mut room = Vec::new(alloc);
+    for _ in 0..times {
+        let start = Instant::now(rt)?;
+        bytes = put_growing(alloc, &events)?;
+        took.growing = took.growing.saturating_add(start.elapsed(rt)?);
+
+        let start = Instant::now(rt)?;
+        room = put_into_room(&events, room)?;
+        took.room = took.room.saturating_add(start.elapsed(rt)?);
+
+        let data = &bytes[..data_of(&bytes).len];
+        let start = Instant::now(rt)?;
+        let same = comes_back(&events, data)?;
+        took.take = took.take.saturating_add(start.elapsed(rt)?);
+        if !same {
+            bail!("the values don't come back");
+        }
+    }
+    if bytes != room {
+        bail!("the bytes differ");
+    }
+
+    let greatest = events.iter().map(|event| event.k).max().unwrap_or(0);
+    let size = bytes.len();
+    let sum = fnv1a(&bytes);
+    println!(rt; "words {count}\ngreatest k {greatest}\nbytes {size}\nFNV-1a {sum:016x}")?;
+    let words = u64::from(times) * u64::from(count);
+    tell(rt, "put, growing", &took.growing, words)?;
+    tell(rt, "put, room there", &took.room, words)?;
+    tell(rt, "take", &took.take, words)?;
+    Ok(())
+}
+
+/// The bytes of all code words, in memory that grows.
+fn put_growing(alloc: Global, events: &[Event]) -> Result<Vec<u8>, AllocError> {
+    let mut sink = BitSink::new(alloc);
+    for event in events {
+        sink.put_golomb(u32::from(event.k), LIMIT, QBPP, u32::from(event.value))?;
+    }
+    sink.finish()
+}
+
+/// The bytes of all code words, in a vector that has room for them from the start.
+fn put_into_room(events: &[Event], mut bytes: Vec<u8>) -> Result<Vec<u8>, AllocError> {
+    let Some(bits) = events.len().checked_mul(LIMIT as usize) else {
+        return Err(AllocError);
+    };
+    bytes.clear();
+    bytes.reserve(bits / 7 + 1)?;
+    words_keep_their_limit();
+    let mut sink = RoomSink::new(bytes);
+    for event in events {
+        sink.put_golomb(u32::from(event.k), LIMIT, QBPP, u32::from(event.value));
+    }
+    Ok(sink.finish())
+}
+
+/// Whether the bytes have each event's value, in order.
+fn comes_back(events: &[Event], bytes: &[u8]) -> Result<bool, CodeFault>
+    requires { IsData bytes.now }
+{
+    let mut source = BitSource::new(bytes);
+    for event in events {
+        if source.take_golomb(u32::from(event.k), LIMIT, QBPP)? != u32::from(event.value) {
+            return Ok(false);
+        }
+    }
+    Ok(true)
+}
+
+/// A checksum of bytes.
+fn fnv1a(bytes: &[u8]) -> u64 {
+    bytes.iter().fold(0xcbf2_9ce4_8422_2325, |hash: u64, byte| {
+        (hash ^ u64::from(*byte)).wrapping_mul(0x100_0000_01b3)
+    })
+}
+
+/// Prints how long a word took, to standard error.
+fn tell<R: Eprint>(rt: &R, what: &str, took: &Duration, words: u64) -> io::Result<()> {
+    if words == 0 {
+        return Ok(());
+    }
+    let picoseconds = took.as_nanos().saturating_mul(1000) / u128::from(words);
+    let whole = picoseconds / 1000;
+    let part = picoseconds % 1000;
+    eprintln!(rt; "{what}: {whole}.{part:03} ns a word")
+}
