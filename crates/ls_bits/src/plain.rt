@@ -65,7 +65,7 @@ pub fn stuffed(alloc: Global, bits: &[bool]) -> Result<Vec<u8>, AllocError> {
 
 /// The bits of stuffed bytes: all of each, but for the first of one behind FF.
 pub fn unstuffed(alloc: Global, bytes: &[u8]) -> Result<Vec<bool>, AllocError> {
-    let mut bits = Vec::new(alloc);
+    let mut bits = Vec::with_capacity(alloc, bytes.len().saturating_mul(8))?;
     let mut behind_ff = false;
     for byte in bytes {
         let count = if behind_ff { 7 } else { 8 };

@@ -38,7 +38,7 @@ impl Code {
     }
 }
 
-/// The bits of bytes that are data wholly.
+/// The bits of bytes, all of which are data.
 pub fn source_of<'a>(rt: &impl Abort, bytes: &'a [u8]) -> BitSource<'a> {
     let data = data_of(bytes);
     assert_eq!(rt; data.len, bytes.len(), "of {bytes:?}");
@@ -46,7 +46,7 @@ pub fn source_of<'a>(rt: &impl Abort, bytes: &'a [u8]) -> BitSource<'a> {
     BitSource::new(&bytes[..data.len])
 }
 
-/// Where memory is refused the same put is tried once more.
+/// Puts bits. Where memory is refused the same call is made once more.
 pub fn put(rt: &impl Abort, sink: &mut BitSink, (value, count): Put) -> Result<(), AllocError> {
     assert!(rt; count <= 32);
     assert!(rt; u64::from(value) < 1 << count);
@@ -56,7 +56,7 @@ pub fn put(rt: &impl Abort, sink: &mut BitSink, (value, count): Put) -> Result<(
     sink.put(value, count)
 }
 
-/// Where memory is refused the same word is tried once more.
+/// Puts the word of `v`. Where memory is refused the same call is made once more.
 pub fn put_word(rt: &impl Abort, sink: &mut BitSink, code: Code, v: u32) -> Result<(), AllocError> {
     assert!(rt; v <= 1 << code.qbpp);
     if sink.put_golomb(code.k, code.glimit, code.qbpp, v).is_ok() {
@@ -65,7 +65,7 @@ pub fn put_word(rt: &impl Abort, sink: &mut BitSink, code: Code, v: u32) -> Resu
     sink.put_golomb(code.k, code.glimit, code.qbpp, v)
 }
 
-/// A sink into a vector, and how many bits it has room for still.
+/// A sink into a vector that has room for `total` bits, of which at most `used` are put.
 #[derive(Drop)]
 pub struct Filling {
     sink: RoomSink,

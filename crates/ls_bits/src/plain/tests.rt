@@ -68,7 +68,7 @@ fn puts_of(
 
 /// The bits of puts, plainly.
 fn bits_of(rt: &impl Abort, alloc: Global, puts: &[Put]) -> Result<Vec<bool>, AllocError> {
-    let mut bits = Vec::new(alloc);
+    let mut bits = Vec::with_capacity(alloc, puts.len().saturating_mul(32))?;
     for (value, count) in puts {
         assert!(rt; *count <= 32);
         append(&mut bits, *value, *count)?;

@@ -15,6 +15,6 @@ fn bits_go_behind_the_bytes_that_were_there(rt: HostRuntime) {
     sink.put(1, 1);
     let filled = sink.finish();
     assert_eq!(rt; filled.as_slice(), [0x07, 0xff, 0x40].as_slice());
-    // No other memory was taken, since it is made for as many bytes as before.
+    // The memory is that of before: no more was taken.
     assert_eq!(rt; filled.capacity(), capacity);
 }

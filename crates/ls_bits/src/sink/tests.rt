@@ -56,7 +56,7 @@ fn values_are_put_in_golomb_words(rt: HostRuntime) {
     }
 }
 
-/// Ones that begin at many places, and numbers between them.
+/// Ones and other bits. With the words below they are 173, so they stand elsewhere in a byte each time.
 const MIXED: [Put; 6] = [
     (0xff, 8),
     (0x7fff_ffff, 32),
@@ -66,7 +66,7 @@ const MIXED: [Put; 6] = [
     (1, 7),
 ];
 
-/// The words that stand between those: of each code one that is short and one that isn't.
+/// Words that stand between those, two short ones and two escape words: k, glimit, qbpp and the value.
 const MIXED_WORDS: [(u32, u32, u32, u32); 4] = [
     (2, 31, 8, 17),
     (0, 32, 8, 256),
@@ -90,7 +90,7 @@ fn plain_mixture(rt: &impl Abort, alloc: Global, times: u32) -> Result<Vec<u8>, 
     plain::stuffed(alloc, &bits)
 }
 
-/// The same through a sink, each put once more where memory was refused.
+/// The same through a sink, each call made once more where memory was refused.
 fn mixture(rt: &impl Abort, alloc: Global, times: u32) -> Result<Vec<u8>, AllocError> {
     let mut sink = BitSink::new(alloc);
     for _ in 0..times {
