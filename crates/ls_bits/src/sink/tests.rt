@@ -115,3 +115,21 @@ fn a_refused_put_is_called_again(rt: HostRuntime) {
     };
     assert_eq!(rt; got, want);
 }
+
+#[test]
+fn nothing_is_refused_with_ample_memory(rt: HostRuntime) {
+    let mut sink = BitSink::new(rt.alloc());
+    assert!(rt; sink.put(255, 8).is_ok());
+    let code = Code::new(&rt, 2, 31, 8);
+    assert!(rt; 17 <= 1 << code.qbpp);
+    assert!(rt; sink.put_golomb(code.k, code.glimit, code.qbpp, 17).is_ok());
+    let Ok(bytes) = sink.finish() else {
+        panic!(rt; "memory was refused");
+    };
+    assert_eq!(rt; bytes.as_slice(), [0xff, 0x05].as_slice());
+    let Ok(many) = mixture(&rt, rt.alloc(), 40) else {
+        panic!(rt; "memory was refused");
+    };
+    // They are 6,920 bits: 865 bytes, and more for the FF among them.
+    assert!(rt; many.len() > 865);
+}
