@@ -47,3 +47,6 @@ pub fn data_of(bytes: &[u8]) -> Data
         stop: Stop::End,
     }
 }
+
+#[cfg(test)]
+mod tests;

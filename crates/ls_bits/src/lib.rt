@@ -19,9 +19,13 @@
 pub mod data;
 pub mod laws;
 mod packer;
+#[cfg(test)]
+mod plain;
 pub mod room_sink;
 pub mod sink;
 pub mod source;
+#[cfg(test)]
+mod testing;
 mod window;
 
 pub use data::{Data, Stop, data_of};

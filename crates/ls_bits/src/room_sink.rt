@@ -83,3 +83,6 @@ impl RoomSink {
         self.packer.finish()
     }
 }
+
+#[cfg(test)]
+mod tests;

@@ -70,3 +70,6 @@ impl BitSink {
         Ok(self.packer.finish())
     }
 }
+
+#[cfg(test)]
+mod tests;

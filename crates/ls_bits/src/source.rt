@@ -134,3 +134,6 @@ fn most(qbpp: u32) -> u32
 {
     1 << qbpp
 }
+
+#[cfg(test)]
+mod tests;

@@ -1,0 +1,20 @@
+use super::*;
+
+#[test]
+fn bits_go_behind_the_bytes_that_were_there(rt: HostRuntime) {
+    let Ok(mut bytes) = Vec::with_capacity(rt.alloc(), 5) else {
+        return;
+    };
+    if bytes.push(0x07u8).is_err() {
+        return;
+    }
+    let capacity = bytes.capacity();
+    let mut sink = RoomSink::new(bytes);
+    sink.put(255, 8);
+    sink.put(0, 0);
+    sink.put(1, 1);
+    let filled = sink.finish();
+    assert_eq!(rt; filled.as_slice(), [0x07, 0xff, 0x40].as_slice());
+    // The memory is that of before: no more was taken.
+    assert_eq!(rt; filled.capacity(), capacity);
+}
