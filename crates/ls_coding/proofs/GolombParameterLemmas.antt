@@ -1,0 +1,139 @@
+-- The least exponent that serves, and how the code finds it.
+use Rattle.std.proofs.Common.{◌≡◌, ℕ, zero, suc, ◌+◌, ◌-◌, ◌*◌, ◌%◌, ◌^◌, ◌<◌, ◌≤◌, Bool, true, false, cond, refl, sym, ◌∙◌, ap, subst, arith, leb, inl, inr}
+use Rattle.std.proofs.lemmas.Bool.{leb-true, leb-false, cases_lt}
+use Rattle.std.proofs.lemmas.Nat.{leading_le, leading_top, pow-add, shl_below, mul-le}
+use Rattle.std.proofs.Math.Pow.{pow_mono}
+use Rattle.std.proofs.Math.Nat.{mod-eq_of_lt}
+use lib.Count.{count_leading_zeros}
+use Rattle.ls_coding.specs.Numbers.{first_scaling, golomb_parameter}
+
+-- ---- the least
+
+scaled_later : (t k n a : ℕ) → a ≤ n * 2 ^ (k + suc t) → a ≤ n * 2 ^ (suc k + t)
+scaled_later t k n a h = let e : k + suc t ≡ suc k + t = omega arith in subst (λ m. a ≤ n * 2 ^ m) e h
+
+reaches : (t k n a : ℕ) (here : Bool) → leb a (n * 2 ^ k) ≡ here → a ≤ n * 2 ^ (k + suc t) → ((a ≤ n * 2 ^ (suc k + t)) → a ≤ n * 2 ^ first_scaling t (suc k) n a)
+    → a ≤ n * 2 ^ cond here k (first_scaling t (suc k) n a)
+reaches t k n a true e h more = leb-true a (n * 2 ^ k) e
+reaches t k n a false e h more = more (scaled_later t k n a h)
+
+first_scaling-reaches : (t k n a : ℕ) → a ≤ n * 2 ^ (k + t) → a ≤ n * 2 ^ first_scaling t k n a
+first_scaling-reaches zero k n a h = let e : k + 0 ≡ k = omega arith in subst (λ m. a ≤ n * 2 ^ m) e h
+first_scaling-reaches (suc t) k n a h = reaches t k n a (leb a (n * 2 ^ k)) refl h (first_scaling-reaches t (suc k) n a)
+
+grown : (n k m : ℕ) → k ≤ m → n * 2 ^ k ≤ n * 2 ^ m
+grown n k m h = let power : 2 ^ k ≤ 2 ^ m = pow_mono h in mul-le n (2 ^ k) n (2 ^ m) (omega arith) power
+
+not_yet : (k n a m : ℕ) → leb a (n * 2 ^ k) ≡ false → k ≤ m → a ≤ n * 2 ^ m → suc k ≤ m
+not_yet k n a m e low h = elim (cases_lt k m) [
+  | inl more ↦ omega arith
+  | inr same ↦ absurd (omega (arith, leb-false a (n * 2 ^ k) e, grown n m k same))
+]
+
+least : (t k n a m : ℕ) (here : Bool) → leb a (n * 2 ^ k) ≡ here → k ≤ m → a ≤ n * 2 ^ m → ((suc k ≤ m) → first_scaling t (suc k) n a ≤ m)
+    → cond here k (first_scaling t (suc k) n a) ≤ m
+least t k n a m true e low h more = low
+least t k n a m false e low h more = more (not_yet k n a m e low h)
+
+first_scaling-least : (t k n a m : ℕ) → k ≤ m → a ≤ n * 2 ^ m → first_scaling t k n a ≤ m
+first_scaling-least zero k n a m low h = low
+first_scaling-least (suc t) k n a m low h = least t k n a m (leb a (n * 2 ^ k)) refl low h (λ l. first_scaling-least t (suc k) n a m l h)
+
+pub golomb_parameter-least : (n a k : ℕ) → a ≤ n * 2 ^ k → golomb_parameter n a ≤ k
+unfolding golomb_parameter
+golomb_parameter-least n a k h = first_scaling-least 32 0 n a k (omega arith) h
+
+pub golomb_parameter-reaches : (n a : ℕ) → a ≤ n * 2 ^ 32 → a ≤ n * 2 ^ golomb_parameter n a
+unfolding golomb_parameter
+golomb_parameter-reaches n a h = first_scaling-reaches 32 0 n a h
+
+-- it is the exponent that serves while the one below doesn't
+is_least : (n a k : ℕ) → a ≤ n * 2 ^ 32 → a ≤ n * 2 ^ k → (1 ≤ k → n * 2 ^ (k - 1) < a) → k ≡ golomb_parameter n a
+is_least n a k far h below = elim (cases_lt (golomb_parameter n a) k) [
+  | inl less ↦ absurd (omega (arith, below (omega arith), golomb_parameter-reaches n a far, grown n (golomb_parameter n a) (k - 1) (omega arith)))
+  | inr more ↦ omega (arith, golomb_parameter-least n a k h)
+]
+
+-- ---- by leading bits
+
+-- what is known of the exponent that the code begins with
+record Start (n a k : ℕ) : Type 0 where
+  -- one more serves
+  after : a ≤ n * 2 ^ (k + 1)
+  -- one less doesn't
+  before : 1 ≤ k → n * 2 ^ (k - 1) < a
+  fits : n * 2 ^ k < 2 ^ 32
+
+no_ones : count_leading_zeros 32 0 ≡ 32
+unfolding count_leading_zeros
+no_ones = refl
+
+start_low : (n a k : ℕ) → k ≡ 0 → a ≤ n * 2 → n < 2 ^ 32 → Start n a k
+start_low n a k none h small =
+    let one : 2 ^ k ≡ 1 = ap (λ m. 2 ^ m) none in
+    let two : 2 ^ (k + 1) ≡ 2 = ap (λ m. 2 ^ (m + 1)) none in
+    let plain : n * 2 ^ k ≡ n * 1 = ap (λ m. n * m) one in
+    record {
+      after = subst (λ m. a ≤ n * m) (sym two) h;
+      before = λ some. absurd (omega arith);
+      fits = omega arith;
+    }
+
+start_before : (n a k i j : ℕ) → k + j ≡ i → 1 ≤ k → 2 ^ i ≤ a → n < 2 ^ suc j → n * 2 ^ (k - 1) < a
+start_before n a k i j sum some low_a high_n =
+    let place : suc j + (k - 1) ≡ i = omega arith in
+    let below : n * 2 ^ (k - 1) < 2 ^ (suc j + (k - 1)) = shl_below n (suc j) (k - 1) high_n in
+    let power : 2 ^ (suc j + (k - 1)) ≡ 2 ^ i = ap (λ m. 2 ^ m) place in
+    omega arith
+
+start_high : (n a k i j : ℕ) → k + j ≡ i → suc i ≤ 32 → 2 ^ i ≤ a → a < 2 ^ suc i → 2 ^ j ≤ n → n < 2 ^ suc j → Start n a k
+start_high n a k i j sum few low_a high_a low_n high_n =
+    let above : j + (k + 1) ≡ suc i = omega arith in
+    let power : 2 ^ suc i ≡ 2 ^ j * 2 ^ (k + 1) = ap (λ m. 2 ^ m) (sym above) ∙ pow-add 2 j (k + 1) in
+    let scaled : 2 ^ j * 2 ^ (k + 1) ≤ n * 2 ^ (k + 1) = mul-le (2 ^ j) (2 ^ (k + 1)) n (2 ^ (k + 1)) low_n (omega arith) in
+    let top : n * 2 ^ k < 2 ^ (suc j + k) = shl_below n (suc j) k high_n in
+    let top_few : suc j + k ≤ 32 = omega arith in
+    let top_power : 2 ^ (suc j + k) ≤ 2 ^ 32 = pow_mono top_few in
+    record {
+      after = omega arith;
+      before = λ some. start_before n a k i j sum some low_a high_n;
+      fits = omega arith;
+    }
+
+start : (n a k : ℕ) → 1 ≤ n → n < 2 ^ 32 → a < 2 ^ 31 → k ≡ count_leading_zeros 32 n - count_leading_zeros 32 a → Start n a k
+start n zero k some small few e =
+    let most : count_leading_zeros 32 n ≤ 32 = leading_le 32 n in
+    start_low n 0 k (omega (arith, no_ones)) (omega arith) small
+start n (suc a) k some small few e =
+    let wide : suc a < 2 ^ 32 = omega arith in
+    let positive : 0 < suc a = omega arith in
+    let top_n = leading_top 32 n some small in
+    let top_a = leading_top 32 (suc a) positive wide in
+    let i : ℕ = top_a.0 in
+    let j : ℕ = top_n.0 in
+    elim (cases_lt i j) [
+      | inl lower ↦
+          let power : 2 ^ suc i ≤ 2 ^ j = pow_mono lower in
+          start_low n (suc a) k (omega (arith, top_n.1, top_a.1)) (omega (arith, top_a.3, top_n.2)) small
+      | inr higher ↦ start_high n (suc a) k i j (omega (arith, top_n.1, top_a.1)) (omega (arith, top_a.1)) top_a.2 top_a.3 top_n.2 top_n.3
+    ]
+
+-- ---- the code's two answers
+
+far : (n a : ℕ) → 1 ≤ n → a < 2 ^ 31 → a ≤ n * 2 ^ 32
+far n a some few = omega arith
+
+pub found_above : (n a k : ℕ) → 1 ≤ n → n < 2 ^ 32 → a < 2 ^ 31 → k ≡ count_leading_zeros 32 n - count_leading_zeros 32 a → n * 2 ^ k % 2 ^ 32 < a
+    → k + 1 ≡ golomb_parameter n a
+found_above n a k some small few e less =
+    let s = start n a k some small few e in
+    let same : n * 2 ^ k % 2 ^ 32 ≡ n * 2 ^ k = mod-eq_of_lt s.fits in
+    let back : k + 1 - 1 ≡ k = omega arith in
+    is_least n a (k + 1) (far n a some few) s.after (λ h. subst (λ m. n * 2 ^ m < a) (sym back) (omega (arith, same)))
+
+pub found_here : (n a k : ℕ) → 1 ≤ n → n < 2 ^ 32 → a < 2 ^ 31 → k ≡ count_leading_zeros 32 n - count_leading_zeros 32 a → a ≤ n * 2 ^ k % 2 ^ 32
+    → k ≡ golomb_parameter n a
+found_here n a k some small few e more =
+    let s = start n a k some small few e in
+    let same : n * 2 ^ k % 2 ^ 32 ≡ n * 2 ^ k = mod-eq_of_lt s.fits in
+    is_least n a k (far n a some few) (omega (arith, same)) s.before

@@ -1,0 +1,5 @@
+pub mod ContextLemmas
+pub mod GolombParameterLemmas
+pub mod RunLemmas
+pub mod SignedLemmas
+pub mod StateLemmas

@@ -1,0 +1,75 @@
+-- A state, event by event.
+use Rattle.std.proofs.Common.{◌≡◌, ℕ, Bool, true, false, List, [], ◌∷◌, ◌++◌, map, fold, refl, sym, ◌∙◌, ap}
+use Rattle.std.specs.List.{filter_map, range_with_len}
+use Rattle.std.proofs.lemmas.List.{append-nil}
+use Rattle.std.proofs.lemmas.List.Elements.{filter_map-append}
+use Rattle.ls_frame.specs.Parameters.{Parameters}
+use Rattle.ls_coding.specs.declared.run.Tail.{Tail}
+use Rattle.ls_coding.specs.declared.run.RunWord.{RunWord}
+use Rattle.ls_coding.specs.Runs.{Run, Walk, run_of, run_word, tail_of, walked}
+use Rattle.ls_coding.specs.Stats.{Stats, stats_after}
+use Rattle.ls_coding.specs.Interruptions.{Counts, counts_after}
+use Rattle.ls_coding.specs.Events.{Event, run, regular_error, interruption_error_in, stats_in, counts_in, index_step, is_broken}
+use Rattle.ls_coding.specs.States.{Coding, state_of, after_run}
+
+map_same : {A B : Type 0} → (f g : A → B) (xs : List A) → ((x : A) → f x ≡ g x) → map f xs ≡ map g xs
+map_same f g [] e = refl
+map_same f g (x ∷ xs) e = ap (λ y. y ∷ map f xs) (e x) ∙ ap (λ ys. g x ∷ ys) (map_same f g xs e)
+
+fold-push : {A B : Type 0} → (f : B → A → B) (start : B) (xs : List A) (x : A) → fold f start (xs ++ x ∷ []) ≡ f (fold f start xs) x
+fold-push f start [] x = refl
+fold-push f start (y ∷ xs) x = fold-push f (f start y) xs x
+
+pub walk_is : (w : Walk) (ones index left : ℕ) → ones ≡ w.ones → index ≡ w.index → left ≡ w.left → record { ones = ones; index = index; left = left } ≡ w
+walk_is w ones index left a b c =
+    ap (λ n. let walk : Walk = record { ones = n; index = index; left = left } in walk) a
+    ∙ ap (λ n. let walk : Walk = record { ones = w.ones; index = n; left = left } in walk) b
+    ∙ ap (λ n. let walk : Walk = record { ones = w.ones; index = w.index; left = n } in walk) c
+
+abbrev made : Parameters → List Stats → Counts → Counts → ℕ → Bool → Coding
+made p contexts steep flat run_index broken = record { parameters = p; contexts = contexts; steep = steep; flat = flat; run_index = run_index; broken = broken }
+
+-- the same, part by part
+alike : (p : Parameters) (contexts others : List Stats) (steep steep' flat flat' : Counts) (index index' : ℕ) (broken broken' : Bool)
+    → contexts ≡ others → steep ≡ steep' → flat ≡ flat' → index ≡ index' → broken ≡ broken'
+    → made p contexts steep flat index broken ≡ made p others steep' flat' index' broken'
+alike p contexts others steep steep' flat flat' index index' broken broken' a b c d e =
+    ap (λ x. made p x steep flat index broken) a ∙ ap (λ x. made p others x flat index broken) b ∙ ap (λ x. made p others steep' x index broken) c
+    ∙ ap (λ x. made p others steep' flat' x broken) d ∙ ap (λ x. made p others steep' flat' index' x) e
+
+stats_in-run : (p : Parameters) (events : List Event) (r : Run) (number : ℕ) → stats_in p number events ≡ stats_in p number (events ++ run r ∷ [])
+stats_in-run p events r number =
+    sym (ap (stats_after p) (filter_map-append (regular_error number) events (run r ∷ []) ∙ append-nil (filter_map (regular_error number) events)))
+
+counts_in-run : (p : Parameters) (events : List Event) (r : Run) (flat : Bool) → counts_in p flat events ≡ counts_in p flat (events ++ run r ∷ [])
+counts_in-run p events r flat =
+    sym (ap (counts_after p flat) (filter_map-append (interruption_error_in flat) events (run r ∷ []) ∙ append-nil (filter_map (interruption_error_in flat) events)))
+
+-- a run leaves the counters, raises RUNindex, and says whether a sample interrupts it
+pub state_of-run : (p : Parameters) (events : List Event) (r : Run) → after_run (state_of p events) r ≡ state_of p (events ++ run r ∷ [])
+unfolding state_of
+state_of-run p events r =
+    alike p _ _ _ _ _ _ _ _ _ _
+    (map_same _ _ (range_with_len 0 365) (stats_in-run p events r))
+    (counts_in-run p events r false)
+    (counts_in-run p events r true)
+    (sym (fold-push index_step 0 events (run r)))
+    (sym (fold-push (λ (broken : Bool) (event : Event). is_broken event) false events (run r)))
+
+pub state_after_run : (before after : Coding) (r : Run) → after ≡ after_run before r → (events : List Event) → before ≡ state_of before.parameters events
+    → after ≡ state_of before.parameters (events ++ run r ∷ [])
+state_after_run before after r step events e = step ∙ ap (λ s. after_run s r) e ∙ state_of-run before.parameters events r
+
+-- a run's word, from how far it came
+abbrev word : ℕ → Tail → RunWord
+word ones tail = record { ones = ones; tail = tail }
+
+pub word_is : (index inside count ones at left : ℕ) (broken : Bool) (tail : Tail) → inside ≡ index
+    → ones ≡ (walked inside count).ones → at ≡ (walked inside count).index → left ≡ (walked inside count).left
+    → tail ≡ tail_of broken (record { ones = ones; index = at; left = left })
+    → word ones tail ≡ run_word index (run_of count broken)
+unfolding run_word
+word_is index inside count ones at left broken tail same a b c e =
+    let walk : Walk = record { ones = ones; index = at; left = left } in
+    let come : walk ≡ walked index count = walk_is (walked inside count) ones at left a b c ∙ ap (λ n. walked n count) same in
+    ap (word ones) e ∙ ap (λ (w : Walk). word w.ones (tail_of broken w)) come

@@ -1,0 +1,68 @@
+-- Which mode, and which context with which sign, a sample is coded in (T.87 A.3). With NEAR 0.
+use Rattle.std.specs.Prelude.{ℕ, ◌==◌, ◌&&◌, Bool, true, false, if◌then◌else◌, ℤ, pos, negsuc, neg_ℤ, ◌+ℤ◌, ◌-ℤ◌, ◌*ℤ◌, int_lt, int_le, unsigned_abs, ◌≤ℤ◌}
+use Rattle.ls_frame.specs.Parameters.{Parameters}
+use Rattle.ls_coding.specs.declared.neighbours.Neighbours.{Neighbours}
+
+-- the local gradients D1, D2 and D3 (A.3.1)
+abbrev pub d1 : Neighbours → ℤ
+d1 n = pos n.d -ℤ pos n.b
+
+abbrev pub d2 : Neighbours → ℤ
+d2 n = pos n.b -ℤ pos n.c
+
+abbrev pub d3 : Neighbours → ℤ
+d3 n = pos n.c -ℤ pos n.a
+
+abbrev pub is_zero : ℤ → Bool
+is_zero (pos n) = n == 0
+is_zero (negsuc n) = false
+
+-- run mode where all three are 0 (A.3.2)
+abbrev pub is_run : Neighbours → Bool
+is_run n = is_zero (d1 n) && is_zero (d2 n) && is_zero (d3 n)
+
+-- a gradient's region, -4 to 4 (A.3.3)
+abbrev pub region : Parameters → ℤ → ℤ
+region p d =
+    if int_le d (neg_ℤ (pos p.t3)) then neg_ℤ (pos 4)
+    else (if int_le d (neg_ℤ (pos p.t2)) then neg_ℤ (pos 3)
+    else (if int_le d (neg_ℤ (pos p.t1)) then neg_ℤ (pos 2)
+    else (if int_lt d (pos 0) then neg_ℤ (pos 1)
+    else (if int_le d (pos 0) then pos 0
+    else (if int_lt d (pos p.t1) then pos 1
+    else (if int_lt d (pos p.t2) then pos 2
+    else (if int_lt d (pos p.t3) then pos 3
+    else pos 4)))))))
+
+pub record IsRegion (q : ℤ) : Type 0 where
+  pub low : neg_ℤ (pos 4) ≤ℤ q
+  pub high : q ≤ℤ pos 4
+
+-- a context: its number, 0 to 364, and whether SIGN is -1
+pub record Context : Type 0 where
+  pub number : ℕ
+  pub negative : Bool
+
+-- whether the first of the three that isn't 0 is negative (A.3.4)
+abbrev pub first_negative : ℤ → ℤ → ℤ → Bool
+first_negative q1 q2 q3 =
+    if is_zero q1 then (if is_zero q2 then int_lt q3 (pos 0) else int_lt q2 (pos 0)) else int_lt q1 (pos 0)
+
+-- z with its sign changed, or left
+abbrev pub signed : Bool → ℤ → ℤ
+signed true z = neg_ℤ z
+signed false z = z
+
+-- three regions as one number
+abbrev pub number_of : ℤ → ℤ → ℤ → ℤ
+number_of q1 q2 q3 = pos 81 *ℤ q1 +ℤ pos 9 *ℤ q2 +ℤ q3
+
+-- the context of three regions: all three change their sign where the first that isn't 0 is negative (A.3.4)
+abbrev pub merged : ℤ → ℤ → ℤ → Context
+merged q1 q2 q3 = let negative = first_negative q1 q2 q3 in record {
+  number = unsigned_abs (number_of (signed negative q1) (signed negative q2) (signed negative q3));
+  negative = negative;
+}
+
+unfoldable pub context_of : Parameters → Neighbours → Context
+context_of p n = merged (region p (d1 n)) (region p (d2 n)) (region p (d3 n))

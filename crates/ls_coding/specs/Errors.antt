@@ -1,0 +1,39 @@
+-- Prediction, the error, and the value that stands for it (T.87 A.4, A.5). With NEAR 0.
+use Rattle.std.specs.Prelude.{ℕ, ◌+◌, ◌-◌, ◌*◌, ◌/◌, ◌==◌, ◌&&◌, min, max, nat_le, Bool, if◌then◌else◌, ℤ, pos, neg_ℤ, ◌+ℤ◌, ◌-ℤ◌, ◌*ℤ◌, int_lt, int_le, unsigned_abs}
+use Rattle.ls_frame.specs.Parameters.{Parameters, range_of}
+use Rattle.ls_coding.specs.declared.neighbours.Neighbours.{Neighbours}
+use Rattle.ls_coding.specs.Numbers.{between}
+use Rattle.ls_coding.specs.Contexts.{signed}
+
+-- the edge-detecting predictor (A.4.1)
+abbrev pub median : Neighbours → ℕ
+median n =
+    if nat_le (max n.a n.b) n.c then min n.a n.b
+    else (if nat_le n.c (min n.a n.b) then max n.a n.b
+    else n.a + n.b - n.c)
+
+-- the prediction corrected by the context's C, within the samples (A.4.2)
+abbrev pub predicted : Parameters → Bool → ℤ → Neighbours → ℤ
+predicted p negative c n = between (pos 0) (pos p.maxval) (pos (median n) +ℤ signed negative c)
+
+-- an error modulo RANGE (A.4.5): from -RANGE / 2 to (RANGE - 1) / 2, both rounded down in size
+abbrev pub wrapped : ℕ → ℤ → ℤ
+wrapped range e = if int_lt e (pos 0) then e +ℤ pos range else e
+
+abbrev pub reduced : ℕ → ℤ → ℤ
+reduced range e = let up = wrapped range e in if int_le (pos ((range + 1) / 2)) up then up -ℤ pos range else up
+
+-- the reduced error of a sample for a prediction (A.4.3, A.4.5)
+abbrev pub error_of : Parameters → Bool → ℤ → ℕ → ℤ
+error_of p negative prediction sample = reduced (range_of p.maxval) (signed negative (pos sample -ℤ prediction))
+
+-- the value of an error (A.5.2). Where k is 0 and the errors so far lean to the negative, the odd values are those of the
+-- errors from 0 on
+abbrev pub leans : ℕ → ℤ → ℕ → Bool
+leans k b n = k == 0 && int_le (pos 2 *ℤ b) (neg_ℤ (pos n))
+
+abbrev pub mapped : Bool → ℤ → ℕ
+mapped leaning e =
+    if leaning
+    then (if int_le (pos 0) e then 2 * unsigned_abs e + 1 else 2 * unsigned_abs (e +ℤ pos 1))
+    else (if int_le (pos 0) e then 2 * unsigned_abs e else 2 * unsigned_abs e - 1)

@@ -1,0 +1,90 @@
+-- The events that a scan's samples are coded by, and the state that they leave (T.87 A.2 to A.7).
+use Rattle.std.specs.Prelude.{ℕ, ◌-◌, ◌==◌, Bool, true, false, if◌then◌else◌, ℤ, List, fold, filter_map, Option, Some, None}
+use Rattle.ls_frame.specs.Parameters.{Parameters, qbpp_of, limit_of}
+use Rattle.ls_bits.specs.Golomb.{code_word}
+use Rattle.ls_coding.specs.declared.neighbours.Neighbours.{Neighbours}
+use Rattle.ls_coding.specs.Numbers.{golomb_parameter}
+use Rattle.ls_coding.specs.Contexts.{Context}
+use Rattle.ls_coding.specs.Errors.{predicted, error_of, leans, mapped}
+use Rattle.ls_coding.specs.Stats.{Stats, stats_after}
+use Rattle.ls_coding.specs.Interruptions.{Counts, counts_after, interruption_k, interruption_value}
+use Rattle.ls_coding.specs.Runs.{Run, index_at, order}
+
+-- a sample of regular mode with its context's number and its error; a run; the sample that interrupts it, with whether
+-- Ra and Rb are equal and its error
+pub data Event : Type 0 where
+  regular : ℕ → ℤ → Event
+  run : Run → Event
+  interruption : Bool → ℤ → Event
+
+-- the errors that were coded in a context, no other's among them
+abbrev pub regular_error : ℕ → Event → Option ℤ
+regular_error number (regular other e) = if number == other then Some e else None
+regular_error number (run r) = None
+regular_error number (interruption flat e) = None
+
+abbrev pub same : Bool → Bool → Bool
+same true true = true
+same true false = false
+same false true = false
+same false false = true
+
+abbrev pub interruption_error_in : Bool → Event → Option ℤ
+interruption_error_in flat (regular number e) = None
+interruption_error_in flat (run r) = None
+interruption_error_in flat (interruption other e) = if same flat other then Some e else None
+
+-- a context's counters after events
+abbrev pub stats_in : Parameters → ℕ → List Event → Stats
+stats_in p number events = stats_after p (filter_map (regular_error number) events)
+
+abbrev pub counts_in : Parameters → Bool → List Event → Counts
+counts_in p flat events = counts_after p flat (filter_map (interruption_error_in flat) events)
+
+-- RUNindex after events: a run raises it, the sample that interrupts one lowers it (A.7.1.2, A.7.2)
+abbrev pub index_step : ℕ → Event → ℕ
+index_step index (regular number e) = index
+index_step index (run r) = index_at index r
+index_step index (interruption flat e) = index - 1
+
+abbrev pub index_in : List Event → ℕ
+index_in events = fold index_step 0 events
+
+-- whether the sample that interrupts a run is to come next
+abbrev pub is_broken : Event → Bool
+is_broken (regular number e) = false
+is_broken (run r) = r.broken
+is_broken (interruption flat e) = false
+
+abbrev pub broken_in : List Event → Bool
+broken_in events = fold (λ broken event. is_broken event) false events
+
+-- ---- the word and the event of a sample
+
+-- a code word's k, limit and value
+pub record Golomb : Type 0 where
+  pub k : ℕ
+  pub glimit : ℕ
+  pub value : ℕ
+
+abbrev pub golomb_bits : Parameters → Golomb → List Bool
+golomb_bits p w = code_word w.k w.glimit (qbpp_of p.maxval) w.value
+
+-- of a sample of regular mode
+abbrev pub regular_e : Parameters → Context → Stats → Neighbours → ℕ → ℤ
+regular_e p x s n sample = error_of p x.negative (predicted p x.negative s.c n) sample
+
+abbrev pub regular_word : Parameters → Stats → ℤ → Golomb
+regular_word p s e = let k = golomb_parameter s.n s.a in record {
+  k = k;
+  glimit = limit_of p.maxval;
+  value = mapped (leans k s.b s.n) e;
+}
+
+-- of an interruption sample, behind its run's bits at this RUNindex
+abbrev pub interruption_word : Parameters → ℕ → Bool → Counts → ℤ → Golomb
+interruption_word p index flat s e = record {
+  k = interruption_k flat s;
+  glimit = limit_of p.maxval - order index - 1;
+  value = interruption_value flat s e;
+}

@@ -1,0 +1,23 @@
+-- How a state's arrays are read as counters.
+use Rattle.std.specs.Prelude.{ℕ, ◌+◌, ℤ, pos, List, map, slice_index, slice_index_or}
+use Rattle.std.specs.List.{range_with_len}
+use Rattle.ls_coding.specs.Stats.{Stats}
+use Rattle.ls_coding.specs.Interruptions.{Counts}
+
+abbrev pub stats_at : List ℕ → List ℤ → List ℤ → List ℕ → ℕ → Stats
+stats_at a b c n number = record {
+  a = slice_index a number;
+  b = slice_index_or b number (pos 0);
+  c = slice_index_or c number (pos 0);
+  n = slice_index n number;
+}
+
+unfoldable pub contexts_of : List ℕ → List ℤ → List ℤ → List ℕ → List Stats
+contexts_of a b c n = map (stats_at a b c n) (range_with_len 0 365)
+
+abbrev pub counts_at : List ℕ → List ℕ → List ℕ → ℕ → Counts
+counts_at a n nn which = record {
+  a = slice_index a (365 + which);
+  n = slice_index n (365 + which);
+  nn = slice_index nn which;
+}

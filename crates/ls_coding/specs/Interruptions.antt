@@ -1,0 +1,72 @@
+-- The sample that interrupts a run (T.87 A.7.2). With NEAR 0.
+use Rattle.std.specs.Prelude.{ℕ, ◌+◌, ◌-◌, ◌*◌, ◌/◌, ◌==◌, ◌&&◌, ◌||◌, nat_lt, nat_le, not, Bool, if◌then◌else◌, ℤ, pos, ◌-ℤ◌, int_lt, unsigned_abs, List, fold}
+use Rattle.ls_frame.specs.Parameters.{Parameters, range_of}
+use Rattle.ls_coding.specs.declared.neighbours.Neighbours.{Neighbours}
+use Rattle.ls_coding.specs.Numbers.{golomb_parameter}
+use Rattle.ls_coding.specs.Contexts.{signed}
+use Rattle.ls_coding.specs.Errors.{reduced}
+use Rattle.ls_coding.specs.Stats.{first_a}
+
+-- A, N and Nn of one of the two contexts
+pub record Counts : Type 0 where
+  pub a : ℕ
+  pub n : ℕ
+  pub nn : ℕ
+
+abbrev pub first_counts : Parameters → Counts
+first_counts p = record { a = first_a p; n = 1; nn = 0 }
+
+-- RItype is 1 where Ra and Rb are equal
+abbrev pub is_flat : Neighbours → Bool
+is_flat n = n.a == n.b
+
+abbrev pub ri_type : Bool → ℕ
+ri_type flat = if flat then 1 else 0
+
+-- the prediction is Ra where they are equal, else Rb
+abbrev pub foretold : Neighbours → ℕ
+foretold n = if is_flat n then n.a else n.b
+
+-- the error changes its sign where RItype is 0 and Ra is over Rb
+abbrev pub is_turned : Neighbours → Bool
+is_turned n = not (is_flat n) && nat_lt n.b n.a
+
+abbrev pub interruption_error : Parameters → Neighbours → ℕ → ℤ
+interruption_error p n sample = reduced (range_of p.maxval) (signed (is_turned n) (pos sample -ℤ pos (foretold n)))
+
+-- the Golomb parameter, from TEMP
+abbrev pub interruption_k : Bool → Counts → ℕ
+interruption_k flat s = golomb_parameter s.n (if flat then s.a + s.n / 2 else s.a)
+
+-- map
+abbrev pub map_of : ℕ → Counts → ℤ → ℕ
+map_of k s e =
+    if (k == 0 && int_lt (pos 0) e && nat_lt (2 * s.nn) s.n)
+    || (int_lt e (pos 0) && nat_le s.n (2 * s.nn))
+    || (int_lt e (pos 0) && not (k == 0))
+    then 1 else 0
+
+-- EMErrval
+abbrev pub interruption_value : Bool → Counts → ℤ → ℕ
+interruption_value flat s e = 2 * unsigned_abs e - ri_type flat - map_of (interruption_k flat s) s e
+
+-- the counters with one error more: added, halved where N is RESET, and counted
+abbrev pub counts_added : Bool → Counts → ℤ → Counts
+counts_added flat s e = record {
+  a = s.a + (interruption_value flat s e + 1 - ri_type flat) / 2;
+  n = s.n;
+  nn = if int_lt e (pos 0) then s.nn + 1 else s.nn;
+}
+
+abbrev pub counts_counted : ℕ → Counts → Counts
+counts_counted reset s =
+    if s.n == reset
+    then record { a = s.a / 2; n = s.n / 2 + 1; nn = s.nn / 2 }
+    else record { a = s.a; n = s.n + 1; nn = s.nn }
+
+unfoldable pub counts_step : Bool → ℕ → Counts → ℤ → Counts
+counts_step flat reset s e = counts_counted reset (counts_added flat s e)
+
+-- a context after the errors that were coded in it
+abbrev pub counts_after : Parameters → Bool → List ℤ → Counts
+counts_after p flat errors = fold (counts_step flat p.reset) (first_counts p) errors

@@ -1,0 +1,11 @@
+pub mod Contexts
+pub mod Errors
+pub mod Events
+pub mod Fields
+pub mod Interruptions
+pub mod Numbers
+pub mod Runs
+pub mod Samples
+pub mod Sizes
+pub mod States
+pub mod Stats

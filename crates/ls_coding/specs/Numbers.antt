@@ -1,0 +1,20 @@
+-- What the sections of Annex A share.
+use Rattle.std.specs.Prelude.{ℕ, zero, suc, ◌*◌, ◌/◌, ◌^◌, nat_le, if◌then◌else◌, ℤ, pos, negsuc, int_lt}
+
+-- half of a number, towards minus infinity
+abbrev pub halved : ℤ → ℤ
+halved (pos n) = pos (n / 2)
+halved (negsuc n) = negsuc (n / 2)
+
+-- z, or the bound that it is past
+abbrev pub between : ℤ → ℤ → ℤ → ℤ
+between low high z = if int_lt z low then low else (if int_lt high z then high else z)
+
+-- the first exponent k, of tries of them from k on, with n * 2^k at least a
+abbrev pub first_scaling : ℕ → ℕ → ℕ → ℕ → ℕ
+first_scaling zero k n a = k
+first_scaling (suc tries) k n a = if nat_le a (n * 2 ^ k) then k else first_scaling tries (suc k) n a
+
+-- the Golomb parameter (A.5.1): the least k with n * 2^k at least a, for n of at least 1 and a up to 2^32
+unfoldable pub golomb_parameter : ℕ → ℕ → ℕ
+golomb_parameter n a = first_scaling 32 0 n a

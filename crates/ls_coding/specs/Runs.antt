@@ -1,0 +1,67 @@
+-- Runs (T.87 A.7.1).
+use Rattle.std.specs.Prelude.{ℕ, zero, suc, ◌+◌, ◌-◌, ◌^◌, ◌==◌, min, nat_le, Bool, true, false, if◌then◌else◌, List, [], ◌∷◌, ◌++◌, replicate, slice_index}
+use Rattle.ls_bits.specs.Bits.{bits_of}
+use Rattle.ls_coding.specs.declared.run.Tail.{Tail}
+use Rattle.ls_coding.specs.declared.run.Tail.TheVariants.{LineFull, LinePart, Broken}
+use Rattle.ls_coding.specs.declared.run.RunWord.{RunWord}
+
+-- J (A.2.1): a bit 1 stands for 2^J samples at each RUNindex
+abbrev pub run_orders : List ℕ
+run_orders = 0 ∷ 0 ∷ 0 ∷ 0 ∷ 1 ∷ 1 ∷ 1 ∷ 1 ∷ 2 ∷ 2 ∷ 2 ∷ 2 ∷ 3 ∷ 3 ∷ 3 ∷ 3 ∷ 4 ∷ 4 ∷ 5 ∷ 5 ∷ 6 ∷ 6 ∷ 7 ∷ 7 ∷ 8 ∷ 9 ∷ 10 ∷ 11 ∷ 12 ∷ 13 ∷ 14 ∷ 15 ∷ []
+
+abbrev pub order : ℕ → ℕ
+order index = slice_index run_orders index
+
+-- the greatest RUNindex
+abbrev pub last_index : ℕ
+last_index = 31
+
+-- a run: how many samples equal the one before them, and whether a sample interrupts it before the line's end
+pub record Run : Type 0 where
+  pub count : ℕ
+  pub broken : Bool
+
+abbrev pub run_of : ℕ → Bool → Run
+run_of count broken = record { count = count; broken = broken }
+
+-- how far a run came: bits 1 so far, RUNindex, and the samples that are left
+pub record Walk : Type 0 where
+  pub ones : ℕ
+  pub index : ℕ
+  pub left : ℕ
+
+-- a bit 1 for each 2^J samples, which raises RUNindex (A.7.1.2); `most` bounds the bits
+abbrev pub walk : ℕ → Walk → Walk
+walk zero w = w
+walk (suc most) w =
+    if nat_le (2 ^ order w.index) w.left
+    then walk most (record { ones = w.ones + 1; index = min (w.index + 1) last_index; left = w.left - 2 ^ order w.index })
+    else w
+
+unfoldable pub walked : ℕ → ℕ → Walk
+walked index count = walk count (record { ones = 0; index = index; left = count })
+
+-- how a run ends behind its ones: broken, with the samples left in J bits; at the line's end with samples left, or none
+abbrev pub tail_of : Bool → Walk → Tail
+tail_of true w = Broken (order w.index) w.left
+tail_of false w = if w.left == 0 then LineFull else LinePart
+
+-- its bits: a 0 and those J bits; a further 1; nothing
+abbrev pub tail_bits : Tail → List Bool
+tail_bits LineFull = []
+tail_bits LinePart = true ∷ []
+tail_bits (Broken width rest) = false ∷ bits_of width rest
+
+-- the word of a run that begins at this RUNindex, and its bits
+unfoldable pub run_word : ℕ → Run → RunWord
+run_word index run = record { ones = (walked index run.count).ones; tail = tail_of run.broken (walked index run.count) }
+
+abbrev pub word_bits : RunWord → List Bool
+word_bits word = replicate word.ones true ++ tail_bits word.tail
+
+abbrev pub run_bits : ℕ → Run → List Bool
+run_bits index run = word_bits (run_word index run)
+
+-- RUNindex behind a run's bits, at which the sample that interrupts it is coded
+abbrev pub index_at : ℕ → Run → ℕ
+index_at index run = (walked index run.count).index

@@ -1,0 +1,63 @@
+-- The counters of the regular contexts (T.87 A.2.1, A.6). With NEAR 0.
+use Rattle.std.specs.Prelude.{ℕ, ◌+◌, ◌/◌, ◌==◌, max, if◌then◌else◌, ℤ, pos, neg_ℤ, ◌+ℤ◌, ◌-ℤ◌, int_lt, int_le, unsigned_abs, List, fold}
+use Rattle.ls_frame.specs.Parameters.{Parameters, range_of}
+use Rattle.ls_coding.specs.Numbers.{halved}
+
+-- A, B, C and N of a context
+pub record Stats : Type 0 where
+  pub a : ℕ
+  pub b : ℤ
+  pub c : ℤ
+  pub n : ℕ
+
+-- A at a scan's start (A.2.1)
+abbrev pub first_a : Parameters → ℕ
+first_a p = max 2 ((range_of p.maxval + 32) / 64)
+
+abbrev pub first_stats : Parameters → Stats
+first_stats p = record { a = first_a p; b = pos 0; c = pos 0; n = 1 }
+
+-- the sums with one error more (A.6.1)
+abbrev pub added : Stats → ℤ → Stats
+added s e = record { a = s.a + unsigned_abs e; b = s.b +ℤ e; c = s.c; n = s.n }
+
+-- halved where so many errors are in them as RESET says, and one error more counted (A.6.1)
+abbrev pub counted : ℕ → Stats → Stats
+counted reset s =
+    if s.n == reset
+    then record { a = s.a / 2; b = halved s.b; c = s.c; n = s.n / 2 + 1 }
+    else record { a = s.a; b = s.b; c = s.c; n = s.n + 1 }
+
+-- C follows the mean error, which B then stands for again (A.6.2)
+abbrev pub least_c : ℤ
+least_c = neg_ℤ (pos 128)
+
+abbrev pub most_c : ℤ
+most_c = pos 127
+
+abbrev pub lowered : Stats → Stats
+lowered s = let b = s.b +ℤ pos s.n in record {
+  a = s.a;
+  b = if int_le b (neg_ℤ (pos s.n)) then pos 1 -ℤ pos s.n else b;
+  c = if int_lt least_c s.c then s.c -ℤ pos 1 else s.c;
+  n = s.n;
+}
+
+abbrev pub raised : Stats → Stats
+raised s = let b = s.b -ℤ pos s.n in record {
+  a = s.a;
+  b = if int_lt (pos 0) b then pos 0 else b;
+  c = if int_lt s.c most_c then s.c +ℤ pos 1 else s.c;
+  n = s.n;
+}
+
+abbrev pub balanced : Stats → Stats
+balanced s = if int_le s.b (neg_ℤ (pos s.n)) then lowered s else (if int_lt (pos 0) s.b then raised s else s)
+
+-- a context after one error more
+unfoldable pub stats_step : ℕ → Stats → ℤ → Stats
+stats_step reset s e = balanced (counted reset (added s e))
+
+-- a context after the errors that were coded in it
+abbrev pub stats_after : Parameters → List ℤ → Stats
+stats_after p errors = fold (stats_step p.reset) (first_stats p) errors

@@ -1,0 +1,80 @@
+//! Runs of equal samples (T.87 A.7.1).
+ghost use Rattle.std.specs.Prelude.{◌≡◌, ◌^◌, ◌≤◌};
+ghost use Rattle.ls_coding.specs.Runs.{order, walked};
+
+/// How a run ends behind its bits 1.
+#[derive(Clone, Copy, Debug, PartialEq, Eq)]
+pub enum Tail {
+    /// At the line's end, with no samples left: no further bit.
+    LineFull,
+    /// At the line's end, with samples left: a further bit 1.
+    LinePart,
+    /// Before a sample that interrupts it: a bit 0, and the samples that are left, `rest`, in `width` bits.
+    Broken { width: u32, rest: u32 },
+}
+
+/// The bits of a run.
+#[derive(Clone, Copy, Debug, PartialEq, Eq)]
+pub struct RunWord {
+    /// How many bits 1 come first.
+    pub ones: u32,
+    pub tail: Tail,
+}
+
+/// J (A.2.1): at each RUNindex a bit 1 stands for 2^J samples.
+const RUN_ORDERS: [u32; 32] = [
+    0, 0, 0, 0, 1, 1, 1, 1, 2, 2, 2, 2, 3, 3, 3, 3, 4, 4, 5, 5, 6, 6, 7, 7, 8, 9, 10, 11, 12, 13,
+    14, 15,
+];
+
+/// J at a RUNindex.
+pub fn order(index: u32) -> u32
+    requires { index ≤ 31 }
+    ensures value { result ≡ order index }
+    ensures small { result ≤ 15 }
+{
+    RUN_ORDERS[index as usize]
+}
+
+/// How many samples a bit 1 stands for at a RUNindex.
+pub fn samples_of_one(index: u32) -> u32
+    requires { index ≤ 31 }
+    ensures { result ≡ 2 ^ order index }
+{
+    1 << order(index)
+}
+
+/// How far a run comes.
+#[derive(Clone, Copy, Debug, PartialEq, Eq)]
+pub struct Walked {
+    pub ones: u32,
+    pub index: u32,
+    pub left: u32,
+}
+
+/// A run of `count` samples from a RUNindex on: its bits 1, RUNindex behind them, and the samples that are left.
+pub fn walk(index: u32, count: u32) -> Walked
+    requires { index ≤ 31 }
+    ensures ones { result.ones ≡ (walked index count).ones }
+    ensures index { result.index ≡ (walked index count).index }
+    ensures left { result.left ≡ (walked index count).left }
+    ensures within { result.index ≤ 31 }
+{
+    let mut ones = 0;
+    let mut at = index;
+    let mut left = count;
+    'bits: loop {
+        let samples = samples_of_one(at);
+        if left < samples {
+            break;
+        }
+        left -= samples;
+        ones += 1;
+        at = (at + 1).min(31);
+    }
+    Walked {
+        ones,
+        index: at,
+        left,
+    }
+}

@@ -1,0 +1,29 @@
+//! Laws over the definitions alone. Each is the contract of a function with nothing to do.
+ghost use Rattle.std.specs.Prelude.{◌≡◌, [], ◌∷◌};
+ghost use Rattle.ls_stream.specs.Examples.{scan, default_scan, annex_h_picture, annex_h_scan};
+
+/// The picture of T.87's Annex H.3 has the scan that stands there.
+pub fn annex_h_has_its_scan()
+    ensures { default_scan 255 4 annex_h_picture ≡ annex_h_scan }
+{}
+
+/// Small planes with the default parameters, and what they are coded in.
+pub fn small_planes_have_these_scans()
+    ensures lone_zero { default_scan 255 1 (0 ∷ []) ≡ 128 ∷ [] }
+    ensures lone_greatest { default_scan 255 1 (255 ∷ []) ≡ 64 ∷ [] }
+    ensures run_of_twelve { default_scan 255 12 (0 ∷ 0 ∷ 0 ∷ 0 ∷ 0 ∷ 0 ∷ 0 ∷ 0 ∷ 0 ∷ 0 ∷ 0 ∷ 0 ∷ []) ≡ 255 ∷ 0 ∷ [] }
+    ensures run_of_thirteen { default_scan 255 13 (0 ∷ 0 ∷ 0 ∷ 0 ∷ 0 ∷ 0 ∷ 0 ∷ 0 ∷ 0 ∷ 0 ∷ 0 ∷ 0 ∷ 0 ∷ []) ≡ 255 ∷ 64 ∷ [] }
+    ensures run_of_sixteen { default_scan 255 16 (0 ∷ 0 ∷ 0 ∷ 0 ∷ 0 ∷ 0 ∷ 0 ∷ 0 ∷ 0 ∷ 0 ∷ 0 ∷ 0 ∷ 0 ∷ 0 ∷ 0 ∷ 0 ∷ []) ≡ 255 ∷ 64 ∷ [] }
+    ensures two_values { default_scan 1 1 (1 ∷ []) ≡ 64 ∷ [] }
+    ensures sixteen_bits { default_scan 65535 1 (65535 ∷ []) ≡ 64 ∷ 0 ∷ [] }
+    ensures runs_of_two_lines { default_scan 255 4 (0 ∷ 0 ∷ 0 ∷ 9 ∷ 0 ∷ 0 ∷ 0 ∷ 9 ∷ []) ≡ 224 ∷ 187 ∷ 0 ∷ [] }
+    ensures escape_behind_a_run { default_scan 255 5 (0 ∷ 0 ∷ 0 ∷ 0 ∷ 100 ∷ []) ≡ 240 ∷ 0 ∷ 0 ∷ 28 ∷ 96 ∷ [] }
+    ensures second_sample_regular { default_scan 255 2 (5 ∷ 5 ∷ []) ≡ 22 ∷ 0 ∷ [] }
+    ensures one_column { default_scan 255 1 (5 ∷ 5 ∷ 6 ∷ []) ≡ 22 ∷ 36 ∷ [] }
+{}
+
+/// Counters that are halved after each third error.
+pub fn an_early_reset_has_this_scan()
+    ensures { scan (record { maxval = 255; t1 = 3; t2 = 7; t3 = 21; reset = 3 }) (record { width = 7; samples = 3 ∷ 3 ∷ 3 ∷ 3 ∷ 4 ∷ 6 ∷ 6 ∷ [] })
+        ≡ 44 ∷ 164 ∷ 72 ∷ [] }
+{}
