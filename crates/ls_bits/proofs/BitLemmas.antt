@@ -98,10 +98,6 @@ number_of-bits_of (suc count) n =
 pub number_of-bits_of-small : (count n : ℕ) → n < 2 ^ count → number_of (bits_of count n) ≡ n
 number_of-bits_of-small count n h = number_of-bits_of count n ∙ mod-eq_of_lt h
 
-bit_value-le : (bit : Bool) → bit_value bit ≤ 1
-bit_value-le false = omega arith
-bit_value-le true = omega arith
-
 pub number_of-lt : (bits : List Bool) → number_of bits < 2 ^ length bits
 number_of-lt [] = omega arith
 number_of-lt (false ∷ bits) =

@@ -1,6 +1,6 @@
 -- What a sink's steps do to its bits.
 use Rattle.std.proofs.Common.{◌≡◌, ℕ, zero, suc, ◌+◌, ◌-◌, ◌*◌, ◌/◌, ◌%◌, ◌^◌, ◌<◌, ◌≤◌, ◌⊎◌, inl, inr, Bool, true, false, eqb, List, [], ◌∷◌, ◌++◌, length, take, drop, refl, sym, ◌∙◌, ap, subst, arith, append_assoc, length-append}
-use Rattle.std.proofs.lemmas.List.{append-nil, drop-append-le, take-append-le, take-append-drop, length-drop}
+use Rattle.std.proofs.lemmas.List.{append-nil, drop-append-le, take-append-drop, length-drop}
 use Rattle.std.proofs.lemmas.Bool.{ne_eqb}
 use Rattle.std.proofs.lemmas.Nat.{mul-mod_first, shr_below}
 use Rattle.std.proofs.Math.Nat.{mod-one, pow-suc}
@@ -60,9 +60,6 @@ packed_bits-byte start word held other waiting byte bytes behind packed sum next
     ∙ append_assoc (unstuff stuffed) (bits_of (room_for behind) byte) (bits_of waiting word)
     ∙ ap (λ bits. unstuff stuffed ++ bits) (sym whole)
 
-pub front-byte : (start byte : ℕ) (bytes : List ℕ) → start ≤ length bytes → take start (bytes ++ byte ∷ []) ≡ take start bytes
-front-byte start byte bytes h = take-append-le start bytes (byte ∷ []) h
-
 -- what one byte out leaves, where it isn't FF
 pub record StillPacked (start word : ℕ) (before after : List ℕ) (held waiting : ℕ) : Type 0 where
   pub packed : IsPacked start after waiting false
@@ -104,9 +101,6 @@ pub packed_bits-put : (start word held count value : ℕ) (bytes : List ℕ) →
 packed_bits-put start word held count value bytes fits small =
     ap (λ bits. unstuff (drop start bytes) ++ bits) (shifted_in held count word value fits small)
     ∙ sym (append_assoc (unstuff (drop start bytes)) (bits_of held word) (bits_of count value))
-
-pub packed-held : (start held other : ℕ) (bytes : List ℕ) (behind : Bool) → IsPacked start bytes held behind → other ≤ 63 → IsPacked start bytes other behind
-packed-held start held other bytes behind packed few = record { within = packed.within; keeps = packed.keeps; room = packed.room; few = few }
 
 -- the first 64 of the bits that wait and those that are put, where they are so many, and those behind them
 pub full_bits : (held count waiting word value : ℕ) → held ≤ 63 → held + count ≡ 64 + waiting → count ≤ 64 → value < 2 ^ count

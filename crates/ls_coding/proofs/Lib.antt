@@ -3,3 +3,4 @@ pub mod GolombParameterLemmas
 pub mod RunLemmas
 pub mod SignedLemmas
 pub mod StateLemmas
+pub mod StatsLemmas

@@ -1,5 +1,5 @@
 -- The counters of the regular contexts (T.87 A.2.1, A.6). With NEAR 0.
-use Rattle.std.specs.Prelude.{ℕ, ◌+◌, ◌/◌, ◌==◌, max, if◌then◌else◌, ℤ, pos, neg_ℤ, ◌+ℤ◌, ◌-ℤ◌, int_lt, int_le, unsigned_abs, List, fold}
+use Rattle.std.specs.Prelude.{ℕ, ◌*◌, ◌≤◌, ◌<ℤ◌, ◌≤ℤ◌, ◌+◌, ◌/◌, ◌==◌, max, if◌then◌else◌, ℤ, pos, neg_ℤ, ◌+ℤ◌, ◌-ℤ◌, int_lt, int_le, unsigned_abs, List, fold}
 use Rattle.ls_frame.specs.Parameters.{Parameters, range_of}
 use Rattle.ls_coding.specs.Numbers.{halved}
 
@@ -9,6 +9,19 @@ pub record Stats : Type 0 where
   pub b : ℤ
   pub c : ℤ
   pub n : ℕ
+
+abbrev pub stats : ℕ → ℤ → ℤ → ℕ → Stats
+stats a b c n = record { a = a; b = b; c = c; n = n }
+
+-- what counters keep to: N errors of a size of at most 2^15 in A, B near 0, C in a signed byte
+pub record AreSound (reset : ℕ) (s : Stats) : Type 0 where
+  pub some : 1 ≤ s.n
+  pub few : s.n ≤ reset
+  pub sum : s.a ≤ s.n * 32768
+  pub mean_low : neg_ℤ (pos s.n) <ℤ s.b
+  pub mean_high : s.b ≤ℤ pos 0
+  pub bias_low : neg_ℤ (pos 128) ≤ℤ s.c
+  pub bias_high : s.c ≤ℤ pos 127
 
 -- A at a scan's start (A.2.1)
 abbrev pub first_a : Parameters → ℕ

@@ -4,7 +4,7 @@
 //! counters, runs, and the state that events leave. Today it codes runs; samples, and all reading, are to come.
 //!
 //! In reading order: `neighbours` (the samples around one, and the mode that they call for), `context`, `error`, `run`,
-//! `state` (the counters and RUNindex).
+//! `state` (the counters and RUNindex), `update` (a context's counters with one error more).
 #![tactic(auto)]
 
 pub mod context;
@@ -12,6 +12,7 @@ pub mod error;
 pub mod neighbours;
 pub mod run;
 pub mod state;
+pub mod update;
 
 pub use neighbours::{Mode, Neighbours, mode_of};
 pub use run::{RunWord, Tail};

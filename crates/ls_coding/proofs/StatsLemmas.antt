@@ -1,0 +1,249 @@
+-- The counters of a context, step by step.
+use Rattle.std.proofs.Common.{◌≡◌, ℕ, ◌+◌, ◌*◌, ◌/◌, ◌<◌, ◌≤◌, Bool, true, false, cond, eqb, ℤ, pos, negsuc, neg_ℤ, ◌+ℤ◌, ◌-ℤ◌, ◌≤ℤ◌, ◌<ℤ◌, refl, sym, ◌∙◌, ap, subst, arith}
+use Rattle.std.specs.Prelude.{int_le, int_lt, unsigned_abs}
+use Rattle.std.proofs.lemmas.Int.{ints, to_z_pos}
+use Rattle.std.proofs.lemmas.Bool.{cond-true, cond-false, eqb-true, eqb-false}
+use lib.Signed.{mag}
+use mir.Syntax.{w32}
+use mir.Val.{to_z, of_z}
+use Rattle.ls_coding.specs.Numbers.{halved}
+use Rattle.ls_coding.specs.Stats.{Stats, stats, lowered, raised, balanced, counted, added, stats_step, AreSound}
+use Rattle.ls_coding.proofs.SignedLemmas.{through}
+
+-- ---- as the code passes numbers
+
+pub count_through : (n : ℕ) → n ≤ 65536 → to_z w32 n ≡ pos n
+count_through n h = to_z_pos w32 n (omega arith)
+
+mean_small : (b : ℤ) → neg_ℤ (pos 131072) ≤ℤ b → b ≤ℤ pos 131072 → mag b < 2147483648
+mean_small (pos n) low high = omega (arith, ints)
+mean_small (negsuc n) low high = omega (arith, ints)
+
+pub mean_through : (b : ℤ) → neg_ℤ (pos 131072) ≤ℤ b → b ≤ℤ pos 131072 → to_z w32 (of_z w32 b) ≡ b
+mean_through b low high = through b (mean_small b low high)
+
+pub least_through : (n : ℕ) → n ≤ 65536 → to_z w32 (of_z w32 (pos 0 -ℤ to_z w32 n)) ≡ neg_ℤ (pos n)
+least_through n h =
+    let whole : pos 0 -ℤ pos n ≡ neg_ℤ (pos n) = omega (arith, ints) in
+    let low : neg_ℤ (pos 131072) ≤ℤ neg_ℤ (pos n) = omega (arith, ints) in
+    let high : neg_ℤ (pos n) ≤ℤ pos 131072 = omega (arith, ints) in
+    ap (λ z. to_z w32 (of_z w32 z)) (ap (λ z. pos 0 -ℤ z) (count_through n h) ∙ whole) ∙ mean_through (neg_ℤ (pos n)) low high
+
+-- ---- B and C
+
+lowered_b : ℤ → ℤ → ℤ
+lowered_b b n = cond (int_le (b +ℤ n) (neg_ℤ n)) (pos 1 -ℤ n) (b +ℤ n)
+
+raised_b : ℤ → ℤ → ℤ
+raised_b b n = cond (int_lt (pos 0) (b -ℤ n)) (pos 0) (b -ℤ n)
+
+pub balanced-low : (b c : ℤ) (n : ℕ) → int_le b (neg_ℤ (pos n)) ≡ true → balanced (stats 0 b c n) ≡ lowered (stats 0 b c n)
+balanced-low b c n e = cond-true _ _ _ e
+
+pub balanced-high : (b c : ℤ) (n : ℕ) → int_le b (neg_ℤ (pos n)) ≡ false → int_lt (pos 0) b ≡ true → balanced (stats 0 b c n) ≡ raised (stats 0 b c n)
+balanced-high b c n e f = cond-false _ _ _ e ∙ cond-true _ _ _ f
+
+-- the test that the code makes is the definition's
+pub is_low : (b : ℤ) (n : ℕ) (test : Bool) → n ≤ 65536 → neg_ℤ (pos 131072) ≤ℤ b → b ≤ℤ pos 131072
+    → int_le (to_z w32 (of_z w32 b)) (to_z w32 (of_z w32 (pos 0 -ℤ to_z w32 n))) ≡ test → int_le b (neg_ℤ (pos n)) ≡ test
+is_low b n test few low high e =
+    sym (ap (λ z. int_le z (neg_ℤ (pos n))) (mean_through b low high))
+    ∙ sym (ap (λ z. int_le (to_z w32 (of_z w32 b)) z) (least_through n few)) ∙ e
+
+pub is_high : (b : ℤ) (test : Bool) → neg_ℤ (pos 131072) ≤ℤ b → b ≤ℤ pos 131072 → int_lt (pos 0) (to_z w32 (of_z w32 b)) ≡ test → int_lt (pos 0) b ≡ test
+is_high b test low high e = sym (ap (λ z. int_lt (pos 0) z) (mean_through b low high)) ∙ e
+
+-- what the code computes is the definition's
+pub lowered_is : (b c r : ℤ) (n : ℕ) → n ≤ 65536 → neg_ℤ (pos 131072) ≤ℤ b → b ≤ℤ pos 131072
+    → r ≡ cond (int_le (to_z w32 (of_z w32 b) +ℤ to_z w32 n) (neg_ℤ (to_z w32 n))) (pos 1 -ℤ to_z w32 n) (to_z w32 (of_z w32 b) +ℤ to_z w32 n)
+    → r ≡ (lowered (stats 0 b c n)).b
+unfolding lowered_b
+lowered_is b c r n few low high e = e ∙ ap (λ z. lowered_b z (to_z w32 n)) (mean_through b low high) ∙ ap (lowered_b b) (count_through n few)
+
+pub raised_is : (b c r : ℤ) (n : ℕ) → n ≤ 65536 → neg_ℤ (pos 131072) ≤ℤ b → b ≤ℤ pos 131072
+    → r ≡ cond (int_lt (pos 0) (to_z w32 (of_z w32 b) -ℤ to_z w32 n)) (pos 0) (to_z w32 (of_z w32 b) -ℤ to_z w32 n)
+    → r ≡ (raised (stats 0 b c n)).b
+unfolding raised_b
+raised_is b c r n few low high e = e ∙ ap (λ z. raised_b z (to_z w32 n)) (mean_through b low high) ∙ ap (raised_b b) (count_through n few)
+
+pub bias_through : (c : ℤ) → neg_ℤ (pos 128) ≤ℤ c → c ≤ℤ pos 127 → to_z w32 (of_z w32 c) ≡ c
+bias_through c low high =
+    let lower : neg_ℤ (pos 131072) ≤ℤ c = omega (arith, ints) in
+    let higher : c ≤ℤ pos 131072 = omega (arith, ints) in
+    mean_through c lower higher
+
+lowered_c : ℤ → ℤ
+lowered_c c = cond (int_lt (neg_ℤ (pos 128)) c) (c -ℤ pos 1) c
+
+pub lowered_bias_is : (b c r : ℤ) (n : ℕ) → neg_ℤ (pos 128) ≤ℤ c → c ≤ℤ pos 127
+    → r ≡ cond (int_lt (neg_ℤ (pos 128)) (to_z w32 (of_z w32 c))) (to_z w32 (of_z w32 c) -ℤ pos 1) (to_z w32 (of_z w32 c))
+    → r ≡ (lowered (stats 0 b c n)).c
+unfolding lowered_c
+lowered_bias_is b c r n low high e = e ∙ ap lowered_c (bias_through c low high)
+
+-- ---- a whole step
+
+under : {A B : Type 0} → (f : A → B) (test : Bool) (x y : A) → f (cond test x y) ≡ cond test (f x) (f y)
+under f true x y = refl
+under f false x y = refl
+
+pub stats_is : (s : Stats) (a : ℕ) (b c : ℤ) (n : ℕ) → a ≡ s.a → b ≡ s.b → c ≡ s.c → n ≡ s.n → stats a b c n ≡ s
+stats_is s a b c n p q r t =
+    ap (λ x. stats x b c n) p ∙ ap (λ x. stats s.a x c n) q ∙ ap (λ x. stats s.a s.b x n) r ∙ ap (λ x. stats s.a s.b s.c x) t
+
+-- balancing looks at B, C and N alone, and leaves A and N
+both_same : {A : Type 0} → (test : Bool) (x : A) → cond test x x ≡ x
+both_same true x = refl
+both_same false x = refl
+
+same_a : (s : Stats) → (balanced s).a ≡ s.a
+same_a s =
+    under (λ (t : Stats). t.a) (int_le s.b (neg_ℤ (pos s.n))) (lowered s) (cond (int_lt (pos 0) s.b) (raised s) s)
+    ∙ ap (cond (int_le s.b (neg_ℤ (pos s.n))) s.a) (under (λ (t : Stats). t.a) (int_lt (pos 0) s.b) (raised s) s ∙ both_same (int_lt (pos 0) s.b) s.a)
+    ∙ both_same (int_le s.b (neg_ℤ (pos s.n))) s.a
+
+same_n : (s : Stats) → (balanced s).n ≡ s.n
+same_n s =
+    under (λ (t : Stats). t.n) (int_le s.b (neg_ℤ (pos s.n))) (lowered s) (cond (int_lt (pos 0) s.b) (raised s) s)
+    ∙ ap (cond (int_le s.b (neg_ℤ (pos s.n))) s.n) (under (λ (t : Stats). t.n) (int_lt (pos 0) s.b) (raised s) s ∙ both_same (int_lt (pos 0) s.b) s.n)
+    ∙ both_same (int_le s.b (neg_ℤ (pos s.n))) s.n
+
+part_b : (a : ℕ) (b c : ℤ) (n : ℕ) → (balanced (stats a b c n)).b ≡ cond (int_le b (neg_ℤ (pos n))) (lowered (stats 0 b c n)).b (cond (int_lt (pos 0) b) (raised (stats 0 b c n)).b b)
+part_b a b c n =
+    under (λ (t : Stats). t.b) (int_le b (neg_ℤ (pos n))) (lowered (stats a b c n)) (cond (int_lt (pos 0) b) (raised (stats a b c n)) (stats a b c n))
+    ∙ ap (cond (int_le b (neg_ℤ (pos n))) (lowered (stats a b c n)).b) (under (λ (t : Stats). t.b) (int_lt (pos 0) b) (raised (stats a b c n)) (stats a b c n))
+
+part_c : (a : ℕ) (b c : ℤ) (n : ℕ) → (balanced (stats a b c n)).c ≡ cond (int_le b (neg_ℤ (pos n))) (lowered (stats 0 b c n)).c (cond (int_lt (pos 0) b) (raised (stats 0 b c n)).c c)
+part_c a b c n =
+    under (λ (t : Stats). t.c) (int_le b (neg_ℤ (pos n))) (lowered (stats a b c n)) (cond (int_lt (pos 0) b) (raised (stats a b c n)) (stats a b c n))
+    ∙ ap (cond (int_le b (neg_ℤ (pos n))) (lowered (stats a b c n)).c) (under (λ (t : Stats). t.c) (int_lt (pos 0) b) (raised (stats a b c n)) (stats a b c n))
+
+-- the counters after `added` and `counted`, field by field
+counted_a : (reset : ℕ) (s : Stats) → (counted reset s).a ≡ cond (eqb s.n reset) (s.a / 2) s.a
+counted_a reset s = under (λ (t : Stats). t.a) (eqb s.n reset) (record { a = s.a / 2; b = halved s.b; c = s.c; n = s.n / 2 + 1 }) (record { a = s.a; b = s.b; c = s.c; n = s.n + 1 })
+
+counted_b : (reset : ℕ) (s : Stats) → (counted reset s).b ≡ cond (eqb s.n reset) (halved s.b) s.b
+counted_b reset s = under (λ (t : Stats). t.b) (eqb s.n reset) (record { a = s.a / 2; b = halved s.b; c = s.c; n = s.n / 2 + 1 }) (record { a = s.a; b = s.b; c = s.c; n = s.n + 1 })
+
+counted_c : (reset : ℕ) (s : Stats) → (counted reset s).c ≡ s.c
+counted_c reset s = under (λ (t : Stats). t.c) (eqb s.n reset) (record { a = s.a / 2; b = halved s.b; c = s.c; n = s.n / 2 + 1 }) (record { a = s.a; b = s.b; c = s.c; n = s.n + 1 })
+    ∙ both_same (eqb s.n reset) s.c
+
+counted_n : (reset : ℕ) (s : Stats) → (counted reset s).n ≡ cond (eqb s.n reset) (s.n / 2 + 1) (s.n + 1)
+counted_n reset s = under (λ (t : Stats). t.n) (eqb s.n reset) (record { a = s.a / 2; b = halved s.b; c = s.c; n = s.n / 2 + 1 }) (record { a = s.a; b = s.b; c = s.c; n = s.n + 1 })
+
+-- what the code computes, part by part, is a step
+pub step_is : (reset a n size : ℕ) (b c e : ℤ) (a1 n1 : ℕ) (b1 sum b2 c2 : ℤ) → size ≡ unsigned_abs e → sum ≡ b +ℤ e
+    → a1 ≡ cond (eqb n reset) ((a + size) / 2) (a + size)
+    → b1 ≡ cond (eqb n reset) (halved sum) sum
+    → n1 ≡ cond (eqb n reset) (n / 2 + 1) (n + 1)
+    → b2 ≡ (balanced (stats 0 b1 c n1)).b → c2 ≡ (balanced (stats 0 b1 c n1)).c
+    → stats a1 b2 c2 n1 ≡ stats_step reset (stats a b c n) e
+unfolding stats_step
+step_is reset a n size b c e a1 n1 b1 sum b2 c2 p q i j k l m =
+    let s : Stats = counted reset (added (stats a b c n) e) in
+    let ea : a1 ≡ s.a = i ∙ ap (λ x. cond (eqb n reset) ((a + x) / 2) (a + x)) p ∙ sym (counted_a reset (added (stats a b c n) e)) in
+    let eb : b1 ≡ s.b = j ∙ ap (λ x. cond (eqb n reset) (halved x) x) q ∙ sym (counted_b reset (added (stats a b c n) e)) in
+    let ec : c ≡ s.c = sym (counted_c reset (added (stats a b c n) e)) in
+    let en : n1 ≡ s.n = k ∙ sym (counted_n reset (added (stats a b c n) e)) in
+    let whole : stats a1 b1 c n1 ≡ s = stats_is s a1 b1 c n1 ea eb ec en in
+    stats_is (balanced (stats a1 b1 c n1)) a1 b2 c2 n1 (sym (same_a (stats a1 b1 c n1))) (l ∙ part_b 0 b1 c n1 ∙ sym (part_b a1 b1 c n1))
+    (m ∙ part_c 0 b1 c n1 ∙ sym (part_c a1 b1 c n1)) (sym (same_n (stats a1 b1 c n1)))
+    ∙ ap balanced whole
+
+-- ---- what counters keep to
+
+choose : {A : Type 0} → (test : Bool) (x y : A) (P : A → Type 0) → (test ≡ true → P x) → (test ≡ false → P y) → P (cond test x y)
+choose true x y P f g = f refl
+choose false x y P f g = g refl
+
+le_true : (x y : ℤ) → int_le x y ≡ true → x ≤ℤ y
+le_true x y e = grind (arith, ints)
+
+le_false : (x y : ℤ) → int_le x y ≡ false → y <ℤ x
+le_false x y e = grind (arith, ints)
+
+lt_true : (x y : ℤ) → int_lt x y ≡ true → x <ℤ y
+lt_true x y e = grind (arith, ints)
+
+lt_false : (x y : ℤ) → int_lt x y ≡ false → y ≤ℤ x
+lt_false x y e = grind (arith, ints)
+
+record IsMean (n : ℕ) (b : ℤ) : Type 0 where
+  low : neg_ℤ (pos n) <ℤ b
+  high : b ≤ℤ pos 0
+
+mean_sound : (b c : ℤ) (n : ℕ) → 1 ≤ n → IsMean n (cond (int_le b (neg_ℤ (pos n))) (lowered (stats 0 b c n)).b (cond (int_lt (pos 0) b) (raised (stats 0 b c n)).b b))
+mean_sound b c n some =
+    choose (int_le b (neg_ℤ (pos n))) (lowered (stats 0 b c n)).b (cond (int_lt (pos 0) b) (raised (stats 0 b c n)).b b) (IsMean n)
+    (λ e. choose (int_le (b +ℤ pos n) (neg_ℤ (pos n))) (pos 1 -ℤ pos n) (b +ℤ pos n) (IsMean n)
+    (λ f. record { low = omega (arith, ints); high = omega (arith, ints) })
+    (λ f. record { low = omega (arith, ints, le_false (b +ℤ pos n) (neg_ℤ (pos n)) f); high = omega (arith, ints, le_true b (neg_ℤ (pos n)) e) }))
+    (λ e. choose (int_lt (pos 0) b) (raised (stats 0 b c n)).b b (IsMean n)
+    (λ f. choose (int_lt (pos 0) (b -ℤ pos n)) (pos 0) (b -ℤ pos n) (IsMean n)
+    (λ g. record { low = omega (arith, ints); high = omega (arith, ints) })
+    (λ g. record { low = omega (arith, ints, lt_true (pos 0) b f); high = omega (arith, ints, lt_false (pos 0) (b -ℤ pos n) g) }))
+    (λ f. record { low = omega (arith, ints, le_false b (neg_ℤ (pos n)) e); high = omega (arith, ints, lt_false (pos 0) b f) }))
+
+-- B's bounds, wide
+sound_wide : (reset a n : ℕ) (b c : ℤ) → AreSound reset (stats a b c n) → reset ≤ 65535 → (neg_ℤ (pos 131072) ≤ℤ b) × (b ≤ℤ pos 131072)
+sound_wide reset a n b c sound most = (omega (arith, ints, sound.mean_low, sound.few), omega (arith, ints, sound.mean_high))
+
+pub error_size : (e : ℤ) → neg_ℤ (pos 32768) ≤ℤ e → e ≤ℤ pos 32767 → unsigned_abs e ≤ 32768
+error_size (pos n) low high = omega (arith, ints)
+error_size (negsuc n) low high = omega (arith, ints)
+
+-- the sum that the code passes
+pub error_through : (e : ℤ) → neg_ℤ (pos 32768) ≤ℤ e → e ≤ℤ pos 32767 → to_z w32 (of_z w32 e) ≡ e
+error_through e low high =
+    let lower : neg_ℤ (pos 131072) ≤ℤ e = omega (arith, ints) in
+    let higher : e ≤ℤ pos 131072 = omega (arith, ints) in
+    mean_through e lower higher
+
+pub sum_through : (reset a n : ℕ) (b c e : ℤ) → AreSound reset (stats a b c n) → reset ≤ 65535 → neg_ℤ (pos 32768) ≤ℤ e → e ≤ℤ pos 32767
+    → to_z w32 (of_z w32 (to_z w32 (of_z w32 b) +ℤ to_z w32 (of_z w32 e))) ≡ b +ℤ e
+sum_through reset a n b c e sound most low high =
+    let wide = sound_wide reset a n b c sound most in
+    let lower : neg_ℤ (pos 131072) ≤ℤ (b +ℤ e) = omega (arith, ints, sound.mean_low, sound.few) in
+    let higher : (b +ℤ e) ≤ℤ pos 131072 = omega (arith, ints, sound.mean_high) in
+    ap (λ z. to_z w32 (of_z w32 (z +ℤ to_z w32 (of_z w32 e)))) (mean_through b wide.0 wide.1)
+    ∙ ap (λ z. to_z w32 (of_z w32 (b +ℤ z))) (error_through e low high)
+    ∙ mean_through (b +ℤ e) lower higher
+
+-- N and A, after an error of a size of at most 2^15
+record AreCounted (reset n a : ℕ) : Type 0 where
+  some : 1 ≤ n
+  few : n ≤ reset
+  sum : a ≤ n * 32768
+
+counted_by : (reset n a : ℕ) (test : Bool) → eqb n reset ≡ test → 3 ≤ reset → n ≤ reset → a ≤ n * 32768 + 32768
+    → AreCounted reset (cond test (n / 2 + 1) (n + 1)) (cond test (a / 2) a)
+counted_by reset n a true e least few size =
+    let same : n ≡ reset = eqb-true n reset e in
+    record { some = omega arith; few = omega arith; sum = omega arith }
+counted_by reset n a false e least few size =
+    let other : n ≡ reset → ⊥ = eqb-false n reset e in
+    record { some = omega arith; few = omega arith; sum = omega arith }
+
+counted_sound : (reset n a : ℕ) → 3 ≤ reset → n ≤ reset → a ≤ n * 32768 + 32768
+    → AreCounted reset (cond (eqb n reset) (n / 2 + 1) (n + 1)) (cond (eqb n reset) (a / 2) a)
+counted_sound reset n a least few size = counted_by reset n a (eqb n reset) refl least few size
+
+-- all that the counters keep to
+pub sound_is : (reset a n size a1 n1 : ℕ) (b c b1 b2 c2 : ℤ) → 3 ≤ reset → AreSound reset (stats a b c n) → size ≤ 32768
+    → a1 ≡ cond (eqb n reset) ((a + size) / 2) (a + size) → n1 ≡ cond (eqb n reset) (n / 2 + 1) (n + 1)
+    → b2 ≡ (balanced (stats 0 b1 c n1)).b → neg_ℤ (pos 128) ≤ℤ c2 → c2 ≤ℤ pos 127
+    → AreSound reset (stats a1 b2 c2 n1)
+sound_is reset a n size a1 n1 b c b1 b2 c2 least sound small i k l low high =
+    let counts = counted_sound reset n (a + size) least sound.few (omega (arith, sound.sum)) in
+    let some : 1 ≤ n1 = omega (arith, counts.some) in
+    let mean : IsMean n1 b2 = subst (IsMean n1) (sym (l ∙ part_b 0 b1 c n1)) (mean_sound b1 c n1 some) in
+    record {
+      some = some;
+      few = omega (arith, counts.few);
+      sum = omega (arith, counts.sum);
+      mean_low = mean.low;
+      mean_high = mean.high;
+      bias_low = low;
+      bias_high = high;
+    }
