@@ -2,12 +2,15 @@
 use Rattle.std.proofs.Common.{◌≡◌, ℕ, ◌+◌, ◌*◌, ◌/◌, ◌<◌, ◌≤◌, Bool, true, false, cond, eqb, ℤ, pos, negsuc, neg_ℤ, ◌+ℤ◌, ◌-ℤ◌, ◌≤ℤ◌, ◌<ℤ◌, refl, sym, ◌∙◌, ap, subst, arith}
 use Rattle.std.specs.Prelude.{int_le, int_lt, unsigned_abs}
 use Rattle.std.proofs.lemmas.Int.{ints, to_z_pos}
+use Rattle.std.proofs.lemmas.Nat.{mul-le}
 use Rattle.std.proofs.lemmas.Bool.{cond-true, cond-false, eqb-true, eqb-false}
 use lib.Signed.{mag}
 use mir.Syntax.{w32}
 use mir.Val.{to_z, of_z}
 use Rattle.ls_coding.specs.Numbers.{halved}
-use Rattle.ls_coding.specs.Stats.{Stats, stats, lowered, raised, balanced, counted, added, stats_step, AreSound}
+use Rattle.ls_frame.specs.Parameters.{range_of}
+use Rattle.ls_coding.specs.Errors.{IsReduced}
+use Rattle.ls_coding.specs.Stats.{Stats, stats, error_bound, lowered, raised, balanced, counted, added, stats_step, AreSound}
 use Rattle.ls_coding.proofs.SignedLemmas.{through}
 
 -- ---- as the code passes numbers
@@ -186,12 +189,18 @@ mean_sound b c n some =
     (λ f. record { low = omega (arith, ints, le_false b (neg_ℤ (pos n)) e); high = omega (arith, ints, lt_false (pos 0) b f) }))
 
 -- B's bounds, wide
-sound_wide : (reset a n : ℕ) (b c : ℤ) → AreSound reset (stats a b c n) → reset ≤ 65535 → (neg_ℤ (pos 131072) ≤ℤ b) × (b ≤ℤ pos 131072)
-sound_wide reset a n b c sound most = (omega (arith, ints, sound.mean_low, sound.few), omega (arith, ints, sound.mean_high))
+sound_wide : (reset bound a n : ℕ) (b c : ℤ) → AreSound reset bound (stats a b c n) → reset ≤ 65535 → (neg_ℤ (pos 131072) ≤ℤ b) × (b ≤ℤ pos 131072)
+sound_wide reset bound a n b c sound most = (omega (arith, ints, sound.mean_low, sound.few), omega (arith, ints, sound.mean_high))
 
-pub error_size : (e : ℤ) → neg_ℤ (pos 32768) ≤ℤ e → e ≤ℤ pos 32767 → unsigned_abs e ≤ 32768
-error_size (pos n) low high = omega (arith, ints)
-error_size (negsuc n) low high = omega (arith, ints)
+pub error_size : (maxval : ℕ) (e : ℤ) → IsReduced (range_of maxval) e → unsigned_abs e ≤ error_bound maxval
+error_size maxval (pos n) h = omega (arith, ints, h.high)
+error_size maxval (negsuc n) h = omega (arith, ints, h.low)
+
+pub error_low : (maxval : ℕ) (e : ℤ) → maxval ≤ 65535 → IsReduced (range_of maxval) e → neg_ℤ (pos 32768) ≤ℤ e
+error_low maxval e most h = omega (arith, ints, h.low)
+
+pub error_high : (maxval : ℕ) (e : ℤ) → maxval ≤ 65535 → IsReduced (range_of maxval) e → e ≤ℤ pos 32767
+error_high maxval e most h = omega (arith, ints, h.high)
 
 -- the sum that the code passes
 pub error_through : (e : ℤ) → neg_ℤ (pos 32768) ≤ℤ e → e ≤ℤ pos 32767 → to_z w32 (of_z w32 e) ≡ e
@@ -200,48 +209,59 @@ error_through e low high =
     let higher : e ≤ℤ pos 131072 = omega (arith, ints) in
     mean_through e lower higher
 
-pub sum_through : (reset a n : ℕ) (b c e : ℤ) → AreSound reset (stats a b c n) → reset ≤ 65535 → neg_ℤ (pos 32768) ≤ℤ e → e ≤ℤ pos 32767
+pub sum_through : (reset bound a n : ℕ) (b c e : ℤ) → AreSound reset bound (stats a b c n) → reset ≤ 65535 → neg_ℤ (pos 32768) ≤ℤ e → e ≤ℤ pos 32767
     → to_z w32 (of_z w32 (to_z w32 (of_z w32 b) +ℤ to_z w32 (of_z w32 e))) ≡ b +ℤ e
-sum_through reset a n b c e sound most low high =
-    let wide = sound_wide reset a n b c sound most in
+sum_through reset bound a n b c e sound most low high =
+    let wide = sound_wide reset bound a n b c sound most in
     let lower : neg_ℤ (pos 131072) ≤ℤ (b +ℤ e) = omega (arith, ints, sound.mean_low, sound.few) in
     let higher : (b +ℤ e) ≤ℤ pos 131072 = omega (arith, ints, sound.mean_high) in
     ap (λ z. to_z w32 (of_z w32 (z +ℤ to_z w32 (of_z w32 e)))) (mean_through b wide.0 wide.1)
     ∙ ap (λ z. to_z w32 (of_z w32 (b +ℤ z))) (error_through e low high)
     ∙ mean_through (b +ℤ e) lower higher
 
--- N and A, after an error of a size of at most 2^15
-record AreCounted (reset n a : ℕ) : Type 0 where
-  some : 1 ≤ n
-  few : n ≤ reset
-  sum : a ≤ n * 32768
+-- N and A, after an error of a size of at most `bound`
+pub record AreCounted (reset bound n a : ℕ) : Type 0 where
+  pub some : 1 ≤ n
+  pub few : n ≤ reset
+  pub sum : a ≤ n * bound
 
-counted_by : (reset n a : ℕ) (test : Bool) → eqb n reset ≡ test → 3 ≤ reset → n ≤ reset → a ≤ n * 32768 + 32768
-    → AreCounted reset (cond test (n / 2 + 1) (n + 1)) (cond test (a / 2) a)
-counted_by reset n a true e least few size =
+-- half of them, where the half of N and one more is left
+half_sum : (n a bound : ℕ) → a ≤ n * bound + bound → a / 2 ≤ (n / 2 + 1) * bound
+half_sum n a bound h =
+    let twice : n + 1 ≤ 2 * (n / 2 + 1) = omega arith in
+    let scaled : (n + 1) * bound ≤ 2 * (n / 2 + 1) * bound = mul-le (n + 1) bound (2 * (n / 2 + 1)) bound twice (omega arith) in
+    omega arith
+
+more_sum : (n a bound : ℕ) → a ≤ n * bound + bound → a ≤ (n + 1) * bound
+more_sum n a bound h = omega arith
+
+counted_by : (reset bound n a : ℕ) (test : Bool) → eqb n reset ≡ test → 3 ≤ reset → n ≤ reset → a ≤ n * bound + bound
+    → AreCounted reset bound (cond test (n / 2 + 1) (n + 1)) (cond test (a / 2) a)
+counted_by reset bound n a true e least few size =
     let same : n ≡ reset = eqb-true n reset e in
-    record { some = omega arith; few = omega arith; sum = omega arith }
-counted_by reset n a false e least few size =
+    record { some = omega arith; few = omega arith; sum = half_sum n a bound size }
+counted_by reset bound n a false e least few size =
     let other : n ≡ reset → ⊥ = eqb-false n reset e in
-    record { some = omega arith; few = omega arith; sum = omega arith }
+    record { some = omega arith; few = omega arith; sum = more_sum n a bound size }
 
-counted_sound : (reset n a : ℕ) → 3 ≤ reset → n ≤ reset → a ≤ n * 32768 + 32768
-    → AreCounted reset (cond (eqb n reset) (n / 2 + 1) (n + 1)) (cond (eqb n reset) (a / 2) a)
-counted_sound reset n a least few size = counted_by reset n a (eqb n reset) refl least few size
+pub counted_sound : (reset bound n a : ℕ) → 3 ≤ reset → n ≤ reset → a ≤ n * bound + bound
+    → AreCounted reset bound (cond (eqb n reset) (n / 2 + 1) (n + 1)) (cond (eqb n reset) (a / 2) a)
+counted_sound reset bound n a least few size = counted_by reset bound n a (eqb n reset) refl least few size
 
 -- all that the counters keep to
-pub sound_is : (reset a n size a1 n1 : ℕ) (b c b1 b2 c2 : ℤ) → 3 ≤ reset → AreSound reset (stats a b c n) → size ≤ 32768
+pub sound_is : (reset bound a n size a1 n1 : ℕ) (b c b1 b2 c2 : ℤ) → 3 ≤ reset → AreSound reset bound (stats a b c n) → size ≤ bound
     → a1 ≡ cond (eqb n reset) ((a + size) / 2) (a + size) → n1 ≡ cond (eqb n reset) (n / 2 + 1) (n + 1)
     → b2 ≡ (balanced (stats 0 b1 c n1)).b → neg_ℤ (pos 128) ≤ℤ c2 → c2 ≤ℤ pos 127
-    → AreSound reset (stats a1 b2 c2 n1)
-sound_is reset a n size a1 n1 b c b1 b2 c2 least sound small i k l low high =
-    let counts = counted_sound reset n (a + size) least sound.few (omega (arith, sound.sum)) in
+    → AreSound reset bound (stats a1 b2 c2 n1)
+sound_is reset bound a n size a1 n1 b c b1 b2 c2 least sound small i k l low high =
+    let total : a + size ≤ n * bound + bound = omega (arith, sound.sum) in
+    let counts = counted_sound reset bound n (a + size) least sound.few total in
     let some : 1 ≤ n1 = omega (arith, counts.some) in
     let mean : IsMean n1 b2 = subst (IsMean n1) (sym (l ∙ part_b 0 b1 c n1)) (mean_sound b1 c n1 some) in
     record {
       some = some;
       few = omega (arith, counts.few);
-      sum = omega (arith, counts.sum);
+      sum = subst (λ x. x ≤ n1 * bound) (sym i) (subst (λ m. cond (eqb n reset) ((a + size) / 2) (a + size) ≤ m * bound) (sym k) counts.sum);
       mean_low = mean.low;
       mean_high = mean.high;
       bias_low = low;

@@ -1,5 +1,5 @@
 -- Prediction, the error, and the value that stands for it (T.87 A.4, A.5). With NEAR 0.
-use Rattle.std.specs.Prelude.{ℕ, ◌+◌, ◌-◌, ◌*◌, ◌/◌, ◌==◌, ◌&&◌, min, max, nat_le, Bool, if◌then◌else◌, ℤ, pos, neg_ℤ, ◌+ℤ◌, ◌-ℤ◌, ◌*ℤ◌, int_lt, int_le, unsigned_abs}
+use Rattle.std.specs.Prelude.{ℕ, ◌+◌, ◌-◌, ◌*◌, ◌/◌, ◌==◌, ◌&&◌, min, max, nat_le, Bool, if◌then◌else◌, ℤ, pos, neg_ℤ, ◌+ℤ◌, ◌-ℤ◌, ◌*ℤ◌, int_lt, int_le, ◌<ℤ◌, ◌≤ℤ◌, unsigned_abs}
 use Rattle.ls_frame.specs.Parameters.{Parameters, range_of}
 use Rattle.ls_coding.specs.declared.neighbours.Neighbours.{Neighbours}
 use Rattle.ls_coding.specs.Numbers.{between}
@@ -22,6 +22,10 @@ wrapped range e = if int_lt e (pos 0) then e +ℤ pos range else e
 
 abbrev pub reduced : ℕ → ℤ → ℤ
 reduced range e = let up = wrapped range e in if int_le (pos ((range + 1) / 2)) up then up -ℤ pos range else up
+
+pub record IsReduced (range : ℕ) (e : ℤ) : Type 0 where
+  pub low : neg_ℤ (pos (range / 2)) ≤ℤ e
+  pub high : e <ℤ pos ((range + 1) / 2)
 
 -- the reduced error of a sample for a prediction (A.4.3, A.4.5)
 abbrev pub error_of : Parameters → Bool → ℤ → ℕ → ℤ

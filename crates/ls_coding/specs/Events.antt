@@ -3,6 +3,7 @@ use Rattle.std.specs.Prelude.{ℕ, ◌-◌, ◌==◌, Bool, true, false, if◌th
 use Rattle.ls_frame.specs.Parameters.{Parameters, qbpp_of, limit_of}
 use Rattle.ls_bits.specs.Golomb.{code_word}
 use Rattle.ls_coding.specs.declared.neighbours.Neighbours.{Neighbours}
+use Rattle.ls_coding.specs.declared.word.Word.{Word}
 use Rattle.ls_coding.specs.Numbers.{golomb_parameter}
 use Rattle.ls_coding.specs.Contexts.{Context}
 use Rattle.ls_coding.specs.Errors.{predicted, error_of, leans, mapped}
@@ -61,20 +62,15 @@ broken_in events = fold (λ broken event. is_broken event) false events
 
 -- ---- the word and the event of a sample
 
--- a code word's k, limit and value
-pub record Golomb : Type 0 where
-  pub k : ℕ
-  pub glimit : ℕ
-  pub value : ℕ
-
-abbrev pub golomb_bits : Parameters → Golomb → List Bool
+-- the bits of a code word
+abbrev pub golomb_bits : Parameters → Word → List Bool
 golomb_bits p w = code_word w.k w.glimit (qbpp_of p.maxval) w.value
 
 -- of a sample of regular mode
 abbrev pub regular_e : Parameters → Context → Stats → Neighbours → ℕ → ℤ
 regular_e p x s n sample = error_of p x.negative (predicted p x.negative s.c n) sample
 
-abbrev pub regular_word : Parameters → Stats → ℤ → Golomb
+abbrev pub regular_word : Parameters → Stats → ℤ → Word
 regular_word p s e = let k = golomb_parameter s.n s.a in record {
   k = k;
   glimit = limit_of p.maxval;
@@ -82,7 +78,7 @@ regular_word p s e = let k = golomb_parameter s.n s.a in record {
 }
 
 -- of an interruption sample, behind its run's bits at this RUNindex
-abbrev pub interruption_word : Parameters → ℕ → Bool → Counts → ℤ → Golomb
+abbrev pub interruption_word : Parameters → ℕ → Bool → Counts → ℤ → Word
 interruption_word p index flat s e = record {
   k = interruption_k flat s;
   glimit = limit_of p.maxval - order index - 1;

@@ -1,5 +1,5 @@
 -- The sample that interrupts a run (T.87 A.7.2). With NEAR 0.
-use Rattle.std.specs.Prelude.{ℕ, ◌+◌, ◌-◌, ◌*◌, ◌/◌, ◌==◌, ◌&&◌, ◌||◌, nat_lt, nat_le, not, Bool, if◌then◌else◌, ℤ, pos, ◌-ℤ◌, int_lt, unsigned_abs, List, fold}
+use Rattle.std.specs.Prelude.{ℕ, ◌+◌, ◌-◌, ◌*◌, ◌/◌, ◌==◌, ◌&&◌, ◌||◌, ◌<◌, ◌≤◌, nat_lt, nat_le, not, Bool, if◌then◌else◌, ℤ, pos, ◌-ℤ◌, int_lt, unsigned_abs, List, fold}
 use Rattle.ls_frame.specs.Parameters.{Parameters, range_of}
 use Rattle.ls_coding.specs.declared.neighbours.Neighbours.{Neighbours}
 use Rattle.ls_coding.specs.Numbers.{golomb_parameter}
@@ -12,6 +12,16 @@ pub record Counts : Type 0 where
   pub a : ℕ
   pub n : ℕ
   pub nn : ℕ
+
+abbrev pub counts : ℕ → ℕ → ℕ → Counts
+counts a n nn = record { a = a; n = n; nn = nn }
+
+-- what they keep to: N errors of a size of at most `bound` in A, fewer than N of them negative
+pub record AreSoundCounts (reset bound : ℕ) (s : Counts) : Type 0 where
+  pub some : 1 ≤ s.n
+  pub few : s.n ≤ reset
+  pub sum : s.a ≤ s.n * bound
+  pub negative : s.nn < s.n
 
 abbrev pub first_counts : Parameters → Counts
 first_counts p = record { a = first_a p; n = 1; nn = 0 }

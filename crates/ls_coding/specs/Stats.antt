@@ -13,11 +13,15 @@ pub record Stats : Type 0 where
 abbrev pub stats : ℕ → ℤ → ℤ → ℕ → Stats
 stats a b c n = record { a = a; b = b; c = c; n = n }
 
--- what counters keep to: N errors of a size of at most 2^15 in A, B near 0, C in a signed byte
-pub record AreSound (reset : ℕ) (s : Stats) : Type 0 where
+-- no reduced error is larger, and at a scan's start A isn't
+abbrev pub error_bound : ℕ → ℕ
+error_bound maxval = max 2 (range_of maxval / 2)
+
+-- what counters keep to: N errors of a size of at most `bound` in A, B near 0, C in a signed byte
+pub record AreSound (reset bound : ℕ) (s : Stats) : Type 0 where
   pub some : 1 ≤ s.n
   pub few : s.n ≤ reset
-  pub sum : s.a ≤ s.n * 32768
+  pub sum : s.a ≤ s.n * bound
   pub mean_low : neg_ℤ (pos s.n) <ℤ s.b
   pub mean_high : s.b ≤ℤ pos 0
   pub bias_low : neg_ℤ (pos 128) ≤ℤ s.c

@@ -4,7 +4,7 @@
 //! counters, runs, and the state that events leave. Today it codes runs; samples, and all reading, are to come.
 //!
 //! In reading order: `neighbours` (the samples around one, and the mode that they call for), `context`, `error`, `run`,
-//! `state` (the counters and RUNindex), `update` (a context's counters with one error more).
+//! `word` (a code word), `state` (the counters and RUNindex), `update` (a context's counters with one error more).
 #![tactic(auto)]
 
 pub mod context;
@@ -13,7 +13,9 @@ pub mod neighbours;
 pub mod run;
 pub mod state;
 pub mod update;
+pub mod word;
 
 pub use neighbours::{Mode, Neighbours, mode_of};
 pub use run::{RunWord, Tail};
 pub use state::State;
+pub use word::Word;

@@ -1,18 +1,20 @@
 //! The counters of a context with one error more (T.87 A.6).
 ghost use Rattle.std.specs.Prelude.{◌≡◌, ◌+◌, ◌/◌, ◌==◌, ◌≤◌, pos, neg_ℤ, ◌+ℤ◌, ◌-ℤ◌, ◌≤ℤ◌, int_le, int_lt, if◌then◌else◌};
 ghost use Rattle.ls_coding.specs.Numbers.{halved};
-ghost use Rattle.ls_coding.specs.Stats.{stats, balanced, stats_step, AreSound};
+ghost use Rattle.ls_frame.specs.Parameters.{range_of};
+ghost use Rattle.ls_coding.specs.Errors.{IsReduced};
+ghost use Rattle.ls_coding.specs.Stats.{stats, balanced, stats_step, error_bound, AreSound};
+
+use ls_frame::Presets;
 
 /// One error more, in each of a context's counters.
-pub fn update(a: &mut u32, b: &mut i32, c: &mut i32, n: &mut u32, reset: u32, error: i32)
-    requires sound { AreSound reset (stats a.old b.old c.old n.old) }
-    requires least { 3 ≤ reset }
-    requires most { reset ≤ 65535 }
-    requires low { neg_ℤ (pos 32768) ≤ℤ error }
-    requires high { error ≤ℤ pos 32767 }
-    ensures step { stats a.new b.new c.new n.new ≡ stats_step reset (stats a.old b.old c.old n.old) error }
-    ensures sound { AreSound reset (stats a.new b.new c.new n.new) }
+pub fn update(presets: Presets, a: &mut u32, b: &mut i32, c: &mut i32, n: &mut u32, error: i32)
+    requires sound { AreSound presets.reset (error_bound presets.maxval) (stats a.old b.old c.old n.old) }
+    requires error { IsReduced (range_of presets.maxval) error }
+    ensures step { stats a.new b.new c.new n.new ≡ stats_step presets.reset (stats a.old b.old c.old n.old) error }
+    ensures sound { AreSound presets.reset (error_bound presets.maxval) (stats a.new b.new c.new n.new) }
 {
+    let reset = u32::from(presets.reset());
     *a += error.unsigned_abs();
     *b += error;
     count(a, b, n, reset);
