@@ -1,4 +1,5 @@
 pub mod ContextLemmas
+pub mod ErrorLemmas
 pub mod GolombParameterLemmas
 pub mod RunLemmas
 pub mod SignedLemmas

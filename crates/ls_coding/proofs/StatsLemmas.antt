@@ -156,20 +156,20 @@ step_is reset a n size b c e a1 n1 b1 sum b2 c2 p q i j k l m =
 
 -- ---- what counters keep to
 
-choose : {A : Type 0} → (test : Bool) (x y : A) (P : A → Type 0) → (test ≡ true → P x) → (test ≡ false → P y) → P (cond test x y)
+pub choose : {A : Type 0} → (test : Bool) (x y : A) (P : A → Type 0) → (test ≡ true → P x) → (test ≡ false → P y) → P (cond test x y)
 choose true x y P f g = f refl
 choose false x y P f g = g refl
 
-le_true : (x y : ℤ) → int_le x y ≡ true → x ≤ℤ y
+pub le_true : (x y : ℤ) → int_le x y ≡ true → x ≤ℤ y
 le_true x y e = grind (arith, ints)
 
-le_false : (x y : ℤ) → int_le x y ≡ false → y <ℤ x
+pub le_false : (x y : ℤ) → int_le x y ≡ false → y <ℤ x
 le_false x y e = grind (arith, ints)
 
-lt_true : (x y : ℤ) → int_lt x y ≡ true → x <ℤ y
+pub lt_true : (x y : ℤ) → int_lt x y ≡ true → x <ℤ y
 lt_true x y e = grind (arith, ints)
 
-lt_false : (x y : ℤ) → int_lt x y ≡ false → y ≤ℤ x
+pub lt_false : (x y : ℤ) → int_lt x y ≡ false → y ≤ℤ x
 lt_false x y e = grind (arith, ints)
 
 record IsMean (n : ℕ) (b : ℤ) : Type 0 where

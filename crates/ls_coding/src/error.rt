@@ -1,12 +1,28 @@
 //! Prediction, errors, and the values that stand for them (T.87 A.4, A.5).
-ghost use Rattle.std.specs.Prelude.{◌≡◌, ◌+◌, ◌/◌, ◌^◌, ◌<◌, ◌≤◌, max, pos, neg_ℤ, ◌-ℤ◌, ◌≤ℤ◌, ◌<ℤ◌, int_le, if◌then◌else◌};
-ghost use Rattle.ls_coding.specs.Numbers.{golomb_parameter};
-ghost use Rattle.ls_coding.specs.Errors.{median, reduced};
+ghost use Rattle.std.specs.Prelude.{◌≡◌, ◌+◌, ◌-◌, ◌*◌, ◌/◌, ◌^◌, ◌<◌, ◌≤◌, ◌↔◌, IsTrue, max, ℕ, ℤ, pos, neg_ℤ, ◌+ℤ◌, ◌-ℤ◌, ◌≤ℤ◌, ◌<ℤ◌, int_le, int_lt, if◌then◌else◌};
+ghost use Rattle.ls_frame.specs.Parameters.{range_of};
+ghost use Rattle.ls_coding.specs.Numbers.{golomb_parameter, between};
+ghost use Rattle.ls_coding.specs.Contexts.{signed};
+ghost use Rattle.ls_coding.specs.Samples.{AreSamples};
+ghost use Rattle.ls_coding.specs.Errors.{median, predicted, reduced, error_of, IsReduced, leans, mapped};
 
 use crate::neighbours::Neighbours;
+use ls_frame::Presets;
+
+/// The prediction of a sample, corrected by its context's C (A.4.1, A.4.2).
+pub fn predicted(presets: Presets, negative: bool, bias: i32, neighbours: &Neighbours) -> u16
+    requires samples { AreSamples presets.maxval neighbours.now }
+    requires low { neg_ℤ (pos 128) ≤ℤ bias }
+    requires high { bias ≤ℤ pos 127 }
+    ensures value { pos result ≡ predicted presets negative bias neighbours.now }
+    ensures within { result ≤ presets.maxval }
+{
+    let correction = signed(negative, bias);
+    clamped(i32::from(median(neighbours)) + correction, presets.maxval())
+}
 
 /// The edge-detecting predictor (A.4.1).
-pub fn median(neighbours: &Neighbours) -> u16
+fn median(neighbours: &Neighbours) -> u16
     ensures value { result ≡ median neighbours.now }
     ensures within { result ≤ max neighbours.now.a neighbours.now.b }
 {
@@ -21,14 +37,54 @@ pub fn median(neighbours: &Neighbours) -> u16
     }
 }
 
+/// `number`, or the bound of 0 to `greatest` that it is past.
+fn clamped(number: i32, greatest: u16) -> u16
+    requires low { neg_ℤ (pos 131072) ≤ℤ number }
+    requires high { number ≤ℤ pos 131072 }
+    ensures value { pos result ≡ between (pos 0) (pos greatest) number }
+    ensures within { result ≤ greatest }
+{
+    if number < 0 {
+        return 0;
+    }
+    let size = number.unsigned_abs();
+    if size > u32::from(greatest) {
+        return greatest;
+    }
+    size as u16
+}
+
+/// `number`, with its sign changed where SIGN is -1.
+fn signed(negative: bool, number: i32) -> i32
+    requires low { neg_ℤ (pos 131072) ≤ℤ number }
+    requires high { number ≤ℤ pos 131072 }
+    ensures { result ≡ signed negative number }
+{
+    if negative {
+        return -number;
+    }
+    number
+}
+
+/// The reduced error of a sample for a prediction (A.4.3, A.4.5).
+pub fn error_of(presets: Presets, negative: bool, prediction: u16, sample: u16) -> i32
+    requires prediction { prediction ≤ presets.maxval }
+    requires sample { sample ≤ presets.maxval }
+    ensures value { result ≡ error_of presets negative (pos prediction) sample }
+    ensures reduced { IsReduced (range_of presets.maxval) result }
+{
+    let difference = i32::from(sample) - i32::from(prediction);
+    reduced(presets.range(), signed(negative, difference))
+}
+
 /// An error modulo RANGE (A.4.5).
-pub fn reduced(range: u32, error: i32) -> i32
+fn reduced(range: u32, error: i32) -> i32
+    requires some { 1 ≤ range }
     requires range { range ≤ 65536 }
-    requires low { neg_ℤ (pos range) ≤ℤ error }
+    requires low { neg_ℤ (pos range) <ℤ error }
     requires high { error <ℤ pos range }
     ensures value { result ≡ reduced range error }
-    ensures low { neg_ℤ (pos 32768) ≤ℤ result }
-    ensures high { result ≤ℤ pos 32767 }
+    ensures reduced { IsReduced range result }
 {
     if error < 0 {
         return centred(range, range - error.unsigned_abs());
@@ -39,15 +95,59 @@ pub fn reduced(range: u32, error: i32) -> i32
 /// A number below `range`, or so much less where it is in the upper half.
 fn centred(range: u32, number: u32) -> i32
     requires range { range ≤ 65536 }
-    requires number { number ≤ range }
+    requires number { number < range }
     ensures value { result ≡ (if int_le (pos ((range + 1) / 2)) (pos number) then pos number -ℤ pos range else pos number) }
-    ensures low { neg_ℤ (pos 32768) ≤ℤ result }
-    ensures high { result ≤ℤ pos 32767 }
+    ensures reduced { IsReduced range result }
 {
     if number >= (range + 1) / 2 {
         return number as i32 - range as i32;
     }
     number as i32
+}
+
+/// Whether an error is one that reducing gives.
+pub fn is_reduced(range: u32, error: i32) -> bool
+    requires range { range ≤ 65536 }
+    requires low { neg_ℤ (pos 131072) ≤ℤ error }
+    requires high { error ≤ℤ pos 131072 }
+    ensures { IsTrue result ↔ IsReduced range error }
+{
+    if error < 0 {
+        return error.unsigned_abs() <= range / 2;
+    }
+    error.unsigned_abs() < (range + 1) / 2
+}
+
+/// The sample that has a reduced error for a prediction.
+pub fn sample_of(presets: Presets, negative: bool, prediction: u16, error: i32) -> u16
+    requires prediction { prediction ≤ presets.maxval }
+    requires reduced { IsReduced (range_of presets.maxval) error }
+    ensures error { error_of presets negative (pos prediction) result ≡ error }
+    ensures within { result ≤ presets.maxval }
+    ensures only { (sample : ℕ) → sample ≤ presets.maxval
+        → error_of presets negative (pos prediction) sample ≡ error → sample ≡ result }
+{
+    let difference = signed(negative, error);
+    brought_back(i32::from(prediction) + difference, presets.range()) as u16
+}
+
+/// A number that is at most `range` away from 0 to `range - 1`, modulo `range`.
+fn brought_back(number: i32, range: u32) -> u32
+    requires range { range ≤ 65536 }
+    requires low { neg_ℤ (pos range) ≤ℤ number }
+    requires high { number <ℤ (pos range +ℤ pos range) }
+    ensures value { pos result ≡ (if int_lt number (pos 0) then number +ℤ pos range
+        else (if int_le (pos range) number then number -ℤ pos range else number)) }
+    ensures within { result < range }
+{
+    if number < 0 {
+        return range - number.unsigned_abs();
+    }
+    let size = number.unsigned_abs();
+    if size >= range {
+        return size - range;
+    }
+    size
 }
 
 /// The Golomb parameter (A.5.1): the least k with n * 2^k at least a.
@@ -58,4 +158,41 @@ pub fn golomb_parameter(n: u32, a: u32) -> u32
 {
     let k = n.leading_zeros().saturating_sub(a.leading_zeros());
     if n << k < a { k + 1 } else { k }
+}
+
+/// Whether the odd values are those of the errors from 0 on (A.5.2).
+pub fn leans(k: u32, b: i32, n: u32) -> bool
+    requires few { n ≤ 65536 }
+    requires low { neg_ℤ (pos 131072) ≤ℤ b }
+    requires high { b ≤ℤ pos 131072 }
+    ensures { result ≡ leans k b n }
+{
+    k == 0 && 2 * b <= -(n as i32)
+}
+
+/// The value that stands for an error (A.5.2).
+pub fn mapped(leaning: bool, error: i32) -> u32
+    requires low { neg_ℤ (pos 32768) ≤ℤ error }
+    requires high { error ≤ℤ pos 32767 }
+    ensures { result ≡ mapped leaning error }
+{
+    if error < 0 {
+        return 2 * error.unsigned_abs() - if leaning { 2 } else { 1 };
+    }
+    2 * error.unsigned_abs() + u32::from(leaning)
+}
+
+/// The error that a value stands for (A.5.2).
+pub fn unmapped(leaning: bool, value: u32) -> i32
+    requires { value ≤ 65536 }
+    ensures value { mapped leaning result ≡ value }
+    ensures only { (e : ℤ) → mapped leaning e ≡ value → e ≡ result }
+    ensures low { neg_ℤ (pos 32769) ≤ℤ result }
+    ensures high { result ≤ℤ pos 32769 }
+{
+    let half = (value / 2) as i32;
+    if (value % 2 == 1) == leaning {
+        return half;
+    }
+    -1 - half
 }

@@ -1,0 +1,152 @@
+-- Reduced errors, and the samples that have them.
+use Rattle.std.proofs.Common.{◌≡◌, ℕ, ◌+◌, ◌/◌, ◌<◌, ◌≤◌, Bool, true, false, cond, ℤ, pos, neg_ℤ, ◌+ℤ◌, ◌-ℤ◌, ◌≤ℤ◌, ◌<ℤ◌, ◌⊎◌, inl, inr, refl, sym, ◌∙◌, ap, subst, arith}
+use Rattle.std.specs.Prelude.{int_le, int_lt}
+use Rattle.std.proofs.lemmas.Int.{ints}
+use mir.Syntax.{w32}
+use mir.Val.{to_z, of_z}
+use Rattle.ls_coding.specs.Contexts.{signed}
+use Rattle.ls_coding.specs.Errors.{IsReduced, wrapped, reduced}
+use Rattle.ls_coding.proofs.StatsLemmas.{choose, le_true, le_false, lt_true, lt_false, mean_through}
+
+-- d is e, or a RANGE away from it
+data IsAlike (range : ℕ) (d e : ℤ) : Type 0 where
+  here : d ≡ e → IsAlike range d e
+  above : d ≡ e +ℤ pos range → IsAlike range d e
+  below : d ≡ e -ℤ pos range → IsAlike range d e
+
+centred : ℕ → ℤ → ℤ
+centred range up = cond (int_le (pos ((range + 1) / 2)) up) (up -ℤ pos range) up
+
+centred_alike : (range : ℕ) (d : ℤ) → d <ℤ pos range → IsAlike range d (centred range d)
+unfolding centred
+centred_alike range d high =
+    choose (int_le (pos ((range + 1) / 2)) d) (d -ℤ pos range) d (IsAlike range d) (λ e. above (omega (arith, ints))) (λ e. here refl)
+
+wrapped_alike : (range : ℕ) (d : ℤ) → neg_ℤ (pos range) <ℤ d → d <ℤ pos 0 → IsAlike range d (centred range (d +ℤ pos range))
+unfolding centred
+wrapped_alike range d low high =
+    choose (int_le (pos ((range + 1) / 2)) (d +ℤ pos range)) (d +ℤ pos range -ℤ pos range) (d +ℤ pos range) (IsAlike range d)
+    (λ e. here (omega (arith, ints))) (λ e. below (omega (arith, ints)))
+
+-- reducing takes off no more than a RANGE
+reduced_alike : (range : ℕ) (d : ℤ) → neg_ℤ (pos range) <ℤ d → d <ℤ pos range → IsAlike range d (reduced range d)
+unfolding centred
+reduced_alike range d low high =
+    choose (int_lt d (pos 0)) (d +ℤ pos range) d (λ up. IsAlike range d (centred range up))
+    (λ e. wrapped_alike range d low (lt_true d (pos 0) e)) (λ e. centred_alike range d high)
+
+centred_reduced : (range : ℕ) (up : ℤ) → pos 0 ≤ℤ up → up <ℤ pos range → IsReduced range (centred range up)
+unfolding centred
+centred_reduced range up low high =
+    choose (int_le (pos ((range + 1) / 2)) up) (up -ℤ pos range) up (IsReduced range)
+    (λ e. let h = le_true (pos ((range + 1) / 2)) up e in record { low = omega (arith, ints, h); high = omega (arith, ints, h) })
+    (λ e. let h = le_false (pos ((range + 1) / 2)) up e in record { low = omega (arith, ints, h); high = omega (arith, ints, h) })
+
+reduced_reduced : (range : ℕ) (d : ℤ) → neg_ℤ (pos range) <ℤ d → d <ℤ pos range → IsReduced range (reduced range d)
+unfolding centred
+reduced_reduced range d low high =
+    choose (int_lt d (pos 0)) (d +ℤ pos range) d (λ up. IsReduced range (centred range up))
+    (λ e. let h = lt_true d (pos 0) e in centred_reduced range (d +ℤ pos range) (omega (arith, ints, h)) (omega (arith, ints, h)))
+    (λ e. let h = lt_false d (pos 0) e in centred_reduced range d h high)
+
+-- no two reduced errors are alike
+alike_once : (range : ℕ) (d e f : ℤ) → IsReduced range e → IsReduced range f → IsAlike range d e → IsAlike range d f → e ≡ f
+alike_once range d e f h k (here p) (here q) = omega (arith, ints)
+alike_once range d e f h k (here p) (above q) = absurd (omega (arith, ints, h.low, h.high, k.low, k.high))
+alike_once range d e f h k (here p) (below q) = absurd (omega (arith, ints, h.low, h.high, k.low, k.high))
+alike_once range d e f h k (above p) (here q) = absurd (omega (arith, ints, h.low, h.high, k.low, k.high))
+alike_once range d e f h k (above p) (above q) = omega (arith, ints)
+alike_once range d e f h k (above p) (below q) = absurd (omega (arith, ints, h.low, h.high, k.low, k.high))
+alike_once range d e f h k (below p) (here q) = absurd (omega (arith, ints, h.low, h.high, k.low, k.high))
+alike_once range d e f h k (below p) (above q) = absurd (omega (arith, ints, h.low, h.high, k.low, k.high))
+alike_once range d e f h k (below p) (below q) = omega (arith, ints)
+
+reduced_is : (range : ℕ) (d e : ℤ) → neg_ℤ (pos range) <ℤ d → d <ℤ pos range → IsReduced range e → IsAlike range d e → reduced range d ≡ e
+reduced_is range d e low high h alike =
+    alike_once range d (reduced range d) e (reduced_reduced range d low high) h (reduced_alike range d low high) alike
+
+-- ---- the sample of an error
+
+brought_back : ℕ → ℤ → ℤ
+brought_back range z = cond (int_lt z (pos 0)) (z +ℤ pos range) (cond (int_le (pos range) z) (z -ℤ pos range) z)
+
+brought_alike : (range : ℕ) (z : ℤ) → IsAlike range z (brought_back range z)
+unfolding brought_back
+brought_alike range z =
+    choose (int_lt z (pos 0)) (z +ℤ pos range) (cond (int_le (pos range) z) (z -ℤ pos range) z) (IsAlike range z)
+    (λ e. below (omega (arith, ints)))
+    (λ e. choose (int_le (pos range) z) (z -ℤ pos range) z (IsAlike range z) (λ f. above (omega (arith, ints))) (λ f. here refl))
+
+-- a sample that is alike the prediction with the error added has the error
+has_error : (range px x : ℕ) (negative : Bool) (e z : ℤ) → z ≡ pos px +ℤ signed negative e → IsAlike range z (pos x) → IsAlike range (signed negative (pos x -ℤ pos px)) e
+has_error range px x true e z sum (here p) = here (omega (arith, ints))
+has_error range px x true e z sum (above p) = above (omega (arith, ints))
+has_error range px x true e z sum (below p) = below (omega (arith, ints))
+has_error range px x false e z sum (here p) = here (omega (arith, ints))
+has_error range px x false e z sum (above p) = below (omega (arith, ints))
+has_error range px x false e z sum (below p) = above (omega (arith, ints))
+
+difference_low : (range px x : ℕ) (negative : Bool) → px < range → x < range → neg_ℤ (pos range) <ℤ signed negative (pos x -ℤ pos px)
+difference_low range px x true h k = omega (arith, ints)
+difference_low range px x false h k = omega (arith, ints)
+
+difference_high : (range px x : ℕ) (negative : Bool) → px < range → x < range → signed negative (pos x -ℤ pos px) <ℤ pos range
+difference_high range px x true h k = omega (arith, ints)
+difference_high range px x false h k = omega (arith, ints)
+
+pub sample_has : (range px x : ℕ) (negative : Bool) (e z : ℤ) → px < range → x < range → IsReduced range e → z ≡ pos px +ℤ signed negative e
+    → pos x ≡ cond (int_lt z (pos 0)) (z +ℤ pos range) (cond (int_le (pos range) z) (z -ℤ pos range) z)
+    → reduced range (signed negative (pos x -ℤ pos px)) ≡ e
+unfolding brought_back
+sample_has range px x negative e z h k error sum back =
+    reduced_is range (signed negative (pos x -ℤ pos px)) e (difference_low range px x negative h k) (difference_high range px x negative h k) error
+    (has_error range px x negative e z sum (subst (IsAlike range z) (sym back) (brought_alike range z)))
+
+-- no other sample has it
+same_sample : (range px x y : ℕ) (negative : Bool) (e : ℤ) → x < range → y < range
+    → IsAlike range (signed negative (pos x -ℤ pos px)) e → IsAlike range (signed negative (pos y -ℤ pos px)) e → x ≡ y
+same_sample range px x y true e h k (here p) (here q) = omega (arith, ints)
+same_sample range px x y true e h k (here p) (above q) = omega (arith, ints)
+same_sample range px x y true e h k (here p) (below q) = omega (arith, ints)
+same_sample range px x y true e h k (above p) (here q) = omega (arith, ints)
+same_sample range px x y true e h k (above p) (above q) = omega (arith, ints)
+same_sample range px x y true e h k (above p) (below q) = absurd (omega (arith, ints))
+same_sample range px x y true e h k (below p) (here q) = omega (arith, ints)
+same_sample range px x y true e h k (below p) (above q) = absurd (omega (arith, ints))
+same_sample range px x y true e h k (below p) (below q) = omega (arith, ints)
+same_sample range px x y false e h k (here p) (here q) = omega (arith, ints)
+same_sample range px x y false e h k (here p) (above q) = omega (arith, ints)
+same_sample range px x y false e h k (here p) (below q) = omega (arith, ints)
+same_sample range px x y false e h k (above p) (here q) = omega (arith, ints)
+same_sample range px x y false e h k (above p) (above q) = omega (arith, ints)
+same_sample range px x y false e h k (above p) (below q) = absurd (omega (arith, ints))
+same_sample range px x y false e h k (below p) (here q) = omega (arith, ints)
+same_sample range px x y false e h k (below p) (above q) = absurd (omega (arith, ints))
+same_sample range px x y false e h k (below p) (below q) = omega (arith, ints)
+
+pub sample_once : (range px x y : ℕ) (negative : Bool) (e z : ℤ) → px < range → x < range → y < range → z ≡ pos px +ℤ signed negative e
+    → pos x ≡ cond (int_lt z (pos 0)) (z +ℤ pos range) (cond (int_le (pos range) z) (z -ℤ pos range) z)
+    → reduced range (signed negative (pos y -ℤ pos px)) ≡ e → y ≡ x
+unfolding brought_back
+sample_once range px x y negative e z h k l sum back same =
+    same_sample range px y x negative e l k
+    (subst (IsAlike range (signed negative (pos y -ℤ pos px))) same
+    (reduced_alike range (signed negative (pos y -ℤ pos px)) (difference_low range px y negative h l) (difference_high range px y negative h l)))
+    (has_error range px x negative e z sum (subst (IsAlike range z) (sym back) (brought_alike range z)))
+
+-- ---- as the code passes numbers
+
+-- a sum of two numbers that aren't large
+pub sum_is : (x y p q : ℤ) → x ≡ p → y ≡ q → neg_ℤ (pos 131072) ≤ℤ (p +ℤ q) → (p +ℤ q) ≤ℤ pos 131072 → to_z w32 (of_z w32 (x +ℤ y)) ≡ p +ℤ q
+sum_is x y p q a b low high = ap (λ z. to_z w32 (of_z w32 (z +ℤ y))) a ∙ ap (λ z. to_z w32 (of_z w32 (p +ℤ z))) b ∙ mean_through (p +ℤ q) low high
+
+pub difference_is : (x y p q : ℤ) → x ≡ p → y ≡ q → neg_ℤ (pos 131072) ≤ℤ (p -ℤ q) → (p -ℤ q) ≤ℤ pos 131072 → to_z w32 (of_z w32 (x -ℤ y)) ≡ p -ℤ q
+difference_is x y p q a b low high = ap (λ z. to_z w32 (of_z w32 (z -ℤ y))) a ∙ ap (λ z. to_z w32 (of_z w32 (p -ℤ z))) b ∙ mean_through (p -ℤ q) low high
+
+pub signed_low : (negative : Bool) (maxval px : ℕ) (e : ℤ) → maxval ≤ 65535 → px ≤ maxval → IsReduced (maxval + 1) e → neg_ℤ (pos 131072) ≤ℤ (pos px +ℤ signed negative e)
+signed_low true maxval px e most h k = omega (arith, ints, k.low, k.high)
+signed_low false maxval px e most h k = omega (arith, ints, k.low, k.high)
+
+pub signed_high : (negative : Bool) (maxval px : ℕ) (e : ℤ) → maxval ≤ 65535 → px ≤ maxval → IsReduced (maxval + 1) e → (pos px +ℤ signed negative e) ≤ℤ pos 131072
+signed_high true maxval px e most h k = omega (arith, ints, k.low, k.high)
+signed_high false maxval px e most h k = omega (arith, ints, k.low, k.high)
