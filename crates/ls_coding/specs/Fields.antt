@@ -1,8 +1,8 @@
 -- How a state's arrays are read as counters.
-use Rattle.std.specs.Prelude.{ℕ, ◌+◌, ℤ, pos, List, map, slice_index, slice_index_or}
+use Rattle.std.specs.Prelude.{ℕ, ◌+◌, ◌<◌, ℤ, pos, List, map, slice_index, slice_index_or}
 use Rattle.std.specs.List.{range_with_len}
-use Rattle.ls_coding.specs.Stats.{Stats}
-use Rattle.ls_coding.specs.Interruptions.{Counts}
+use Rattle.ls_coding.specs.Stats.{Stats, AreSound}
+use Rattle.ls_coding.specs.Interruptions.{Counts, AreSoundCounts}
 
 abbrev pub stats_at : List ℕ → List ℤ → List ℤ → List ℕ → ℕ → Stats
 stats_at a b c n number = record {
@@ -21,3 +21,9 @@ counts_at a n nn which = record {
   n = slice_index n (365 + which);
   nn = slice_index nn which;
 }
+
+-- what the arrays keep to, for a RESET and a bound on errors
+pub record AreAllSound (reset bound : ℕ) (a : List ℕ) (b c : List ℤ) (n nn : List ℕ) : Type 0 where
+  pub regular : (number : ℕ) → number < 365 → AreSound reset bound (stats_at a b c n number)
+  pub steep : AreSoundCounts reset bound (counts_at a n nn 0)
+  pub flat : AreSoundCounts reset bound (counts_at a n nn 1)

@@ -8,6 +8,7 @@
 #![tactic(auto)]
 
 pub mod context;
+pub mod counters;
 pub mod error;
 pub mod neighbours;
 pub mod run;

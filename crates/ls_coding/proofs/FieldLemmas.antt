@@ -1,0 +1,81 @@
+-- The counters of one context, changed among those of all.
+use Rattle.std.proofs.Common.{◌≡◌, ◌≢◌, ℕ, ◌+◌, ◌<◌, Bool, true, false, eqb, ℤ, pos, List, length, map, get_or, refl, sym, ◌∙◌, ap, subst, arith, ◌⊎◌, inl, inr}
+use Rattle.std.specs.List.{range_with_len}
+use Rattle.std.proofs.Math.ListN.{set}
+use Rattle.std.proofs.lemmas.Bool.{eqb-true, eqb-false}
+use Rattle.std.proofs.lemmas.List.{get_or-set_same, get_or-set_other, length-set, ext_get_or}
+use Rattle.std.proofs.lemmas.List.FromFn.{get_or-map-range_with_len, length-map-range_with_len}
+use Rattle.ls_coding.specs.Stats.{Stats, stats, AreSound}
+use Rattle.ls_coding.specs.Interruptions.{Counts, AreSoundCounts}
+use Rattle.ls_coding.specs.Fields.{stats_at, contexts_of, counts_at, AreAllSound}
+
+same_or_by : (i j : ℕ) (test : Bool) → eqb i j ≡ test → (i ≡ j) ⊎ (i ≢ j)
+same_or_by i j true e = inl (eqb-true i j e)
+same_or_by i j false e = inr (eqb-false i j e)
+
+pub same_or_not : (i j : ℕ) → (i ≡ j) ⊎ (i ≢ j)
+same_or_not i j = same_or_by i j (eqb i j) refl
+
+-- a list given place by place, changed at one
+pub map_set : {A : Type 0} → (f g : ℕ → A) (count i : ℕ) (x : A) → i < count → g i ≡ x → ((j : ℕ) → j < count → j ≢ i → g j ≡ f j)
+    → map g (range_with_len 0 count) ≡ set (map f (range_with_len 0 count)) i x
+map_set f g count i x within here others =
+    let whole : length (map f (range_with_len 0 count)) ≡ count = length-map-range_with_len f 0 count in
+    let inside : i < length (map f (range_with_len 0 count)) = omega arith in
+    ext_get_or x (map g (range_with_len 0 count)) (set (map f (range_with_len 0 count)) i x)
+    (length-map-range_with_len g 0 count ∙ sym (length-set (map f (range_with_len 0 count)) i x ∙ whole))
+    (λ j h.
+    let low : j < count = omega (arith, length-map-range_with_len g 0 count) in
+    get_or-map-range_with_len g 0 count j j x low (omega arith)
+    ∙ elim (same_or_not j i) [
+      | inl same ↦ ap g same ∙ here ∙ sym (ap (λ k. get_or (set (map f (range_with_len 0 count)) i x) k x) same ∙ get_or-set_same (map f (range_with_len 0 count)) i x x inside)
+      | inr other ↦ others j low other ∙ sym (get_or-set_other (map f (range_with_len 0 count)) i j x x other ∙ get_or-map-range_with_len f 0 count j j x low (omega arith))
+    ])
+
+pub record AreWhole (a : List ℕ) (b c : List ℤ) (n : List ℕ) : Type 0 where
+  pub all_a : length a ≡ 367
+  pub all_b : length b ≡ 365
+  pub all_c : length c ≡ 365
+  pub all_n : length n ≡ 367
+
+at_same : (a n : List ℕ) (b c : List ℤ) (i x w : ℕ) (y z : ℤ) → AreWhole a b c n → i < 365
+    → stats_at (set a i x) (set b i y) (set c i z) (set n i w) i ≡ stats x y z w
+at_same a n b c i x w y z whole h =
+    let in_a : i < length a = omega (arith, whole.all_a) in
+    let in_b : i < length b = omega (arith, whole.all_b) in
+    let in_c : i < length c = omega (arith, whole.all_c) in
+    let in_n : i < length n = omega (arith, whole.all_n) in
+    ap (λ v. stats v (get_or (set b i y) i (pos 0)) (get_or (set c i z) i (pos 0)) (get_or (set n i w) i 0)) (get_or-set_same a i x 0 in_a)
+    ∙ ap (λ v. stats x v (get_or (set c i z) i (pos 0)) (get_or (set n i w) i 0)) (get_or-set_same b i y (pos 0) in_b)
+    ∙ ap (λ v. stats x y v (get_or (set n i w) i 0)) (get_or-set_same c i z (pos 0) in_c)
+    ∙ ap (λ v. stats x y z v) (get_or-set_same n i w 0 in_n)
+
+at_other : (a n : List ℕ) (b c : List ℤ) (i x w : ℕ) (y z : ℤ) (j : ℕ) → j ≢ i
+    → stats_at (set a i x) (set b i y) (set c i z) (set n i w) j ≡ stats_at a b c n j
+at_other a n b c i x w y z j h =
+    ap (λ v. stats v (get_or (set b i y) j (pos 0)) (get_or (set c i z) j (pos 0)) (get_or (set n i w) j 0)) (get_or-set_other a i j x 0 h)
+    ∙ ap (λ v. stats (get_or a j 0) v (get_or (set c i z) j (pos 0)) (get_or (set n i w) j 0)) (get_or-set_other b i j y (pos 0) h)
+    ∙ ap (λ v. stats (get_or a j 0) (get_or b j (pos 0)) v (get_or (set n i w) j 0)) (get_or-set_other c i j z (pos 0) h)
+    ∙ ap (λ v. stats (get_or a j 0) (get_or b j (pos 0)) (get_or c j (pos 0)) v) (get_or-set_other n i j w 0 h)
+
+pub contexts_set : (a n : List ℕ) (b c : List ℤ) (i x w : ℕ) (y z : ℤ) (t : Stats) → AreWhole a b c n → i < 365 → stats x y z w ≡ t
+    → contexts_of (set a i x) (set b i y) (set c i z) (set n i w) ≡ set (contexts_of a b c n) i t
+unfolding contexts_of
+contexts_set a n b c i x w y z t whole h e =
+    map_set (stats_at a b c n) (stats_at (set a i x) (set b i y) (set c i z) (set n i w)) 365 i t h (at_same a n b c i x w y z whole h ∙ e)
+    (λ j low other. at_other a n b c i x w y z j other)
+
+pub regular_sound : (reset bound : ℕ) (a n : List ℕ) (b c : List ℤ) (nn : List ℕ) (i x w : ℕ) (y z : ℤ) → AreWhole a b c n → i < 365
+    → AreAllSound reset bound a b c n nn → AreSound reset bound (stats x y z w)
+    → AreAllSound reset bound (set a i x) (set b i y) (set c i z) (set n i w) nn
+regular_sound reset bound a n b c nn i x w y z whole h sound here =
+    let far_0 : 365 ≢ i = omega arith in
+    let far_1 : 366 ≢ i = omega arith in
+    record {
+      regular = λ j low. elim (same_or_not j i) [
+        | inl same ↦ subst (λ k. AreSound reset bound (stats_at (set a i x) (set b i y) (set c i z) (set n i w) k)) (sym same) (subst (AreSound reset bound) (sym (at_same a n b c i x w y z whole h)) here)
+        | inr other ↦ subst (AreSound reset bound) (sym (at_other a n b c i x w y z j other)) (sound.regular j low)
+      ];
+      steep = rw (get_or-set_other a i 365 x 0 far_0, get_or-set_other n i 365 w 0 far_0) sound.steep;
+      flat = rw (get_or-set_other a i 366 x 0 far_1, get_or-set_other n i 366 w 0 far_1) sound.flat;
+    }

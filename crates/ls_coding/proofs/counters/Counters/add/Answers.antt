@@ -1,0 +1,18 @@
+use Rattle.std.proofs.Common.{ap, ◌∙◌, rules}
+use Rattle.ls_coding.specs.Stats.{stats_step}
+use Rattle.ls_coding.specs.Fields.{stats_at}
+use Rattle.ls_coding.proofs.SignedLemmas.{through}
+use Rattle.ls_coding.proofs.FieldLemmas.{AreWhole, contexts_set, regular_sound}
+use Rattle.ls_coding.proofs.counters.Counters.add.Goals as goal
+
+whole : (c : goal.After-update) → AreWhole c.args.self.now.a c.args.self.now.b c.args.self.now.c c.args.self.now.n
+whole c = record { all_a = search rules; all_b = search rules; all_c = search rules; all_n = search rules }
+
+pub returns-clause-contexts : goal.returns-clause-contexts
+returns-clause-contexts c =
+    contexts_set _ _ _ _ c.args.number _ _ _ _ _ (whole c) c.requires.number
+    (c.update.ensures.step
+    ∙ ap (stats_step c.args.presets.reset (stats_at c.args.self.now.a c.args.self.now.b c.args.self.now.c c.args.self.now.n c.args.number)) (through c.args.error c.ranges.error.sfits))
+
+pub returns-clause-sound : goal.returns-clause-sound
+returns-clause-sound c = regular_sound _ _ _ _ _ _ _ c.args.number _ _ _ _ (whole c) c.requires.number c.requires.sound c.update.ensures.sound
