@@ -1,12 +1,14 @@
 -- The counters of one context, changed among those of all.
-use Rattle.std.proofs.Common.{◌≡◌, ◌≢◌, ℕ, ◌+◌, ◌<◌, Bool, true, false, eqb, ℤ, pos, List, length, map, get_or, refl, sym, ◌∙◌, ap, subst, arith, ◌⊎◌, inl, inr}
+use Rattle.std.proofs.Common.{◌≡◌, ◌≢◌, ℕ, ◌+◌, ◌<◌, ◌≤◌, ◌*◌, Bool, true, false, eqb, ℤ, pos, List, length, map, get_or, refl, sym, ◌∙◌, ap, subst, arith, ◌⊎◌, inl, inr}
 use Rattle.std.specs.List.{range_with_len}
 use Rattle.std.proofs.Math.ListN.{set}
+use Rattle.std.proofs.lemmas.Int.{ints}
 use Rattle.std.proofs.lemmas.Bool.{eqb-true, eqb-false}
 use Rattle.std.proofs.lemmas.List.{get_or-set_same, get_or-set_other, length-set, ext_get_or}
 use Rattle.std.proofs.lemmas.List.FromFn.{get_or-map-range_with_len, length-map-range_with_len}
-use Rattle.ls_coding.specs.Stats.{Stats, stats, AreSound}
-use Rattle.ls_coding.specs.Interruptions.{Counts, AreSoundCounts}
+use Rattle.ls_frame.specs.Parameters.{Parameters, IsLegal}
+use Rattle.ls_coding.specs.Stats.{Stats, stats, error_bound, AreSound, first_a, first_stats}
+use Rattle.ls_coding.specs.Interruptions.{Counts, counts, first_counts, AreSoundCounts}
 use Rattle.ls_coding.specs.Fields.{stats_at, contexts_of, counts_at, AreAllSound}
 
 same_or_by : (i j : ℕ) (test : Bool) → eqb i j ≡ test → (i ≡ j) ⊎ (i ≢ j)
@@ -31,6 +33,14 @@ map_set f g count i x within here others =
       | inl same ↦ ap g same ∙ here ∙ sym (ap (λ k. get_or (set (map f (range_with_len 0 count)) i x) k x) same ∙ get_or-set_same (map f (range_with_len 0 count)) i x x inside)
       | inr other ↦ others j low other ∙ sym (get_or-set_other (map f (range_with_len 0 count)) i j x x other ∙ get_or-map-range_with_len f 0 count j j x low (omega arith))
     ])
+
+pub map_alike : {A : Type 0} → (f g : ℕ → A) (count : ℕ) (x : A) → ((j : ℕ) → j < count → g j ≡ f j) → map g (range_with_len 0 count) ≡ map f (range_with_len 0 count)
+map_alike f g count x same =
+    ext_get_or x (map g (range_with_len 0 count)) (map f (range_with_len 0 count))
+    (length-map-range_with_len g 0 count ∙ sym (length-map-range_with_len f 0 count))
+    (λ j h.
+    let low : j < count = omega (arith, length-map-range_with_len g 0 count) in
+    get_or-map-range_with_len g 0 count j j x low (omega arith) ∙ same j low ∙ sym (get_or-map-range_with_len f 0 count j j x low (omega arith)))
 
 pub record AreWhole (a : List ℕ) (b c : List ℤ) (n : List ℕ) : Type 0 where
   pub all_a : length a ≡ 367
@@ -78,4 +88,49 @@ regular_sound reset bound a n b c nn i x w y z whole h sound here =
       ];
       steep = rw (get_or-set_other a i 365 x 0 far_0, get_or-set_other n i 365 w 0 far_0) sound.steep;
       flat = rw (get_or-set_other a i 366 x 0 far_1, get_or-set_other n i 366 w 0 far_1) sound.flat;
+    }
+
+-- ---- at a scan's start
+
+-- what every place of a list has
+abbrev pub AllAre : {A : Type 0} → List A → ℕ → A → A → Type 0
+AllAre xs count d x = (i : ℕ) → i < count → get_or xs i d ≡ x
+
+pub first_at : (a n : List ℕ) (b c : List ℤ) (p : Parameters) → AllAre a 367 0 (first_a p) → AllAre b 365 (pos 0) (pos 0) → AllAre c 365 (pos 0) (pos 0) → AllAre n 367 0 1
+    → (number : ℕ) → number < 365 → stats_at a b c n number ≡ first_stats p
+first_at a n b c p all_a all_b all_c all_n number h =
+    ap (λ v. stats v (get_or b number (pos 0)) (get_or c number (pos 0)) (get_or n number 0)) (all_a number (omega arith))
+    ∙ ap (λ v. stats (first_a p) v (get_or c number (pos 0)) (get_or n number 0)) (all_b number h)
+    ∙ ap (λ v. stats (first_a p) (pos 0) v (get_or n number 0)) (all_c number h)
+    ∙ ap (λ v. stats (first_a p) (pos 0) (pos 0) v) (all_n number (omega arith))
+
+pub first_counts_at : (a n nn : List ℕ) (p : Parameters) (which : ℕ) → AllAre a 367 0 (first_a p) → AllAre n 367 0 1 → AllAre nn 2 0 0
+    → which < 2 → counts_at a n nn which ≡ first_counts p
+first_counts_at a n nn p which all_a all_n all_nn h =
+    ap (λ v. counts v (get_or n (365 + which) 0) (get_or nn which 0)) (all_a (365 + which) (omega arith))
+    ∙ ap (λ v. counts (first_a p) v (get_or nn which 0)) (all_n (365 + which) (omega arith))
+    ∙ ap (λ v. counts (first_a p) 1 v) (all_nn which h)
+
+first_small : (p : Parameters) → IsLegal p → first_a p ≤ error_bound p.maxval
+first_small p legal = omega (arith, legal.some_maxval)
+
+pub first_sound : (a n nn : List ℕ) (b c : List ℤ) (p : Parameters) → IsLegal p → AllAre a 367 0 (first_a p) → AllAre b 365 (pos 0) (pos 0) → AllAre c 365 (pos 0) (pos 0) → AllAre n 367 0 1 → AllAre nn 2 0 0
+    → AreAllSound p.reset (error_bound p.maxval) a b c n nn
+first_sound a n nn b c p legal all_a all_b all_c all_n all_nn =
+    let some : 1 ≤ p.reset = omega (arith, legal.some_reset) in
+    let small : first_a p ≤ 1 * error_bound p.maxval = omega (arith, first_small p legal) in
+    let stats_sound : AreSound p.reset (error_bound p.maxval) (first_stats p) = record {
+      some = omega arith;
+      few = some;
+      sum = small;
+      mean_low = omega (arith, ints);
+      mean_high = omega (arith, ints);
+      bias_low = omega (arith, ints);
+      bias_high = omega (arith, ints);
+    } in
+    let counts_sound : AreSoundCounts p.reset (error_bound p.maxval) (first_counts p) = record { some = omega arith; few = some; sum = small; negative = omega arith } in
+    record {
+      regular = λ number h. subst (AreSound p.reset (error_bound p.maxval)) (sym (first_at a n b c p all_a all_b all_c all_n number h)) stats_sound;
+      steep = subst (AreSoundCounts p.reset (error_bound p.maxval)) (sym (first_counts_at a n nn p 0 all_a all_n all_nn (omega arith))) counts_sound;
+      flat = subst (AreSoundCounts p.reset (error_bound p.maxval)) (sym (first_counts_at a n nn p 1 all_a all_n all_nn (omega arith))) counts_sound;
     }

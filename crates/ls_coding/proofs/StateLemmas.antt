@@ -26,11 +26,11 @@ walk_is w ones index left a b c =
     ∙ ap (λ n. let walk : Walk = record { ones = w.ones; index = n; left = left } in walk) b
     ∙ ap (λ n. let walk : Walk = record { ones = w.ones; index = w.index; left = n } in walk) c
 
-abbrev made : Parameters → List Stats → Counts → Counts → ℕ → Bool → Coding
+abbrev pub made : Parameters → List Stats → Counts → Counts → ℕ → Bool → Coding
 made p contexts steep flat run_index broken = record { parameters = p; contexts = contexts; steep = steep; flat = flat; run_index = run_index; broken = broken }
 
 -- the same, part by part
-alike : (p : Parameters) (contexts others : List Stats) (steep steep' flat flat' : Counts) (index index' : ℕ) (broken broken' : Bool)
+pub alike : (p : Parameters) (contexts others : List Stats) (steep steep' flat flat' : Counts) (index index' : ℕ) (broken broken' : Bool)
     → contexts ≡ others → steep ≡ steep' → flat ≡ flat' → index ≡ index' → broken ≡ broken'
     → made p contexts steep flat index broken ≡ made p others steep' flat' index' broken'
 alike p contexts others steep steep' flat flat' index index' broken broken' a b c d e =

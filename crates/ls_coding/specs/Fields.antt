@@ -1,7 +1,8 @@
 -- How a state's arrays are read as counters.
-use Rattle.std.specs.Prelude.{ℕ, ◌+◌, ◌<◌, ℤ, pos, List, map, slice_index, slice_index_or}
+use Rattle.std.specs.Prelude.{◌≡◌, ℕ, ◌+◌, ◌<◌, ◌≤◌, ℤ, pos, List, map, slice_index, slice_index_or}
 use Rattle.std.specs.List.{range_with_len}
-use Rattle.ls_coding.specs.Stats.{Stats, AreSound}
+use Rattle.ls_frame.specs.Parameters.{Parameters, limit_of}
+use Rattle.ls_coding.specs.Stats.{Stats, AreSound, error_bound}
 use Rattle.ls_coding.specs.Interruptions.{Counts, AreSoundCounts}
 
 abbrev pub stats_at : List ℕ → List ℤ → List ℤ → List ℕ → ℕ → Stats
@@ -27,3 +28,9 @@ pub record AreAllSound (reset bound : ℕ) (a : List ℕ) (b c : List ℤ) (n nn
   pub regular : (number : ℕ) → number < 365 → AreSound reset bound (stats_at a b c n number)
   pub steep : AreSoundCounts reset bound (counts_at a n nn 0)
   pub flat : AreSoundCounts reset bound (counts_at a n nn 1)
+
+-- what a state keeps to
+pub record AreFields (p : Parameters) (limit run_index : ℕ) (a : List ℕ) (b c : List ℤ) (n nn : List ℕ) : Type 0 where
+  pub limit_is : limit ≡ limit_of p.maxval
+  pub index : run_index ≤ 31
+  pub sound : AreAllSound p.reset (error_bound p.maxval) a b c n nn

@@ -1,11 +1,19 @@
 //! The counters of every context (T.87 A.2.1).
-ghost use Rattle.std.specs.Prelude.{◌≡◌, ◌<◌, slice_set};
-ghost use Rattle.ls_frame.specs.Parameters.{range_of};
+ghost use Rattle.std.specs.Prelude.{◌≡◌, ◌<◌, ◌≤◌, ℕ, slice_set};
+ghost use Rattle.ls_frame.specs.Parameters.{range_of, limit_of};
+ghost use Rattle.ls_coding.specs.Samples.{AreSamples};
+ghost use Rattle.ls_coding.specs.Contexts.{context_of};
 ghost use Rattle.ls_coding.specs.Errors.{IsReduced};
-ghost use Rattle.ls_coding.specs.Stats.{stats_step, error_bound};
+ghost use Rattle.ls_coding.specs.Events.{regular_e, regular_word};
+ghost use Rattle.ls_coding.specs.Stats.{first_a, first_stats, stats_step, error_bound};
+ghost use Rattle.ls_coding.specs.Interruptions.{first_counts};
 ghost use Rattle.ls_coding.specs.Fields.{stats_at, contexts_of, counts_at, AreAllSound};
 
+use crate::context::context_at;
+use crate::error::{error_of, golomb_parameter, leans, mapped, predicted};
+use crate::neighbours::Neighbours;
 use crate::update::update;
+use crate::word::Word;
 use ls_frame::Presets;
 
 /// How many contexts of regular mode there are.
@@ -30,6 +38,65 @@ pub struct Counters {
 }
 
 impl Counters {
+    /// The counters at a scan's start.
+    pub fn new(presets: Presets) -> Counters
+        ensures contexts { (number : ℕ) → number < 365
+            → stats_at result.a result.b result.c result.n number ≡ first_stats presets }
+        ensures steep { counts_at result.a result.n result.nn 0 ≡ first_counts presets }
+        ensures flat { counts_at result.a result.n result.nn 1 ≡ first_counts presets }
+        ensures sound { AreAllSound presets.reset (error_bound presets.maxval)
+            result.a result.b result.c result.n result.nn }
+    {
+        let first = first_a(presets);
+        Counters {
+            a: [first; CONTEXTS],
+            b: [0; REGULAR],
+            c: [0; REGULAR],
+            n: [1; CONTEXTS],
+            nn: [0; 2],
+        }
+    }
+
+    /// The word of a sample of regular mode, whose error is counted in its context.
+    pub fn code(
+        &mut self,
+        presets: Presets,
+        limit: u32,
+        neighbours: &Neighbours,
+        sample: u16,
+    ) -> Word
+        requires samples { AreSamples presets.maxval neighbours.now }
+        requires sample { sample ≤ presets.maxval }
+        requires limit { limit ≡ limit_of presets.maxval }
+        requires sound { AreAllSound presets.reset (error_bound presets.maxval)
+            self.old.a self.old.b self.old.c self.old.n self.old.nn }
+        ensures word { let place = context_of presets neighbours.now in
+            let counters = stats_at self.old.a self.old.b self.old.c self.old.n place.number in
+            result ≡ regular_word presets counters (regular_e presets place counters neighbours.now sample) }
+        ensures contexts { let place = context_of presets neighbours.now in
+            let counters = stats_at self.old.a self.old.b self.old.c self.old.n place.number in
+            contexts_of self.new.a self.new.b self.new.c self.new.n
+            ≡ slice_set (contexts_of self.old.a self.old.b self.old.c self.old.n) place.number
+            (stats_step presets.reset counters (regular_e presets place counters neighbours.now sample)) }
+        ensures steep { counts_at self.new.a self.new.n self.new.nn 0 ≡ counts_at self.old.a self.old.n self.old.nn 0 }
+        ensures flat { counts_at self.new.a self.new.n self.new.nn 1 ≡ counts_at self.old.a self.old.n self.old.nn 1 }
+        ensures sound { AreAllSound presets.reset (error_bound presets.maxval)
+            self.new.a self.new.b self.new.c self.new.n self.new.nn }
+    {
+        let place = context_at(presets, neighbours);
+        let number = place.number;
+        let prediction = predicted(presets, place.negative, self.c[number], neighbours);
+        let error = error_of(presets, place.negative, prediction, sample);
+        let k = golomb_parameter(self.n[number], self.a[number]);
+        let leaning = leans(k, self.b[number], self.n[number]);
+        self.add(presets, number, error);
+        Word {
+            k,
+            glimit: limit,
+            value: mapped(leaning, error),
+        }
+    }
+
     /// Counts one error more in a context of regular mode.
     pub fn add(&mut self, presets: Presets, number: usize, error: i32)
         requires number { number < 365 }
@@ -53,4 +120,11 @@ impl Counters {
             error,
         );
     }
+}
+
+/// A at a scan's start (A.2.1).
+fn first_a(presets: Presets) -> u32
+    ensures { result ≡ first_a presets }
+{
+    ((presets.range() + 32) / 64).max(2)
 }

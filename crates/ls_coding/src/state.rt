@@ -1,72 +1,78 @@
 //! The counters that a scan is coded by, and the runs (T.87 A.2.1, A.6, A.7).
 ghost use Rattle.std.specs.Prelude.{◌≡◌, ◌<◌, ◌≤◌, ◌++◌, ◌∷◌, [], List, ℕ, true, false, not, IsTrue};
 ghost use Rattle.ls_coding.specs.Events.{Event, run};
-ghost use Rattle.ls_coding.specs.States.{Coding, state_of, after_run};
+ghost use Rattle.ls_coding.specs.Contexts.{is_run};
+ghost use Rattle.ls_coding.specs.Samples.{AreSamples};
+ghost use Rattle.ls_coding.specs.States.{Coding, state_of, place_of, regular_error_in, regular_word_in, after_regular, after_run};
 ghost use Rattle.ls_coding.specs.Runs.{order, run_of, run_word, tail_of};
-ghost use Rattle.ls_coding.specs.Stats.{first_a};
 
+use crate::counters::Counters;
+use crate::neighbours::Neighbours;
 use crate::run::{RunWord, Tail, Walked, order, walk};
+use crate::word::Word;
 use ls_frame::Presets;
 use std::marker::Model;
 
-/// How many contexts there are: 365 of regular mode, and two of the samples that interrupt a run.
-const CONTEXTS: usize = 367;
-
-const REGULAR: usize = 365;
-
-/// The counters of each context, and RUNindex.
+/// What a scan's samples are coded by: the counters of each context, and RUNindex.
 #[derive(Drop)]
 pub struct State {
     presets: Presets,
-    /// A: the sum of the errors' sizes.
-    a: [u32; CONTEXTS],
-    /// B: the errors' sum, kept near 0 by C.
-    b: [i32; REGULAR],
-    /// C: what corrects the prediction.
-    c: [i32; REGULAR],
-    /// N: how many errors were counted.
-    n: [u32; CONTEXTS],
-    /// Nn: how many of them were negative.
-    nn: [u32; 2],
+    /// LIMIT.
+    limit: u32,
+    counters: Counters,
+    /// RUNindex.
     run_index: u32,
+    /// Whether the sample that interrupts a run is to come next.
     broken: bool,
 }
 
 impl Model for State {
-    ghost use Rattle.std.specs.Prelude.{◌≤◌};
+    ghost use Rattle.std.specs.Prelude.{◌≡◌, ◌≤◌};
     ghost use Rattle.ls_coding.specs.States.{Coding};
-    ghost use Rattle.ls_coding.specs.Fields.{contexts_of, counts_at};
+    ghost use Rattle.ls_coding.specs.Fields.{contexts_of, counts_at, AreFields};
 
     ghost Value = { Coding };
 
     ghost view = { λ s. record {
       parameters = s.presets;
-      contexts = contexts_of s.a s.b s.c s.n;
-      steep = counts_at s.a s.n s.nn 0;
-      flat = counts_at s.a s.n s.nn 1;
+      contexts = contexts_of s.counters.a s.counters.b s.counters.c s.counters.n;
+      steep = counts_at s.counters.a s.counters.n s.counters.nn 0;
+      flat = counts_at s.counters.a s.counters.n s.counters.nn 1;
       run_index = s.run_index;
       broken = s.broken;
     } };
 
-    ghost invariant = { λ s. s.run_index ≤ 31 };
+    ghost invariant = { λ s. AreFields s.presets s.limit s.run_index
+        s.counters.a s.counters.b s.counters.c s.counters.n s.counters.nn };
 }
 
 impl State {
     /// The state at a scan's start.
-    pub fn new(presets: Presets) -> State
-        ensures { result ≡ state_of presets [] }
+    pub fn new(presets: &Presets) -> State
+        ensures { result ≡ state_of presets.now [] }
     {
-        let first = first_a(presets);
+        let presets = *presets;
         State {
             presets,
-            a: [first; CONTEXTS],
-            b: [0; REGULAR],
-            c: [0; REGULAR],
-            n: [1; CONTEXTS],
-            nn: [0; 2],
+            limit: presets.limit(),
+            counters: Counters::new(presets),
             run_index: 0,
             broken: false,
         }
+    }
+
+    /// Codes a sample of regular mode.
+    pub fn code_regular(&mut self, neighbours: &Neighbours, sample: u16) -> Word
+        requires samples { AreSamples self.old.parameters.maxval neighbours.now }
+        requires sample { sample ≤ self.old.parameters.maxval }
+        requires regular { is_run neighbours.now ≡ false }
+        requires whole { self.old.broken ≡ false }
+        ensures word { result ≡ regular_word_in self.old neighbours.now sample }
+        ensures state { self.new ≡ after_regular self.old (place_of self.old neighbours.now).number
+            (regular_error_in self.old neighbours.now sample) }
+    {
+        self.counters
+            .code(self.presets, self.limit, neighbours, sample)
     }
 
     /// Codes a run of `count` samples, up to the line's end or up to a sample that interrupts it, which comes next then.
@@ -101,13 +107,6 @@ impl State {
     {
         self.broken
     }
-}
-
-/// A at a scan's start (A.2.1).
-fn first_a(presets: Presets) -> u32
-    ensures { result ≡ first_a presets }
-{
-    ((presets.range() + 32) / 64).max(2)
 }
 
 /// How a run ends that has come so far.

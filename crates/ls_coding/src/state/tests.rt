@@ -14,7 +14,7 @@ const RUNS: [(u32, bool, u32, Tail); 7] = [
 #[test]
 fn runs_are_coded_on_a_new_state(rt: HostRuntime) {
     for (count, eol, ones, tail) in RUNS {
-        let mut state = State::new(Presets::default_of(255));
+        let mut state = State::new(&Presets::default_of(255));
         assert!(rt; !state.broken());
         assert!(rt; count > 0 || !eol);
         let word = state.code_run(count, eol);
