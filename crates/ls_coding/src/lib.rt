@@ -9,6 +9,7 @@
 
 pub mod context;
 pub mod error;
+pub mod interruption;
 pub mod neighbours;
 pub mod run;
 pub mod state;
