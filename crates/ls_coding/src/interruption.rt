@@ -1,5 +1,5 @@
 //! The sample that interrupts a run: its Golomb parameter, its value, and its counters (T.87 A.7.2).
-ghost use Rattle.std.specs.Prelude.{◌≡◌, ◌+◌, ◌-◌, ◌*◌, ◌/◌, ◌==◌, ◌||◌, ◌<◌, ◌≤◌, nat_le, not, if◌then◌else◌, ℤ, pos, neg_ℤ, ◌≤ℤ◌, unsigned_abs, IsTrue};
+ghost use Rattle.std.specs.Prelude.{◌≡◌, ◌+◌, ◌-◌, ◌*◌, ◌/◌, ◌==◌, ◌||◌, ◌<◌, ◌≤◌, nat_le, not, int_lt, if◌then◌else◌, ℤ, pos, neg_ℤ, ◌≤ℤ◌, unsigned_abs, IsTrue};
 ghost use Rattle.ls_frame.specs.Parameters.{range_of};
 ghost use Rattle.ls_coding.specs.Errors.{IsReduced};
 ghost use Rattle.ls_coding.specs.Stats.{error_bound};
@@ -19,4 +19,34 @@ pub fn interruption_k(flat: bool, a: u32, n: u32) -> u32
         return golomb_parameter(n, a + n / 2);
     }
     golomb_parameter(n, a)
+}
+
+/// EMErrval: the value that stands for an error.
+pub fn interruption_value(flat: bool, k: u32, n: u32, nn: u32, error: i32) -> u32
+    requires few { n ≤ 65535 }
+    requires negative { nn < n }
+    requires low { neg_ℤ (pos 32768) ≤ℤ error }
+    requires high { error ≤ℤ pos 32767 }
+    ensures { result ≡ 2 * unsigned_abs error - ri_type flat - map_of k (counts 0 n nn) error }
+{
+    let map = u32::from(is_mapped(leans(k, n, nn), error));
+    (2 * error.unsigned_abs()).saturating_sub(u32::from(flat) + map)
+}
+
+/// Whether map is 1 for negative errors; else it is 1 for positive ones.
+fn leans(k: u32, n: u32, nn: u32) -> bool
+    requires { nn ≤ 65535 }
+    ensures { result ≡ (not (k == 0) || nat_le n (2 * nn)) }
+{
+    k != 0 || n <= 2 * nn
+}
+
+/// Whether map is 1 for an error.
+fn is_mapped(leaning: bool, error: i32) -> bool
+    ensures { result ≡ (if leaning then int_lt error (pos 0) else int_lt (pos 0) error) }
+{
+    if leaning {
+        return error < 0;
+    }
+    error > 0
 }
