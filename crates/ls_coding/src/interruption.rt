@@ -1,5 +1,5 @@
 //! The sample that interrupts a run: its Golomb parameter, its value, and its counters (T.87 A.7.2).
-ghost use Rattle.std.specs.Prelude.{◌≡◌, ◌+◌, ◌-◌, ◌*◌, ◌/◌, ◌==◌, ◌||◌, ◌<◌, ◌≤◌, nat_le, not, int_lt, if◌then◌else◌, ℤ, pos, neg_ℤ, ◌≤ℤ◌, unsigned_abs, IsTrue};
+ghost use Rattle.std.specs.Prelude.{◌≡◌, ◌+◌, ◌-◌, ◌*◌, ◌/◌, ◌%◌, ◌==◌, ◌||◌, ◌<◌, ◌≤◌, nat_le, not, int_lt, if◌then◌else◌, ℤ, pos, neg_ℤ, ◌≤ℤ◌, unsigned_abs, IsTrue};
 ghost use Rattle.ls_frame.specs.Parameters.{range_of};
 ghost use Rattle.ls_coding.specs.Errors.{IsReduced};
 ghost use Rattle.ls_coding.specs.Stats.{error_bound};
@@ -49,4 +49,33 @@ fn is_mapped(leaning: bool, error: i32) -> bool
         return error < 0;
     }
     error > 0
+}
+
+/// The error that a value stands for.
+pub fn interruption_error_of(flat: bool, k: u32, n: u32, nn: u32, value: u32) -> i32
+    requires few { n ≤ 65535 }
+    requires negative { nn < n }
+    requires value { value ≤ 65536 }
+    ensures value { 2 * unsigned_abs result - ri_type flat - map_of k (counts 0 n nn) result ≡ value }
+    ensures some { IsTrue flat → result ≡ pos 0 → ⊥ }
+    ensures only { (e : ℤ) → (IsTrue flat → e ≡ pos 0 → ⊥)
+        → 2 * unsigned_abs e - ri_type flat - map_of k (counts 0 n nn) e ≡ value → e ≡ result }
+    ensures low { neg_ℤ (pos 40000) ≤ℤ result }
+    ensures high { result ≤ℤ pos 40000 }
+{
+    unmapped(leans(k, n, nn), value + u32::from(flat))
+}
+
+/// The error with twice its size, less map, so large.
+fn unmapped(leaning: bool, twice: u32) -> i32
+    requires { twice ≤ 65537 }
+    ensures { result ≡ (if if leaning then twice % 2 == 1 else not (twice % 2 == 1)
+        then neg_ℤ (pos ((twice + 1) / 2)) else pos ((twice + 1) / 2)) }
+{
+    let size = (twice + 1) / 2;
+    let mapped = twice % 2 == 1;
+    if mapped == leaning {
+        return -(size as i32);
+    }
+    size as i32
 }
