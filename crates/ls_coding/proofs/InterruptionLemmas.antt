@@ -1,10 +1,11 @@
 -- The sample that interrupts a run: its value, what the value stands for, and its counters.
-use Rattle.std.proofs.Common.{◌≡◌, ℕ, zero, suc, ◌+◌, ◌-◌, ◌*◌, ◌/◌, ◌%◌, ◌<◌, ◌≤◌, Bool, true, false, cond, eqb, not, ◌&&◌, ◌||◌, ltb, leb, ℤ, pos, negsuc, neg_ℤ, ◌+ℤ◌, ◌-ℤ◌, ◌≤ℤ◌, ◌<ℤ◌, refl, sym, ◌∙◌, ap, subst, arith}
-use Rattle.std.specs.Prelude.{int_le, int_lt, unsigned_abs}
+use Rattle.std.proofs.Common.{◌≡◌, ℕ, zero, suc, ◌+◌, ◌-◌, ◌*◌, ◌/◌, ◌%◌, ◌<◌, ◌≤◌, Bool, true, false, cond, eqb, not, ◌||◌, ltb, leb, ℤ, pos, neg_ℤ, refl, sym, ◌∙◌, ap, subst, arith}
+use Rattle.std.specs.Prelude.{int_lt, unsigned_abs}
 use Rattle.std.proofs.lemmas.Bool.{eqb-true, eqb-false, lt-ltb, le-ltb, cond-true, cond-false}
 use Rattle.std.proofs.lemmas.Grind.{common_steps}
 use mir.Val.{bool_byte}
-use Rattle.ls_coding.specs.Interruptions.{counts, map_of, ri_type}
+use Rattle.ls_coding.specs.Interruptions.{AreSoundCounts, counts, counts_step, interruption_value, map_of, ri_type}
+use Rattle.ls_coding.proofs.StatsLemmas.{counted_sound}
 
 -- ---- map
 
@@ -52,6 +53,62 @@ pub value_stood_for : (flat : Bool) (k n nn value : ℕ) (leaning : Bool) (type 
     → 2 * unsigned_abs r - ri_type flat - map_of k (counts 0 n nn) r ≡ value
 value_stood_for flat k n nn value leaning type r p q s =
     let whole : 2 * unsigned_abs r ≡ value + type + marked leaning r =
-        subst (λ z. 2 * unsigned_abs z ≡ value + type + marked leaning z) (sym s) (sized leaning (value + type) ((value + type + 1) / 2) (eqb ((value + type) % 2) 1) refl refl) in
+    subst (λ z. 2 * unsigned_abs z ≡ value + type + marked leaning z) (sym s) (sized leaning (value + type) ((value + type + 1) / 2) (eqb ((value + type) % 2) 1) refl refl) in
     let map : map_of k (counts 0 n nn) r ≡ marked leaning r = map_is k n nn r ∙ sym (ap (λ l. marked l r) p) in
     taken_off flat (unsigned_abs r) value (map_of k (counts 0 n nn) r) (omega (arith, whole, map, q))
+
+-- ---- one error more
+
+-- what is added to A is at most the error's size
+added_small : (flat : Bool) (size value map type : ℕ) → value ≡ 2 * size - ri_type flat - map → type ≡ bool_byte flat → (value + 1 - type) / 2 ≤ size
+added_small true size value map type p q = omega arith
+added_small false size value map type p q = omega arith
+
+type_is : (flat : Bool) → bool_byte flat ≡ ri_type flat
+type_is true = refl
+type_is false = refl
+
+one_more : (test : Bool) (nn more : ℕ) → more ≡ bool_byte test → nn + more ≡ cond test (nn + 1) nn
+one_more true nn more e = omega arith
+one_more false nn more e = omega arith
+
+counted_is : (test : Bool) (a n nn a1 n1 nn1 : ℕ) → a1 ≡ cond test (a / 2) a → n1 ≡ cond test (n / 2 + 1) (n + 1) → nn1 ≡ cond test (nn / 2) nn
+    → counts a1 n1 nn1 ≡ cond test (counts (a / 2) (n / 2 + 1) (nn / 2)) (counts a (n + 1) nn)
+counted_is true a n nn a1 n1 nn1 p q r = cc
+counted_is false a n nn a1 n1 nn1 p q r = cc
+
+pub counts_step_is : (flat : Bool) (reset a n nn value type more : ℕ) (e : ℤ) (a1 n1 nn1 : ℕ) → value ≡ interruption_value flat (counts a n nn) e → type ≡ bool_byte flat → more ≡ bool_byte (int_lt e (pos 0))
+    → a1 ≡ cond (eqb n reset) ((a + (value + 1 - type) / 2) / 2) (a + (value + 1 - type) / 2)
+    → n1 ≡ cond (eqb n reset) (n / 2 + 1) (n + 1)
+    → nn1 ≡ cond (eqb n reset) ((nn + more) / 2) (nn + more)
+    → counts a1 n1 nn1 ≡ counts_step flat reset (counts a n nn) e
+unfolding counts_step
+counts_step_is flat reset a n nn value type more e a1 n1 nn1 v t m p q r =
+    let nn2 : ℕ = cond (int_lt e (pos 0)) (nn + 1) nn in
+    let a2 : ℕ = a + (interruption_value flat (counts a n nn) e + 1 - ri_type flat) / 2 in
+    let ea : a + (value + 1 - type) / 2 ≡ a2 = ap (λ x. a + (x + 1 - type) / 2) v ∙ ap (λ x. a + (interruption_value flat (counts a n nn) e + 1 - x) / 2) (t ∙ type_is flat) in
+    let enn : nn + more ≡ nn2 = one_more (int_lt e (pos 0)) nn more m in
+    counted_is (eqb n reset) a2 n nn2 a1 n1 nn1 (p ∙ ap (λ x. cond (eqb n reset) (x / 2) x) ea) q (r ∙ ap (λ x. cond (eqb n reset) (x / 2) x) enn)
+
+fewer : (test negative : Bool) (n nn more : ℕ) → more ≡ bool_byte negative → nn < n → cond test ((nn + more) / 2) (nn + more) < cond test (n / 2 + 1) (n + 1)
+fewer true true n nn more e h = omega arith
+fewer true false n nn more e h = omega arith
+fewer false true n nn more e h = omega arith
+fewer false false n nn more e h = omega arith
+
+pub sound_counts : (flat : Bool) (reset bound a n nn value type more : ℕ) (e : ℤ) (a1 n1 nn1 : ℕ) → 3 ≤ reset → AreSoundCounts reset bound (counts a n nn) → unsigned_abs e ≤ bound
+    → value ≡ interruption_value flat (counts a n nn) e → type ≡ bool_byte flat → more ≡ bool_byte (int_lt e (pos 0))
+    → a1 ≡ cond (eqb n reset) ((a + (value + 1 - type) / 2) / 2) (a + (value + 1 - type) / 2)
+    → n1 ≡ cond (eqb n reset) (n / 2 + 1) (n + 1)
+    → nn1 ≡ cond (eqb n reset) ((nn + more) / 2) (nn + more)
+    → AreSoundCounts reset bound (counts a1 n1 nn1)
+sound_counts flat reset bound a n nn value type more e a1 n1 nn1 least sound small v t m p q r =
+    let added : (value + 1 - type) / 2 ≤ unsigned_abs e = added_small flat (unsigned_abs e) value _ type v t in
+    let total : a + (value + 1 - type) / 2 ≤ n * bound + bound = omega (arith, sound.sum) in
+    let counted = counted_sound reset bound n (a + (value + 1 - type) / 2) least sound.few total in
+    record {
+      some = omega (arith, counted.some);
+      few = omega (arith, counted.few);
+      sum = subst (λ x. x ≤ n1 * bound) (sym p) (subst (λ x. cond (eqb n reset) ((a + (value + 1 - type) / 2) / 2) (a + (value + 1 - type) / 2) ≤ x * bound) (sym q) counted.sum);
+      negative = omega (arith, fewer (eqb n reset) (int_lt e (pos 0)) n nn more m sound.negative);
+    }

@@ -1,4 +1,6 @@
 //! The sample that interrupts a run: its Golomb parameter, its value, and its counters (T.87 A.7.2).
+//!
+//! `flat` is RItype: whether Ra equals Rb.
 ghost use Rattle.std.specs.Prelude.{◌≡◌, ◌+◌, ◌-◌, ◌*◌, ◌/◌, ◌%◌, ◌==◌, ◌||◌, ◌<◌, ◌≤◌, nat_le, not, int_lt, if◌then◌else◌, ℤ, pos, neg_ℤ, ◌≤ℤ◌, unsigned_abs, IsTrue};
 ghost use Rattle.ls_frame.specs.Parameters.{range_of};
 ghost use Rattle.ls_coding.specs.Errors.{IsReduced};
@@ -21,7 +23,7 @@ pub fn interruption_k(flat: bool, a: u32, n: u32) -> u32
     golomb_parameter(n, a)
 }
 
-/// EMErrval: the value that stands for an error.
+/// EMErrval: the value that stands for an error. A sample with `flat` has no error of 0, whose value is 0 here.
 pub fn interruption_value(flat: bool, k: u32, n: u32, nn: u32, error: i32) -> u32
     requires few { n ≤ 65535 }
     requires negative { nn < n }
@@ -51,7 +53,7 @@ fn is_mapped(leaning: bool, error: i32) -> bool
     error > 0
 }
 
-/// The error that a value stands for.
+/// The one error that a value stands for, which with `flat` isn't 0.
 pub fn interruption_error_of(flat: bool, k: u32, n: u32, nn: u32, value: u32) -> i32
     requires few { n ≤ 65535 }
     requires negative { nn < n }
@@ -66,7 +68,7 @@ pub fn interruption_error_of(flat: bool, k: u32, n: u32, nn: u32, value: u32) ->
     unmapped(leans(k, n, nn), value + u32::from(flat))
 }
 
-/// The error with twice its size, less map, so large.
+/// The error whose size is half of `twice` and map, which is 1 where `twice` is odd.
 fn unmapped(leaning: bool, twice: u32) -> i32
     requires { twice ≤ 65537 }
     ensures { result ≡ (if if leaning then twice % 2 == 1 else not (twice % 2 == 1)
@@ -78,4 +80,41 @@ fn unmapped(leaning: bool, twice: u32) -> i32
         return -(size as i32);
     }
     size as i32
+}
+
+/// One error more, and its value, in each of the counters.
+pub fn count_interruption(
+    presets: Presets,
+    flat: bool,
+    a: &mut u32,
+    n: &mut u32,
+    nn: &mut u32,
+    error: i32,
+    value: u32,
+)
+    requires sound { AreSoundCounts presets.reset (error_bound presets.maxval) (counts a.old n.old nn.old) }
+    requires error { IsReduced (range_of presets.maxval) error }
+    requires value { value ≡ interruption_value flat (counts a.old n.old nn.old) error }
+    ensures step { counts a.new n.new nn.new ≡ counts_step flat presets.reset (counts a.old n.old nn.old) error }
+    ensures sound { AreSoundCounts presets.reset (error_bound presets.maxval) (counts a.new n.new nn.new) }
+{
+    let reset = u32::from(presets.reset());
+    *a += (value + 1 - u32::from(flat)) / 2;
+    *nn += u32::from(error < 0);
+    count(a, n, nn, reset);
+}
+
+/// Halves the counters where `reset` errors are in them, and counts one more.
+fn count(a: &mut u32, n: &mut u32, nn: &mut u32, reset: u32)
+    requires { n.old ≤ 65535 }
+    ensures a { a.new ≡ (if n.old == reset then a.old / 2 else a.old) }
+    ensures n { n.new ≡ (if n.old == reset then n.old / 2 + 1 else n.old + 1) }
+    ensures nn { nn.new ≡ (if n.old == reset then nn.old / 2 else nn.old) }
+{
+    if *n == reset {
+        *a >>= 1;
+        *n >>= 1;
+        *nn >>= 1;
+    }
+    *n += 1;
 }
