@@ -1,6 +1,6 @@
 -- The sample that interrupts a run: its value, what the value stands for, and its counters.
-use Rattle.std.proofs.Common.{◌≡◌, ℕ, zero, suc, ◌+◌, ◌-◌, ◌*◌, ◌/◌, ◌%◌, ◌<◌, ◌≤◌, Bool, true, false, cond, eqb, not, ◌||◌, ltb, leb, ℤ, pos, neg_ℤ, refl, sym, ◌∙◌, ap, subst, arith}
-use Rattle.std.specs.Prelude.{int_lt, unsigned_abs}
+use Rattle.std.proofs.Common.{◌≡◌, ℕ, zero, suc, ◌+◌, ◌-◌, ◌*◌, ◌/◌, ◌%◌, ◌<◌, ◌≤◌, Bool, true, false, cond, eqb, not, ◌||◌, ltb, leb, ℤ, pos, negsuc, neg_ℤ, refl, sym, ◌∙◌, ap, subst, arith}
+use Rattle.std.specs.Prelude.{IsTrue, int_lt, unsigned_abs}
 use Rattle.std.proofs.lemmas.Bool.{eqb-true, eqb-false, lt-ltb, le-ltb, cond-true, cond-false}
 use Rattle.std.proofs.lemmas.Grind.{common_steps}
 use mir.Val.{bool_byte}
@@ -56,6 +56,47 @@ value_stood_for flat k n nn value leaning type r p q s =
     subst (λ z. 2 * unsigned_abs z ≡ value + type + marked leaning z) (sym s) (sized leaning (value + type) ((value + type + 1) / 2) (eqb ((value + type) % 2) 1) refl refl) in
     let map : map_of k (counts 0 n nn) r ≡ marked leaning r = map_is k n nn r ∙ sym (ap (λ l. marked l r) p) in
     taken_off flat (unsigned_abs r) value (map_of k (counts 0 n nn) r) (omega (arith, whole, map, q))
+
+-- no other error has the value
+only_one : (leaning : Bool) (t : ℕ) (odd : Bool) (e : ℤ) → eqb (t % 2) 1 ≡ odd → 2 * unsigned_abs e ≡ t + marked leaning e
+    → e ≡ cond (cond leaning odd (not odd)) (neg_ℤ (pos ((t + 1) / 2))) (pos ((t + 1) / 2))
+unfolding marked
+only_one true t true (pos n) p h = absurd (omega (arith, eqb-true (t % 2) 1 p, cond-false {A = ℕ} (ltb n 0) 1 0 (le-ltb n 0 (omega arith))))
+only_one true t true (negsuc n) p h = let m : (t + 1) / 2 ≡ suc n = omega arith in rw m refl
+only_one true t false (pos n) p h = let m : n ≡ (t + 1) / 2 = omega (arith, cond-false {A = ℕ} (ltb n 0) 1 0 (le-ltb n 0 (omega arith))) in ap pos m
+only_one true t false (negsuc n) p h = absurd (omega (arith, eqb-false (t % 2) 1 p))
+only_one false t true (pos zero) p h = absurd (omega (arith, eqb-true (t % 2) 1 p))
+only_one false t true (pos (suc n)) p h = let m : suc n ≡ (t + 1) / 2 = omega (arith, cond-true {A = ℕ} (ltb 0 (suc n)) 1 0 (lt-ltb 0 (suc n) (omega arith))) in ap pos m
+only_one false t true (negsuc n) p h = absurd (omega (arith, eqb-true (t % 2) 1 p))
+only_one false t false (pos zero) p h = let m : (t + 1) / 2 ≡ zero = omega arith in rw m refl
+only_one false t false (pos (suc n)) p h = absurd (omega (arith, eqb-false (t % 2) 1 p, cond-true {A = ℕ} (ltb 0 (suc n)) 1 0 (lt-ltb 0 (suc n) (omega arith))))
+only_one false t false (negsuc n) p h = let m : (t + 1) / 2 ≡ suc n = omega arith in rw m refl
+
+marked_few : (leaning : Bool) (e : ℤ) → marked leaning e ≤ 1
+unfolding marked
+marked_few leaning e = grind (arith, common_steps)
+
+none_marked : (leaning : Bool) → marked leaning (pos 0) ≡ 0
+unfolding marked
+none_marked true = refl
+none_marked false = refl
+
+put_back : (flat leaning : Bool) (e : ℤ) (value type : ℕ) → type ≡ bool_byte flat → (IsTrue flat → e ≡ pos 0 → ⊥)
+    → 2 * unsigned_abs e - ri_type flat - marked leaning e ≡ value → 2 * unsigned_abs e ≡ value + type + marked leaning e
+put_back true leaning (pos zero) value type p some h = absurd (some refl refl)
+put_back false leaning (pos zero) value type p some h = omega (arith, none_marked leaning)
+put_back true leaning (pos (suc n)) value type p some h = omega (arith, marked_few leaning (pos (suc n)))
+put_back true leaning (negsuc n) value type p some h = omega (arith, marked_few leaning (negsuc n))
+put_back false leaning (pos (suc n)) value type p some h = omega (arith, marked_few leaning (pos (suc n)))
+put_back false leaning (negsuc n) value type p some h = omega (arith, marked_few leaning (negsuc n))
+
+pub only_stood_for : (flat : Bool) (k n nn value : ℕ) (leaning : Bool) (type : ℕ) (r e : ℤ) → leaning ≡ (not (eqb k 0) || leb n (2 * nn)) → type ≡ bool_byte flat
+    → r ≡ cond (cond leaning (eqb ((value + type) % 2) 1) (not (eqb ((value + type) % 2) 1))) (neg_ℤ (pos ((value + type + 1) / 2))) (pos ((value + type + 1) / 2))
+    → (IsTrue flat → e ≡ pos 0 → ⊥) → 2 * unsigned_abs e - ri_type flat - map_of k (counts 0 n nn) e ≡ value → e ≡ r
+only_stood_for flat k n nn value leaning type r e p q s some h =
+    let map : map_of k (counts 0 n nn) e ≡ marked leaning e = map_is k n nn e ∙ sym (ap (λ l. marked l e) p) in
+    let whole : 2 * unsigned_abs e - ri_type flat - marked leaning e ≡ value = ap (λ x. 2 * unsigned_abs e - ri_type flat - x) (sym map) ∙ h in
+    only_one leaning (value + type) (eqb ((value + type) % 2) 1) e refl (put_back flat leaning e value type q some whole) ∙ sym s
 
 -- ---- one error more
 
