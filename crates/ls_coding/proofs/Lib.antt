@@ -2,6 +2,7 @@ pub mod ContextLemmas
 pub mod ErrorLemmas
 pub mod FieldLemmas
 pub mod GolombParameterLemmas
+pub mod InterruptionLemmas
 pub mod RegularLemmas
 pub mod RunLemmas
 pub mod SignedLemmas

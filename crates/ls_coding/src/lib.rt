@@ -10,6 +10,7 @@
 pub mod context;
 pub mod counters;
 pub mod error;
+pub mod interruption;
 pub mod neighbours;
 pub mod run;
 pub mod state;
