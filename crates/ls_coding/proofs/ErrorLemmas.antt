@@ -2,10 +2,11 @@
 use Rattle.std.proofs.Common.{◌≡◌, ℕ, ◌+◌, ◌/◌, ◌<◌, ◌≤◌, Bool, true, false, cond, ℤ, pos, neg_ℤ, ◌+ℤ◌, ◌-ℤ◌, ◌≤ℤ◌, ◌<ℤ◌, ◌⊎◌, inl, inr, refl, sym, ◌∙◌, ap, subst, arith}
 use Rattle.std.specs.Prelude.{int_le, int_lt}
 use Rattle.std.proofs.lemmas.Int.{ints}
+use Rattle.ls_frame.specs.Parameters.{Parameters, range_of}
 use mir.Syntax.{w32}
 use mir.Val.{to_z, of_z}
 use Rattle.ls_coding.specs.Contexts.{signed}
-use Rattle.ls_coding.specs.Errors.{IsReduced, wrapped, reduced}
+use Rattle.ls_coding.specs.Errors.{IsReduced, wrapped, reduced, error_of}
 use Rattle.ls_coding.proofs.StatsLemmas.{choose, le_true, le_false, lt_true, lt_false, mean_through}
 
 -- d is e, or a RANGE away from it
@@ -150,3 +151,10 @@ signed_low false maxval px e most h k = omega (arith, ints, k.low, k.high)
 pub signed_high : (negative : Bool) (maxval px : ℕ) (e : ℤ) → maxval ≤ 65535 → px ≤ maxval → IsReduced (maxval + 1) e → (pos px +ℤ signed negative e) ≤ℤ pos 131072
 signed_high true maxval px e most h k = omega (arith, ints, k.low, k.high)
 signed_high false maxval px e most h k = omega (arith, ints, k.low, k.high)
+
+-- each sample's error is reduced
+pub error_of-reduced : (p : Parameters) (px x : ℕ) (negative : Bool) → px ≤ p.maxval → x ≤ p.maxval → IsReduced (range_of p.maxval) (error_of p negative (pos px) x)
+error_of-reduced p px x negative h k =
+    let below : px < range_of p.maxval = omega arith in
+    let inside : x < range_of p.maxval = omega arith in
+    reduced_reduced (range_of p.maxval) (signed negative (pos x -ℤ pos px)) (difference_low (range_of p.maxval) px x negative below inside) (difference_high (range_of p.maxval) px x negative below inside)

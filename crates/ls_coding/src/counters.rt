@@ -1,19 +1,23 @@
 //! The counters of every context (T.87 A.2.1).
-ghost use Rattle.std.specs.Prelude.{◌≡◌, ◌<◌, ◌≤◌, ℕ, slice_set};
+ghost use Rattle.std.specs.Prelude.{◌≡◌, ◌<◌, ◌≤◌, ℕ, pos, slice_set, IfOk, IfErr};
 ghost use Rattle.ls_frame.specs.Parameters.{range_of, limit_of};
 ghost use Rattle.ls_coding.specs.Samples.{AreSamples};
 ghost use Rattle.ls_coding.specs.Contexts.{context_of};
-ghost use Rattle.ls_coding.specs.Errors.{IsReduced};
+ghost use Rattle.ls_coding.specs.Errors.{IsReduced, error_of, leans, mapped};
 ghost use Rattle.ls_coding.specs.Events.{regular_e, regular_word};
 ghost use Rattle.ls_coding.specs.Stats.{first_a, first_stats, stats_step, error_bound};
 ghost use Rattle.ls_coding.specs.Interruptions.{first_counts};
+ghost use Rattle.ls_coding.specs.Plans.{IsTheSample, NoSample};
 ghost use Rattle.ls_coding.specs.Fields.{stats_at, contexts_of, counts_at, AreAllSound};
 
 use crate::context::context_at;
-use crate::error::{error_of, golomb_parameter, leans, mapped, predicted};
+use crate::error::{
+    error_of, golomb_parameter, is_reduced, leans, mapped, predicted, sample_of, unmapped,
+};
 use crate::neighbours::Neighbours;
 use crate::update::update;
 use crate::word::Word;
+use ls_bits::CodeFault;
 use ls_frame::Presets;
 
 /// How many contexts of regular mode there are.
@@ -95,6 +99,49 @@ impl Counters {
             glimit: limit,
             value: mapped(leaning, error),
         }
+    }
+
+    /// The sample of regular mode that has this value for a prediction, and whose error is counted in its context.
+    /// NotCanonical where no sample has it.
+    pub fn accept(
+        &mut self,
+        presets: Presets,
+        number: usize,
+        negative: bool,
+        prediction: u16,
+        k: u32,
+        value: u32,
+    ) -> Result<u16, CodeFault>
+        requires number { number < 365 }
+        requires prediction { prediction ≤ presets.maxval }
+        requires value { value ≤ 65536 }
+        requires sound { AreAllSound presets.reset (error_bound presets.maxval)
+            self.old.a self.old.b self.old.c self.old.n self.old.nn }
+        ensures ok { let counters = stats_at self.old.a self.old.b self.old.c self.old.n number in
+            let value_of : ℕ → ℕ = λ sample. mapped (leans k counters.b counters.n) (error_of presets negative (pos prediction) sample) in
+            IfOk result (λ sample. IsTheSample (λ one. one ≤ presets.maxval) value_of value sample) }
+        ensures contexts { let counters = stats_at self.old.a self.old.b self.old.c self.old.n number in
+            IfOk result (λ sample. contexts_of self.new.a self.new.b self.new.c self.new.n
+                ≡ slice_set (contexts_of self.old.a self.old.b self.old.c self.old.n) number
+                (stats_step presets.reset counters (error_of presets negative (pos prediction) sample))) }
+        ensures steep { counts_at self.new.a self.new.n self.new.nn 0 ≡ counts_at self.old.a self.old.n self.old.nn 0 }
+        ensures flat { counts_at self.new.a self.new.n self.new.nn 1 ≡ counts_at self.old.a self.old.n self.old.nn 1 }
+        ensures sound { AreAllSound presets.reset (error_bound presets.maxval)
+            self.new.a self.new.b self.new.c self.new.n self.new.nn }
+        ensures fault { IfErr result (λ fault. fault ≡ CodeFault.NotCanonical) }
+        ensures unchanged { IfErr result (λ fault. self.new ≡ self.old) }
+        ensures none { let counters = stats_at self.old.a self.old.b self.old.c self.old.n number in
+            let value_of : ℕ → ℕ = λ sample. mapped (leans k counters.b counters.n) (error_of presets negative (pos prediction) sample) in
+            IfErr result (λ fault. NoSample (λ one. one ≤ presets.maxval) value_of value) }
+    {
+        let leaning = leans(k, self.b[number], self.n[number]);
+        let error = unmapped(leaning, value);
+        if !is_reduced(presets.range(), error) {
+            return Err(CodeFault::NotCanonical);
+        }
+        let sample = sample_of(presets, negative, prediction, error);
+        self.add(presets, number, error);
+        Ok(sample)
     }
 
     /// Counts one error more in a context of regular mode.

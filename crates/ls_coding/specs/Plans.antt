@@ -1,0 +1,50 @@
+-- What a sample's word is read by, and which sample a value stands for.
+use Rattle.std.specs.Prelude.{◌≡◌, ℕ, ◌-◌, ◌≤◌, Bool, ℤ, pos}
+use Rattle.ls_frame.specs.Parameters.{limit_of}
+use Rattle.ls_coding.specs.declared.neighbours.Neighbours.{Neighbours}
+use Rattle.ls_coding.specs.Numbers.{golomb_parameter}
+use Rattle.ls_coding.specs.Errors.{predicted}
+use Rattle.ls_coding.specs.Interruptions.{is_flat, is_turned, foretold, ri_type, interruption_k}
+use Rattle.ls_coding.specs.Runs.{order}
+use Rattle.ls_coding.specs.States.{Coding, stats_of, counts_of, place_of}
+
+-- a sample's neighbours, its word's k and limit, its context, whether its error has its sign changed, and its prediction
+pub record Planned : Type 0 where
+  pub neighbours : Neighbours
+  pub k : ℕ
+  pub glimit : ℕ
+  pub number : ℕ
+  pub negative : Bool
+  pub prediction : ℤ
+
+-- of a sample of regular mode
+unfoldable pub regular_plan : Coding → Neighbours → Planned
+regular_plan s n = record {
+  neighbours = n;
+  k = golomb_parameter (stats_of s (place_of s n).number).n (stats_of s (place_of s n).number).a;
+  glimit = limit_of s.parameters.maxval;
+  number = (place_of s n).number;
+  negative = (place_of s n).negative;
+  prediction = predicted s.parameters (place_of s n).negative (stats_of s (place_of s n).number).c n;
+}
+
+-- of the sample that interrupts a run; its context is 0 or 1
+unfoldable pub interruption_plan : Coding → Neighbours → Planned
+interruption_plan s n = record {
+  neighbours = n;
+  k = interruption_k (is_flat n) (counts_of s (is_flat n));
+  glimit = limit_of s.parameters.maxval - order s.run_index - 1;
+  number = ri_type (is_flat n);
+  negative = is_turned n;
+  prediction = pos (foretold n);
+}
+
+-- the one sample that has this value
+pub record IsTheSample (IsSample : ℕ → Type 0) (value_of : ℕ → ℕ) (value sample : ℕ) : Type 0 where
+  pub is_sample : IsSample sample
+  pub has_value : value_of sample ≡ value
+  pub only : (other : ℕ) → IsSample other → value_of other ≡ value → other ≡ sample
+
+-- no sample has it
+abbrev pub NoSample : (ℕ → Type 0) → (ℕ → ℕ) → ℕ → Type 0
+NoSample IsSample value_of value = (sample : ℕ) → IsSample sample → value_of sample ≡ value → ⊥
