@@ -8,3 +8,4 @@ pub mod RunLemmas
 pub mod SignedLemmas
 pub mod StateLemmas
 pub mod StatsLemmas
+pub mod WordLemmas

@@ -1,9 +1,11 @@
 -- What a sample's word is read by, and which sample a value stands for.
 use Rattle.std.specs.Prelude.{◌≡◌, ℕ, ◌-◌, ◌≤◌, Bool, ℤ, pos}
-use Rattle.ls_frame.specs.Parameters.{limit_of}
+use Rattle.ls_frame.specs.Parameters.{Parameters, limit_of}
 use Rattle.ls_coding.specs.declared.neighbours.Neighbours.{Neighbours}
 use Rattle.ls_coding.specs.Numbers.{golomb_parameter}
+use Rattle.ls_coding.specs.Contexts.{Context}
 use Rattle.ls_coding.specs.Errors.{predicted}
+use Rattle.ls_coding.specs.Stats.{Stats}
 use Rattle.ls_coding.specs.Interruptions.{is_flat, is_turned, foretold, ri_type, interruption_k}
 use Rattle.ls_coding.specs.Runs.{order}
 use Rattle.ls_coding.specs.States.{Coding, stats_of, counts_of, place_of}
@@ -17,16 +19,19 @@ pub record Planned : Type 0 where
   pub negative : Bool
   pub prediction : ℤ
 
--- of a sample of regular mode
-unfoldable pub regular_plan : Coding → Neighbours → Planned
-regular_plan s n = record {
+-- of a sample of regular mode, by its context and the context's counters
+unfoldable pub regular_plan_by : Parameters → Context → Stats → Neighbours → Planned
+regular_plan_by p x t n = record {
   neighbours = n;
-  k = golomb_parameter (stats_of s (place_of s n).number).n (stats_of s (place_of s n).number).a;
-  glimit = limit_of s.parameters.maxval;
-  number = (place_of s n).number;
-  negative = (place_of s n).negative;
-  prediction = predicted s.parameters (place_of s n).negative (stats_of s (place_of s n).number).c n;
+  k = golomb_parameter t.n t.a;
+  glimit = limit_of p.maxval;
+  number = x.number;
+  negative = x.negative;
+  prediction = predicted p x.negative t.c n;
 }
+
+abbrev pub regular_plan : Coding → Neighbours → Planned
+regular_plan s n = regular_plan_by s.parameters (place_of s n) (stats_of s (place_of s n).number) n
 
 -- of the sample that interrupts a run; its context is 0 or 1
 unfoldable pub interruption_plan : Coding → Neighbours → Planned

@@ -1,13 +1,14 @@
 //! The counters of every context (T.87 A.2.1).
 ghost use Rattle.std.specs.Prelude.{◌≡◌, ◌<◌, ◌≤◌, ℕ, pos, slice_set, IfOk, IfErr};
-ghost use Rattle.ls_frame.specs.Parameters.{range_of, limit_of};
+ghost use Rattle.ls_frame.specs.Parameters.{range_of, qbpp_of, limit_of};
+ghost use Rattle.ls_bits.specs.Golomb.{IsGolomb, most_value};
 ghost use Rattle.ls_coding.specs.Samples.{AreSamples};
 ghost use Rattle.ls_coding.specs.Contexts.{context_of};
 ghost use Rattle.ls_coding.specs.Errors.{IsReduced, error_of, leans, mapped};
 ghost use Rattle.ls_coding.specs.Events.{regular_e, regular_word};
 ghost use Rattle.ls_coding.specs.Stats.{first_a, first_stats, stats_step, error_bound};
 ghost use Rattle.ls_coding.specs.Interruptions.{first_counts};
-ghost use Rattle.ls_coding.specs.Plans.{IsTheSample, NoSample};
+ghost use Rattle.ls_coding.specs.Plans.{regular_plan_by, IsTheSample, NoSample};
 ghost use Rattle.ls_coding.specs.Fields.{stats_at, contexts_of, counts_at, AreAllSound};
 
 use crate::context::context_at;
@@ -15,6 +16,7 @@ use crate::error::{
     error_of, golomb_parameter, is_reduced, leans, mapped, predicted, sample_of, unmapped,
 };
 use crate::neighbours::Neighbours;
+use crate::plan::Plan;
 use crate::update::update;
 use crate::word::Word;
 use ls_bits::CodeFault;
@@ -77,6 +79,8 @@ impl Counters {
         ensures word { let place = context_of presets neighbours.now in
             let counters = stats_at self.old.a self.old.b self.old.c self.old.n place.number in
             result ≡ regular_word presets counters (regular_e presets place counters neighbours.now sample) }
+        ensures golomb { IsGolomb result.k result.glimit (qbpp_of presets.maxval) }
+        ensures value { result.value ≤ most_value (qbpp_of presets.maxval) }
         ensures contexts { let place = context_of presets neighbours.now in
             let counters = stats_at self.old.a self.old.b self.old.c self.old.n place.number in
             contexts_of self.new.a self.new.b self.new.c self.new.n
@@ -98,6 +102,30 @@ impl Counters {
             k,
             glimit: limit,
             value: mapped(leaning, error),
+        }
+    }
+
+    /// What the word of a sample of regular mode is read by.
+    #[tactic(auto, unfolding(crate::specs::Plans::regular_plan_by))]
+    pub fn plan(&self, presets: Presets, limit: u32, neighbours: &Neighbours) -> Plan
+        requires samples { AreSamples presets.maxval neighbours.now }
+        requires limit { limit ≡ limit_of presets.maxval }
+        requires sound { AreAllSound presets.reset (error_bound presets.maxval)
+            self.now.a self.now.b self.now.c self.now.n self.now.nn }
+        ensures plan { let place = context_of presets neighbours.now in
+            let counters = stats_at self.now.a self.now.b self.now.c self.now.n place.number in
+            result ≡ regular_plan_by presets place counters neighbours.now }
+        ensures golomb { IsGolomb result.k result.glimit (qbpp_of presets.maxval) }
+    {
+        let place = context_at(presets, neighbours);
+        let number = place.number;
+        Plan {
+            neighbours: *neighbours,
+            k: golomb_parameter(self.n[number], self.a[number]),
+            glimit: limit,
+            number,
+            negative: place.negative,
+            prediction: predicted(presets, place.negative, self.c[number], neighbours),
         }
     }
 
