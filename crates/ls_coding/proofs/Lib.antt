@@ -1,5 +1,6 @@
 pub mod ContextLemmas
 pub mod ErrorLemmas
+pub mod EventLemmas
 pub mod FieldLemmas
 pub mod GolombParameterLemmas
 pub mod InterruptionLemmas
