@@ -11,7 +11,7 @@ use Rattle.ls_bits.proofs.GolombLemmas.{length-code_word}
 use Rattle.ls_coding.specs.Numbers.{golomb_parameter}
 use Rattle.ls_coding.specs.Errors.{IsReduced, mapped}
 use Rattle.ls_coding.specs.Stats.{Stats, error_bound, AreSound}
-use Rattle.ls_coding.specs.Interruptions.{Counts, AreSoundCounts, interruption_k, interruption_value, ri_type, map_of}
+use Rattle.ls_coding.specs.Interruptions.{Counts, AreSoundCounts, interruption_k}
 use Rattle.ls_coding.specs.Runs.{order}
 use Rattle.ls_coding.proofs.GolombParameterLemmas.{golomb_parameter-least}
 use Rattle.ls_coding.proofs.RunLemmas.{order_small}
@@ -114,9 +114,8 @@ size_small range (negsuc n) h = omega (arith, ints, h.low)
 less_off : (n x y : ℕ) → n - x - y ≤ n
 less_off n x y = omega arith
 
-pub interruption_value_small : (flat : Bool) (maxval : ℕ) (s : Counts) (e : ℤ) → 0 < maxval → maxval ≤ 65535 → IsReduced (range_of maxval) e → interruption_value flat s e ≤ 2 ^ qbpp_of maxval
-interruption_value_small flat maxval s e some most h =
+pub interruption_value_small : (maxval x y : ℕ) (e : ℤ) → 0 < maxval → maxval ≤ 65535 → IsReduced (range_of maxval) e → 2 * unsigned_abs e - x - y ≤ 2 ^ qbpp_of maxval
+interruption_value_small maxval x y e some most h =
     let size = size_small (range_of maxval) e h in
     let enough = (qbpp_are maxval some most).enough in
-    let less : interruption_value flat s e ≤ 2 * unsigned_abs e = less_off (2 * unsigned_abs e) (ri_type flat) (map_of (interruption_k flat s) s e) in
-    omega arith
+    omega (arith, less_off (2 * unsigned_abs e) x y)

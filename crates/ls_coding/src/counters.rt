@@ -1,13 +1,13 @@
 //! The counters of every context (T.87 A.2.1).
-ghost use Rattle.std.specs.Prelude.{◌≡◌, ◌<◌, ◌≤◌, ℕ, pos, slice_set, IfOk, IfErr};
+ghost use Rattle.std.specs.Prelude.{◌≡◌, ◌<◌, ◌≤◌, ℕ, pos, true, false, slice_set, IfOk, IfErr, if◌then◌else◌};
 ghost use Rattle.ls_frame.specs.Parameters.{range_of, qbpp_of, limit_of};
 ghost use Rattle.ls_bits.specs.Golomb.{IsGolomb, most_value};
 ghost use Rattle.ls_coding.specs.Samples.{AreSamples};
 ghost use Rattle.ls_coding.specs.Contexts.{context_of};
 ghost use Rattle.ls_coding.specs.Errors.{IsReduced, error_of, leans, mapped};
-ghost use Rattle.ls_coding.specs.Events.{regular_e, regular_word};
+ghost use Rattle.ls_coding.specs.Events.{regular_e, regular_word, interruption_word};
 ghost use Rattle.ls_coding.specs.Stats.{first_a, first_stats, stats_step, error_bound};
-ghost use Rattle.ls_coding.specs.Interruptions.{first_counts};
+ghost use Rattle.ls_coding.specs.Interruptions.{first_counts, counts_step, ri_type, is_flat, interruption_error, interruption_value};
 ghost use Rattle.ls_coding.specs.Plans.{regular_plan_by, IsTheSample, NoSample};
 ghost use Rattle.ls_coding.specs.Fields.{stats_at, contexts_of, counts_at, AreAllSound};
 
@@ -15,8 +15,12 @@ use crate::context::context_at;
 use crate::error::{
     error_of, golomb_parameter, is_reduced, leans, mapped, predicted, sample_of, unmapped,
 };
+use crate::interruption::{
+    count_interruption, foretold, interruption_k, interruption_value, is_flat, is_turned, kind,
+};
 use crate::neighbours::Neighbours;
 use crate::plan::Plan;
+use crate::run::order;
 use crate::update::update;
 use crate::word::Word;
 use ls_bits::CodeFault;
@@ -150,8 +154,8 @@ impl Counters {
             IfOk result (λ sample. IsTheSample (λ one. one ≤ presets.maxval) value_of value sample) }
         ensures contexts { let counters = stats_at self.old.a self.old.b self.old.c self.old.n number in
             IfOk result (λ sample. contexts_of self.new.a self.new.b self.new.c self.new.n
-                ≡ slice_set (contexts_of self.old.a self.old.b self.old.c self.old.n) number
-                (stats_step presets.reset counters (error_of presets negative (pos prediction) sample))) }
+            ≡ slice_set (contexts_of self.old.a self.old.b self.old.c self.old.n) number
+            (stats_step presets.reset counters (error_of presets negative (pos prediction) sample))) }
         ensures steep { counts_at self.new.a self.new.n self.new.nn 0 ≡ counts_at self.old.a self.old.n self.old.nn 0 }
         ensures flat { counts_at self.new.a self.new.n self.new.nn 1 ≡ counts_at self.old.a self.old.n self.old.nn 1 }
         ensures sound { AreAllSound presets.reset (error_bound presets.maxval)
@@ -193,6 +197,83 @@ impl Counters {
             &mut self.c[number],
             &mut self.n[number],
             error,
+        );
+    }
+
+    /// The word of the sample that interrupts a run, behind the run's bits at this RUNindex. Its error is counted in its
+    /// context.
+    pub fn code_interruption(
+        &mut self,
+        presets: Presets,
+        limit: u32,
+        run_index: u32,
+        neighbours: &Neighbours,
+        sample: u16,
+    ) -> Word
+        requires samples { AreSamples presets.maxval neighbours.now }
+        requires sample { sample ≤ presets.maxval }
+        requires limit { limit ≡ limit_of presets.maxval }
+        requires index { run_index ≤ 31 }
+        requires sound { AreAllSound presets.reset (error_bound presets.maxval)
+            self.old.a self.old.b self.old.c self.old.n self.old.nn }
+        ensures word { let flat = is_flat neighbours.now in
+            result ≡ interruption_word presets run_index flat (counts_at self.old.a self.old.n self.old.nn (ri_type flat))
+            (interruption_error presets neighbours.now sample) }
+        ensures golomb { IsGolomb result.k result.glimit (qbpp_of presets.maxval) }
+        ensures value { result.value ≤ most_value (qbpp_of presets.maxval) }
+        ensures contexts { contexts_of self.new.a self.new.b self.new.c self.new.n
+            ≡ contexts_of self.old.a self.old.b self.old.c self.old.n }
+        ensures steep { let flat = is_flat neighbours.now in
+            let before = counts_at self.old.a self.old.n self.old.nn 0 in
+            counts_at self.new.a self.new.n self.new.nn 0 ≡ (if flat then before
+            else counts_step false presets.reset before (interruption_error presets neighbours.now sample)) }
+        ensures flat { let flat = is_flat neighbours.now in
+            let before = counts_at self.old.a self.old.n self.old.nn 1 in
+            counts_at self.new.a self.new.n self.new.nn 1 ≡ (if flat
+            then counts_step true presets.reset before (interruption_error presets neighbours.now sample) else before) }
+        ensures sound { AreAllSound presets.reset (error_bound presets.maxval)
+            self.new.a self.new.b self.new.c self.new.n self.new.nn }
+    {
+        let flat = is_flat(neighbours);
+        let error = error_of(presets, is_turned(neighbours), foretold(neighbours), sample);
+        let which = kind(flat);
+        let n = self.n[REGULAR + which];
+        let k = interruption_k(flat, self.a[REGULAR + which], n);
+        let value = interruption_value(flat, k, n, self.nn[which], error);
+        self.add_interruption(presets, flat, error, value);
+        Word {
+            k,
+            glimit: limit - order(run_index) - 1,
+            value,
+        }
+    }
+
+    /// Counts one error more, of a sample that interrupts a run.
+    pub fn add_interruption(&mut self, presets: Presets, flat: bool, error: i32, value: u32)
+        requires sound { AreAllSound presets.reset (error_bound presets.maxval)
+            self.old.a self.old.b self.old.c self.old.n self.old.nn }
+        requires error { IsReduced (range_of presets.maxval) error }
+        requires value { value ≡ interruption_value flat (counts_at self.old.a self.old.n self.old.nn (ri_type flat)) error }
+        ensures contexts { contexts_of self.new.a self.new.b self.new.c self.new.n
+            ≡ contexts_of self.old.a self.old.b self.old.c self.old.n }
+        ensures steep { let before = counts_at self.old.a self.old.n self.old.nn 0 in
+            counts_at self.new.a self.new.n self.new.nn 0
+            ≡ (if flat then before else counts_step false presets.reset before error) }
+        ensures flat { let before = counts_at self.old.a self.old.n self.old.nn 1 in
+            counts_at self.new.a self.new.n self.new.nn 1
+            ≡ (if flat then counts_step true presets.reset before error else before) }
+        ensures sound { AreAllSound presets.reset (error_bound presets.maxval)
+            self.new.a self.new.b self.new.c self.new.n self.new.nn }
+    {
+        let which = kind(flat);
+        count_interruption(
+            presets,
+            flat,
+            &mut self.a[REGULAR + which],
+            &mut self.n[REGULAR + which],
+            &mut self.nn[which],
+            error,
+            value,
         );
     }
 }
