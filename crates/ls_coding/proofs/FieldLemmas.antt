@@ -1,5 +1,6 @@
 -- The counters of one context, changed among those of all.
-use Rattle.std.proofs.Common.{◌≡◌, ◌≢◌, ℕ, ◌+◌, ◌<◌, ◌≤◌, ◌*◌, Bool, true, false, cond, eqb, ℤ, pos, List, length, map, get_or, refl, sym, ◌∙◌, ap, subst, arith, ◌⊎◌, inl, inr}
+use Rattle.std.proofs.Common.{◌≡◌, ◌≢◌, ℕ, ◌+◌, ◌-◌, ◌*◌, ◌<◌, ◌≤◌, Bool, true, false, cond, eqb, ℤ, pos, List, length, map, get_or, refl, sym, ◌∙◌, ap, subst, arith, ◌⊎◌, inl, inr}
+use Rattle.std.specs.Prelude.{unsigned_abs}
 use Rattle.std.specs.List.{range_with_len}
 use Rattle.std.proofs.Math.ListN.{set}
 use Rattle.std.proofs.lemmas.Int.{ints}
@@ -9,7 +10,7 @@ use Rattle.std.proofs.lemmas.List.{get_or-set_same, get_or-set_other, length-set
 use Rattle.std.proofs.lemmas.List.FromFn.{get_or-map-range_with_len, length-map-range_with_len}
 use Rattle.ls_frame.specs.Parameters.{Parameters, IsLegal}
 use Rattle.ls_coding.specs.Stats.{Stats, stats, error_bound, AreSound, first_a, first_stats}
-use Rattle.ls_coding.specs.Interruptions.{Counts, counts, first_counts, ri_type, AreSoundCounts}
+use Rattle.ls_coding.specs.Interruptions.{Counts, counts, first_counts, ri_type, map_of, interruption_k, interruption_value, AreSoundCounts}
 use Rattle.ls_coding.specs.Fields.{stats_at, contexts_of, counts_at, AreAllSound}
 
 same_or_by : (i j : ℕ) (test : Bool) → eqb i j ≡ test → (i ≡ j) ⊎ (i ≢ j)
@@ -209,3 +210,17 @@ counts_sum reset maxval s sound wide =
     let bound : error_bound maxval ≤ 32768 = omega arith in
     let product : s.n * error_bound maxval ≤ s.n * 32768 = mul-le s.n (error_bound maxval) s.n 32768 (omega arith) bound in
     omega (arith, sound.sum)
+
+-- a value as the code has it, and as it is defined
+value_at : (a n nn : List ℕ) (which k : ℕ) (flat : Bool) (e : ℤ) → ℕ
+value_at a n nn which k flat e = 2 * unsigned_abs e - ri_type flat - map_of k (counts 0 (get_or n (365 + which) 0) (get_or nn which 0)) e
+
+pub value_is : (a n nn : List ℕ) (flat code_flat : Bool) (which k : ℕ) (e : ℤ) → code_flat ≡ flat → which ≡ ri_type code_flat
+    → k ≡ interruption_k flat (counts_at a n nn (ri_type flat))
+    → 2 * unsigned_abs e - ri_type code_flat - map_of k (counts 0 (get_or n (365 + which) 0) (get_or nn which 0)) e
+    ≡ interruption_value flat (counts_at a n nn (ri_type flat)) e
+unfolding value_at
+value_is a n nn flat code_flat which k e same place known =
+    ap (λ w. value_at a n nn w k code_flat e) (place ∙ ap ri_type same)
+    ∙ ap (λ f. value_at a n nn (ri_type flat) k f e) same
+    ∙ ap (λ m. value_at a n nn (ri_type flat) m flat e) known

@@ -7,8 +7,8 @@ ghost use Rattle.ls_coding.specs.Contexts.{context_of};
 ghost use Rattle.ls_coding.specs.Errors.{IsReduced, error_of, leans, mapped};
 ghost use Rattle.ls_coding.specs.Events.{regular_e, regular_word, interruption_word};
 ghost use Rattle.ls_coding.specs.Stats.{first_a, first_stats, stats_step, error_bound};
-ghost use Rattle.ls_coding.specs.Interruptions.{first_counts, counts_step, ri_type, is_flat, interruption_error, interruption_value};
-ghost use Rattle.ls_coding.specs.Plans.{regular_plan_by, IsTheSample, NoSample};
+ghost use Rattle.ls_coding.specs.Interruptions.{first_counts, counts_step, ri_type, is_flat, interruption_error, interruption_k, interruption_value};
+ghost use Rattle.ls_coding.specs.Plans.{regular_plan_by, interruption_plan_by, Interrupts, IsTheSample, NoSample};
 ghost use Rattle.ls_coding.specs.Fields.{stats_at, contexts_of, counts_at, AreAllSound};
 
 use crate::context::context_at;
@@ -16,7 +16,8 @@ use crate::error::{
     error_of, golomb_parameter, is_reduced, leans, mapped, predicted, sample_of, unmapped,
 };
 use crate::interruption::{
-    count_interruption, foretold, interruption_k, interruption_value, is_flat, is_turned, kind,
+    count_interruption, foretold, interruption_error_of, interruption_k, interruption_value,
+    is_flat, is_turned, kind,
 };
 use crate::neighbours::Neighbours;
 use crate::plan::Plan;
@@ -246,6 +247,88 @@ impl Counters {
             glimit: limit - order(run_index) - 1,
             value,
         }
+    }
+
+    /// What the word of the sample that interrupts a run is read by.
+    #[tactic(auto, unfolding(crate::specs::Plans::interruption_plan_by))]
+    pub fn plan_interruption(
+        &self,
+        presets: Presets,
+        limit: u32,
+        run_index: u32,
+        neighbours: &Neighbours,
+    ) -> Plan
+        requires samples { AreSamples presets.maxval neighbours.now }
+        requires limit { limit ≡ limit_of presets.maxval }
+        requires index { run_index ≤ 31 }
+        requires sound { AreAllSound presets.reset (error_bound presets.maxval)
+            self.now.a self.now.b self.now.c self.now.n self.now.nn }
+        ensures plan { let flat = is_flat neighbours.now in
+            result ≡ interruption_plan_by presets run_index (counts_at self.now.a self.now.n self.now.nn (ri_type flat)) neighbours.now }
+        ensures golomb { IsGolomb result.k result.glimit (qbpp_of presets.maxval) }
+    {
+        let flat = is_flat(neighbours);
+        let which = kind(flat);
+        Plan {
+            neighbours: *neighbours,
+            k: interruption_k(flat, self.a[REGULAR + which], self.n[REGULAR + which]),
+            glimit: limit - order(run_index) - 1,
+            number: which,
+            negative: is_turned(neighbours),
+            prediction: foretold(neighbours),
+        }
+    }
+
+    /// The sample that has this value and may interrupt a run of the value to its left; its error is counted in its
+    /// context. NotCanonical where no such sample has it.
+    pub fn accept_interruption(
+        &mut self,
+        presets: Presets,
+        neighbours: &Neighbours,
+        k: u32,
+        value: u32,
+    ) -> Result<u16, CodeFault>
+        requires samples { AreSamples presets.maxval neighbours.now }
+        requires k { let flat = is_flat neighbours.now in
+            k ≡ interruption_k flat (counts_at self.old.a self.old.n self.old.nn (ri_type flat)) }
+        requires value { value ≤ 65536 }
+        requires sound { AreAllSound presets.reset (error_bound presets.maxval)
+            self.old.a self.old.b self.old.c self.old.n self.old.nn }
+        ensures ok { let flat = is_flat neighbours.now in
+            let counters = counts_at self.old.a self.old.n self.old.nn (ri_type flat) in
+            let value_of : ℕ → ℕ = λ sample. interruption_value flat counters (interruption_error presets neighbours.now sample) in
+            IfOk result (λ sample. IsTheSample (Interrupts presets.maxval neighbours.now.a) value_of value sample) }
+        ensures contexts { contexts_of self.new.a self.new.b self.new.c self.new.n
+            ≡ contexts_of self.old.a self.old.b self.old.c self.old.n }
+        ensures steep { let flat = is_flat neighbours.now in
+            let before = counts_at self.old.a self.old.n self.old.nn 0 in
+            IfOk result (λ sample. counts_at self.new.a self.new.n self.new.nn 0 ≡ (if flat then before
+            else counts_step false presets.reset before (interruption_error presets neighbours.now sample))) }
+        ensures flat { let flat = is_flat neighbours.now in
+            let before = counts_at self.old.a self.old.n self.old.nn 1 in
+            IfOk result (λ sample. counts_at self.new.a self.new.n self.new.nn 1 ≡ (if flat
+            then counts_step true presets.reset before (interruption_error presets neighbours.now sample) else before)) }
+        ensures sound { AreAllSound presets.reset (error_bound presets.maxval)
+            self.new.a self.new.b self.new.c self.new.n self.new.nn }
+        ensures fault { IfErr result (λ fault. fault ≡ CodeFault.NotCanonical) }
+        ensures unchanged { IfErr result (λ fault. self.new ≡ self.old) }
+        ensures none { let flat = is_flat neighbours.now in
+            let counters = counts_at self.old.a self.old.n self.old.nn (ri_type flat) in
+            let value_of : ℕ → ℕ = λ sample. interruption_value flat counters (interruption_error presets neighbours.now sample) in
+            IfErr result (λ fault. NoSample (Interrupts presets.maxval neighbours.now.a) value_of value) }
+    {
+        let flat = is_flat(neighbours);
+        let which = kind(flat);
+        let error = interruption_error_of(flat, k, self.n[REGULAR + which], self.nn[which], value);
+        if !is_reduced(presets.range(), error) {
+            return Err(CodeFault::NotCanonical);
+        }
+        let sample = sample_of(presets, is_turned(neighbours), foretold(neighbours), error);
+        if sample == neighbours.a {
+            return Err(CodeFault::NotCanonical);
+        }
+        self.add_interruption(presets, flat, error, value);
+        Ok(sample)
     }
 
     /// Counts one error more, of a sample that interrupts a run.
