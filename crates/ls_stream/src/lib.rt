@@ -5,3 +5,5 @@
 #![tactic(auto)]
 
 pub mod laws;
+#[cfg(test)]
+mod plain;
