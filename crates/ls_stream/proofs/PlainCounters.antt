@@ -1,5 +1,5 @@
 -- The counters of a context, error by error.
-use Rattle.std.proofs.Common.{◌≡◌, ℕ, ◌+◌, ◌-◌, ◌/◌, ◌<◌, Bool, true, false, cond, eqb, ℤ, pos, List, length, drop, get_or, fold, sym, ◌∙◌, ap, eq-eqb}
+use Rattle.std.proofs.Common.{◌≡◌, ℕ, ◌+◌, ◌-◌, ◌/◌, ◌<◌, Bool, true, cond, eqb, ℤ, pos, List, length, drop, get_or, fold, sym, ◌∙◌, ap, eq-eqb}
 use Rattle.std.specs.Prelude.{int_lt}
 use Rattle.std.proofs.lemmas.Bool.{cond-true, cond-false, ne_eqb}
 use Rattle.std.proofs.lemmas.List.{at_drop_more}
@@ -38,9 +38,6 @@ whole_step flat reset a n nn value ri nn' e fits p q r h =
 
 pub fold-kept : {S : Type 0} → (f : S → ℤ → S) (s : S) (kept : Bool) (e : ℤ) (more : List ℤ) → kept ≡ true → fold f s (keep_if kept e more) ≡ fold f (f s e) more
 fold-kept f s kept e more h = ap (fold f s) (cond-true _ _ _ h)
-
-pub fold-left : {S : Type 0} → (f : S → ℤ → S) (s : S) (kept : Bool) (e : ℤ) (more : List ℤ) → kept ≡ false → fold f s (keep_if kept e more) ≡ fold f s more
-fold-left f s kept e more h = ap (fold f s) (cond-false _ _ _ h)
 
 errors-next : {S : Type 0} → (f : S → ℤ → S) (s : S) (number : ℕ) (xs : List (ℕ × ℤ)) (i : ℕ) (d : ℕ × ℤ) → i < length xs
     → fold f s (errors_in number (drop i xs)) ≡ fold f s (keep_if (eqb number (get_or xs i d).0) (get_or xs i d).1 (errors_in number (drop (i + 1) xs)))

@@ -1,6 +1,6 @@
 -- A row from left to right.
 use Rattle.std.proofs.Common.{◌≡◌, ℕ, zero, suc, ◌+◌, ◌-◌, ◌<◌, ◌≤◌, true, false, cond, leb, ltb, [], ◌∷◌, refl, sym, ◌∙◌, ap, eq-eqb, arith}
-use Rattle.std.proofs.lemmas.Bool.{le-leb, lt-leb, cond-true, cond-false, ne_eqb}
+use Rattle.std.proofs.lemmas.Bool.{le-leb, lt-leb, cond-true, cond-false}
 use Rattle.ls_coding.specs.Contexts.{is_run}
 use Rattle.ls_stream.specs.Planes.{Plane, at, around, equal_from, run_length, Segment, sample, stretch, cut, row_segments}
 use Rattle.ls_stream.specs.Histories.{row_from}
@@ -19,16 +19,6 @@ equal_from-more plane i value j h e =
     ∙ cond-true _ _ _ (eq-eqb (at plane i j) value e)
     ∙ ap (λ n. suc (equal_from plane i value (plane.width - (j + 1)) n)) next
     ∙ count
-
-pub equal_from-stop : (plane : Plane) (i value j : ℕ) → j < plane.width → (at plane i j ≡ value → ⊥)
-    → equal_from plane i value (plane.width - j) j ≡ 0
-equal_from-stop plane i value j h e =
-    ap (λ most. equal_from plane i value most j) (room plane.width j h) ∙ cond-false _ _ _ (ne_eqb (at plane i j) value e)
-
-pub equal_from-end : (plane : Plane) (i value j : ℕ) → plane.width ≤ j → equal_from plane i value (plane.width - j) j ≡ 0
-equal_from-end plane i value j h =
-    let none : plane.width - j ≡ 0 = omega arith in
-    ap (λ most. equal_from plane i value most j) none
 
 -- ---- segments
 

@@ -1,5 +1,11 @@
-//! The plain program that the tests compare with: the bits of a plane as T.87's Annex A says them, one by one, and every
-//! counter counted anew for each sample.
+//! The plain program that the tests compare with: the bits of a plane as T.87's Annex A says them, one by one. Each sample
+//! counts its context's counters anew, from all the errors before it.
+//!
+//! What it keeps is said in `specs/Histories.antt`; that this is as good as the list of events is
+//! `proofs/PlainHistories.antt`.
+//!
+//! In reading order: `neighbours`, `context`, `prediction`, `number` (what the sections share), `stats` and `regular` (a
+//! sample of regular mode), `run`, `counts` and `interruption` (the sample that interrupts one), `word` (bits).
 ghost use Rattle.std.specs.Prelude.{◌≡◌, ◌-◌, ◌<◌, ◌≤◌, ◌++◌, ◌∷◌, [], List, length, OnOk, IfOk};
 ghost use Rattle.ls_stream.specs.Planes.{Segment, row_segments, plane_bits};
 ghost use Rattle.ls_stream.specs.Histories.{plane_of, IsPlace, history, all_bits, row_from, bits_at, pair_at, break_bits, break_pair};
@@ -45,7 +51,7 @@ pub fn plane_bits(
     requires some { 1 ≤ width }
     requires narrow { width ≤ 65535 }
     requires few { length samples.now ≤ 65535 }
-    ensures { IfOk result (λ bits. bits.items ≡ plane_bits presets (plane_of width samples.now)) }
+    ensures { IfOk result (λ bits. bits.items ≡ plane_bits presets (record { width = width; samples = samples.now })) }
 {
     let mut coder = Coder {
         errors: Vec::new(alloc),
@@ -72,8 +78,11 @@ fn code_row(
     requires index { coder.old.index ≤ 31 }
     ensures index { OnOk result (coder.new.index ≤ 31) }
     ensures row { OnOk result ((more : List Segment)
-        → all_bits presets (plane_of width samples.now) coder.new.bits.items (history coder.new.errors.items coder.new.breaks.items coder.new.index) more
-        ≡ all_bits presets (plane_of width samples.now) coder.old.bits.items (history coder.old.errors.items coder.old.breaks.items coder.old.index) (row_segments (plane_of width samples.now) row ++ more)) }
+        → all_bits presets (plane_of width samples.now) coder.new.bits.items
+        (history coder.new.errors.items coder.new.breaks.items coder.new.index) more
+        ≡ all_bits presets (plane_of width samples.now) coder.old.bits.items
+        (history coder.old.errors.items coder.old.breaks.items coder.old.index)
+        (row_segments (plane_of width samples.now) row ++ more)) }
 {
     let mut column = 0;
     while column < width {
@@ -97,8 +106,12 @@ fn code_segment(
     ensures index { OnOk result (coder.new.index ≤ 31) }
     ensures next { IfOk result (λ next. column < next) }
     ensures segment { IfOk result (λ next. (more : List Segment)
-        → all_bits presets (plane_of width samples.now) coder.new.bits.items (history coder.new.errors.items coder.new.breaks.items coder.new.index) (row_from (plane_of width samples.now) row next ++ more)
-        ≡ all_bits presets (plane_of width samples.now) coder.old.bits.items (history coder.old.errors.items coder.old.breaks.items coder.old.index) (row_from (plane_of width samples.now) row column ++ more)) }
+        → all_bits presets (plane_of width samples.now) coder.new.bits.items
+        (history coder.new.errors.items coder.new.breaks.items coder.new.index)
+        (row_from (plane_of width samples.now) row next ++ more)
+        ≡ all_bits presets (plane_of width samples.now) coder.old.bits.items
+        (history coder.old.errors.items coder.old.breaks.items coder.old.index)
+        (row_from (plane_of width samples.now) row column ++ more)) }
 {
     if !is_run(around(width, samples, row, column)) {
         code_sample(presets, width, samples, row, column, coder)?;

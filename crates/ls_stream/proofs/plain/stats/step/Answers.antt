@@ -1,9 +1,9 @@
-use Rattle.std.proofs.Common.{◌≡◌, ap, ◌∙◌, arith}
+use Rattle.std.proofs.Common.{◌≡◌, pos, neg_ℤ, ◌≤ℤ◌, ap, ◌∙◌, arith}
 use Rattle.std.specs.Prelude.{unsigned_abs}
 use Rattle.std.proofs.lemmas.Int.{ints, to_z-of_z}
 use mir.Syntax.{w32}
 use Rattle.ls_coding.proofs.StatsLemmas.{step_is, sound_is}
-use Rattle.ls_stream.proofs.PlainNumbers.{sum_through}
+use Rattle.ls_stream.proofs.PlainNumbers.{sum_through, mean_within}
 use Rattle.ls_stream.proofs.plain.stats.step.Goals as goal
 
 size : (c : goal.After-balance) → c.from.result ≡ unsigned_abs c.args.error
@@ -11,6 +11,13 @@ size c = c.from.ensures ∙ c.unsigned_abs.ensures.value ∙ ap unsigned_abs (to
 
 same : (c : goal.After-balance) → c.from-reset.result ≡ c.args.presets.reset
 same c = c.from-reset.ensures ∙ c.reset.ensures.value
+
+pub balance-requires-clause-mean : goal.balance-requires-clause-mean
+balance-requires-clause-mean c =
+    let low : neg_ℤ (pos 65536) ≤ℤ c.args.b.now = omega (arith, ints, c.requires.sound.mean_low, c.requires.sound.few) in
+    let high : c.args.b.now ≤ℤ pos 65536 = omega (arith, ints, c.requires.sound.mean_high) in
+    mean_within _ c.args.b.now c.args.error _ c.count.new.b low high c.ranges.error
+    (sum_through c.args.b.now c.args.error c.from-2.result low high c.ranges.error c.from-2.ensures c.from-2.type_inv) c.count.ensures.b
 
 pub returns-clause-step : goal.returns-clause-step
 returns-clause-step c =
