@@ -10,6 +10,7 @@ use Rattle.ls_coding.specs.Runs.{run_of, run_bits, index_at}
 use Rattle.ls_coding.specs.Events.{same, regular_e, regular_word, interruption_word, golomb_bits}
 use Rattle.ls_stream.specs.Planes.{Plane, at, around, sample_context, Segment, sample, stretch, cut}
 
+-- a plane of rows of this width
 abbrev pub plane_of : ℕ → List ℕ → Plane
 plane_of width samples = record { width = width; samples = samples }
 
@@ -19,6 +20,7 @@ pub record IsPlace (width row column : ℕ) : Type 0 where
   pub low : row ≤ 65535
   pub left : column ≤ 65535
 
+-- a number of at most such a size
 pub record IsWithin (bound : ℕ) (z : ℤ) : Type 0 where
   pub low : neg_ℤ (pos bound) ≤ℤ z
   pub high : z ≤ℤ pos bound
@@ -102,7 +104,7 @@ all_bits p plane bits h more = bits ++ bits_behind p plane more h
 unfoldable pub row_from : Plane → ℕ → ℕ → List Segment
 row_from plane i j = cut plane i (plane.width - j) j
 
--- what the counters of interruption samples keep to
+-- what the counters of interruption samples keep to: in A at most 2^32 for each of N errors, and at most N of them negative
 pub record AreKept (reset : ℕ) (s : Counts) : Type 0 where
   pub some : 1 ≤ s.n
   pub few : s.n ≤ reset

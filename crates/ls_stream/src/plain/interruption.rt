@@ -26,7 +26,8 @@ pub fn interruption(
 ) -> Coded
     ensures error { result.error ≡ interruption_error presets around sample }
     ensures k { result.k ≡ interruption_k (is_flat around) (counts_of presets (is_flat around) breaks.now) }
-    ensures value { result.value ≡ interruption_value (is_flat around) (counts_of presets (is_flat around) breaks.now) (interruption_error presets around sample) }
+    ensures value { result.value
+        ≡ interruption_value (is_flat around) (counts_of presets (is_flat around) breaks.now) (interruption_error presets around sample) }
     ensures small { result.k ≤ 32 }
 {
     let flat = is_flat(around);

@@ -105,7 +105,8 @@ pub fn put_run(
 /// Puts how a run ends behind its ones.
 fn put_tail(bits: &mut Vec<bool>, walked: Walked, broken: bool) -> Result<(), AllocError>
     requires { walked.index ≤ 31 }
-    ensures { OnOk result (bits.new.items ≡ bits.old.items ++ tail_bits (tail_of broken (record { ones = walked.ones; index = walked.index; left = walked.left }))) }
+    ensures { OnOk result (bits.new.items ≡ bits.old.items
+        ++ tail_bits (tail_of broken (record { ones = walked.ones; index = walked.index; left = walked.left }))) }
 {
     if broken {
         bits.push(false)?;
