@@ -11,6 +11,7 @@ pub mod context;
 pub mod counters;
 pub mod error;
 pub mod interruption;
+pub mod laws;
 pub mod neighbours;
 pub mod plan;
 pub mod run;
