@@ -2,6 +2,7 @@
 use Rattle.std.specs.Prelude.{◌≡◌, ℕ, ◌+◌, ◌<◌, ◌≤◌, ℤ, pos, List, map, slice_index, slice_index_or}
 use Rattle.std.specs.List.{range_with_len}
 use Rattle.ls_frame.specs.Parameters.{Parameters, limit_of}
+use Rattle.ls_coding.specs.declared.counters.Counters.{Counters}
 use Rattle.ls_coding.specs.Stats.{Stats, AreSound, error_bound}
 use Rattle.ls_coding.specs.Interruptions.{Counts, AreSoundCounts}
 
@@ -29,8 +30,22 @@ pub record AreAllSound (reset bound : ℕ) (a : List ℕ) (b c : List ℤ) (n nn
   pub steep : AreSoundCounts reset bound (counts_at a n nn 0)
   pub flat : AreSoundCounts reset bound (counts_at a n nn 1)
 
+-- ---- the same, of the arrays together
+
+abbrev pub regular_at : Counters → ℕ → Stats
+regular_at s number = stats_at s.a s.b s.c s.n number
+
+abbrev pub all_regular : Counters → List Stats
+all_regular s = contexts_of s.a s.b s.c s.n
+
+abbrev pub interrupting_at : Counters → ℕ → Counts
+interrupting_at s which = counts_at s.a s.n s.nn which
+
+abbrev pub IsSound : Parameters → Counters → Type 0
+IsSound p s = AreAllSound p.reset (error_bound p.maxval) s.a s.b s.c s.n s.nn
+
 -- what a state keeps to
-pub record AreFields (p : Parameters) (limit run_index : ℕ) (a : List ℕ) (b c : List ℤ) (n nn : List ℕ) : Type 0 where
+pub record AreFields (p : Parameters) (limit run_index : ℕ) (s : Counters) : Type 0 where
   pub limit_is : limit ≡ limit_of p.maxval
   pub index : run_index ≤ 31
-  pub sound : AreAllSound p.reset (error_bound p.maxval) a b c n nn
+  pub sound : IsSound p s

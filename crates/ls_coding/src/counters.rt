@@ -6,10 +6,10 @@ ghost use Rattle.ls_coding.specs.Samples.{AreSamples};
 ghost use Rattle.ls_coding.specs.Contexts.{context_of};
 ghost use Rattle.ls_coding.specs.Errors.{IsReduced, error_of, leans, mapped};
 ghost use Rattle.ls_coding.specs.Events.{regular_e, regular_word, interruption_word};
-ghost use Rattle.ls_coding.specs.Stats.{first_a, first_stats, stats_step, error_bound};
+ghost use Rattle.ls_coding.specs.Stats.{first_a, first_stats, stats_step};
 ghost use Rattle.ls_coding.specs.Interruptions.{first_counts, counts_step, ri_type, is_flat, interruption_error, interruption_k, interruption_value};
 ghost use Rattle.ls_coding.specs.Plans.{regular_plan_by, interruption_plan_by, Interrupts, IsTheSample, NoSample};
-ghost use Rattle.ls_coding.specs.Fields.{stats_at, contexts_of, counts_at, AreAllSound};
+ghost use Rattle.ls_coding.specs.Fields.{regular_at, all_regular, interrupting_at, IsSound};
 
 use crate::context::context_at;
 use crate::error::{
@@ -51,12 +51,10 @@ pub struct Counters {
 impl Counters {
     /// The counters at a scan's start.
     pub fn new(presets: Presets) -> Counters
-        ensures contexts { (number : ℕ) → number < 365
-            → stats_at result.a result.b result.c result.n number ≡ first_stats presets }
-        ensures steep { counts_at result.a result.n result.nn 0 ≡ first_counts presets }
-        ensures flat { counts_at result.a result.n result.nn 1 ≡ first_counts presets }
-        ensures sound { AreAllSound presets.reset (error_bound presets.maxval)
-            result.a result.b result.c result.n result.nn }
+        ensures contexts { (number : ℕ) → number < 365 → regular_at result number ≡ first_stats presets }
+        ensures steep { interrupting_at result 0 ≡ first_counts presets }
+        ensures flat { interrupting_at result 1 ≡ first_counts presets }
+        ensures sound { IsSound presets result }
     {
         let first = first_a(presets);
         Counters {
@@ -79,22 +77,20 @@ impl Counters {
         requires samples { AreSamples presets.maxval neighbours.now }
         requires sample { sample ≤ presets.maxval }
         requires limit { limit ≡ limit_of presets.maxval }
-        requires sound { AreAllSound presets.reset (error_bound presets.maxval)
-            self.old.a self.old.b self.old.c self.old.n self.old.nn }
+        requires sound { IsSound presets self.old }
         ensures word { let place = context_of presets neighbours.now in
-            let counters = stats_at self.old.a self.old.b self.old.c self.old.n place.number in
+            let counters = regular_at self.old place.number in
             result ≡ regular_word presets counters (regular_e presets place counters neighbours.now sample) }
         ensures golomb { IsGolomb result.k result.glimit (qbpp_of presets.maxval) }
         ensures value { result.value ≤ most_value (qbpp_of presets.maxval) }
         ensures contexts { let place = context_of presets neighbours.now in
-            let counters = stats_at self.old.a self.old.b self.old.c self.old.n place.number in
-            contexts_of self.new.a self.new.b self.new.c self.new.n
-            ≡ slice_set (contexts_of self.old.a self.old.b self.old.c self.old.n) place.number
+            let counters = regular_at self.old place.number in
+            all_regular self.new
+            ≡ slice_set (all_regular self.old) place.number
             (stats_step presets.reset counters (regular_e presets place counters neighbours.now sample)) }
-        ensures steep { counts_at self.new.a self.new.n self.new.nn 0 ≡ counts_at self.old.a self.old.n self.old.nn 0 }
-        ensures flat { counts_at self.new.a self.new.n self.new.nn 1 ≡ counts_at self.old.a self.old.n self.old.nn 1 }
-        ensures sound { AreAllSound presets.reset (error_bound presets.maxval)
-            self.new.a self.new.b self.new.c self.new.n self.new.nn }
+        ensures steep { interrupting_at self.new 0 ≡ interrupting_at self.old 0 }
+        ensures flat { interrupting_at self.new 1 ≡ interrupting_at self.old 1 }
+        ensures sound { IsSound presets self.new }
     {
         let place = context_at(presets, neighbours);
         let number = place.number;
@@ -115,10 +111,9 @@ impl Counters {
     pub fn plan(&self, presets: Presets, limit: u32, neighbours: &Neighbours) -> Plan
         requires samples { AreSamples presets.maxval neighbours.now }
         requires limit { limit ≡ limit_of presets.maxval }
-        requires sound { AreAllSound presets.reset (error_bound presets.maxval)
-            self.now.a self.now.b self.now.c self.now.n self.now.nn }
+        requires sound { IsSound presets self.now }
         ensures plan { let place = context_of presets neighbours.now in
-            let counters = stats_at self.now.a self.now.b self.now.c self.now.n place.number in
+            let counters = regular_at self.now place.number in
             result ≡ regular_plan_by presets place counters neighbours.now }
         ensures golomb { IsGolomb result.k result.glimit (qbpp_of presets.maxval) }
     {
@@ -148,22 +143,20 @@ impl Counters {
         requires number { number < 365 }
         requires prediction { prediction ≤ presets.maxval }
         requires value { value ≤ 65536 }
-        requires sound { AreAllSound presets.reset (error_bound presets.maxval)
-            self.old.a self.old.b self.old.c self.old.n self.old.nn }
-        ensures ok { let counters = stats_at self.old.a self.old.b self.old.c self.old.n number in
+        requires sound { IsSound presets self.old }
+        ensures ok { let counters = regular_at self.old number in
             let value_of : ℕ → ℕ = λ sample. mapped (leans k counters.b counters.n) (error_of presets negative (pos prediction) sample) in
             IfOk result (λ sample. IsTheSample (λ one. one ≤ presets.maxval) value_of value sample) }
-        ensures contexts { let counters = stats_at self.old.a self.old.b self.old.c self.old.n number in
-            IfOk result (λ sample. contexts_of self.new.a self.new.b self.new.c self.new.n
-            ≡ slice_set (contexts_of self.old.a self.old.b self.old.c self.old.n) number
+        ensures contexts { let counters = regular_at self.old number in
+            IfOk result (λ sample. all_regular self.new
+            ≡ slice_set (all_regular self.old) number
             (stats_step presets.reset counters (error_of presets negative (pos prediction) sample))) }
-        ensures steep { counts_at self.new.a self.new.n self.new.nn 0 ≡ counts_at self.old.a self.old.n self.old.nn 0 }
-        ensures flat { counts_at self.new.a self.new.n self.new.nn 1 ≡ counts_at self.old.a self.old.n self.old.nn 1 }
-        ensures sound { AreAllSound presets.reset (error_bound presets.maxval)
-            self.new.a self.new.b self.new.c self.new.n self.new.nn }
+        ensures steep { interrupting_at self.new 0 ≡ interrupting_at self.old 0 }
+        ensures flat { interrupting_at self.new 1 ≡ interrupting_at self.old 1 }
+        ensures sound { IsSound presets self.new }
         ensures fault { IfErr result (λ fault. fault ≡ CodeFault.NotCanonical) }
         ensures unchanged { IfErr result (λ fault. self.new ≡ self.old) }
-        ensures none { let counters = stats_at self.old.a self.old.b self.old.c self.old.n number in
+        ensures none { let counters = regular_at self.old number in
             let value_of : ℕ → ℕ = λ sample. mapped (leans k counters.b counters.n) (error_of presets negative (pos prediction) sample) in
             IfErr result (λ fault. NoSample (λ one. one ≤ presets.maxval) value_of value) }
     {
@@ -180,16 +173,14 @@ impl Counters {
     /// Counts one error more in a context of regular mode.
     pub fn add(&mut self, presets: Presets, number: usize, error: i32)
         requires number { number < 365 }
-        requires sound { AreAllSound presets.reset (error_bound presets.maxval)
-            self.old.a self.old.b self.old.c self.old.n self.old.nn }
+        requires sound { IsSound presets self.old }
         requires error { IsReduced (range_of presets.maxval) error }
-        ensures contexts { contexts_of self.new.a self.new.b self.new.c self.new.n
-            ≡ slice_set (contexts_of self.old.a self.old.b self.old.c self.old.n) number
-            (stats_step presets.reset (stats_at self.old.a self.old.b self.old.c self.old.n number) error) }
-        ensures steep { counts_at self.new.a self.new.n self.new.nn 0 ≡ counts_at self.old.a self.old.n self.old.nn 0 }
-        ensures flat { counts_at self.new.a self.new.n self.new.nn 1 ≡ counts_at self.old.a self.old.n self.old.nn 1 }
-        ensures sound { AreAllSound presets.reset (error_bound presets.maxval)
-            self.new.a self.new.b self.new.c self.new.n self.new.nn }
+        ensures contexts { all_regular self.new
+            ≡ slice_set (all_regular self.old) number
+            (stats_step presets.reset (regular_at self.old number) error) }
+        ensures steep { interrupting_at self.new 0 ≡ interrupting_at self.old 0 }
+        ensures flat { interrupting_at self.new 1 ≡ interrupting_at self.old 1 }
+        ensures sound { IsSound presets self.new }
     {
         update(
             presets,
@@ -215,25 +206,22 @@ impl Counters {
         requires sample { sample ≤ presets.maxval }
         requires limit { limit ≡ limit_of presets.maxval }
         requires index { run_index ≤ 31 }
-        requires sound { AreAllSound presets.reset (error_bound presets.maxval)
-            self.old.a self.old.b self.old.c self.old.n self.old.nn }
+        requires sound { IsSound presets self.old }
         ensures word { let flat = is_flat neighbours.now in
-            result ≡ interruption_word presets run_index flat (counts_at self.old.a self.old.n self.old.nn (ri_type flat))
+            result ≡ interruption_word presets run_index flat (interrupting_at self.old (ri_type flat))
             (interruption_error presets neighbours.now sample) }
         ensures golomb { IsGolomb result.k result.glimit (qbpp_of presets.maxval) }
         ensures value { result.value ≤ most_value (qbpp_of presets.maxval) }
-        ensures contexts { contexts_of self.new.a self.new.b self.new.c self.new.n
-            ≡ contexts_of self.old.a self.old.b self.old.c self.old.n }
+        ensures contexts { all_regular self.new ≡ all_regular self.old }
         ensures steep { let flat = is_flat neighbours.now in
-            let before = counts_at self.old.a self.old.n self.old.nn 0 in
-            counts_at self.new.a self.new.n self.new.nn 0 ≡ (if flat then before
+            let before = interrupting_at self.old 0 in
+            interrupting_at self.new 0 ≡ (if flat then before
             else counts_step false presets.reset before (interruption_error presets neighbours.now sample)) }
         ensures flat { let flat = is_flat neighbours.now in
-            let before = counts_at self.old.a self.old.n self.old.nn 1 in
-            counts_at self.new.a self.new.n self.new.nn 1 ≡ (if flat
+            let before = interrupting_at self.old 1 in
+            interrupting_at self.new 1 ≡ (if flat
             then counts_step true presets.reset before (interruption_error presets neighbours.now sample) else before) }
-        ensures sound { AreAllSound presets.reset (error_bound presets.maxval)
-            self.new.a self.new.b self.new.c self.new.n self.new.nn }
+        ensures sound { IsSound presets self.new }
     {
         let flat = is_flat(neighbours);
         let error = error_of(presets, is_turned(neighbours), foretold(neighbours), sample);
@@ -261,10 +249,9 @@ impl Counters {
         requires samples { AreSamples presets.maxval neighbours.now }
         requires limit { limit ≡ limit_of presets.maxval }
         requires index { run_index ≤ 31 }
-        requires sound { AreAllSound presets.reset (error_bound presets.maxval)
-            self.now.a self.now.b self.now.c self.now.n self.now.nn }
+        requires sound { IsSound presets self.now }
         ensures plan { let flat = is_flat neighbours.now in
-            result ≡ interruption_plan_by presets run_index (counts_at self.now.a self.now.n self.now.nn (ri_type flat)) neighbours.now }
+            result ≡ interruption_plan_by presets run_index (interrupting_at self.now (ri_type flat)) neighbours.now }
         ensures golomb { IsGolomb result.k result.glimit (qbpp_of presets.maxval) }
     {
         let flat = is_flat(neighbours);
@@ -290,30 +277,27 @@ impl Counters {
     ) -> Result<u16, CodeFault>
         requires samples { AreSamples presets.maxval neighbours.now }
         requires k { let flat = is_flat neighbours.now in
-            k ≡ interruption_k flat (counts_at self.old.a self.old.n self.old.nn (ri_type flat)) }
+            k ≡ interruption_k flat (interrupting_at self.old (ri_type flat)) }
         requires value { value ≤ 65536 }
-        requires sound { AreAllSound presets.reset (error_bound presets.maxval)
-            self.old.a self.old.b self.old.c self.old.n self.old.nn }
+        requires sound { IsSound presets self.old }
         ensures ok { let flat = is_flat neighbours.now in
-            let counters = counts_at self.old.a self.old.n self.old.nn (ri_type flat) in
+            let counters = interrupting_at self.old (ri_type flat) in
             let value_of : ℕ → ℕ = λ sample. interruption_value flat counters (interruption_error presets neighbours.now sample) in
             IfOk result (λ sample. IsTheSample (Interrupts presets.maxval neighbours.now.a) value_of value sample) }
-        ensures contexts { contexts_of self.new.a self.new.b self.new.c self.new.n
-            ≡ contexts_of self.old.a self.old.b self.old.c self.old.n }
+        ensures contexts { all_regular self.new ≡ all_regular self.old }
         ensures steep { let flat = is_flat neighbours.now in
-            let before = counts_at self.old.a self.old.n self.old.nn 0 in
-            IfOk result (λ sample. counts_at self.new.a self.new.n self.new.nn 0 ≡ (if flat then before
+            let before = interrupting_at self.old 0 in
+            IfOk result (λ sample. interrupting_at self.new 0 ≡ (if flat then before
             else counts_step false presets.reset before (interruption_error presets neighbours.now sample))) }
         ensures flat { let flat = is_flat neighbours.now in
-            let before = counts_at self.old.a self.old.n self.old.nn 1 in
-            IfOk result (λ sample. counts_at self.new.a self.new.n self.new.nn 1 ≡ (if flat
+            let before = interrupting_at self.old 1 in
+            IfOk result (λ sample. interrupting_at self.new 1 ≡ (if flat
             then counts_step true presets.reset before (interruption_error presets neighbours.now sample) else before)) }
-        ensures sound { AreAllSound presets.reset (error_bound presets.maxval)
-            self.new.a self.new.b self.new.c self.new.n self.new.nn }
+        ensures sound { IsSound presets self.new }
         ensures fault { IfErr result (λ fault. fault ≡ CodeFault.NotCanonical) }
         ensures unchanged { IfErr result (λ fault. self.new ≡ self.old) }
         ensures none { let flat = is_flat neighbours.now in
-            let counters = counts_at self.old.a self.old.n self.old.nn (ri_type flat) in
+            let counters = interrupting_at self.old (ri_type flat) in
             let value_of : ℕ → ℕ = λ sample. interruption_value flat counters (interruption_error presets neighbours.now sample) in
             IfErr result (λ fault. NoSample (Interrupts presets.maxval neighbours.now.a) value_of value) }
     {
@@ -333,20 +317,17 @@ impl Counters {
 
     /// Counts one error more, of a sample that interrupts a run.
     pub fn add_interruption(&mut self, presets: Presets, flat: bool, error: i32, value: u32)
-        requires sound { AreAllSound presets.reset (error_bound presets.maxval)
-            self.old.a self.old.b self.old.c self.old.n self.old.nn }
+        requires sound { IsSound presets self.old }
         requires error { IsReduced (range_of presets.maxval) error }
-        requires value { value ≡ interruption_value flat (counts_at self.old.a self.old.n self.old.nn (ri_type flat)) error }
-        ensures contexts { contexts_of self.new.a self.new.b self.new.c self.new.n
-            ≡ contexts_of self.old.a self.old.b self.old.c self.old.n }
-        ensures steep { let before = counts_at self.old.a self.old.n self.old.nn 0 in
-            counts_at self.new.a self.new.n self.new.nn 0
+        requires value { value ≡ interruption_value flat (interrupting_at self.old (ri_type flat)) error }
+        ensures contexts { all_regular self.new ≡ all_regular self.old }
+        ensures steep { let before = interrupting_at self.old 0 in
+            interrupting_at self.new 0
             ≡ (if flat then before else counts_step false presets.reset before error) }
-        ensures flat { let before = counts_at self.old.a self.old.n self.old.nn 1 in
-            counts_at self.new.a self.new.n self.new.nn 1
+        ensures flat { let before = interrupting_at self.old 1 in
+            interrupting_at self.new 1
             ≡ (if flat then counts_step true presets.reset before error else before) }
-        ensures sound { AreAllSound presets.reset (error_bound presets.maxval)
-            self.new.a self.new.b self.new.c self.new.n self.new.nn }
+        ensures sound { IsSound presets self.new }
     {
         let which = kind(flat);
         count_interruption(

@@ -35,21 +35,20 @@ pub struct State {
 impl Model for State {
     ghost use Rattle.std.specs.Prelude.{◌≡◌, ◌≤◌};
     ghost use Rattle.ls_coding.specs.States.{Coding};
-    ghost use Rattle.ls_coding.specs.Fields.{contexts_of, counts_at, AreFields};
+    ghost use Rattle.ls_coding.specs.Fields.{all_regular, interrupting_at, AreFields};
 
     ghost Value = { Coding };
 
     ghost view = { λ s. record {
       parameters = s.presets;
-      contexts = contexts_of s.counters.a s.counters.b s.counters.c s.counters.n;
-      steep = counts_at s.counters.a s.counters.n s.counters.nn 0;
-      flat = counts_at s.counters.a s.counters.n s.counters.nn 1;
+      contexts = all_regular s.counters;
+      steep = interrupting_at s.counters 0;
+      flat = interrupting_at s.counters 1;
       run_index = s.run_index;
       broken = s.broken;
     } };
 
-    ghost invariant = { λ s. AreFields s.presets s.limit s.run_index
-        s.counters.a s.counters.b s.counters.c s.counters.n s.counters.nn };
+    ghost invariant = { λ s. AreFields s.presets s.limit s.run_index s.counters };
 }
 
 impl State {
