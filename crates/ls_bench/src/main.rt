@@ -1,12 +1,16 @@
 //! `ls_bench` measures, and does nothing else. Its first word says what:
 //!
 //! - `ls_bench words [TIMES [WORDS]]`: code words, put into stuffed bytes and taken back (`words`).
+//! - `ls_bench events [TIMES [SIDE]]`: the samples of regular mode of a picture of SIDE lines, coded and accepted back
+//!   (`regular`).
 //!
 //! What it prints to standard output is the same in each run; times go to standard error. `bench/` runs it beside its
 //! twins in C++.
 #![tactic(auto)]
 
 mod events;
+mod picture;
+mod regular;
 mod words;
 
 use anyhow::{Context, Result, bail};
@@ -28,6 +32,11 @@ fn run<R: Env + Clock + Print + Eprint + AllocGlobal>(rt: &R) -> Result<()> {
             let times = number(asked.next(), 1)?;
             let count = number(asked.next(), events::USUAL_COUNT)?;
             words::measure(rt, times, count)
+        }
+        "events" => {
+            let times = number(asked.next(), 1)?;
+            let side = number(asked.next(), picture::USUAL_SIDE)?;
+            regular::measure(rt, times, side)
         }
         other => bail!("{other} can't be measured"),
     }
