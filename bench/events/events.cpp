@@ -163,9 +163,9 @@ public:
         const int joined = 81 * region(rd - rb) + 9 * region(rb - rc) + region(rc - ra);
         const int sign = joined >> 31;
         const int number = turned(sign, joined);
-        const int low = std::min(ra, rb), high = std::max(ra, rb);
-        const int median = std::clamp(ra + rb - rc, low, high);
-        const int prediction = std::clamp(median + turned(sign, c_[number]), 0, presets_.maxval);
+        const int low = std::min(ra, rb), high = ra + rb - low;
+        const int median = std::max(low, std::min(ra + rb - rc, high));
+        const int prediction = std::max(0, std::min(median + turned(sign, c_[number]), presets_.maxval));
         const uint32_t a = a_[number], n = n_[number];
         const int shorter = __builtin_clz(n) - __builtin_clz(a);
         uint32_t k = std::max(shorter, 0);
@@ -176,8 +176,8 @@ public:
     Word code(const Neighbours &near, int sample) {
         const Plan at = plan(near);
         int error = turned(at.sign, sample - at.prediction);
-        if (error < 0) error += range_;
-        if (error >= (range_ + 1) / 2) error -= range_;
+        if (error < -(range_ / 2)) error += range_;
+        else if (error >= (range_ + 1) / 2) error -= range_;
         update(at.number, error);
         // 2e or -2e - 1, and with `leaning` 2e + 1 or -2e - 2.
         const int value = (2 * error ^ error >> 31) ^ int{at.leaning};
