@@ -2,10 +2,16 @@
 use Rattle.std.proofs.Common.{◌≡◌, ℕ, ◌+◌, ◌/◌, ◌<◌, ◌≤◌, Bool, true, false, cond, ℤ, pos, neg_ℤ, ◌+ℤ◌, ◌-ℤ◌, ◌≤ℤ◌, ◌<ℤ◌, ◌⊎◌, inl, inr, refl, sym, ◌∙◌, ap, subst, arith}
 use Rattle.std.specs.Prelude.{int_le, int_lt}
 use Rattle.std.proofs.lemmas.Int.{ints}
+use Rattle.ls_frame.specs.Parameters.{Parameters, range_of}
 use mir.Syntax.{w32}
 use mir.Val.{to_z, of_z}
+use Rattle.std.proofs.lemmas.Bool.{cond-true}
+use Rattle.ls_coding.specs.declared.neighbours.Neighbours.{Neighbours}
+use Rattle.ls_coding.specs.Samples.{AreSamples}
 use Rattle.ls_coding.specs.Contexts.{signed}
-use Rattle.ls_coding.specs.Errors.{IsReduced, wrapped, reduced}
+use Rattle.ls_coding.specs.Interruptions.{is_flat, is_turned, foretold, interruption_error}
+use Rattle.ls_coding.specs.Plans.{Interrupts}
+use Rattle.ls_coding.specs.Errors.{IsReduced, wrapped, reduced, error_of}
 use Rattle.ls_coding.proofs.StatsLemmas.{choose, le_true, le_false, lt_true, lt_false, mean_through}
 
 -- d is e, or a RANGE away from it
@@ -150,3 +156,34 @@ signed_low false maxval px e most h k = omega (arith, ints, k.low, k.high)
 pub signed_high : (negative : Bool) (maxval px : ℕ) (e : ℤ) → maxval ≤ 65535 → px ≤ maxval → IsReduced (maxval + 1) e → (pos px +ℤ signed negative e) ≤ℤ pos 131072
 signed_high true maxval px e most h k = omega (arith, ints, k.low, k.high)
 signed_high false maxval px e most h k = omega (arith, ints, k.low, k.high)
+
+-- each sample's error is reduced
+pub error_of-reduced : (p : Parameters) (px x : ℕ) (negative : Bool) → px ≤ p.maxval → x ≤ p.maxval → IsReduced (range_of p.maxval) (error_of p negative (pos px) x)
+error_of-reduced p px x negative h k =
+    let below : px < range_of p.maxval = omega arith in
+    let inside : x < range_of p.maxval = omega arith in
+    reduced_reduced (range_of p.maxval) (signed negative (pos x -ℤ pos px)) (difference_low (range_of p.maxval) px x negative below inside) (difference_high (range_of p.maxval) px x negative below inside)
+
+-- a sample that isn't the prediction has an error
+zero_alike : (range px x : ℕ) (negative : Bool) → px < range → x < range → IsAlike range (signed negative (pos x -ℤ pos px)) (pos 0) → x ≡ px
+zero_alike range px x true h k (here p) = omega (arith, ints)
+zero_alike range px x true h k (above p) = absurd (omega (arith, ints))
+zero_alike range px x true h k (below p) = absurd (omega (arith, ints))
+zero_alike range px x false h k (here p) = omega (arith, ints)
+zero_alike range px x false h k (above p) = absurd (omega (arith, ints))
+zero_alike range px x false h k (below p) = absurd (omega (arith, ints))
+
+pub error_of-zero : (p : Parameters) (px x : ℕ) (negative : Bool) → px ≤ p.maxval → x ≤ p.maxval → error_of p negative (pos px) x ≡ pos 0 → x ≡ px
+error_of-zero p px x negative h k e =
+    let below : px < range_of p.maxval = omega arith in
+    let inside : x < range_of p.maxval = omega arith in
+    zero_alike (range_of p.maxval) px x negative below inside
+    (subst (IsAlike (range_of p.maxval) (signed negative (pos x -ℤ pos px))) e
+    (reduced_alike (range_of p.maxval) (signed negative (pos x -ℤ pos px)) (difference_low (range_of p.maxval) px x negative below inside) (difference_high (range_of p.maxval) px x negative below inside)))
+
+pub foretold_small : (maxval : ℕ) (n : Neighbours) → AreSamples maxval n → foretold n ≤ maxval
+foretold_small maxval n h = choose (is_flat n) n.a n.b (λ v. v ≤ maxval) (λ e. h.left) (λ e. h.above)
+
+pub interrupting_error : (p : Parameters) (n : Neighbours) (sample : ℕ) → AreSamples p.maxval n → Interrupts p.maxval n.a sample → is_flat n ≡ true → interruption_error p n sample ≡ pos 0 → ⊥
+interrupting_error p n sample h k flat e =
+    k.other (error_of-zero p (foretold n) sample (is_turned n) (foretold_small p.maxval n h) k.within e ∙ cond-true (is_flat n) n.a n.b flat)

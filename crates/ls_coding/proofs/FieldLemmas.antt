@@ -1,14 +1,16 @@
 -- The counters of one context, changed among those of all.
-use Rattle.std.proofs.Common.{◌≡◌, ◌≢◌, ℕ, ◌+◌, ◌<◌, ◌≤◌, ◌*◌, Bool, true, false, eqb, ℤ, pos, List, length, map, get_or, refl, sym, ◌∙◌, ap, subst, arith, ◌⊎◌, inl, inr}
+use Rattle.std.proofs.Common.{◌≡◌, ◌≢◌, ℕ, ◌+◌, ◌-◌, ◌*◌, ◌<◌, ◌≤◌, Bool, true, false, cond, eqb, ℤ, pos, List, length, map, get_or, refl, sym, ◌∙◌, ap, subst, arith, ◌⊎◌, inl, inr}
+use Rattle.std.specs.Prelude.{unsigned_abs}
 use Rattle.std.specs.List.{range_with_len}
 use Rattle.std.proofs.Math.ListN.{set}
 use Rattle.std.proofs.lemmas.Int.{ints}
+use Rattle.std.proofs.lemmas.Nat.{mul-le}
 use Rattle.std.proofs.lemmas.Bool.{eqb-true, eqb-false}
 use Rattle.std.proofs.lemmas.List.{get_or-set_same, get_or-set_other, length-set, ext_get_or}
 use Rattle.std.proofs.lemmas.List.FromFn.{get_or-map-range_with_len, length-map-range_with_len}
 use Rattle.ls_frame.specs.Parameters.{Parameters, IsLegal}
 use Rattle.ls_coding.specs.Stats.{Stats, stats, error_bound, AreSound, first_a, first_stats}
-use Rattle.ls_coding.specs.Interruptions.{Counts, counts, first_counts, AreSoundCounts}
+use Rattle.ls_coding.specs.Interruptions.{Counts, counts, first_counts, ri_type, map_of, interruption_k, interruption_value, AreSoundCounts}
 use Rattle.ls_coding.specs.Fields.{stats_at, contexts_of, counts_at, AreAllSound}
 
 same_or_by : (i j : ℕ) (test : Bool) → eqb i j ≡ test → (i ≡ j) ⊎ (i ≢ j)
@@ -134,3 +136,91 @@ first_sound a n nn b c p legal all_a all_b all_c all_n all_nn =
       steep = subst (AreSoundCounts p.reset (error_bound p.maxval)) (sym (first_counts_at a n nn p 0 all_a all_n all_nn (omega arith))) counts_sound;
       flat = subst (AreSoundCounts p.reset (error_bound p.maxval)) (sym (first_counts_at a n nn p 1 all_a all_n all_nn (omega arith))) counts_sound;
     }
+
+-- ---- the counters of interrupting samples
+
+pub record AreWholeCounts (a n nn : List ℕ) : Type 0 where
+  pub every_a : length a ≡ 367
+  pub every_n : length n ≡ 367
+  pub every_nn : length nn ≡ 2
+
+pub counts_own : (a n nn : List ℕ) (which x y z : ℕ) → AreWholeCounts a n nn → which < 2
+    → counts_at (set a (365 + which) x) (set n (365 + which) y) (set nn which z) which ≡ counts x y z
+counts_own a n nn which x y z whole h =
+    let in_a : 365 + which < length a = omega (arith, whole.every_a) in
+    let in_n : 365 + which < length n = omega (arith, whole.every_n) in
+    let in_nn : which < length nn = omega (arith, whole.every_nn) in
+    ap (λ v. counts v (get_or (set n (365 + which) y) (365 + which) 0) (get_or (set nn which z) which 0)) (get_or-set_same a (365 + which) x 0 in_a)
+    ∙ ap (λ v. counts x v (get_or (set nn which z) which 0)) (get_or-set_same n (365 + which) y 0 in_n)
+    ∙ ap (λ v. counts x y v) (get_or-set_same nn which z 0 in_nn)
+
+pub counts_other : (a n nn : List ℕ) (which other x y z : ℕ) → other ≢ which
+    → counts_at (set a (365 + which) x) (set n (365 + which) y) (set nn which z) other ≡ counts_at a n nn other
+counts_other a n nn which other x y z h =
+    let apart : 365 + other ≢ 365 + which = λ e. h (omega arith) in
+    ap (λ v. counts v (get_or (set n (365 + which) y) (365 + other) 0) (get_or (set nn which z) other 0)) (get_or-set_other a (365 + which) (365 + other) x 0 apart)
+    ∙ ap (λ v. counts (get_or a (365 + other) 0) v (get_or (set nn which z) other 0)) (get_or-set_other n (365 + which) (365 + other) y 0 apart)
+    ∙ ap (λ v. counts (get_or a (365 + other) 0) (get_or n (365 + other) 0) v) (get_or-set_other nn which other z 0 h)
+
+regular_kept : (a n : List ℕ) (b c : List ℤ) (which x y : ℕ) (number : ℕ) → number < 365
+    → stats_at (set a (365 + which) x) b c (set n (365 + which) y) number ≡ stats_at a b c n number
+regular_kept a n b c which x y number h =
+    let apart : number ≢ 365 + which = omega arith in
+    ap (λ v. stats v (get_or b number (pos 0)) (get_or c number (pos 0)) (get_or (set n (365 + which) y) number 0)) (get_or-set_other a (365 + which) number x 0 apart)
+    ∙ ap (λ v. stats (get_or a number 0) (get_or b number (pos 0)) (get_or c number (pos 0)) v) (get_or-set_other n (365 + which) number y 0 apart)
+
+pub contexts_kept : (a n : List ℕ) (b c : List ℤ) (which x y : ℕ) → contexts_of (set a (365 + which) x) b c (set n (365 + which) y) ≡ contexts_of a b c n
+unfolding contexts_of
+contexts_kept a n b c which x y =
+    map_alike (stats_at a b c n) (stats_at (set a (365 + which) x) b c (set n (365 + which) y)) 365 (stats 0 (pos 0) (pos 0) 0) (regular_kept a n b c which x y)
+
+-- the counters of both, one of them with an error more
+pub steep_after : (flat : Bool) (a n nn : List ℕ) (x y z : ℕ) (s : Counts) → AreWholeCounts a n nn → (flat ≡ false → counts x y z ≡ s)
+    → counts_at (set a (365 + ri_type flat) x) (set n (365 + ri_type flat) y) (set nn (ri_type flat) z) 0 ≡ cond flat (counts_at a n nn 0) s
+steep_after true a n nn x y z s whole e = counts_other a n nn 1 0 x y z (omega arith)
+steep_after false a n nn x y z s whole e = counts_own a n nn 0 x y z whole (omega arith) ∙ e refl
+
+pub flat_after : (flat : Bool) (a n nn : List ℕ) (x y z : ℕ) (s : Counts) → AreWholeCounts a n nn → (flat ≡ true → counts x y z ≡ s)
+    → counts_at (set a (365 + ri_type flat) x) (set n (365 + ri_type flat) y) (set nn (ri_type flat) z) 1 ≡ cond flat s (counts_at a n nn 1)
+flat_after true a n nn x y z s whole e = counts_own a n nn 1 x y z whole (omega arith) ∙ e refl
+flat_after false a n nn x y z s whole e = counts_other a n nn 0 1 x y z (omega arith)
+
+pub interruption_sound : (flat : Bool) (reset bound : ℕ) (a n : List ℕ) (b c : List ℤ) (nn : List ℕ) (x y z : ℕ) → AreWholeCounts a n nn
+    → AreAllSound reset bound a b c n nn → AreSoundCounts reset bound (counts x y z)
+    → AreAllSound reset bound (set a (365 + ri_type flat) x) b c (set n (365 + ri_type flat) y) (set nn (ri_type flat) z)
+interruption_sound true reset bound a n b c nn x y z whole sound here = record {
+  regular = λ number h. subst (AreSound reset bound) (sym (regular_kept a n b c 1 x y number h)) (sound.regular number h);
+  steep = subst (AreSoundCounts reset bound) (sym (counts_other a n nn 1 0 x y z (omega arith))) sound.steep;
+  flat = subst (AreSoundCounts reset bound) (sym (counts_own a n nn 1 x y z whole (omega arith))) here;
+}
+interruption_sound false reset bound a n b c nn x y z whole sound here = record {
+  regular = λ number h. subst (AreSound reset bound) (sym (regular_kept a n b c 0 x y number h)) (sound.regular number h);
+  steep = subst (AreSoundCounts reset bound) (sym (counts_own a n nn 0 x y z whole (omega arith))) here;
+  flat = subst (AreSoundCounts reset bound) (sym (counts_other a n nn 0 1 x y z (omega arith))) sound.flat;
+}
+
+pub counts_sound_at : (flat : Bool) (reset bound : ℕ) (a n : List ℕ) (b c : List ℤ) (nn : List ℕ) → AreAllSound reset bound a b c n nn
+    → AreSoundCounts reset bound (counts_at a n nn (ri_type flat))
+counts_sound_at true reset bound a n b c nn sound = sound.flat
+counts_sound_at false reset bound a n b c nn sound = sound.steep
+
+-- A, where N is at most 65535
+pub counts_sum : (reset maxval : ℕ) (s : Counts) → AreSoundCounts reset (error_bound maxval) s → maxval ≤ 65535 → s.a ≤ s.n * 32768
+counts_sum reset maxval s sound wide =
+    let bound : error_bound maxval ≤ 32768 = omega arith in
+    let product : s.n * error_bound maxval ≤ s.n * 32768 = mul-le s.n (error_bound maxval) s.n 32768 (omega arith) bound in
+    omega (arith, sound.sum)
+
+-- a value as the code has it, and as it is defined
+value_at : (a n nn : List ℕ) (which k : ℕ) (flat : Bool) (e : ℤ) → ℕ
+value_at a n nn which k flat e = 2 * unsigned_abs e - ri_type flat - map_of k (counts 0 (get_or n (365 + which) 0) (get_or nn which 0)) e
+
+pub value_is : (a n nn : List ℕ) (flat code_flat : Bool) (which k : ℕ) (e : ℤ) → code_flat ≡ flat → which ≡ ri_type code_flat
+    → k ≡ interruption_k flat (counts_at a n nn (ri_type flat))
+    → 2 * unsigned_abs e - ri_type code_flat - map_of k (counts 0 (get_or n (365 + which) 0) (get_or nn which 0)) e
+    ≡ interruption_value flat (counts_at a n nn (ri_type flat)) e
+unfolding value_at
+value_is a n nn flat code_flat which k e same place known =
+    ap (λ w. value_at a n nn w k code_flat e) (place ∙ ap ri_type same)
+    ∙ ap (λ f. value_at a n nn (ri_type flat) k f e) same
+    ∙ ap (λ m. value_at a n nn (ri_type flat) m flat e) known

@@ -1,5 +1,6 @@
 pub mod ContextLemmas
 pub mod ErrorLemmas
+pub mod EventLemmas
 pub mod FieldLemmas
 pub mod GolombParameterLemmas
 pub mod InterruptionLemmas
@@ -8,3 +9,4 @@ pub mod RunLemmas
 pub mod SignedLemmas
 pub mod StateLemmas
 pub mod StatsLemmas
+pub mod WordLemmas

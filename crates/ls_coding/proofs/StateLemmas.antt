@@ -12,11 +12,11 @@ use Rattle.ls_coding.specs.Interruptions.{Counts, counts_after}
 use Rattle.ls_coding.specs.Events.{Event, run, regular_error, interruption_error_in, stats_in, counts_in, index_step, is_broken}
 use Rattle.ls_coding.specs.States.{Coding, state_of, after_run}
 
-map_same : {A B : Type 0} → (f g : A → B) (xs : List A) → ((x : A) → f x ≡ g x) → map f xs ≡ map g xs
+pub map_same : {A B : Type 0} → (f g : A → B) (xs : List A) → ((x : A) → f x ≡ g x) → map f xs ≡ map g xs
 map_same f g [] e = refl
 map_same f g (x ∷ xs) e = ap (λ y. y ∷ map f xs) (e x) ∙ ap (λ ys. g x ∷ ys) (map_same f g xs e)
 
-fold-push : {A B : Type 0} → (f : B → A → B) (start : B) (xs : List A) (x : A) → fold f start (xs ++ x ∷ []) ≡ f (fold f start xs) x
+pub fold-push : {A B : Type 0} → (f : B → A → B) (start : B) (xs : List A) (x : A) → fold f start (xs ++ x ∷ []) ≡ f (fold f start xs) x
 fold-push f start [] x = refl
 fold-push f start (y ∷ xs) x = fold-push f (f start y) xs x
 

@@ -4,6 +4,7 @@ pub mod Events
 pub mod Fields
 pub mod Interruptions
 pub mod Numbers
+pub mod Plans
 pub mod Runs
 pub mod Samples
 pub mod Sizes

@@ -1,19 +1,30 @@
 //! The counters of every context (T.87 A.2.1).
-ghost use Rattle.std.specs.Prelude.{◌≡◌, ◌<◌, ◌≤◌, ℕ, slice_set};
-ghost use Rattle.ls_frame.specs.Parameters.{range_of, limit_of};
+ghost use Rattle.std.specs.Prelude.{◌≡◌, ◌<◌, ◌≤◌, ℕ, pos, true, false, slice_set, IfOk, IfErr, if◌then◌else◌};
+ghost use Rattle.ls_frame.specs.Parameters.{range_of, qbpp_of, limit_of};
+ghost use Rattle.ls_bits.specs.Golomb.{IsGolomb, most_value};
 ghost use Rattle.ls_coding.specs.Samples.{AreSamples};
 ghost use Rattle.ls_coding.specs.Contexts.{context_of};
-ghost use Rattle.ls_coding.specs.Errors.{IsReduced};
-ghost use Rattle.ls_coding.specs.Events.{regular_e, regular_word};
+ghost use Rattle.ls_coding.specs.Errors.{IsReduced, error_of, leans, mapped};
+ghost use Rattle.ls_coding.specs.Events.{regular_e, regular_word, interruption_word};
 ghost use Rattle.ls_coding.specs.Stats.{first_a, first_stats, stats_step, error_bound};
-ghost use Rattle.ls_coding.specs.Interruptions.{first_counts};
+ghost use Rattle.ls_coding.specs.Interruptions.{first_counts, counts_step, ri_type, is_flat, interruption_error, interruption_k, interruption_value};
+ghost use Rattle.ls_coding.specs.Plans.{regular_plan_by, interruption_plan_by, Interrupts, IsTheSample, NoSample};
 ghost use Rattle.ls_coding.specs.Fields.{stats_at, contexts_of, counts_at, AreAllSound};
 
 use crate::context::context_at;
-use crate::error::{error_of, golomb_parameter, leans, mapped, predicted};
+use crate::error::{
+    error_of, golomb_parameter, is_reduced, leans, mapped, predicted, sample_of, unmapped,
+};
+use crate::interruption::{
+    count_interruption, foretold, interruption_error_of, interruption_k, interruption_value,
+    is_flat, is_turned, kind,
+};
 use crate::neighbours::Neighbours;
+use crate::plan::Plan;
+use crate::run::order;
 use crate::update::update;
 use crate::word::Word;
+use ls_bits::CodeFault;
 use ls_frame::Presets;
 
 /// How many contexts of regular mode there are.
@@ -73,6 +84,8 @@ impl Counters {
         ensures word { let place = context_of presets neighbours.now in
             let counters = stats_at self.old.a self.old.b self.old.c self.old.n place.number in
             result ≡ regular_word presets counters (regular_e presets place counters neighbours.now sample) }
+        ensures golomb { IsGolomb result.k result.glimit (qbpp_of presets.maxval) }
+        ensures value { result.value ≤ most_value (qbpp_of presets.maxval) }
         ensures contexts { let place = context_of presets neighbours.now in
             let counters = stats_at self.old.a self.old.b self.old.c self.old.n place.number in
             contexts_of self.new.a self.new.b self.new.c self.new.n
@@ -97,6 +110,73 @@ impl Counters {
         }
     }
 
+    /// What the word of a sample of regular mode is read by.
+    #[tactic(auto, unfolding(crate::specs::Plans::regular_plan_by))]
+    pub fn plan(&self, presets: Presets, limit: u32, neighbours: &Neighbours) -> Plan
+        requires samples { AreSamples presets.maxval neighbours.now }
+        requires limit { limit ≡ limit_of presets.maxval }
+        requires sound { AreAllSound presets.reset (error_bound presets.maxval)
+            self.now.a self.now.b self.now.c self.now.n self.now.nn }
+        ensures plan { let place = context_of presets neighbours.now in
+            let counters = stats_at self.now.a self.now.b self.now.c self.now.n place.number in
+            result ≡ regular_plan_by presets place counters neighbours.now }
+        ensures golomb { IsGolomb result.k result.glimit (qbpp_of presets.maxval) }
+    {
+        let place = context_at(presets, neighbours);
+        let number = place.number;
+        Plan {
+            neighbours: *neighbours,
+            k: golomb_parameter(self.n[number], self.a[number]),
+            glimit: limit,
+            number,
+            negative: place.negative,
+            prediction: predicted(presets, place.negative, self.c[number], neighbours),
+        }
+    }
+
+    /// The sample of regular mode that has this value for a prediction, and whose error is counted in its context.
+    /// NotCanonical where no sample has it.
+    pub fn accept(
+        &mut self,
+        presets: Presets,
+        number: usize,
+        negative: bool,
+        prediction: u16,
+        k: u32,
+        value: u32,
+    ) -> Result<u16, CodeFault>
+        requires number { number < 365 }
+        requires prediction { prediction ≤ presets.maxval }
+        requires value { value ≤ 65536 }
+        requires sound { AreAllSound presets.reset (error_bound presets.maxval)
+            self.old.a self.old.b self.old.c self.old.n self.old.nn }
+        ensures ok { let counters = stats_at self.old.a self.old.b self.old.c self.old.n number in
+            let value_of : ℕ → ℕ = λ sample. mapped (leans k counters.b counters.n) (error_of presets negative (pos prediction) sample) in
+            IfOk result (λ sample. IsTheSample (λ one. one ≤ presets.maxval) value_of value sample) }
+        ensures contexts { let counters = stats_at self.old.a self.old.b self.old.c self.old.n number in
+            IfOk result (λ sample. contexts_of self.new.a self.new.b self.new.c self.new.n
+            ≡ slice_set (contexts_of self.old.a self.old.b self.old.c self.old.n) number
+            (stats_step presets.reset counters (error_of presets negative (pos prediction) sample))) }
+        ensures steep { counts_at self.new.a self.new.n self.new.nn 0 ≡ counts_at self.old.a self.old.n self.old.nn 0 }
+        ensures flat { counts_at self.new.a self.new.n self.new.nn 1 ≡ counts_at self.old.a self.old.n self.old.nn 1 }
+        ensures sound { AreAllSound presets.reset (error_bound presets.maxval)
+            self.new.a self.new.b self.new.c self.new.n self.new.nn }
+        ensures fault { IfErr result (λ fault. fault ≡ CodeFault.NotCanonical) }
+        ensures unchanged { IfErr result (λ fault. self.new ≡ self.old) }
+        ensures none { let counters = stats_at self.old.a self.old.b self.old.c self.old.n number in
+            let value_of : ℕ → ℕ = λ sample. mapped (leans k counters.b counters.n) (error_of presets negative (pos prediction) sample) in
+            IfErr result (λ fault. NoSample (λ one. one ≤ presets.maxval) value_of value) }
+    {
+        let leaning = leans(k, self.b[number], self.n[number]);
+        let error = unmapped(leaning, value);
+        if !is_reduced(presets.range(), error) {
+            return Err(CodeFault::NotCanonical);
+        }
+        let sample = sample_of(presets, negative, prediction, error);
+        self.add(presets, number, error);
+        Ok(sample)
+    }
+
     /// Counts one error more in a context of regular mode.
     pub fn add(&mut self, presets: Presets, number: usize, error: i32)
         requires number { number < 365 }
@@ -118,6 +198,165 @@ impl Counters {
             &mut self.c[number],
             &mut self.n[number],
             error,
+        );
+    }
+
+    /// The word of the sample that interrupts a run, behind the run's bits at this RUNindex. Its error is counted in its
+    /// context.
+    pub fn code_interruption(
+        &mut self,
+        presets: Presets,
+        limit: u32,
+        run_index: u32,
+        neighbours: &Neighbours,
+        sample: u16,
+    ) -> Word
+        requires samples { AreSamples presets.maxval neighbours.now }
+        requires sample { sample ≤ presets.maxval }
+        requires limit { limit ≡ limit_of presets.maxval }
+        requires index { run_index ≤ 31 }
+        requires sound { AreAllSound presets.reset (error_bound presets.maxval)
+            self.old.a self.old.b self.old.c self.old.n self.old.nn }
+        ensures word { let flat = is_flat neighbours.now in
+            result ≡ interruption_word presets run_index flat (counts_at self.old.a self.old.n self.old.nn (ri_type flat))
+            (interruption_error presets neighbours.now sample) }
+        ensures golomb { IsGolomb result.k result.glimit (qbpp_of presets.maxval) }
+        ensures value { result.value ≤ most_value (qbpp_of presets.maxval) }
+        ensures contexts { contexts_of self.new.a self.new.b self.new.c self.new.n
+            ≡ contexts_of self.old.a self.old.b self.old.c self.old.n }
+        ensures steep { let flat = is_flat neighbours.now in
+            let before = counts_at self.old.a self.old.n self.old.nn 0 in
+            counts_at self.new.a self.new.n self.new.nn 0 ≡ (if flat then before
+            else counts_step false presets.reset before (interruption_error presets neighbours.now sample)) }
+        ensures flat { let flat = is_flat neighbours.now in
+            let before = counts_at self.old.a self.old.n self.old.nn 1 in
+            counts_at self.new.a self.new.n self.new.nn 1 ≡ (if flat
+            then counts_step true presets.reset before (interruption_error presets neighbours.now sample) else before) }
+        ensures sound { AreAllSound presets.reset (error_bound presets.maxval)
+            self.new.a self.new.b self.new.c self.new.n self.new.nn }
+    {
+        let flat = is_flat(neighbours);
+        let error = error_of(presets, is_turned(neighbours), foretold(neighbours), sample);
+        let which = kind(flat);
+        let n = self.n[REGULAR + which];
+        let k = interruption_k(flat, self.a[REGULAR + which], n);
+        let value = interruption_value(flat, k, n, self.nn[which], error);
+        self.add_interruption(presets, flat, error, value);
+        Word {
+            k,
+            glimit: limit - order(run_index) - 1,
+            value,
+        }
+    }
+
+    /// What the word of the sample that interrupts a run is read by.
+    #[tactic(auto, unfolding(crate::specs::Plans::interruption_plan_by))]
+    pub fn plan_interruption(
+        &self,
+        presets: Presets,
+        limit: u32,
+        run_index: u32,
+        neighbours: &Neighbours,
+    ) -> Plan
+        requires samples { AreSamples presets.maxval neighbours.now }
+        requires limit { limit ≡ limit_of presets.maxval }
+        requires index { run_index ≤ 31 }
+        requires sound { AreAllSound presets.reset (error_bound presets.maxval)
+            self.now.a self.now.b self.now.c self.now.n self.now.nn }
+        ensures plan { let flat = is_flat neighbours.now in
+            result ≡ interruption_plan_by presets run_index (counts_at self.now.a self.now.n self.now.nn (ri_type flat)) neighbours.now }
+        ensures golomb { IsGolomb result.k result.glimit (qbpp_of presets.maxval) }
+    {
+        let flat = is_flat(neighbours);
+        let which = kind(flat);
+        Plan {
+            neighbours: *neighbours,
+            k: interruption_k(flat, self.a[REGULAR + which], self.n[REGULAR + which]),
+            glimit: limit - order(run_index) - 1,
+            number: which,
+            negative: is_turned(neighbours),
+            prediction: foretold(neighbours),
+        }
+    }
+
+    /// The sample that has this value and may interrupt a run of the value to its left; its error is counted in its
+    /// context. NotCanonical where no such sample has it.
+    pub fn accept_interruption(
+        &mut self,
+        presets: Presets,
+        neighbours: &Neighbours,
+        k: u32,
+        value: u32,
+    ) -> Result<u16, CodeFault>
+        requires samples { AreSamples presets.maxval neighbours.now }
+        requires k { let flat = is_flat neighbours.now in
+            k ≡ interruption_k flat (counts_at self.old.a self.old.n self.old.nn (ri_type flat)) }
+        requires value { value ≤ 65536 }
+        requires sound { AreAllSound presets.reset (error_bound presets.maxval)
+            self.old.a self.old.b self.old.c self.old.n self.old.nn }
+        ensures ok { let flat = is_flat neighbours.now in
+            let counters = counts_at self.old.a self.old.n self.old.nn (ri_type flat) in
+            let value_of : ℕ → ℕ = λ sample. interruption_value flat counters (interruption_error presets neighbours.now sample) in
+            IfOk result (λ sample. IsTheSample (Interrupts presets.maxval neighbours.now.a) value_of value sample) }
+        ensures contexts { contexts_of self.new.a self.new.b self.new.c self.new.n
+            ≡ contexts_of self.old.a self.old.b self.old.c self.old.n }
+        ensures steep { let flat = is_flat neighbours.now in
+            let before = counts_at self.old.a self.old.n self.old.nn 0 in
+            IfOk result (λ sample. counts_at self.new.a self.new.n self.new.nn 0 ≡ (if flat then before
+            else counts_step false presets.reset before (interruption_error presets neighbours.now sample))) }
+        ensures flat { let flat = is_flat neighbours.now in
+            let before = counts_at self.old.a self.old.n self.old.nn 1 in
+            IfOk result (λ sample. counts_at self.new.a self.new.n self.new.nn 1 ≡ (if flat
+            then counts_step true presets.reset before (interruption_error presets neighbours.now sample) else before)) }
+        ensures sound { AreAllSound presets.reset (error_bound presets.maxval)
+            self.new.a self.new.b self.new.c self.new.n self.new.nn }
+        ensures fault { IfErr result (λ fault. fault ≡ CodeFault.NotCanonical) }
+        ensures unchanged { IfErr result (λ fault. self.new ≡ self.old) }
+        ensures none { let flat = is_flat neighbours.now in
+            let counters = counts_at self.old.a self.old.n self.old.nn (ri_type flat) in
+            let value_of : ℕ → ℕ = λ sample. interruption_value flat counters (interruption_error presets neighbours.now sample) in
+            IfErr result (λ fault. NoSample (Interrupts presets.maxval neighbours.now.a) value_of value) }
+    {
+        let flat = is_flat(neighbours);
+        let which = kind(flat);
+        let error = interruption_error_of(flat, k, self.n[REGULAR + which], self.nn[which], value);
+        if !is_reduced(presets.range(), error) {
+            return Err(CodeFault::NotCanonical);
+        }
+        let sample = sample_of(presets, is_turned(neighbours), foretold(neighbours), error);
+        if sample == neighbours.a {
+            return Err(CodeFault::NotCanonical);
+        }
+        self.add_interruption(presets, flat, error, value);
+        Ok(sample)
+    }
+
+    /// Counts one error more, of a sample that interrupts a run.
+    pub fn add_interruption(&mut self, presets: Presets, flat: bool, error: i32, value: u32)
+        requires sound { AreAllSound presets.reset (error_bound presets.maxval)
+            self.old.a self.old.b self.old.c self.old.n self.old.nn }
+        requires error { IsReduced (range_of presets.maxval) error }
+        requires value { value ≡ interruption_value flat (counts_at self.old.a self.old.n self.old.nn (ri_type flat)) error }
+        ensures contexts { contexts_of self.new.a self.new.b self.new.c self.new.n
+            ≡ contexts_of self.old.a self.old.b self.old.c self.old.n }
+        ensures steep { let before = counts_at self.old.a self.old.n self.old.nn 0 in
+            counts_at self.new.a self.new.n self.new.nn 0
+            ≡ (if flat then before else counts_step false presets.reset before error) }
+        ensures flat { let before = counts_at self.old.a self.old.n self.old.nn 1 in
+            counts_at self.new.a self.new.n self.new.nn 1
+            ≡ (if flat then counts_step true presets.reset before error else before) }
+        ensures sound { AreAllSound presets.reset (error_bound presets.maxval)
+            self.new.a self.new.b self.new.c self.new.n self.new.nn }
+    {
+        let which = kind(flat);
+        count_interruption(
+            presets,
+            flat,
+            &mut self.a[REGULAR + which],
+            &mut self.n[REGULAR + which],
+            &mut self.nn[which],
+            error,
+            value,
         );
     }
 }

@@ -5,10 +5,40 @@ ghost use Rattle.std.specs.Prelude.{◌≡◌, ◌+◌, ◌-◌, ◌*◌, ◌/�
 ghost use Rattle.ls_frame.specs.Parameters.{range_of};
 ghost use Rattle.ls_coding.specs.Errors.{IsReduced};
 ghost use Rattle.ls_coding.specs.Stats.{error_bound};
-ghost use Rattle.ls_coding.specs.Interruptions.{AreSoundCounts, counts, counts_step, interruption_k, interruption_value, map_of, ri_type};
+ghost use Rattle.ls_coding.specs.Interruptions.{AreSoundCounts, counts, counts_step, foretold, interruption_k, interruption_value, is_flat, is_turned, map_of, ri_type};
 
 use crate::error::golomb_parameter;
+use crate::neighbours::Neighbours;
 use ls_frame::Presets;
+
+/// RItype, as the place of its counters: 1 where Ra and Rb are equal.
+pub fn kind(flat: bool) -> usize
+    ensures value { result ≡ ri_type flat }
+    ensures within { result < 2 }
+{
+    usize::from(flat)
+}
+
+/// Whether Ra and Rb are equal.
+pub fn is_flat(neighbours: &Neighbours) -> bool
+    ensures { result ≡ is_flat neighbours.now }
+{
+    neighbours.a == neighbours.b
+}
+
+/// The prediction: Ra where Ra and Rb are equal, else Rb.
+pub fn foretold(neighbours: &Neighbours) -> u16
+    ensures { result ≡ foretold neighbours.now }
+{
+    neighbours.b
+}
+
+/// Whether the error has its sign changed.
+pub fn is_turned(neighbours: &Neighbours) -> bool
+    ensures { result ≡ is_turned neighbours.now }
+{
+    neighbours.a > neighbours.b
+}
 
 /// The Golomb parameter, from TEMP.
 pub fn interruption_k(flat: bool, a: u32, n: u32) -> u32

@@ -12,12 +12,14 @@ pub mod counters;
 pub mod error;
 pub mod interruption;
 pub mod neighbours;
+pub mod plan;
 pub mod run;
 pub mod state;
 pub mod update;
 pub mod word;
 
 pub use neighbours::{Mode, Neighbours, mode_of};
+pub use plan::Plan;
 pub use run::{RunWord, Tail};
 pub use state::State;
 pub use word::Word;

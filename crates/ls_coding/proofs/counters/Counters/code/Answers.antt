@@ -1,7 +1,11 @@
-use Rattle.std.proofs.Common.{◌≤◌, arith}
+use Rattle.std.proofs.Common.{◌≤◌, ◌^◌, ap, sym, subst, ◌∙◌, arith}
+use Rattle.ls_frame.specs.Parameters.{qbpp_of}
+use Rattle.ls_coding.specs.Errors.{mapped}
 use Rattle.ls_coding.specs.Stats.{AreSound, error_bound}
 use Rattle.ls_coding.specs.Fields.{stats_at}
-use Rattle.ls_coding.proofs.StatsLemmas.{mean_low, mean_high, mean_is, bias_is, sum_small}
+use Rattle.ls_coding.proofs.SignedLemmas.{through}
+use Rattle.ls_coding.proofs.StatsLemmas.{mean_low, mean_high}
+use Rattle.ls_coding.proofs.WordLemmas.{regular_code, regular_value}
 use Rattle.ls_coding.proofs.counters.Counters.code.Goals as goal
 
 pub leans-leaning-requires-clause-low : goal.leans-leaning-requires-clause-low
@@ -13,3 +17,14 @@ pub leans-leaning-requires-clause-high : goal.leans-leaning-requires-clause-high
 leans-leaning-requires-clause-high c =
     mean_high _ _ (stats_at c.args.self.now.a c.args.self.now.b c.args.self.now.c c.args.self.now.n c.context_at-place.result.number)
     (c.requires.sound.regular c.context_at-place.result.number c.context_at-place.ensures.within) (omega arith)
+
+pub returns-clause-golomb : goal.returns-clause-golomb
+returns-clause-golomb c =
+    rw (c.golomb_parameter-k.ensures, c.requires.limit)
+    (regular_code c.args.presets.reset c.args.presets.maxval (stats_at c.args.self.now.a c.args.self.now.b c.args.self.now.c c.args.self.now.n c.context_at-place.result.number) (omega arith) (omega arith)
+    (c.requires.sound.regular c.context_at-place.result.number c.context_at-place.ensures.within))
+
+pub returns-clause-value : goal.returns-clause-value
+returns-clause-value c =
+    subst (λ v. v ≤ 2 ^ qbpp_of c.args.presets.maxval) (sym (c.mapped.ensures ∙ ap (mapped c.leans-leaning.result) (through c.error_of-error.result c.error_of-error.type_inv)))
+    (regular_value c.leans-leaning.result c.args.presets.maxval c.error_of-error.result (omega arith) (omega arith) c.error_of-error.ensures.reduced)

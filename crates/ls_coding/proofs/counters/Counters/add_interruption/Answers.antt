@@ -1,0 +1,14 @@
+use Rattle.std.proofs.Common.{ap, ◌∙◌, rules}
+use Rattle.ls_coding.proofs.FieldLemmas.{AreWholeCounts, contexts_kept, interruption_sound}
+use Rattle.ls_coding.proofs.counters.Counters.add_interruption.Goals as goal
+
+whole : (c : goal.After-count_interruption) → AreWholeCounts c.args.self.now.a c.args.self.now.n c.args.self.now.nn
+whole c = record { every_a = search rules; every_n = search rules; every_nn = search rules }
+
+pub returns-clause-contexts : goal.returns-clause-contexts
+returns-clause-contexts c = contexts_kept _ _ _ _ c.kind-which.result _ _
+
+pub returns-clause-sound : goal.returns-clause-sound
+returns-clause-sound c =
+    rw c.kind-which.ensures.value
+    (interruption_sound c.args.flat _ _ _ _ _ _ _ _ _ _ (whole c) c.requires.sound c.count_interruption.ensures.sound)
