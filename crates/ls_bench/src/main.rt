@@ -14,8 +14,9 @@ mod regular;
 mod words;
 
 use anyhow::{Context, Result, bail};
-use std::env;
 use std::rt::{Clock, Env};
+use std::time::Duration;
+use std::{env, io};
 
 fn main(rt: HostRuntime) -> Result<()> {
     run(&rt)
@@ -51,4 +52,15 @@ fn number(word: Option<String>, usual: u32) -> Result<u32> {
         ),
         None => Ok(usual),
     }
+}
+
+/// Prints how long one of so many took, to standard error.
+fn tell<R: Eprint>(rt: &R, what: &str, took: &Duration, count: u64, one: &str) -> io::Result<()> {
+    if count == 0 {
+        return Ok(());
+    }
+    let picoseconds = took.as_nanos().saturating_mul(1000) / u128::from(count);
+    let whole = picoseconds / 1000;
+    let part = picoseconds % 1000;
+    eprintln!(rt; "{what}: {whole}.{part:03} ns {one}")
 }

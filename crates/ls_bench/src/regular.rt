@@ -1,13 +1,11 @@
 //! Samples of regular mode, coded by the counters of their contexts.
-ghost use Rattle.std.specs.Prelude.{◌≡◌, ◌<◌, ◌≤◌, false};
-ghost use Rattle.ls_coding.specs.Contexts.{is_run};
+ghost use Rattle.std.specs.Prelude.{◌≡◌, false};
 
 use crate::picture::{Sample, regular_samples};
-use anyhow::{Result, bail};
-use ls_coding::{Neighbours, State, Word};
+use crate::tell;
+use anyhow::Result;
+use ls_coding::{State, Word};
 use ls_frame::Presets;
-use std::alloc::{AllocError, Global};
-use std::io;
 use std::rt::Clock;
 use std::time::{Duration, Instant};
 
@@ -66,7 +64,7 @@ pub fn measure<R: Clock + Print + Eprint + AllocGlobal>(
         "samples {all}\nevents {count}\ngreatest k {greatest_k}\nbits {bits}\nsum {sum:016x}"
     )?;
     let events = u64::from(times).wrapping_mul(count as u64);
-    tell(rt, "code", &coding, events)?;
+    tell(rt, "code", &coding, events, "an event")?;
     Ok(())
 }
 
@@ -103,15 +101,4 @@ fn words_of(samples: &[Sample]) -> Words {
         words.bits = words.bits.saturating_add(u64::from(length));
     }
     words
-}
-
-/// Prints how long an event took, to standard error.
-fn tell<R: Eprint>(rt: &R, what: &str, took: &Duration, events: u64) -> io::Result<()> {
-    if events == 0 {
-        return Ok(());
-    }
-    let picoseconds = took.as_nanos().saturating_mul(1000) / u128::from(events);
-    let whole = picoseconds / 1000;
-    let part = picoseconds % 1000;
-    eprintln!(rt; "{what}: {whole}.{part:03} ns an event")
 }

@@ -1,4 +1,4 @@
-use Rattle.std.proofs.Common.{refl, ap, ◌∙◌}
+use Rattle.std.proofs.Common.{ap, ◌∙◌}
 use Rattle.ls_coding.specs.States.{Coding, state_of}
 use Rattle.ls_bench.proofs.regular.Coder.new.Goals as goal
 
