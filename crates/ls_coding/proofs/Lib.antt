@@ -4,6 +4,7 @@ pub mod EventLemmas
 pub mod FieldLemmas
 pub mod GolombParameterLemmas
 pub mod InterruptionLemmas
+pub mod InterruptionViews
 pub mod RegularLemmas
 pub mod RunLemmas
 pub mod SignedLemmas

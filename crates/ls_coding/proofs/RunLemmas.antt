@@ -1,8 +1,14 @@
 -- Runs, bit by bit.
-use Rattle.std.proofs.Common.{◌≡◌, ℕ, zero, suc, ◌+◌, ◌-◌, ◌^◌, ◌<◌, ◌≤◌, min, Bool, true, leb, ◌&&◌, List, [], ◌∷◌, get_or, refl, sym, ◌∙◌, arith, inl, inr}
-use Rattle.std.proofs.lemmas.Bool.{and_parts, leb-true, le-leb, lt-leb, cases_lt, cond-true, cond-false}
-use Rattle.std.proofs.lemmas.Nat.{pow_pos}
-use Rattle.ls_coding.specs.Runs.{run_orders, order, Walk, walk}
+use Rattle.std.proofs.Common.{◌≡◌, ℕ, zero, suc, ◌+◌, ◌-◌, ◌*◌, ◌^◌, ◌<◌, ◌≤◌, min, Bool, true, false, cond, eqb, leb, ◌&&◌, List, [], ◌∷◌, ◌++◌, get_or, length, length-append, replicate, refl, sym, ◌∙◌, ap, arith, inl, inr}
+use Rattle.std.proofs.lemmas.Bool.{and_parts, leb-true, le-leb, lt-leb, cases_lt, cond-true, cond-false, eqb-false}
+use Rattle.std.proofs.lemmas.Nat.{pow_pos, mul-le}
+use Rattle.std.proofs.lemmas.List.{length-replicate}
+use Rattle.ls_bits.specs.Bits.{bits_of}
+use Rattle.ls_bits.proofs.BitLemmas.{length-bits_of}
+use Rattle.ls_coding.specs.declared.run.Tail.{Tail}
+use Rattle.ls_coding.specs.declared.run.Tail.TheVariants.{LineFull, LinePart, Broken}
+use Rattle.ls_coding.specs.declared.run.RunWord.{RunWord}
+use Rattle.ls_coding.specs.Runs.{run_orders, order, run_of, Walk, walk, walked, tail_of, tail_bits, run_word, word_bits, index_at}
 
 all_small : List ℕ → Bool
 all_small [] = true
@@ -60,3 +66,83 @@ walk-on ones index (suc left) h =
     let some : 1 ≤ 2 ^ order index = some_samples index in
     walk-more left (at ones index (suc left)) h
     ∙ walk-enough left (suc left - 2 ^ order index) (further (at ones index (suc left))) (omega arith) (omega arith)
+
+-- ---- a run that one bit stands for, and one shorter than that
+
+one_bit : (samples index : ℕ) → samples ≡ 2 ^ order index → 1 ≤ samples → walk samples (at 0 index samples) ≡ at 1 (min (index + 1) 31) 0
+one_bit zero index e h = absurd (omega arith)
+one_bit (suc most) index e h =
+    let some : 1 ≤ 2 ^ order (min (index + 1) 31) = some_samples (min (index + 1) 31) in
+    let none : suc most - 2 ^ order index ≡ 0 = omega arith in
+    walk-more most (at 0 index (suc most)) (omega arith)
+    ∙ ap (λ n. walk most (at (0 + 1) (min (index + 1) 31) n)) none
+    ∙ walk-stop most (at 1 (min (index + 1) 31) 0) (omega arith)
+
+pub walked_one : (index : ℕ) → walked index (2 ^ order index) ≡ at 1 (min (index + 1) 31) 0
+unfolding walked
+walked_one index = one_bit (2 ^ order index) index refl (some_samples index)
+
+pub walked_part : (index count : ℕ) → count < 2 ^ order index → walked index count ≡ at 0 index count
+unfolding walked
+walked_part index count h = walk-stop count (at 0 index count) h
+
+-- no more bits than samples
+walk_counts : (most : ℕ) (w : Walk) → (walk most w).ones + (walk most w).left ≤ w.ones + w.left
+walk_counts zero w = omega arith
+walk_counts (suc most) w =
+    elim (cases_lt w.left (2 ^ order w.index)) [
+      | inl few ↦ omega (arith, ap (λ (v : Walk). v.ones + v.left) (walk-stop (suc most) w few))
+      | inr enough ↦
+          let some : 1 ≤ 2 ^ order w.index = some_samples w.index in
+          let step : (walk (suc most) w).ones + (walk (suc most) w).left ≡ (walk most (further w)).ones + (walk most (further w)).left = ap (λ (v : Walk). v.ones + v.left) (walk-more most w enough) in
+          omega (arith, walk_counts most (further w))
+    ]
+
+pub walked_counts : (index count : ℕ) → (walked index count).ones + (walked index count).left ≤ count
+unfolding walked
+walked_counts index count = omega (arith, walk_counts count (at 0 index count))
+
+-- ---- what a run costs
+
+tail_length : Tail → ℕ
+tail_length LineFull = 0
+tail_length LinePart = 1
+tail_length (Broken width rest) = width + 1
+
+length-tail_bits : (tail : Tail) → length (tail_bits tail) ≡ tail_length tail
+unfolding tail_length
+length-tail_bits LineFull = refl
+length-tail_bits LinePart = refl
+length-tail_bits (Broken width rest) = omega (arith, length-bits_of width rest)
+
+length-word : (word : RunWord) → length (word_bits word) ≡ word.ones + tail_length word.tail
+length-word word =
+    length-append (replicate word.ones true) (tail_bits word.tail)
+    ∙ ap (λ n. n + length (tail_bits word.tail)) (length-replicate word.ones true)
+    ∙ ap (λ n. word.ones + n) (length-tail_bits word.tail)
+
+full_tail_by : (w : Walk) (test : Bool) → eqb w.left 0 ≡ test → tail_length (cond test LineFull LinePart) ≤ w.left
+unfolding tail_length
+full_tail_by w true e = omega arith
+full_tail_by w false e = let some : w.left ≡ 0 → ⊥ = eqb-false w.left 0 e in omega arith
+
+full_tail : (w : Walk) → tail_length (tail_of false w) ≤ w.left
+unfolding tail_length
+full_tail w = full_tail_by w (eqb w.left 0) refl
+
+-- up to the line's end: no more bits than samples
+pub full_cost : (index count limit : ℕ) → 1 ≤ limit → length (word_bits (run_word index (run_of count false))) ≤ limit * count
+unfolding run_word
+full_cost index count limit some =
+    let w : Walk = walked index count in
+    let scaled : 1 * count ≤ limit * count = mul-le 1 count limit count some (omega arith) in
+    omega (arith, length-word (run_word index (run_of count false)), full_tail w, walked_counts index count)
+
+-- before a sample that interrupts it, with the most that its word takes
+pub broken_cost : (index count limit : ℕ) → 17 ≤ limit
+    → length (word_bits (run_word index (run_of count true))) + (limit - order (index_at index (run_of count true)) - 1) ≤ limit * (count + 1)
+unfolding run_word tail_length
+broken_cost index count limit some =
+    let w : Walk = walked index count in
+    let scaled : 1 * count ≤ limit * count = mul-le 1 count limit count (omega arith) (omega arith) in
+    omega (arith, length-word (run_word index (run_of count true)), order_small w.index, walked_counts index count)

@@ -1,16 +1,17 @@
 -- A state, event by event.
-use Rattle.std.proofs.Common.{◌≡◌, ℕ, Bool, true, false, List, [], ◌∷◌, ◌++◌, map, fold, refl, sym, ◌∙◌, ap}
+use Rattle.std.proofs.Common.{◌≡◌, ℕ, ◌+◌, ◌^◌, ◌<◌, min, Bool, true, false, List, [], ◌∷◌, ◌++◌, map, fold, refl, sym, ◌∙◌, ap}
 use Rattle.std.specs.List.{filter_map, range_with_len}
 use Rattle.std.proofs.lemmas.List.{append-nil}
 use Rattle.std.proofs.lemmas.List.Elements.{filter_map-append}
 use Rattle.ls_frame.specs.Parameters.{Parameters}
 use Rattle.ls_coding.specs.declared.run.Tail.{Tail}
 use Rattle.ls_coding.specs.declared.run.RunWord.{RunWord}
-use Rattle.ls_coding.specs.Runs.{Run, Walk, run_of, run_word, tail_of, walked}
+use Rattle.ls_coding.specs.Runs.{Run, Walk, order, run_of, run_word, tail_of, walked}
 use Rattle.ls_coding.specs.Stats.{Stats, stats_after}
 use Rattle.ls_coding.specs.Interruptions.{Counts, counts_after}
 use Rattle.ls_coding.specs.Events.{Event, run, regular_error, interruption_error_in, stats_in, counts_in, index_step, is_broken}
 use Rattle.ls_coding.specs.States.{Coding, state_of, after_run}
+use Rattle.ls_coding.proofs.RunLemmas.{walked_one, walked_part}
 
 pub map_same : {A B : Type 0} → (f g : A → B) (xs : List A) → ((x : A) → f x ≡ g x) → map f xs ≡ map g xs
 map_same f g [] e = refl
@@ -73,3 +74,22 @@ word_is index inside count ones at left broken tail same a b c e =
     let walk : Walk = record { ones = ones; index = at; left = left } in
     let come : walk ≡ walked index count = walk_is (walked inside count) ones at left a b c ∙ ap (λ n. walked n count) same in
     ap (word ones) e ∙ ap (λ (w : Walk). word w.ones (tail_of broken w)) come
+
+-- ---- a run as it is read
+
+-- its end, before the sample that interrupts it
+pub break_after : (s : Coding) (rest : ℕ) → rest < 2 ^ order s.run_index → made s.parameters s.contexts s.steep s.flat s.run_index true ≡ after_run s (run_of rest true)
+break_after s rest h = ap (λ i. made s.parameters s.contexts s.steep s.flat i true) (sym (ap (λ (w : Walk). w.index) (walked_part s.run_index rest h)))
+
+-- a bit 1 for the samples that are left in the line
+pub part_after : (s : Coding) (left : ℕ) → left < 2 ^ order s.run_index → s.broken ≡ false → s ≡ after_run s (run_of left false)
+part_after s left h whole =
+    ap (λ b. made s.parameters s.contexts s.steep s.flat s.run_index b) whole
+    ∙ ap (λ i. made s.parameters s.contexts s.steep s.flat i false) (sym (ap (λ (w : Walk). w.index) (walked_part s.run_index left h)))
+
+-- a bit 1 for 2^J samples
+pub one_after : (s : Coding) (index samples : ℕ) → index ≡ min (s.run_index + 1) 31 → samples ≡ 2 ^ order s.run_index → s.broken ≡ false
+    → made s.parameters s.contexts s.steep s.flat index s.broken ≡ after_run s (run_of samples false)
+one_after s index samples e f whole =
+    ap (λ b. made s.parameters s.contexts s.steep s.flat index b) whole
+    ∙ ap (λ i. made s.parameters s.contexts s.steep s.flat i false) (e ∙ sym (ap (λ (w : Walk). w.index) (ap (walked s.run_index) f ∙ walked_one s.run_index)))

@@ -4,6 +4,7 @@ use Rattle.std.specs.Prelude.{unsigned_abs, int_le}
 use Rattle.std.proofs.lemmas.Int.{ints}
 use Rattle.std.proofs.lemmas.Nat.{mul-le, pow_pos}
 use Rattle.std.proofs.Math.Nat.{pow-suc}
+use Rattle.std.proofs.Math.Pow.{pow_mono}
 use Rattle.ls_frame.specs.Parameters.{Parameters, IsLegal, ceil_log2, range_of, qbpp_of, bpp_of, limit_of}
 use Rattle.ls_frame.proofs.ExponentLemmas.{ceil_log2-reaches, ceil_log2-least}
 use Rattle.ls_bits.specs.Golomb.{IsGolomb}
@@ -119,3 +120,9 @@ interruption_value_small maxval x y e some most h =
     let size = size_small (range_of maxval) e h in
     let enough = (qbpp_are maxval some most).enough in
     omega (arith, less_off (2 * unsigned_abs e) x y)
+
+-- a value that has a word is small
+pub value_small : (maxval value : ℕ) → 0 < maxval → maxval ≤ 65535 → value ≤ 2 ^ qbpp_of maxval → value ≤ 65536
+value_small maxval value some most h =
+    let power : 2 ^ qbpp_of maxval ≤ 2 ^ 16 = pow_mono (qbpp_are maxval some most).few in
+    omega arith

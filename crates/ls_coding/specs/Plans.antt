@@ -2,6 +2,7 @@
 use Rattle.std.specs.Prelude.{◌≡◌, ◌≢◌, ℕ, ◌-◌, ◌≤◌, Bool, ℤ, pos}
 use Rattle.ls_frame.specs.Parameters.{Parameters, limit_of}
 use Rattle.ls_coding.specs.declared.neighbours.Neighbours.{Neighbours}
+use Rattle.ls_coding.specs.declared.word.Word.{Word}
 use Rattle.ls_coding.specs.Numbers.{golomb_parameter}
 use Rattle.ls_coding.specs.Contexts.{Context}
 use Rattle.ls_coding.specs.Errors.{predicted}
@@ -46,6 +47,11 @@ interruption_plan_by p index t n = record {
 
 abbrev pub interruption_plan : Coding → Neighbours → Planned
 interruption_plan s n = interruption_plan_by s.parameters s.run_index (counts_of s (is_flat n)) n
+
+-- the word is one of the plan's code
+pub record IsReadBy (plan : Planned) (word : Word) : Type 0 where
+  pub same_k : word.k ≡ plan.k
+  pub same_limit : word.glimit ≡ plan.glimit
 
 -- a sample that may interrupt a run of the value that is to its left
 pub record Interrupts (maxval left sample : ℕ) : Type 0 where

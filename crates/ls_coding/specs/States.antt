@@ -1,5 +1,5 @@
 -- What a coder's state is seen as, and what it is after events (T.87 A.2.1).
-use Rattle.std.specs.Prelude.{ℕ, ◌-◌, Bool, true, false, if◌then◌else◌, ℤ, pos, List, map, slice_set, slice_index_or}
+use Rattle.std.specs.Prelude.{◌≡◌, ℕ, ◌-◌, Bool, true, false, if◌then◌else◌, ℤ, pos, List, [], ◌∷◌, ◌++◌, map, slice_set, slice_index_or}
 use Rattle.std.specs.List.{range_with_len}
 use Rattle.ls_frame.specs.Parameters.{Parameters}
 use Rattle.ls_coding.specs.declared.neighbours.Neighbours.{Neighbours}
@@ -65,6 +65,13 @@ after_regular s number e = record {
   broken = s.broken;
 }
 
+-- a sample of regular mode that comes behind these events, its word, and the state behind it
+pub record IsRegularEvent (p : Parameters) (events : List Event) (n : Neighbours) (sample : ℕ) (word : Word) (after : Coding) : Type 0 where
+  pub word_is : word ≡ regular_word p (stats_in p (context_of p n).number events)
+      (regular_e p (context_of p n) (stats_in p (context_of p n).number events) n sample)
+  pub after_is : after ≡ state_of p (events ++ regular (context_of p n).number
+      (regular_e p (context_of p n) (stats_in p (context_of p n).number events) n sample) ∷ [])
+
 -- ---- a run
 
 abbrev pub after_run : Coding → Run → Coding
@@ -97,3 +104,8 @@ after_interruption s flat e = record {
   run_index = s.run_index - 1;
   broken = false;
 }
+
+-- the sample that interrupts a run behind these events, its word, and the state behind it
+pub record IsInterruptionEvent (p : Parameters) (events : List Event) (n : Neighbours) (sample : ℕ) (word : Word) (after : Coding) : Type 0 where
+  pub word_is : word ≡ interruption_word p (index_in events) (is_flat n) (counts_in p (is_flat n) events) (interruption_error p n sample)
+  pub after_is : after ≡ state_of p (events ++ interruption (is_flat n) (interruption_error p n sample) ∷ [])

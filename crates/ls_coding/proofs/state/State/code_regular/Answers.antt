@@ -1,8 +1,13 @@
-use Rattle.std.proofs.Common.{refl, ap, ◌∙◌}
+use Rattle.std.proofs.Common.{◌≡◌, ◌≤◌, length, refl, ap, subst, ◌∙◌}
 use Rattle.std.proofs.Math.ListN.{set}
+use Rattle.ls_frame.specs.Parameters.{Parameters, qbpp_of, limit_of}
+use Rattle.ls_bits.proofs.GolombLemmas.{length-code_word}
+use Rattle.ls_coding.specs.declared.word.Word.{Word}
 use Rattle.ls_coding.specs.Contexts.{context_of}
 use Rattle.ls_coding.specs.States.{Coding, place_of, regular_error_in, regular_word_in, after_regular}
 use Rattle.ls_coding.specs.Fields.{contexts_of}
+use Rattle.ls_coding.specs.Events.{golomb_bits}
+use Rattle.ls_coding.proofs.EventLemmas.{word_of_regular, state_after_regular}
 use Rattle.ls_coding.proofs.StateLemmas.{alike}
 use Rattle.ls_coding.proofs.RegularLemmas.{word_in_view, step_in_view}
 use Rattle.ls_coding.proofs.state.State.code_regular.Goals as goal
@@ -23,3 +28,17 @@ returns-clause-state c =
     (step_in_view s.presets s.counters.a s.counters.n s.counters.b s.counters.c _ _ s.run_index s.broken c.args.neighbours.now c.args.sample))
     c.code.ensures.steep c.code.ensures.flat refl refl
     ∙ ap (λ (t : Coding). after_regular t (place_of t c.args.neighbours.now).number (regular_error_in t c.args.neighbours.now c.args.sample)) c.self.view_is
+
+pub returns-clause-cost : goal.returns-clause-cost
+returns-clause-cost c =
+    let same : c.self.inside.presets ≡ c.args.self.now.parameters = ap (λ (t : Coding). t.parameters) c.self.view_is in
+    let limit : c.code.result.glimit ≡ limit_of c.self.inside.presets.maxval = ap (λ (w : Word). w.glimit) c.code.ensures.word in
+    subst (λ (p : Parameters). length (golomb_bits p c.code.result) ≤ limit_of p.maxval) same
+    (subst (λ most. length (golomb_bits c.self.inside.presets c.code.result) ≤ most) limit
+    (length-code_word c.code.result.k c.code.result.glimit (qbpp_of c.self.inside.presets.maxval) c.code.result.value c.code.ensures.golomb))
+
+pub returns-clause-events : goal.returns-clause-events
+returns-clause-events c events same = record {
+  word_is = returns-clause-word c ∙ word_of_regular c.args.self.now c.args.neighbours.now c.args.sample events same;
+  after_is = state_after_regular c.args.self.now _ c.args.neighbours.now c.args.sample c.requires.whole (returns-clause-state c) events same;
+}

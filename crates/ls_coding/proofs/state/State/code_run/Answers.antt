@@ -1,5 +1,41 @@
-use Rattle.ls_coding.proofs.StateLemmas.{state_after_run}
+use Rattle.std.proofs.Common.{rules, ◌≡◌, ◌≤◌, ◌+◌, ◌-◌, ◌*◌, ℕ, Bool, true, false, length, refl, ap, sym, subst, ◌∙◌, arith}
+use Rattle.std.specs.Prelude.{not}
+use Rattle.ls_frame.specs.Parameters.{qbpp_of, limit_of}
+use Rattle.ls_coding.specs.declared.run.RunWord.{RunWord}
+use Rattle.ls_coding.specs.Runs.{order, run_of, run_word, word_bits, walked, index_at}
+use Rattle.ls_coding.specs.States.{Coding}
+use Rattle.ls_coding.proofs.RunLemmas.{full_cost, broken_cost}
+use Rattle.ls_coding.proofs.StateLemmas.{word_is, state_after_run}
+use Rattle.ls_coding.proofs.WordLemmas.{limit_large}
 use Rattle.ls_coding.proofs.state.State.code_run.Goals as goal
 
+pub returns-clause-word : goal.returns-clause-word
+returns-clause-word c =
+    word_is c.args.self.now.run_index c.self.inside.run_index c.args.count c.walk-walked.result.ones c.walk-walked.result.index c.walk-walked.result.left _ c.tail.result
+    (ap (λ (s : Coding). s.run_index) c.self.view_is) c.walk-walked.ensures.ones c.walk-walked.ensures.index c.walk-walked.ensures.left c.tail.ensures
+
+pub returns-clause-full_cost : goal.returns-clause-full_cost
+returns-clause-full_cost c full =
+    let index : ℕ = c.args.self.now.run_index in
+    let limit : ℕ = limit_of c.args.self.now.parameters.maxval in
+    let large = limit_large c.args.self.now.parameters.maxval (qbpp_of c.args.self.now.parameters.maxval) refl in
+    subst (λ (w : RunWord). length (word_bits w) ≤ limit * c.args.count) (sym (returns-clause-word c))
+    (subst (λ (b : Bool). length (word_bits (run_word index (run_of c.args.count b))) ≤ limit * c.args.count) (sym (ap not full)) (full_cost index c.args.count limit (omega (arith, large))))
+
+pub returns-clause-broken_cost : goal.returns-clause-broken_cost
+returns-clause-broken_cost c broken =
+    let index : ℕ = c.args.self.now.run_index in
+    let limit : ℕ = limit_of c.args.self.now.parameters.maxval in
+    let large = limit_large c.args.self.now.parameters.maxval (qbpp_of c.args.self.now.parameters.maxval) refl in
+    let behind : c.walk-walked.result.index ≡ (walked index c.args.count).index = c.walk-walked.ensures.index ∙ ap (λ (s : Coding). (walked s.run_index c.args.count).index) c.self.view_is in
+    let word : RunWord = record { ones = c.walk-walked.result.ones; tail = c.tail.result } in
+    subst (λ i. length (word_bits word) + (limit - order i - 1) ≤ limit * (c.args.count + 1)) (sym behind)
+    (subst (λ (w : RunWord). length (word_bits w) + (limit - order (walked index c.args.count).index - 1) ≤ limit * (c.args.count + 1)) (sym (returns-clause-word c))
+    (subst (λ (b : Bool). length (word_bits (run_word index (run_of c.args.count b))) + (limit - order (walked index c.args.count).index - 1) ≤ limit * (c.args.count + 1)) (sym broken)
+    (broken_cost index c.args.count limit (omega (arith, large)))))
+
+pub returns-clause-state : goal.returns-clause-state
+returns-clause-state c = search rules
+
 pub returns-clause-events : goal.returns-clause-events
-returns-clause-events c events = state_after_run c.args.self.now c.step_run.new.self _ c.step_run.ensures.state events
+returns-clause-events c events same = state_after_run c.args.self.now _ _ (returns-clause-state c) events same
