@@ -31,6 +31,10 @@ pub value_in_view : (p : Parameters) (contexts : List Stats) (a n nn : List ℕ)
     ≡ (interruption_word_in (view p contexts a n nn index broken) x sample).value
 value_in_view p contexts a n nn index broken x sample = ap (λ (w : Word). w.value) (word_in_view p contexts a n nn index broken x sample)
 
+pub neighbours_of_interruption : (s : Coding) (x : Neighbours) → (interruption_plan s x).neighbours ≡ x
+unfolding interruption_plan_by
+neighbours_of_interruption s x = refl
+
 -- the words that a plan reads
 pub read_interruption : (s : Coding) (x : Neighbours) (sample : ℕ) → IsReadBy (interruption_plan s x) (interruption_word_in s x sample)
 unfolding interruption_plan_by interruption_word_in

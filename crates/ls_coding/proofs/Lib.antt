@@ -5,7 +5,9 @@ pub mod FieldLemmas
 pub mod GolombParameterLemmas
 pub mod InterruptionLemmas
 pub mod InterruptionViews
+pub mod LawfulLemmas
 pub mod RegularLemmas
+pub mod RunLaws
 pub mod RunLemmas
 pub mod SignedLemmas
 pub mod StateLemmas

@@ -73,6 +73,10 @@ pub plan_in_view : (p : Parameters) (a n : List ℕ) (b c : List ℤ) (steep fla
 plan_in_view p a n b c steep flat index broken x =
     ap (λ (t : Stats). regular_plan_by p (context_of p x) t x) (sym (stats_in_view a n b c (context_of p x).number (place_small p x)))
 
+pub neighbours_of_regular : (s : Coding) (x : Neighbours) → (regular_plan s x).neighbours ≡ x
+unfolding regular_plan_by
+neighbours_of_regular s x = refl
+
 -- the words that a plan reads
 pub read_regular : (s : Coding) (x : Neighbours) (sample : ℕ) → IsReadBy (regular_plan s x) (regular_word_in s x sample)
 unfolding regular_plan_by regular_word_in

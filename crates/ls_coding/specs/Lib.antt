@@ -3,6 +3,7 @@ pub mod Errors
 pub mod Events
 pub mod Fields
 pub mod Interruptions
+pub mod Lawful
 pub mod Numbers
 pub mod Plans
 pub mod Runs

@@ -63,19 +63,13 @@ fn region_of(presets: Presets, gradient: i32) -> i32
     region_of_size(presets, gradient.unsigned_abs())
 }
 
-/// The region of a gradient that isn't negative.
+/// The region of a gradient that isn't negative: how many of the bounds it reaches.
 fn region_of_size(presets: Presets, size: u32) -> i32
     ensures { result ≡ pos (size_region presets size) }
 {
-    if size >= u32::from(presets.t3()) {
-        4
-    } else if size >= u32::from(presets.t2()) {
-        3
-    } else if size >= u32::from(presets.t1()) {
-        2
-    } else if size > 0 {
-        1
-    } else {
-        0
-    }
+    let reached = u32::from(size > 0)
+        + u32::from(size >= u32::from(presets.t1()))
+        + u32::from(size >= u32::from(presets.t2()))
+        + u32::from(size >= u32::from(presets.t3()));
+    reached as i32
 }

@@ -92,6 +92,8 @@ impl State {
         requires regular { is_run neighbours.now ≡ false }
         requires whole { self.now.broken ≡ false }
         ensures plan { result ≡ regular_plan self.now neighbours.now }
+        ensures neighbours { result.neighbours ≡ neighbours.now }
+        ensures own { result ≡ regular_plan self.now result.neighbours }
         ensures golomb { IsGolomb result.k result.glimit (qbpp_of self.now.parameters.maxval) }
         ensures word { (sample : ℕ) → IsReadBy result (regular_word_in self.now neighbours.now sample) }
     {
@@ -228,6 +230,8 @@ impl State {
         requires samples { AreSamples self.now.parameters.maxval neighbours.now }
         requires broken { self.now.broken ≡ true }
         ensures plan { result ≡ interruption_plan self.now neighbours.now }
+        ensures neighbours { result.neighbours ≡ neighbours.now }
+        ensures own { result ≡ interruption_plan self.now result.neighbours }
         ensures golomb { IsGolomb result.k result.glimit (qbpp_of self.now.parameters.maxval) }
         ensures word { (sample : ℕ) → IsReadBy result (interruption_word_in self.now neighbours.now sample) }
     {

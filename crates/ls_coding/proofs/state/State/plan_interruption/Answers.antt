@@ -1,7 +1,8 @@
-use Rattle.std.proofs.Common.{rules, sym, subst}
+use Rattle.std.proofs.Common.{rules, ap, sym, subst, ◌∙◌}
+use Rattle.ls_coding.specs.declared.neighbours.Neighbours.{Neighbours}
 use Rattle.ls_coding.specs.States.{interruption_word_in}
-use Rattle.ls_coding.specs.Plans.{Planned, IsReadBy}
-use Rattle.ls_coding.proofs.InterruptionViews.{read_interruption}
+use Rattle.ls_coding.specs.Plans.{Planned, interruption_plan, IsReadBy}
+use Rattle.ls_coding.proofs.InterruptionViews.{neighbours_of_interruption, read_interruption}
 use Rattle.ls_coding.proofs.state.State.plan_interruption.Goals as goal
 
 pub returns-clause-plan : goal.returns-clause-plan
@@ -11,3 +12,9 @@ pub returns-clause-word : goal.returns-clause-word
 returns-clause-word c sample =
     subst (λ (plan : Planned). IsReadBy plan (interruption_word_in c.args.self.now c.args.neighbours.now sample)) (sym (returns-clause-plan c))
     (read_interruption c.args.self.now c.args.neighbours.now sample)
+
+pub returns-clause-neighbours : goal.returns-clause-neighbours
+returns-clause-neighbours c = ap (λ (q : Planned). q.neighbours) (returns-clause-plan c) ∙ neighbours_of_interruption c.args.self.now c.args.neighbours.now
+
+pub returns-clause-own : goal.returns-clause-own
+returns-clause-own c = returns-clause-plan c ∙ ap (λ (x : Neighbours). interruption_plan c.args.self.now x) (sym (returns-clause-neighbours c))

@@ -1,8 +1,9 @@
 use Rattle.std.proofs.Common.{sym, ap, subst, ◌∙◌}
+use Rattle.ls_coding.specs.declared.neighbours.Neighbours.{Neighbours}
 use Rattle.ls_coding.specs.States.{Coding, regular_word_in}
 use Rattle.ls_coding.specs.Fields.{counts_at}
 use Rattle.ls_coding.specs.Plans.{Planned, regular_plan, IsReadBy}
-use Rattle.ls_coding.proofs.RegularLemmas.{plan_in_view, read_regular}
+use Rattle.ls_coding.proofs.RegularLemmas.{neighbours_of_regular, plan_in_view, read_regular}
 use Rattle.ls_coding.proofs.state.State.plan_regular.Goals as goal
 
 pub returns-clause-plan : goal.returns-clause-plan
@@ -16,3 +17,9 @@ pub returns-clause-word : goal.returns-clause-word
 returns-clause-word c sample =
     subst (λ (plan : Planned). IsReadBy plan (regular_word_in c.args.self.now c.args.neighbours.now sample)) (sym (returns-clause-plan c))
     (read_regular c.args.self.now c.args.neighbours.now sample)
+
+pub returns-clause-neighbours : goal.returns-clause-neighbours
+returns-clause-neighbours c = ap (λ (q : Planned). q.neighbours) (returns-clause-plan c) ∙ neighbours_of_regular c.args.self.now c.args.neighbours.now
+
+pub returns-clause-own : goal.returns-clause-own
+returns-clause-own c = returns-clause-plan c ∙ ap (λ (x : Neighbours). regular_plan c.args.self.now x) (sym (returns-clause-neighbours c))

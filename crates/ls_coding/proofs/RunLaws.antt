@@ -1,0 +1,91 @@
+-- A run, bit by bit.
+use Rattle.std.proofs.Common.{◌≡◌, ℕ, zero, suc, ◌+◌, ◌-◌, ◌^◌, ◌<◌, ◌≤◌, min, Bool, true, false, cond, eqb, List, [], ◌∷◌, ◌++◌, replicate, refl, sym, ◌∙◌, ap, arith, inl, inr}
+use Rattle.std.proofs.lemmas.Bool.{cond-false, cases_lt, ne_eqb}
+use Rattle.ls_frame.specs.Parameters.{Parameters}
+use Rattle.ls_bits.specs.Bits.{bits_of}
+use Rattle.ls_coding.specs.declared.run.Tail.{Tail}
+use Rattle.ls_coding.specs.declared.run.Tail.TheVariants.{LineFull, LinePart}
+use Rattle.ls_coding.specs.declared.run.RunWord.{RunWord}
+use Rattle.ls_coding.specs.Runs.{order, Run, run_of, Walk, walk, walked, tail_of, tail_bits, run_word, word_bits, run_bits, index_at}
+use Rattle.ls_coding.specs.Events.{Event, run, index_in}
+use Rattle.ls_coding.specs.States.{Coding, state_of, after_run}
+use Rattle.ls_coding.proofs.RunLemmas.{at, further, some_samples, walk-more, walk-stop, walk-on, walked_one, walked_part}
+use Rattle.ls_coding.proofs.StateLemmas.{made, state_of-run}
+
+abbrev bits_behind : Bool → Walk → List Bool
+bits_behind broken w = replicate w.ones true ++ tail_bits (tail_of broken w)
+
+run_bits-is : (index count : ℕ) (broken : Bool) → run_bits index (run_of count broken) ≡ bits_behind broken (walked index count)
+unfolding run_word
+run_bits-is index count broken = refl
+
+-- a walk that begins with a bit more has a bit more
+abbrev one_more : Walk → Walk
+one_more w = at (w.ones + 1) w.index w.left
+
+walk-one_more : (most : ℕ) (w : Walk) → walk most (one_more w) ≡ one_more (walk most w)
+walk-one_more zero w = refl
+walk-one_more (suc most) w =
+    elim (cases_lt w.left (2 ^ order w.index)) [
+      | inl few ↦ walk-stop (suc most) (one_more w) few ∙ ap one_more (sym (walk-stop (suc most) w few))
+      | inr enough ↦ walk-more most (one_more w) enough ∙ walk-one_more most (further w) ∙ ap one_more (sym (walk-more most w enough))
+    ]
+
+walked_on : (index count : ℕ) → 2 ^ order index ≤ count → walked index count ≡ one_more (walked (min (index + 1) 31) (count - 2 ^ order index))
+unfolding walked
+walked_on index count h = walk-on 0 index count h ∙ walk-one_more (count - 2 ^ order index) (at 0 (min (index + 1) 31) (count - 2 ^ order index))
+
+add_one : (n : ℕ) → n + 1 ≡ suc n
+add_one n = omega arith
+
+bits_more : (broken : Bool) (w : Walk) → bits_behind broken (one_more w) ≡ true ∷ bits_behind broken w
+bits_more true w = ap (λ n. replicate n true ++ tail_bits (tail_of true w)) (add_one w.ones)
+bits_more false w = ap (λ n. replicate n true ++ tail_bits (tail_of false w)) (add_one w.ones)
+
+pub one_bit_more : (index count : ℕ) (broken : Bool) → 2 ^ order index ≤ count
+    → run_bits index (run_of count broken) ≡ true ∷ run_bits (min (index + 1) 31) (run_of (count - 2 ^ order index) broken)
+one_bit_more index count broken h =
+    run_bits-is index count broken ∙ ap (bits_behind broken) (walked_on index count h) ∙ bits_more broken (walked (min (index + 1) 31) (count - 2 ^ order index))
+    ∙ ap (λ bits. true ∷ bits) (sym (run_bits-is (min (index + 1) 31) (count - 2 ^ order index) broken))
+
+pub one_bit_left : (index count : ℕ) → 0 < count → count < 2 ^ order index → run_bits index (run_of count false) ≡ true ∷ []
+one_bit_left index count some few =
+    run_bits-is index count false ∙ ap (bits_behind false) (walked_part index count few)
+    ∙ ap tail_bits (cond-false (eqb count 0) LineFull LinePart (ne_eqb count 0 (λ e. absurd (omega arith))))
+
+pub no_bit_left : (index : ℕ) → run_bits index (run_of 0 false) ≡ []
+no_bit_left index = run_bits-is index 0 false ∙ ap (bits_behind false) (walked_part index 0 (some_samples index))
+
+pub bits_of_break : (index count : ℕ) → count < 2 ^ order index → run_bits index (run_of count true) ≡ false ∷ bits_of (order index) count
+bits_of_break index count few = run_bits-is index count true ∙ ap (bits_behind true) (walked_part index count few)
+
+-- ---- joined
+
+index_joined : (index rest : ℕ) (broken : Bool) → index_at (index_at index (run_of (2 ^ order index) false)) (run_of rest broken) ≡ index_at index (run_of (2 ^ order index + rest) broken)
+index_joined index rest broken =
+    let samples : ℕ = 2 ^ order index in
+    let back : samples + rest - samples ≡ rest = omega arith in
+    let enough : samples ≤ samples + rest = omega arith in
+    ap (λ (w : Walk). (walked w.index rest).index) (walked_one index)
+    ∙ ap (λ n. (walked (min (index + 1) 31) n).index) (sym back)
+    ∙ sym (ap (λ (w : Walk). w.index) (walked_on index (samples + rest) enough))
+
+after_joined : (s : Coding) (rest : ℕ) (broken : Bool) → after_run (after_run s (run_of (2 ^ order s.run_index) false)) (run_of rest broken) ≡ after_run s (run_of (2 ^ order s.run_index + rest) broken)
+after_joined s rest broken = ap (λ i. made s.parameters s.contexts s.steep s.flat i broken) (index_joined s.run_index rest broken)
+
+index_of-state : (p : Parameters) (events : List Event) → (state_of p events).run_index ≡ index_in events
+unfolding state_of
+index_of-state p events = refl
+
+pub joined : (p : Parameters) (events : List Event) (rest : ℕ) (broken : Bool)
+    → state_of p ((events ++ run (run_of (2 ^ order (index_in events)) false) ∷ []) ++ run (run_of rest broken) ∷ [])
+    ≡ state_of p (events ++ run (run_of (2 ^ order (index_in events) + rest) broken) ∷ [])
+joined p events rest broken =
+    let samples : ℕ = 2 ^ order (index_in events) in
+    let known : 2 ^ order (state_of p events).run_index ≡ samples = ap (λ i. 2 ^ order i) (index_of-state p events) in
+    sym (state_of-run p (events ++ run (run_of samples false) ∷ []) (run_of rest broken))
+    ∙ ap (λ (s : Coding). after_run s (run_of rest broken)) (sym (state_of-run p events (run_of samples false)))
+    ∙ ap (λ n. after_run (after_run (state_of p events) (run_of n false)) (run_of rest broken)) (sym known)
+    ∙ after_joined (state_of p events) rest broken
+    ∙ ap (λ n. after_run (state_of p events) (run_of (n + rest) broken)) known
+    ∙ state_of-run p events (run_of (samples + rest) broken)

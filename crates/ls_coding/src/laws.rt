@@ -1,0 +1,40 @@
+//! Laws over the definitions alone. Each is the contract of a function with nothing to do.
+ghost use Rattle.std.specs.Prelude.{◌≡◌, ◌+◌, ◌-◌, ◌*◌, ◌^◌, ◌<◌, ◌≤◌, ◌++◌, ◌∷◌, [], min, ℕ, Bool, true, false, List};
+ghost use Rattle.ls_frame.specs.Parameters.{Parameters};
+ghost use Rattle.ls_bits.specs.Bits.{bits_of};
+ghost use Rattle.ls_coding.specs.Numbers.{golomb_parameter};
+ghost use Rattle.ls_coding.specs.Runs.{order, run_of, run_bits};
+ghost use Rattle.ls_coding.specs.Events.{Event, run, index_in};
+ghost use Rattle.ls_coding.specs.States.{state_of};
+ghost use Rattle.ls_coding.specs.Lawful.{IsLawful, IsReached};
+
+/// Every list of events that a scan may have is reached by calls from `State::new`.
+pub fn lawful_events_are_reached()
+    ensures { (p : Parameters) (events : List Event) → IsLawful p events → IsReached p (state_of p events) }
+{}
+
+/// The Golomb parameter is the least exponent that brings N to A.
+pub fn golomb_parameter_is_least()
+    ensures reaches { (n a : ℕ) → a ≤ n * 2 ^ 32 → a ≤ n * 2 ^ golomb_parameter n a }
+    ensures least { (n a k : ℕ) → a ≤ n * 2 ^ k → golomb_parameter n a ≤ k }
+{}
+
+/// A run's bits, one by one: a 1 for 2^J samples, behind which the rest of the run stands at the next RUNindex; a 1 for
+/// what is left in the line; a 0, and the samples that are left in J bits, before the sample that interrupts it.
+pub fn runs_are_read_bit_by_bit()
+    ensures one { (index count : ℕ) (broken : Bool) → 2 ^ order index ≤ count
+        → run_bits index (run_of count broken)
+        ≡ true ∷ run_bits (min (index + 1) 31) (run_of (count - 2 ^ order index) broken) }
+    ensures part { (index count : ℕ) → 0 < count → count < 2 ^ order index
+        → run_bits index (run_of count false) ≡ true ∷ [] }
+    ensures none { (index : ℕ) → run_bits index (run_of 0 false) ≡ [] }
+    ensures broken { (index count : ℕ) → count < 2 ^ order index
+        → run_bits index (run_of count true) ≡ false ∷ bits_of (order index) count }
+{}
+
+/// 2^J samples of a run, and then the rest of it, leave the state that the run leaves.
+pub fn runs_join()
+    ensures { (p : Parameters) (events : List Event) (rest : ℕ) (broken : Bool) → let samples = 2 ^ order (index_in events) in
+        state_of p ((events ++ run (run_of samples false) ∷ []) ++ run (run_of rest broken) ∷ [])
+        ≡ state_of p (events ++ run (run_of (samples + rest) broken) ∷ []) }
+{}
