@@ -1,17 +1,22 @@
 //! `ls_bench` measures, and does nothing else. Its first word says what:
 //!
 //! - `ls_bench words [TIMES [WORDS]]`: code words, put into stuffed bytes and taken back (`words`).
+//! - `ls_bench events [TIMES [SIDE]]`: the samples of regular mode of a picture of SIDE lines, coded and accepted back
+//!   (`regular`).
 //!
 //! What it prints to standard output is the same in each run; times go to standard error. `bench/` runs it beside its
 //! twins in C++.
 #![tactic(auto)]
 
 mod events;
+mod picture;
+mod regular;
 mod words;
 
 use anyhow::{Context, Result, bail};
-use std::env;
 use std::rt::{Clock, Env};
+use std::time::Duration;
+use std::{env, io};
 
 fn main(rt: HostRuntime) -> Result<()> {
     run(&rt)
@@ -29,6 +34,11 @@ fn run<R: Env + Clock + Print + Eprint + AllocGlobal>(rt: &R) -> Result<()> {
             let count = number(asked.next(), events::USUAL_COUNT)?;
             words::measure(rt, times, count)
         }
+        "events" => {
+            let times = number(asked.next(), 1)?;
+            let side = number(asked.next(), picture::USUAL_SIDE)?;
+            regular::measure(rt, times, side)
+        }
         other => bail!("{other} can't be measured"),
     }
 }
@@ -42,4 +52,15 @@ fn number(word: Option<String>, usual: u32) -> Result<u32> {
         ),
         None => Ok(usual),
     }
+}
+
+/// Prints how long one of so many took, to standard error.
+fn tell<R: Eprint>(rt: &R, what: &str, took: &Duration, count: u64, one: &str) -> io::Result<()> {
+    if count == 0 {
+        return Ok(());
+    }
+    let picoseconds = took.as_nanos().saturating_mul(1000) / u128::from(count);
+    let whole = picoseconds / 1000;
+    let part = picoseconds % 1000;
+    eprintln!(rt; "{what}: {whole}.{part:03} ns {one}")
 }

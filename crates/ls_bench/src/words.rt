@@ -2,11 +2,11 @@
 ghost use Rattle.ls_bits.specs.Data.{IsData};
 
 use crate::events::{Event, table};
+use crate::tell;
 use anyhow::{Result, bail};
 use ls_bits::laws::words_keep_their_limit;
 use ls_bits::{BitSink, BitSource, CodeFault, RoomSink, data_of};
 use std::alloc::{AllocError, Global};
-use std::io;
 use std::rt::Clock;
 use std::time::{Duration, Instant};
 
@@ -65,9 +65,9 @@ pub fn measure<R: Clock + Print + Eprint + AllocGlobal>(
     let sum = fnv1a(&bytes);
     println!(rt; "words {count}\ngreatest k {greatest}\nbytes {size}\nFNV-1a {sum:016x}")?;
     let words = u64::from(times) * u64::from(count);
-    tell(rt, "put, growing", &took.growing, words)?;
-    tell(rt, "put, room there", &took.room, words)?;
-    tell(rt, "take", &took.take, words)?;
+    tell(rt, "put, growing", &took.growing, words, "a word")?;
+    tell(rt, "put, room there", &took.room, words, "a word")?;
+    tell(rt, "take", &took.take, words, "a word")?;
     Ok(())
 }
 
@@ -113,15 +113,4 @@ fn fnv1a(bytes: &[u8]) -> u64 {
     bytes.iter().fold(0xcbf2_9ce4_8422_2325, |hash: u64, byte| {
         (hash ^ u64::from(*byte)).wrapping_mul(0x100_0000_01b3)
     })
-}
-
-/// Prints how long a word took, to standard error.
-fn tell<R: Eprint>(rt: &R, what: &str, took: &Duration, words: u64) -> io::Result<()> {
-    if words == 0 {
-        return Ok(());
-    }
-    let picoseconds = took.as_nanos().saturating_mul(1000) / u128::from(words);
-    let whole = picoseconds / 1000;
-    let part = picoseconds % 1000;
-    eprintln!(rt; "{what}: {whole}.{part:03} ns a word")
 }
