@@ -57,10 +57,8 @@ fn region_of(presets: Presets, gradient: i32) -> i32
     ensures value { result ≡ region presets gradient }
     ensures region { IsRegion result }
 {
-    if gradient < 0 {
-        return -region_of_size(presets, gradient.unsigned_abs());
-    }
-    region_of_size(presets, gradient.unsigned_abs())
+    let region = region_of_size(presets, gradient.unsigned_abs());
+    if gradient < 0 { -region } else { region }
 }
 
 /// The region of a gradient that isn't negative: how many of the bounds it reaches.

@@ -86,10 +86,9 @@ fn reduced(range: u32, error: i32) -> i32
     ensures value { result ≡ reduced range error }
     ensures reduced { IsReduced range result }
 {
-    if error < 0 {
-        return centred(range, range - error.unsigned_abs());
-    }
-    centred(range, error.unsigned_abs())
+    let size = error.unsigned_abs();
+    let wrapped = if error < 0 { range - size } else { size };
+    centred(range, wrapped)
 }
 
 /// A number below `range`, or so much less where it is in the upper half.
@@ -112,10 +111,9 @@ pub fn is_reduced(range: u32, error: i32) -> bool
     requires high { error ≤ℤ pos 131072 }
     ensures { IsTrue result ↔ IsReduced range error }
 {
-    if error < 0 {
-        return error.unsigned_abs() <= range / 2;
-    }
-    error.unsigned_abs() < (range + 1) / 2
+    let low = -((range / 2) as i32);
+    let high = ((range + 1) / 2) as i32;
+    low <= error && error < high
 }
 
 /// The sample that has a reduced error for a prediction.
@@ -176,10 +174,13 @@ pub fn mapped(leaning: bool, error: i32) -> u32
     requires high { error ≤ℤ pos 32767 }
     ensures { result ≡ mapped leaning error }
 {
+    let twice = 2 * error.unsigned_abs();
+    let odd = u32::from(leaning);
     if error < 0 {
-        return 2 * error.unsigned_abs() - if leaning { 2 } else { 1 };
+        twice - 1 - odd
+    } else {
+        twice + odd
     }
-    2 * error.unsigned_abs() + u32::from(leaning)
 }
 
 /// The error that a value stands for (A.5.2).
@@ -191,8 +192,6 @@ pub fn unmapped(leaning: bool, value: u32) -> i32
     ensures high { result ≤ℤ pos 32769 }
 {
     let half = (value / 2) as i32;
-    if (value % 2 == 1) == leaning {
-        return half;
-    }
-    -1 - half
+    let odd = value % 2 == 1;
+    if odd == leaning { half } else { -1 - half }
 }
