@@ -1,5 +1,5 @@
 -- Runs, bit by bit.
-use Rattle.std.proofs.Common.{◌≡◌, ℕ, zero, suc, ◌+◌, ◌-◌, ◌*◌, ◌^◌, ◌<◌, ◌≤◌, min, Bool, true, false, cond, eqb, leb, ◌&&◌, List, [], ◌∷◌, ◌++◌, get_or, length, length-append, replicate, refl, sym, ◌∙◌, ap, arith, inl, inr}
+use Rattle.std.proofs.Common.{◌≡◌, ℕ, zero, suc, ◌+◌, ◌-◌, ◌*◌, ◌^◌, ◌<◌, ◌≤◌, min, Bool, true, false, cond, eqb, leb, ◌&&◌, List, [], ◌∷◌, ◌++◌, get_or, length, length-append, replicate, refl, sym, ◌∙◌, ap, subst, arith, inl, inr}
 use Rattle.std.proofs.lemmas.Bool.{and_parts, leb-true, le-leb, lt-leb, cases_lt, cond-true, cond-false, eqb-false}
 use Rattle.std.proofs.lemmas.Nat.{pow_pos, mul-le}
 use Rattle.std.proofs.lemmas.List.{length-replicate}
@@ -8,7 +8,7 @@ use Rattle.ls_bits.proofs.BitLemmas.{length-bits_of}
 use Rattle.ls_coding.specs.declared.run.Tail.{Tail}
 use Rattle.ls_coding.specs.declared.run.Tail.TheVariants.{LineFull, LinePart, Broken}
 use Rattle.ls_coding.specs.declared.run.RunWord.{RunWord}
-use Rattle.ls_coding.specs.Runs.{run_orders, order, run_of, Walk, walk, walked, tail_of, tail_bits, run_word, word_bits, index_at}
+use Rattle.ls_coding.specs.Runs.{run_orders, order, run_of, Walk, walk, walked, tail_of, tail_bits, Fits, run_word, word_bits, index_at}
 
 all_small : List ℕ → Bool
 all_small [] = true
@@ -146,3 +146,28 @@ broken_cost index count limit some =
     let w : Walk = walked index count in
     let scaled : 1 * count ≤ limit * count = mul-le 1 count limit count (omega arith) (omega arith) in
     omega (arith, length-word (run_word index (run_of count true)), order_small w.index, walked_counts index count)
+
+-- ---- what is left of a run
+
+walk_ends : (most : ℕ) (w : Walk) → w.left ≤ most → (walk most w).left < 2 ^ order (walk most w).index
+walk_ends zero w h = let some : 1 ≤ 2 ^ order w.index = some_samples w.index in omega arith
+walk_ends (suc most) w h =
+    elim (cases_lt w.left (2 ^ order w.index)) [
+      | inl few ↦ subst (λ (v : Walk). v.left < 2 ^ order v.index) (sym (walk-stop (suc most) w few)) few
+      | inr enough ↦
+          let some : 1 ≤ 2 ^ order w.index = some_samples w.index in
+          subst (λ (v : Walk). v.left < 2 ^ order v.index) (sym (walk-more most w enough)) (walk_ends most (further w) (omega arith))
+    ]
+
+walked_ends : (index count : ℕ) → (walked index count).left < 2 ^ order (walked index count).index
+unfolding walked
+walked_ends index count = walk_ends count (at 0 index count) (omega arith)
+
+full_fits : (test : Bool) → Fits (cond test LineFull LinePart)
+full_fits true = tt
+full_fits false = tt
+
+pub tail_fits : (index count : ℕ) (broken : Bool) → Fits (run_word index (run_of count broken)).tail
+unfolding run_word
+tail_fits index count true = (order_small (walked index count).index, walked_ends index count)
+tail_fits index count false = full_fits (eqb (walked index count).left 0)

@@ -1,5 +1,5 @@
 -- Runs (T.87 A.7.1).
-use Rattle.std.specs.Prelude.{ℕ, zero, suc, ◌+◌, ◌-◌, ◌^◌, ◌==◌, min, nat_le, Bool, true, false, if◌then◌else◌, List, [], ◌∷◌, ◌++◌, replicate, slice_index}
+use Rattle.std.specs.Prelude.{ℕ, zero, suc, ◌+◌, ◌-◌, ◌^◌, ◌<◌, ◌≤◌, ◌==◌, min, nat_le, Bool, true, false, if◌then◌else◌, List, [], ◌∷◌, ◌++◌, replicate, slice_index}
 use Rattle.ls_bits.specs.Bits.{bits_of}
 use Rattle.ls_coding.specs.declared.run.Tail.{Tail}
 use Rattle.ls_coding.specs.declared.run.Tail.TheVariants.{LineFull, LinePart, Broken}
@@ -51,6 +51,12 @@ abbrev pub tail_bits : Tail → List Bool
 tail_bits LineFull = []
 tail_bits LinePart = true ∷ []
 tail_bits (Broken width rest) = false ∷ bits_of width rest
+
+-- what stands behind the 0 fits into its bits
+abbrev pub Fits : Tail → Type 0
+Fits LineFull = Unit {0}
+Fits LinePart = Unit {0}
+Fits (Broken width rest) = (width ≤ 15) × (rest < 2 ^ width)
 
 -- the word of a run that begins at this RUNindex, and its bits
 unfoldable pub run_word : ℕ → Run → RunWord

@@ -4,7 +4,7 @@ ghost use Rattle.ls_frame.specs.Parameters.{qbpp_of, limit_of};
 ghost use Rattle.ls_bits.specs.Golomb.{IsGolomb, most_value};
 ghost use Rattle.ls_coding.specs.Samples.{AreSamples};
 ghost use Rattle.ls_coding.specs.Contexts.{is_run};
-ghost use Rattle.ls_coding.specs.Runs.{order, run_of, run_word, word_bits, tail_of};
+ghost use Rattle.ls_coding.specs.Runs.{order, run_of, run_word, word_bits, tail_of, Fits};
 ghost use Rattle.ls_coding.specs.Interruptions.{is_flat, interruption_error};
 ghost use Rattle.ls_coding.specs.Events.{Event, run, golomb_bits};
 ghost use Rattle.ls_coding.specs.States.{Coding, state_of, place_of, regular_error_in, regular_word_in, interruption_word_in, after_regular, after_run, after_interruption, IsRegularEvent, IsInterruptionEvent};
@@ -135,6 +135,7 @@ impl State {
         requires whole { self.old.broken ≡ false }
         requires some { IsTrue eol → 0 < count }
         ensures word { result ≡ run_word self.old.run_index (run_of count (not eol)) }
+        ensures tail { Fits result.tail }
         ensures full_cost { IsTrue eol → length (word_bits result) ≤ limit_of self.old.parameters.maxval * count }
         ensures broken_cost { IsTrue (not eol)
             → length (word_bits result) + (limit_of self.old.parameters.maxval - order self.new.run_index - 1)

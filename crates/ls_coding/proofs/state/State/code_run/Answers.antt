@@ -2,9 +2,9 @@ use Rattle.std.proofs.Common.{rules, ◌≡◌, ◌≤◌, ◌+◌, ◌-◌, ◌
 use Rattle.std.specs.Prelude.{not}
 use Rattle.ls_frame.specs.Parameters.{qbpp_of, limit_of}
 use Rattle.ls_coding.specs.declared.run.RunWord.{RunWord}
-use Rattle.ls_coding.specs.Runs.{order, run_of, run_word, word_bits, walked, index_at}
+use Rattle.ls_coding.specs.Runs.{Fits, order, run_of, run_word, word_bits, walked, index_at}
 use Rattle.ls_coding.specs.States.{Coding}
-use Rattle.ls_coding.proofs.RunLemmas.{full_cost, broken_cost}
+use Rattle.ls_coding.proofs.RunLemmas.{full_cost, broken_cost, tail_fits}
 use Rattle.ls_coding.proofs.StateLemmas.{word_is, state_after_run}
 use Rattle.ls_coding.proofs.WordLemmas.{limit_large}
 use Rattle.ls_coding.proofs.state.State.code_run.Goals as goal
@@ -39,3 +39,7 @@ returns-clause-state c = search rules
 
 pub returns-clause-events : goal.returns-clause-events
 returns-clause-events c events same = state_after_run c.args.self.now _ _ (returns-clause-state c) events same
+
+pub returns-clause-tail : goal.returns-clause-tail
+returns-clause-tail c =
+    subst (λ (w : RunWord). Fits w.tail) (sym (returns-clause-word c)) (tail_fits c.args.self.now.run_index c.args.count (not c.args.eol))
