@@ -1,3 +1,4 @@
+pub mod CodedLemmas
 pub mod PlainCounters
 pub mod PlainHistories
 pub mod PlainNumbers

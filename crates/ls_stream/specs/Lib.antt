@@ -1,3 +1,4 @@
+pub mod Coded
 pub mod Examples
 pub mod Histories
 pub mod Planes
