@@ -1,3 +1,5 @@
+pub mod CodedLemmas
+pub mod LineLemmas
 pub mod PlainCounters
 pub mod PlainHistories
 pub mod PlainNumbers

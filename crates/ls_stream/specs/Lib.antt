@@ -1,3 +1,5 @@
+pub mod Coded
 pub mod Examples
 pub mod Histories
+pub mod LineBuffers
 pub mod Planes
