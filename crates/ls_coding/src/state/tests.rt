@@ -19,6 +19,14 @@ fn neighbours_of(around: Around) -> Neighbours {
     Neighbours { a, b, c, d }
 }
 
+/// k, limit and value of a word.
+type Coded = (u32, u32, u32);
+
+fn word_of(numbers: Coded) -> Word {
+    let (k, glimit, value) = numbers;
+    Word { k, glimit, value }
+}
+
 /// A new state of samples of 8 bits.
 fn fresh() -> State {
     State::new(&Presets::default_of(255))
@@ -156,23 +164,21 @@ fn runs_are_coded_on_a_new_state(rt: HostRuntime) {
     }
 }
 
-/// A run's samples on a new state; the neighbours of the sample that interrupts it, the sample, and its k, limit and
-/// value.
-const INTERRUPTIONS: [(u32, Around, u16, u32, u32, u32); 3] = [
-    (0, (0, 0, 0, 0), 5, 2, 31, 9),
-    (2, (9, 0, 9, 0), 5, 2, 31, 9),
-    (4, (0, 0, 0, 0), 100, 2, 30, 199),
+/// A run's samples on a new state; the neighbours of the sample that interrupts it, the sample, and its word.
+const INTERRUPTIONS: [(u32, Around, u16, Coded); 3] = [
+    (0, (0, 0, 0, 0), 5, (2, 31, 9)),
+    (2, (9, 0, 9, 0), 5, (2, 31, 9)),
+    (4, (0, 0, 0, 0), 100, (2, 30, 199)),
 ];
 
 #[test]
 fn samples_that_interrupt_runs_are_coded(rt: HostRuntime) {
-    for (count, around, sample, k, glimit, value) in INTERRUPTIONS {
+    for (count, around, sample, want) in INTERRUPTIONS {
         let neighbours = neighbours_of(around);
         let mut state = fresh();
         let _ = code_run(&rt, &mut state, count, false);
         let got = code_interruption(&rt, &mut state, &neighbours, sample);
-        let want = Word { k, glimit, value };
-        assert_eq!(rt; got, want, "{sample} at {neighbours:?}");
+        assert_eq!(rt; got, word_of(want), "{sample} at {neighbours:?}");
         assert!(rt; !state.broken(), "behind {sample} at {neighbours:?}");
     }
 }
@@ -183,12 +189,7 @@ fn a_sample_of_regular_mode_is_coded_behind_one_that_interrupts_a_run(rt: HostRu
     let _ = code_run(&rt, &mut state, 0, false);
     let _ = code_interruption(&rt, &mut state, &neighbours_of((0, 0, 0, 0)), 5);
     let got = code_regular(&rt, &mut state, &neighbours_of((5, 0, 0, 0)), 5);
-    let want = Word {
-        k: 2,
-        glimit: 32,
-        value: 0,
-    };
-    assert_eq!(rt; got, want);
+    assert_eq!(rt; got, word_of((2, 32, 0)));
 }
 
 /// Takes a bit 1 on a new state with so many samples left, each of which it stands for alone; then RUNindex and the
@@ -231,11 +232,7 @@ fn a_value_that_no_sample_of_regular_mode_has_is_refused(rt: HostRuntime) {
     let neighbours = neighbours_of((5, 0, 0, 0));
     let mut state = fresh();
     for (value, want) in [(256, Err(CodeFault::NotCanonical)), (0, Ok(5))] {
-        let word = Word {
-            k: 2,
-            glimit: 32,
-            value,
-        };
+        let word = word_of((2, 32, value));
         let got = accept_regular(&rt, &mut state, &neighbours, word);
         assert_eq!(rt; got, want, "{value}");
     }
@@ -252,11 +249,7 @@ fn a_value_of_no_sample_that_may_interrupt_the_run_is_refused(rt: HostRuntime) {
         (256, Err(CodeFault::NotCanonical)),
         (0, Ok(9)),
     ] {
-        let word = Word {
-            k: 2,
-            glimit: 31,
-            value,
-        };
+        let word = word_of((2, 31, value));
         let got = accept_interruption(&rt, &mut state, &neighbours, word);
         assert_eq!(rt; got, want, "{value}");
         assert_eq!(rt; state.broken(), want.is_err(), "{value}");

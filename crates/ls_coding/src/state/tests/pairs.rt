@@ -16,27 +16,30 @@ impl Pair {
     }
 
     /// A sample of regular mode, by both.
-    pub fn regular(&mut self, rt: &impl Abort, neighbours: &Neighbours, sample: u16) {
+    pub fn regular(&mut self, rt: &impl Abort, neighbours: &Neighbours, sample: u16) -> Word {
         let word = code_regular(rt, &mut self.coder, neighbours, sample);
         let got = accept_regular(rt, &mut self.reader, neighbours, word);
         assert_eq!(rt; got, Ok(sample), "{word:?} at {neighbours:?}");
         assert_same(rt, &self.coder, &self.reader);
+        word
     }
 
     /// A run of `count` of the `left` samples of a line, by both; its end is the line's where it has them all.
-    pub fn run(&mut self, rt: &impl Abort, count: u32, left: u32) {
+    pub fn run(&mut self, rt: &impl Abort, count: u32, left: u32) -> RunWord {
         let word = code_run(rt, &mut self.coder, count, count == left);
         let got = accept_run(rt, &mut self.reader, word, left);
         assert_eq!(rt; got, count, "{word:?} with {left} left");
         assert_same(rt, &self.coder, &self.reader);
+        word
     }
 
     /// The sample that interrupts a run, by both.
-    pub fn interruption(&mut self, rt: &impl Abort, neighbours: &Neighbours, sample: u16) {
+    pub fn interruption(&mut self, rt: &impl Abort, neighbours: &Neighbours, sample: u16) -> Word {
         let word = code_interruption(rt, &mut self.coder, neighbours, sample);
         let got = accept_interruption(rt, &mut self.reader, neighbours, word);
         assert_eq!(rt; got, Ok(sample), "{word:?} at {neighbours:?}");
         assert_same(rt, &self.coder, &self.reader);
+        word
     }
 }
 
@@ -60,40 +63,53 @@ fn accept_run(rt: &impl Abort, state: &mut State, word: RunWord, left: u32) -> u
     left.saturating_sub(behind)
 }
 
-/// One event.
+/// An event and its word.
 enum Step {
-    Regular(Around, u16),
-    /// So many samples of so many that are left in the line.
-    Run(u32, u32),
-    Interruption(Around, u16),
+    /// A sample of regular mode, and its word.
+    Regular(Around, u16, Coded),
+    /// A run of so many samples of so many that are left in the line, and how many bits 1 its word has.
+    Run(u32, u32, u32),
+    /// A sample that interrupts a run, and its word.
+    Interruption(Around, u16, Coded),
 }
 
-/// Events of each kind. Contexts are met more often than RESET, and RUNindex rises and falls.
-const STEPS: [Step; 24] = [
-    Step::Run(2, 9),
-    Step::Interruption((0, 0, 0, 0), 5),
-    Step::Regular((5, 0, 0, 0), 5),
-    Step::Regular((5, 0, 0, 0), 9),
-    Step::Regular((0, 5, 5, 5), 0),
-    Step::Regular((0, 5, 5, 5), 255),
-    Step::Run(12, 12),
-    Step::Run(40, 41),
-    Step::Interruption((9, 0, 9, 0), 5),
-    Step::Run(0, 1),
-    Step::Interruption((0, 9, 0, 9), 255),
-    Step::Run(0, 100),
-    Step::Interruption((255, 255, 255, 255), 0),
-    Step::Run(1, 300),
-    Step::Interruption((7, 7, 0, 0), 6),
-    Step::Run(0, 2),
-    Step::Interruption((0, 200, 0, 200), 72),
-    Step::Run(0, 3),
-    Step::Interruption((200, 0, 200, 0), 128),
-    Step::Regular((5, 0, 0, 0), 3),
-    Step::Regular((255, 0, 128, 3), 131),
-    Step::Regular((0, 5, 5, 5), 2),
-    Step::Run(70, 70),
-    Step::Run(1, 1),
+/// How often the events below come.
+const ROUNDS: u32 = 5;
+
+/// Events of each kind, with their words in the last round, which another program worked out by the steps of T.87.
+///
+/// Contexts are met more often than RESET, with both signs of an error, and RUNindex rises and falls.
+const STEPS: [Step; 30] = [
+    Step::Run(2, 9, 0),
+    Step::Interruption((0, 0, 0, 0), 1, (0, 27, 0)),
+    Step::Regular((5, 0, 0, 0), 5, (1, 32, 0)),
+    Step::Regular((5, 0, 0, 0), 9, (0, 32, 6)),
+    Step::Regular((0, 5, 5, 5), 0, (1, 32, 0)),
+    Step::Regular((0, 5, 5, 5), 255, (1, 32, 1)),
+    Step::Run(12, 12, 1),
+    Step::Run(40, 41, 2),
+    Step::Interruption((9, 0, 9, 0), 5, (7, 26, 9)),
+    Step::Run(0, 1, 0),
+    Step::Interruption((0, 9, 0, 9), 255, (7, 27, 19)),
+    Step::Run(0, 100, 0),
+    Step::Interruption((255, 255, 255, 255), 254, (0, 27, 1)),
+    Step::Run(1, 300, 0),
+    Step::Interruption((7, 7, 0, 0), 6, (0, 28, 1)),
+    Step::Run(0, 2, 0),
+    Step::Interruption((0, 200, 0, 200), 72, (6, 28, 255)),
+    Step::Run(0, 3, 0),
+    Step::Interruption((200, 0, 200, 0), 128, (7, 28, 255)),
+    Step::Regular((5, 0, 0, 0), 3, (1, 32, 6)),
+    Step::Regular((255, 0, 128, 3), 131, (2, 32, 2)),
+    Step::Regular((0, 5, 5, 5), 2, (1, 32, 4)),
+    Step::Run(70, 70, 6),
+    Step::Run(1, 1, 0),
+    Step::Run(0, 4, 0),
+    Step::Interruption((7, 7, 0, 0), 8, (0, 26, 1)),
+    Step::Run(3, 4, 0),
+    Step::Interruption((9, 9, 9, 9), 10, (0, 27, 0)),
+    Step::Regular((9, 9, 9, 10), 8, (0, 32, 0)),
+    Step::Regular((10, 9, 9, 10), 9, (0, 32, 0)),
 ];
 
 #[test]
@@ -103,17 +119,29 @@ fn events_of_all_kinds_are_taken_as_they_were_coded(rt: HostRuntime) {
         panic!(rt; "{explicit:?}");
     };
     let mut pair = Pair::new(&presets);
-    for _ in 0..5 {
+    for round in 1..ROUNDS + 1 {
+        let is_last = round == ROUNDS;
         for step in &STEPS {
             match step {
-                Step::Regular(around, sample) => {
-                    pair.regular(&rt, &neighbours_of(*around), *sample);
+                Step::Regular(around, sample, want) => {
+                    let neighbours = neighbours_of(*around);
+                    let word = pair.regular(&rt, &neighbours, *sample);
+                    let same = word == word_of(*want);
+                    assert!(rt; same || !is_last, "{word:?} of {sample} at {neighbours:?}");
                 }
-                Step::Run(count, left) => pair.run(&rt, *count, *left),
-                Step::Interruption(around, sample) => {
-                    pair.interruption(&rt, &neighbours_of(*around), *sample);
+                Step::Run(count, left, ones) => {
+                    let word = pair.run(&rt, *count, *left);
+                    let same = word.ones == *ones;
+                    assert!(rt; same || !is_last, "{word:?} of {count} with {left} left");
+                }
+                Step::Interruption(around, sample, want) => {
+                    let neighbours = neighbours_of(*around);
+                    let word = pair.interruption(&rt, &neighbours, *sample);
+                    let same = word == word_of(*want);
+                    assert!(rt; same || !is_last, "{word:?} of {sample} at {neighbours:?}");
                 }
             }
         }
     }
+    assert_eq!(rt; pair.coder.run_index, 16);
 }
