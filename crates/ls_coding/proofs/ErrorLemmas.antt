@@ -1,5 +1,5 @@
 -- Reduced errors, and the samples that have them.
-use Rattle.std.proofs.Common.{◌≡◌, ℕ, ◌+◌, ◌/◌, ◌<◌, ◌≤◌, Bool, true, false, cond, ℤ, pos, neg_ℤ, ◌+ℤ◌, ◌-ℤ◌, ◌≤ℤ◌, ◌<ℤ◌, ◌⊎◌, inl, inr, refl, sym, ◌∙◌, ap, subst, arith}
+use Rattle.std.proofs.Common.{◌≡◌, ℕ, ◌+◌, ◌/◌, ◌<◌, ◌≤◌, Bool, true, false, cond, ℤ, pos, neg_ℤ, ◌+ℤ◌, ◌-ℤ◌, ◌≤ℤ◌, ◌<ℤ◌, refl, sym, ◌∙◌, ap, subst, arith}
 use Rattle.std.specs.Prelude.{int_le, int_lt}
 use Rattle.std.proofs.lemmas.Int.{ints}
 use Rattle.ls_frame.specs.Parameters.{Parameters, range_of}
@@ -11,7 +11,7 @@ use Rattle.ls_coding.specs.Samples.{AreSamples}
 use Rattle.ls_coding.specs.Contexts.{signed}
 use Rattle.ls_coding.specs.Interruptions.{is_flat, is_turned, foretold, interruption_error}
 use Rattle.ls_coding.specs.Plans.{Interrupts}
-use Rattle.ls_coding.specs.Errors.{IsReduced, wrapped, reduced, error_of}
+use Rattle.ls_coding.specs.Errors.{IsReduced, reduced, error_of}
 use Rattle.ls_coding.proofs.StatsLemmas.{choose, le_true, le_false, lt_true, lt_false, mean_through}
 
 -- d is e, or a RANGE away from it

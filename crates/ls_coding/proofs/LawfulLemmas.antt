@@ -1,12 +1,12 @@
 -- Lawful lists of events are reached.
-use Rattle.std.proofs.Common.{◌≡◌, ℕ, ◌<◌, ◌≤◌, Bool, true, false, List, [], ◌∷◌, ◌++◌, refl, sym, ◌∙◌, ap}
+use Rattle.std.proofs.Common.{◌≡◌, ℕ, false, List, [], ◌∷◌, ◌++◌, refl, sym, ◌∙◌, ap}
 use Rattle.ls_frame.specs.Parameters.{Parameters}
 use Rattle.ls_coding.specs.declared.neighbours.Neighbours.{Neighbours}
-use Rattle.ls_coding.specs.Contexts.{is_run, context_of}
+use Rattle.ls_coding.specs.Contexts.{context_of}
 use Rattle.ls_coding.specs.Interruptions.{is_flat, interruption_error}
 use Rattle.ls_coding.specs.Runs.{run_of}
-use Rattle.ls_coding.specs.Events.{Event, regular, run, interruption, stats_in, regular_e}
-use Rattle.ls_coding.specs.States.{Coding, state_of, place_of, regular_error_in, after_regular}
+use Rattle.ls_coding.specs.Events.{Event, regular, stats_in, regular_e}
+use Rattle.ls_coding.specs.States.{state_of, place_of, regular_error_in, after_regular}
 use Rattle.ls_coding.specs.Lawful.{MayFollow, by_sample, by_run, by_interruption, IsLawful, none, more, IsCall, code_regular, code_run, code_interruption, IsReached, start, called}
 use Rattle.ls_coding.proofs.EventLemmas.{state_after_regular, state_of-interruption}
 use Rattle.ls_coding.proofs.StateLemmas.{state_of-run}

@@ -1,7 +1,6 @@
 -- A sample of regular mode, in a state's view.
-use Rattle.std.proofs.Common.{◌≡◌, ℕ, ◌+◌, ◌<◌, ◌≤◌, Bool, List, get_or, map, ℤ, pos, neg_ℤ, ◌+ℤ◌, ◌≤ℤ◌, refl, sym, ◌∙◌, ap, subst, arith}
+use Rattle.std.proofs.Common.{◌≡◌, ℕ, ◌<◌, ◌≤◌, Bool, List, get_or, ℤ, pos, neg_ℤ, ◌+ℤ◌, ◌≤ℤ◌, refl, sym, ◌∙◌, ap, subst, arith}
 use Rattle.std.specs.Prelude.{int_le, int_lt, unsigned_abs, if◌then◌else◌, Result, Ok, Err, IfOk, IfErr}
-use Rattle.std.specs.List.{range_with_len}
 use Rattle.std.proofs.Math.ListN.{set}
 use Rattle.std.proofs.lemmas.Int.{ints}
 use Rattle.std.proofs.lemmas.List.FromFn.{get_or-map-range_with_len}
@@ -18,7 +17,7 @@ use Rattle.ls_coding.specs.Fields.{stats_at, contexts_of}
 use Rattle.ls_coding.specs.Plans.{Planned, regular_plan_by, regular_plan, IsReadBy, IsTheSample, NoSample}
 use Rattle.ls_coding.proofs.ContextLemmas.{merged-number}
 use Rattle.ls_coding.proofs.StatsLemmas.{choose, lt_false}
-use Rattle.ls_coding.proofs.StateLemmas.{made, alike}
+use Rattle.ls_coding.proofs.StateLemmas.{made}
 
 -- ---- a context's number is below 365
 

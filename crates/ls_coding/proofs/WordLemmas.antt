@@ -1,14 +1,13 @@
 -- What the words of samples keep to: k, the limit, the value, and so their length.
-use Rattle.std.proofs.Common.{◌≡◌, ℕ, zero, suc, ◌+◌, ◌-◌, ◌*◌, ◌/◌, ◌^◌, ◌<◌, ◌≤◌, max, Bool, true, false, cond, ℤ, pos, negsuc, neg_ℤ, ◌+ℤ◌, ◌≤ℤ◌, ◌<ℤ◌, length, refl, arith, inl, inr}
+use Rattle.std.proofs.Common.{◌≡◌, ℕ, zero, suc, ◌+◌, ◌-◌, ◌*◌, ◌/◌, ◌^◌, ◌<◌, ◌≤◌, Bool, true, false, ℤ, pos, negsuc, ◌+ℤ◌, refl, arith}
 use Rattle.std.specs.Prelude.{unsigned_abs, int_le}
 use Rattle.std.proofs.lemmas.Int.{ints}
 use Rattle.std.proofs.lemmas.Nat.{mul-le, pow_pos}
 use Rattle.std.proofs.Math.Nat.{pow-suc}
 use Rattle.std.proofs.Math.Pow.{pow_mono}
-use Rattle.ls_frame.specs.Parameters.{Parameters, IsLegal, ceil_log2, range_of, qbpp_of, bpp_of, limit_of}
+use Rattle.ls_frame.specs.Parameters.{range_of, qbpp_of, limit_of}
 use Rattle.ls_frame.proofs.ExponentLemmas.{ceil_log2-reaches, ceil_log2-least}
 use Rattle.ls_bits.specs.Golomb.{IsGolomb}
-use Rattle.ls_bits.proofs.GolombLemmas.{length-code_word}
 use Rattle.ls_coding.specs.Numbers.{golomb_parameter}
 use Rattle.ls_coding.specs.Errors.{IsReduced, mapped}
 use Rattle.ls_coding.specs.Stats.{Stats, error_bound, AreSound}

@@ -1,15 +1,14 @@
 -- The bits of segments after events are those from the state of the events on.
-use Rattle.std.proofs.Common.{◌≡◌, ℕ, ◌+◌, Bool, true, false, ℤ, cond, List, [], ◌∷◌, ◌++◌, refl, sym, ◌∙◌, ap, append_assoc}
+use Rattle.std.proofs.Common.{◌≡◌, ℕ, ◌+◌, Bool, true, false, cond, List, [], ◌∷◌, ◌++◌, refl, sym, ◌∙◌, ap, append_assoc}
 use Rattle.ls_frame.specs.Parameters.{Parameters}
-use Rattle.ls_coding.specs.declared.word.Word.{Word}
 use Rattle.ls_coding.specs.Interruptions.{Counts, is_flat, interruption_error}
 use Rattle.ls_coding.specs.Runs.{Run, run_of, run_bits, index_at}
-use Rattle.ls_coding.specs.Events.{Event, regular, run, interruption, index_in, counts_in, broken_in, is_broken, regular_e, interruption_word, golomb_bits}
-use Rattle.ls_coding.specs.States.{Coding, state_of, after_regular, after_run, regular_error_in, interruption_word_in, after_interruption}
-use Rattle.ls_coding.proofs.EventLemmas.{word_of_regular, state_after_regular, word_of_interruption, state_of-interruption}
+use Rattle.ls_coding.specs.Events.{Event, run, interruption, index_in, counts_in, broken_in, is_broken, interruption_word, golomb_bits}
+use Rattle.ls_coding.specs.States.{Coding, state_of, after_run, interruption_word_in, after_interruption}
+use Rattle.ls_coding.proofs.EventLemmas.{word_of_regular, state_after_regular, state_of-interruption}
 use Rattle.ls_coding.proofs.StateLemmas.{state_of-run, fold-push}
-use Rattle.ls_stream.specs.Planes.{Plane, at, around, Segment, sample, stretch, sample_event, sample_bits, broken_event, broken_bits, segment_events, segment_bits, coded, plane_bits, segments}
-use Rattle.ls_stream.specs.Coded.{sample_bits_in, sample_after, break_bits_in, break_after, segment_bits_in, segment_after, bits_from}
+use Rattle.ls_stream.specs.Planes.{Plane, at, around, Segment, sample, stretch, sample_event, sample_bits, broken_event, broken_bits, coded, plane_bits, segments}
+use Rattle.ls_stream.specs.Coded.{sample_bits_in, sample_after, break_bits_in, break_after, bits_from}
 
 parameters_of : (p : Parameters) (events : List Event) → (state_of p events).parameters ≡ p
 unfolding state_of

@@ -1,4 +1,4 @@
-use Rattle.std.proofs.Common.{◌≡◌, ◌≤◌, ℤ, pos, ◌+ℤ◌, ap, ◌∙◌, arith}
+use Rattle.std.proofs.Common.{◌≡◌, ◌≤◌, pos, ◌+ℤ◌, ap, ◌∙◌, arith}
 use mir.Syntax.{w32}
 use mir.Val.{to_z, of_z}
 use Rattle.ls_coding.specs.Contexts.{signed}

@@ -1,4 +1,4 @@
-use Rattle.std.proofs.Common.{◌≡◌, ◌≤◌, ap, ◌∙◌, neg_ℤ, pos, ◌≤ℤ◌, arith}
+use Rattle.std.proofs.Common.{◌≡◌, ap, ◌∙◌, neg_ℤ, pos, ◌≤ℤ◌, arith}
 use Rattle.std.specs.Prelude.{unsigned_abs}
 use Rattle.ls_coding.proofs.StatsLemmas.{step_is, sound_is, error_through, error_size, error_low, error_high, sum_through}
 use Rattle.ls_coding.proofs.update.update.Goals as goal

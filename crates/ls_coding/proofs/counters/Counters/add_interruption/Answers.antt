@@ -1,4 +1,4 @@
-use Rattle.std.proofs.Common.{ap, ◌∙◌, rules}
+use Rattle.std.proofs.Common.{rules}
 use Rattle.ls_coding.proofs.FieldLemmas.{AreWholeCounts, contexts_kept, interruption_sound}
 use Rattle.ls_coding.proofs.counters.Counters.add_interruption.Goals as goal
 

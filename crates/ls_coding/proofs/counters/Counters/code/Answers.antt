@@ -1,7 +1,6 @@
 use Rattle.std.proofs.Common.{◌≤◌, ◌^◌, ap, sym, subst, ◌∙◌, arith}
 use Rattle.ls_frame.specs.Parameters.{qbpp_of}
 use Rattle.ls_coding.specs.Errors.{mapped}
-use Rattle.ls_coding.specs.Stats.{AreSound, error_bound}
 use Rattle.ls_coding.specs.Fields.{stats_at}
 use Rattle.ls_coding.proofs.SignedLemmas.{through}
 use Rattle.ls_coding.proofs.StatsLemmas.{mean_low, mean_high}

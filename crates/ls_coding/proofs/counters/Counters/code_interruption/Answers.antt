@@ -1,4 +1,4 @@
-use Rattle.std.proofs.Common.{◌≤◌, ◌^◌, ap, sym, subst, ◌∙◌, arith}
+use Rattle.std.proofs.Common.{◌≤◌, ◌^◌, sym, subst, arith}
 use mir.Syntax.{w32}
 use mir.Val.{to_z, of_z}
 use Rattle.ls_frame.specs.Parameters.{range_of, qbpp_of}

@@ -1,8 +1,7 @@
 use Rattle.std.proofs.Common.{rules, ◌≡◌, ◌≤◌, ◌^◌, ℕ, sym, ap, subst, ◌∙◌, arith}
-use Rattle.std.specs.Prelude.{IfErr}
 use Rattle.ls_frame.specs.Parameters.{Parameters, qbpp_of}
 use Rattle.ls_coding.specs.declared.neighbours.Neighbours.{Neighbours}
-use Rattle.ls_coding.specs.Interruptions.{is_flat, ri_type, interruption_k, interruption_value, interruption_error}
+use Rattle.ls_coding.specs.Interruptions.{is_flat, ri_type, interruption_value, interruption_error}
 use Rattle.ls_coding.specs.States.{Coding, interruption_word_in}
 use Rattle.ls_coding.specs.Fields.{contexts_of, counts_at}
 use Rattle.ls_coding.specs.Plans.{Planned, interruption_plan, Interrupts, IsTheSample, NoSample}

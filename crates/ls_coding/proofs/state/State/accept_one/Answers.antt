@@ -1,4 +1,4 @@
-use Rattle.std.proofs.Common.{◌≡◌, ◌^◌, ◌<◌, false, sym, ap, subst, ◌∙◌, arith}
+use Rattle.std.proofs.Common.{◌^◌, ◌<◌, false, ap, subst, ◌∙◌, arith}
 use Rattle.ls_coding.specs.Runs.{order, run_of}
 use Rattle.ls_coding.specs.States.{Coding, after_run}
 use Rattle.ls_coding.specs.contracts.state.State as state

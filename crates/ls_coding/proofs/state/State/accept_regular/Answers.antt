@@ -2,9 +2,9 @@ use Rattle.std.proofs.Common.{◌≡◌, ◌≤◌, ◌<◌, ◌^◌, ℕ, pos, 
 use Rattle.ls_frame.specs.Parameters.{Parameters, qbpp_of}
 use Rattle.std.specs.Prelude.{IfOk, IfErr}
 use Rattle.ls_coding.specs.Errors.{mapped, leans, error_of}
-use Rattle.ls_coding.specs.States.{Coding, place_of, regular_word_in, regular_error_in, after_regular, IsRegularEvent}
-use Rattle.ls_coding.specs.Fields.{stats_at, contexts_of, counts_at}
-use Rattle.ls_coding.specs.Plans.{Planned, regular_plan, IsTheSample, NoSample}
+use Rattle.ls_coding.specs.States.{Coding, place_of, regular_word_in, regular_error_in, after_regular}
+use Rattle.ls_coding.specs.Fields.{stats_at, counts_at}
+use Rattle.ls_coding.specs.Plans.{regular_plan, IsTheSample, NoSample}
 use Rattle.ls_coding.specs.contracts.state.State as state
 use Rattle.ls_coding.specs.contracts.plan.Plan as plan
 use Rattle.ls_coding.proofs.EventLemmas.{state_after_regular, word_of_regular}

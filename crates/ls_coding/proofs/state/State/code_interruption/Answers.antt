@@ -1,5 +1,5 @@
 use Rattle.std.proofs.Common.{rules, ◌≡◌, ◌≤◌, ◌-◌, length, ap, subst, ◌∙◌}
-use Rattle.ls_frame.specs.Parameters.{Parameters, qbpp_of, limit_of}
+use Rattle.ls_frame.specs.Parameters.{qbpp_of, limit_of}
 use Rattle.ls_bits.proofs.GolombLemmas.{length-code_word}
 use Rattle.ls_coding.specs.declared.word.Word.{Word}
 use Rattle.ls_coding.specs.Interruptions.{is_flat, interruption_error}

@@ -1,8 +1,8 @@
-use Rattle.std.proofs.Common.{rules, ◌≡◌, ◌≤◌, ◌+◌, ◌-◌, ◌*◌, ℕ, Bool, true, false, length, refl, ap, sym, subst, ◌∙◌, arith}
+use Rattle.std.proofs.Common.{rules, ◌≡◌, ◌≤◌, ◌+◌, ◌-◌, ◌*◌, ℕ, Bool, length, refl, ap, sym, subst, ◌∙◌, arith}
 use Rattle.std.specs.Prelude.{not}
 use Rattle.ls_frame.specs.Parameters.{qbpp_of, limit_of}
 use Rattle.ls_coding.specs.declared.run.RunWord.{RunWord}
-use Rattle.ls_coding.specs.Runs.{Fits, order, run_of, run_word, word_bits, walked, index_at}
+use Rattle.ls_coding.specs.Runs.{Fits, order, run_of, run_word, word_bits, walked}
 use Rattle.ls_coding.specs.States.{Coding}
 use Rattle.ls_coding.proofs.RunLemmas.{full_cost, broken_cost, tail_fits}
 use Rattle.ls_coding.proofs.StateLemmas.{word_is, state_after_run}
