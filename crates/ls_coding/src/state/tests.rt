@@ -96,7 +96,6 @@ fn accept_break(rt: &impl Abort, state: &mut State, rest: u32, left: u32) -> Res
 }
 
 /// By a plan that has this k and this limit.
-#[tactic(auto, unfolding(crate::specs::Plans::regular_plan_by))]
 fn accept_regular(
     rt: &impl Abort,
     state: &mut State,
@@ -114,7 +113,6 @@ fn accept_regular(
 }
 
 /// By a plan that has this k and this limit.
-#[tactic(auto, unfolding(crate::specs::Plans::interruption_plan_by))]
 fn accept_interruption(
     rt: &impl Abort,
     state: &mut State,
