@@ -66,7 +66,7 @@ const PLANES: [(&str, u16, usize, &[u16], &[u8]); 12] = [
 ];
 
 #[test]
-fn small_planes_have_these_scans(rt: HostRuntime) -> Result<(), Fail> {
+fn small_planes_have_these_scans_with_ample_memory(rt: HostRuntime) -> Result<(), Fail> {
     for (name, maxval, width, samples, want) in PLANES {
         let scan = scan(&rt, rt.alloc(), Presets::default_of(maxval), width, samples)?;
         assert_eq!(rt; scan.as_slice(), want, "{name}");
@@ -75,7 +75,9 @@ fn small_planes_have_these_scans(rt: HostRuntime) -> Result<(), Fail> {
 }
 
 #[test]
-fn counters_halved_after_each_third_error_have_this_scan(rt: HostRuntime) -> Result<(), Fail> {
+fn counters_halved_after_each_third_error_have_this_scan_with_ample_memory(
+    rt: HostRuntime,
+) -> Result<(), Fail> {
     let presets = Presets::explicit(255, 3, 7, 21, 3)?;
     let scan = scan(&rt, rt.alloc(), presets, 7, &[3, 3, 3, 3, 4, 6, 6])?;
     assert_eq!(rt; scan.as_slice(), [0x2c, 0xa4, 0x48].as_slice());
