@@ -1,4 +1,5 @@
 pub mod CodedLemmas
+pub mod ComponentLemmas
 pub mod LineLemmas
 pub mod PlainCounters
 pub mod PlainHistories
@@ -7,3 +8,4 @@ pub mod PlainRows
 pub mod PlainSamples
 pub mod PlainSegments
 pub mod PlainWords
+pub mod RowLemmas

@@ -1,14 +1,14 @@
 -- Padded lines have the neighbours that samples have in the whole plane.
-use Rattle.std.proofs.Common.{◌≡◌, ℕ, zero, suc, ◌+◌, ◌-◌, ◌*◌, ◌<◌, ◌≤◌, Bool, true, false, cond, ltb, [], ◌∷◌, length, get_or, drop, length-drop, refl, ◌∙◌, ap, arith}
-use Rattle.std.proofs.lemmas.Bool.{ltb-true, ltb-false}
+use Rattle.std.proofs.Common.{◌≡◌, ℕ, zero, suc, ◌+◌, ◌-◌, ◌*◌, ◌<◌, ◌≤◌, Bool, true, false, cond, ltb, [], ◌∷◌, length, get_or, drop, length-drop, refl, ◌∙◌, ap, arith, inl, inr, List, sym, subst}
+use Rattle.std.proofs.lemmas.Bool.{ltb-true, ltb-false, cases_lt}
 use Rattle.std.proofs.lemmas.Nat.{mul-le}
-use Rattle.std.proofs.lemmas.List.{get_or-replicate, get_or-take, get_or-drop, get_or_append_left, get_or-append_right, length-take-le}
+use Rattle.std.proofs.lemmas.List.{get_or-replicate, get_or-take, get_or-drop, get_or_append_left, get_or-append_right, get_or_past, length-take-le}
 use Rattle.ls_coding.specs.declared.neighbours.Neighbours.{Neighbours}
 use Rattle.ls_stream.specs.Planes.{Plane, at, around, left, above, above_left, above_right}
-use Rattle.ls_stream.specs.LineBuffers.{row_of, line_of, near, AreLines}
+use Rattle.ls_stream.specs.LineBuffers.{row_of, line_of, near, AreLines, Holds}
 
 -- the plane has a whole row i
-abbrev HasRow : Plane → ℕ → Type 0
+abbrev pub HasRow : Plane → ℕ → Type 0
 HasRow plane i = (i + 1) * plane.width ≤ length plane.samples
 
 in_row : (plane : Plane) (i j : ℕ) → j < plane.width → get_or (row_of plane i) j 0 ≡ at plane i j
@@ -88,3 +88,73 @@ near_is plane i j h k =
 
 pub are_lines : (plane : Plane) (i : ℕ) → HasRow plane i → AreLines plane i (line_of plane i) (line_of plane (suc i))
 are_lines plane i h = record { nearby = λ j k. near_is plane i j h k; samples = λ j k. line_sample plane i j h k }
+
+-- ---- in buffers
+
+pub held_lines : (plane : Plane) (i : ℕ) (above_buffer line_buffer : List ℕ) → HasRow plane i → Holds plane i above_buffer → Holds plane (suc i) line_buffer → AreLines plane i above_buffer line_buffer
+unfolding neighbours
+held_lines plane i above_buffer line_buffer h over_is line_is = record {
+  nearby = λ j k.
+      ap (λ n. neighbours n (get_or above_buffer (j + 1) 0) (get_or above_buffer j 0) (get_or above_buffer (j + 2) 0)) (line_is j (omega arith))
+      ∙ ap (λ n. neighbours (get_or (line_of plane (suc i)) j 0) n (get_or above_buffer j 0) (get_or above_buffer (j + 2) 0)) (over_is (j + 1) (omega arith))
+      ∙ ap (λ n. neighbours (get_or (line_of plane (suc i)) j 0) (get_or (line_of plane i) (j + 1) 0) n (get_or above_buffer (j + 2) 0)) (over_is j (omega arith))
+      ∙ ap (λ n. neighbours (get_or (line_of plane (suc i)) j 0) (get_or (line_of plane i) (j + 1) 0) (get_or (line_of plane i) j 0) n) (over_is (j + 2) (omega arith))
+      ∙ near_is plane i j h k;
+  samples = λ j k. line_is (j + 1) (omega arith) ∙ line_sample plane i j h k;
+}
+
+-- the line above the first row
+pub none_above : (plane : Plane) (buffer : List ℕ) → ((k : ℕ) → k < plane.width + 2 → get_or buffer k 0 ≡ 0) → Holds plane 0 buffer
+none_above plane buffer zeros k h = zeros k h ∙ sym (no_sample plane k h)
+
+filled_at : (plane : Plane) (i : ℕ) (above_buffer buffer : List ℕ) → 1 ≤ plane.width → HasRow plane i → Holds plane i above_buffer → get_or buffer 0 0 ≡ get_or above_buffer 1 0
+    → ((k : ℕ) → k < plane.width → get_or buffer (k + 1) 0 ≡ at plane i k) → get_or buffer (plane.width + 1) 0 ≡ get_or buffer plane.width 0
+    → (k : ℕ) → k < plane.width + 2 → get_or buffer k 0 ≡ get_or (line_of plane (suc i)) k 0
+filled_at plane i above_buffer buffer some h over_is first middle last zero k =
+    first ∙ over_is 1 (omega arith) ∙ over plane i 0 h some
+filled_at plane i above_buffer buffer some h over_is first middle last (suc k) l =
+    let next : suc k ≡ k + 1 = omega arith in
+    ap (λ n. get_or buffer n 0) next
+    ∙ elim (cases_lt k plane.width) [
+      | inl inside ↦ middle k inside ∙ sym (line_sample plane i k h inside)
+      | inr far ↦
+          let whole : k ≡ plane.width = omega arith in
+          let before : plane.width ≡ plane.width - 1 + 1 = omega arith in
+          ap (λ n. get_or buffer (n + 1) 0) whole ∙ last ∙ ap (λ n. get_or buffer n 0) before ∙ middle (plane.width - 1) (omega arith)
+          ∙ sym (line_last plane i h) ∙ ap (λ n. get_or (line_of plane (suc i)) (n + 1) 0) (sym whole)
+    ]
+    ∙ ap (λ n. get_or (line_of plane (suc i)) n 0) (sym next)
+
+pub filled : (plane : Plane) (i : ℕ) (above_buffer buffer : List ℕ) → 1 ≤ plane.width → HasRow plane i → Holds plane i above_buffer → get_or buffer 0 0 ≡ get_or above_buffer 1 0
+    → ((k : ℕ) → k < plane.width → get_or buffer (k + 1) 0 ≡ at plane i k) → get_or buffer (plane.width + 1) 0 ≡ get_or buffer plane.width 0
+    → Holds plane (suc i) buffer
+filled = filled_at
+
+-- a line is of samples where what it was made of is
+pub filled_small : (maxval width count component : ℕ) (above_buffer buffer row : List ℕ) → 1 ≤ width → length buffer ≡ width + 2 → ((k : ℕ) → get_or above_buffer k 0 ≤ maxval) → ((k : ℕ) → get_or row k 0 ≤ maxval)
+    → get_or buffer 0 0 ≡ get_or above_buffer 1 0 → ((k : ℕ) → k < width → get_or buffer (k + 1) 0 ≡ get_or row (k * count + component) 0) → get_or buffer (width + 1) 0 ≡ get_or buffer width 0
+    → (k : ℕ) → get_or buffer k 0 ≤ maxval
+filled_small maxval width count component above_buffer buffer row some whole above_small row_small first middle last zero = omega (arith, above_small 1)
+filled_small maxval width count component above_buffer buffer row some whole above_small row_small first middle last (suc k) =
+    let next : suc k ≡ k + 1 = omega arith in
+    subst (λ n. get_or buffer n 0 ≤ maxval) (sym next)
+    (elim (cases_lt k width) [
+      | inl inside ↦ omega (arith, middle k inside, row_small (k * count + component))
+      | inr far ↦ elim (cases_lt width k) [
+        | inl past ↦ let none : get_or buffer (k + 1) 0 ≡ 0 = get_or_past buffer (k + 1) 0 (omega arith) in omega arith
+        | inr near ↦
+            let same : k ≡ width = omega arith in
+            let before : width ≡ width - 1 + 1 = omega arith in
+            let at_last : get_or buffer width 0 ≡ get_or row ((width - 1) * count + component) 0 = ap (λ n. get_or buffer n 0) before ∙ middle (width - 1) (omega arith) in
+            let at_end : get_or buffer (k + 1) 0 ≡ get_or buffer width 0 = ap (λ n. get_or buffer (n + 1) 0) same ∙ last in
+            omega (arith, row_small ((width - 1) * count + component))
+      ]
+    ])
+
+pub row_small : (maxval stride start : ℕ) (samples row : List ℕ) → length row ≡ stride → ((k : ℕ) → k < stride → get_or row k 0 ≡ get_or samples (start + k) 0) → ((k : ℕ) → get_or samples k 0 ≤ maxval)
+    → (k : ℕ) → get_or row k 0 ≤ maxval
+row_small maxval stride start samples row whole same small k =
+    elim (cases_lt k stride) [
+      | inl inside ↦ omega (arith, same k inside, small (start + k))
+      | inr far ↦ let none : get_or row k 0 ≡ 0 = get_or_past row k 0 (omega arith) in omega arith
+    ]

@@ -34,3 +34,7 @@ segment_after plane (stretch i j count false) s = after_run s (run_of count fals
 unfoldable pub bits_from : Plane → List Segment → Coding → List Bool
 bits_from plane [] s = []
 bits_from plane (segment ∷ more) s = segment_bits_in plane segment s ++ bits_from plane more (segment_after plane segment s)
+
+-- the bits so far, and those of the segments to come
+abbrev pub all_from : Plane → List Bool → Coding → List Segment → List Bool
+all_from plane bits s more = bits ++ bits_from plane more s

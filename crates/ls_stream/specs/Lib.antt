@@ -1,4 +1,5 @@
 pub mod Coded
+pub mod Components
 pub mod Examples
 pub mod Histories
 pub mod LineBuffers

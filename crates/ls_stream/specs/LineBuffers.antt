@@ -1,5 +1,5 @@
 -- Two lines of a plane as a coder keeps them: with one place more on the left and on the right.
-use Rattle.std.specs.Prelude.{◌≡◌, ℕ, zero, suc, ◌+◌, ◌-◌, ◌*◌, ◌<◌, List, [], ◌∷◌, ◌++◌, replicate, take, drop, slice_index}
+use Rattle.std.specs.Prelude.{◌≡◌, ◌≢◌, ℕ, zero, suc, ◌+◌, ◌-◌, ◌*◌, ◌<◌, ◌≤◌, List, [], ◌∷◌, ◌++◌, replicate, length, take, drop, slice_index}
 use Rattle.ls_coding.specs.declared.neighbours.Neighbours.{Neighbours}
 use Rattle.ls_stream.specs.Planes.{Plane, at, around, left}
 
@@ -25,3 +25,21 @@ near above line j = record {
 pub record AreLines (plane : Plane) (i : ℕ) (above line : List ℕ) : Type 0 where
   pub nearby : (j : ℕ) → j < plane.width → near above line j ≡ around plane i j
   pub samples : (j : ℕ) → j < plane.width → slice_index line (j + 1) ≡ at plane i j
+
+-- a buffer has a line in its places
+abbrev pub Holds : Plane → ℕ → List ℕ → Type 0
+Holds plane i buffer = (k : ℕ) → k < plane.width + 2 → slice_index buffer k ≡ slice_index (line_of plane i) k
+
+-- two lines of a row of this width, all of samples
+pub record ArePadded (maxval width : ℕ) (above line : List ℕ) : Type 0 where
+  pub above_length : length above ≡ width + 2
+  pub line_length : length line ≡ width + 2
+  pub above_small : (k : ℕ) → slice_index above k ≤ maxval
+  pub line_small : (k : ℕ) → slice_index line k ≤ maxval
+
+-- the samples behind column j up to `end` equal what is left of j, and the one of `end` doesn't, if there is one
+pub record IsRunEnd (line : List ℕ) (width j end : ℕ) : Type 0 where
+  pub low : j ≤ end
+  pub high : end ≤ width
+  pub equal : (k : ℕ) → j ≤ k → k < end → slice_index line (k + 1) ≡ slice_index line j
+  pub other : end < width → slice_index line (end + 1) ≢ slice_index line j

@@ -1,0 +1,151 @@
+-- The bits so far and those to come, while a row is coded.
+use Rattle.std.proofs.Common.{◌≡◌, ◌≢◌, ℕ, zero, suc, ◌+◌, ◌-◌, ◌*◌, ◌<◌, ◌≤◌, Bool, true, false, ltb, List, ◌∷◌, ◌++◌, get_or, eq-eqb, inl, inr, refl, sym, ◌∙◌, ap, subst, append_assoc, arith}
+use Rattle.std.specs.Prelude.{not}
+use Rattle.std.proofs.lemmas.Bool.{false≢true, lt-ltb, le-ltb, cases_lt, cond-true, cond-false, ne_eqb}
+use Rattle.ls_frame.specs.Parameters.{Parameters}
+use Rattle.ls_coding.specs.declared.neighbours.Neighbours.{Neighbours}
+use Rattle.ls_coding.specs.declared.word.Word.{Word}
+use Rattle.ls_coding.specs.Contexts.{is_run}
+use Rattle.ls_coding.specs.Interruptions.{is_flat, interruption_error}
+use Rattle.ls_coding.specs.Runs.{run_of, run_bits}
+use Rattle.ls_coding.specs.Events.{golomb_bits}
+use Rattle.ls_coding.specs.States.{Coding, place_of, regular_error_in, regular_word_in, after_regular, after_run, interruption_word_in, after_interruption}
+use Rattle.ls_stream.specs.Planes.{Plane, at, around, left, equal_from, run_length, Segment, sample, stretch}
+use Rattle.ls_stream.specs.LineBuffers.{near, AreLines, IsRunEnd}
+use Rattle.ls_stream.specs.Histories.{row_from}
+use Rattle.ls_stream.specs.Coded.{segment_bits_in, segment_after, bits_from, all_from}
+use Rattle.ls_stream.proofs.PlainRows.{row_from-sample, row_from-stretch}
+
+-- a segment's bits move from those to come to those so far
+moved : (plane : Plane) (segment : Segment) (rest more segments : List Segment) (bits new : List Bool) (s after : Coding) → segments ≡ segment ∷ rest
+    → new ≡ bits ++ segment_bits_in plane segment s → after ≡ segment_after plane segment s
+    → all_from plane new after (rest ++ more) ≡ all_from plane bits s (segments ++ more)
+unfolding bits_from
+moved plane segment rest more segments bits new s after e f g =
+    ap (λ x. x ++ bits_from plane (rest ++ more) after) f
+    ∙ ap (λ (t : Coding). (bits ++ segment_bits_in plane segment s) ++ bits_from plane (rest ++ more) t) g
+    ∙ append_assoc bits (segment_bits_in plane segment s) (bits_from plane (rest ++ more) (segment_after plane segment s))
+    ∙ ap (λ xs. bits ++ bits_from plane (xs ++ more) s) (sym e)
+
+-- a sample of regular mode
+pub sample-moved : (plane : Plane) (i j : ℕ) (bits new : List Bool) (s after : Coding) (n : Neighbours) (x : ℕ) → j < plane.width
+    → n ≡ around plane i j → x ≡ at plane i j → is_run n ≡ false
+    → new ≡ bits ++ golomb_bits s.parameters (regular_word_in s n x) → after ≡ after_regular s (place_of s n).number (regular_error_in s n x)
+    → (more : List Segment) → all_from plane new after (row_from plane i (j + 1) ++ more) ≡ all_from plane bits s (row_from plane i j ++ more)
+sample-moved plane i j bits new s after n x inside e f regular h k more =
+    moved plane (sample i j) (row_from plane i (j + 1)) more (row_from plane i j) bits new s after
+    (row_from-sample plane i j inside (sym (ap is_run e) ∙ regular))
+    (h ∙ ap (λ (w : Word). bits ++ golomb_bits s.parameters w) (ap (λ (m : Neighbours). regular_word_in s m x) e ∙ ap (regular_word_in s (around plane i j)) f))
+    (k ∙ ap (λ (m : Neighbours). after_regular s (place_of s m).number (regular_error_in s m x)) e ∙ ap (λ v. after_regular s (place_of s (around plane i j)).number (regular_error_in s (around plane i j) v)) f)
+
+-- a row from a run on
+stretched : (plane : Plane) (i j count : ℕ) (broken : Bool) → j < plane.width → is_run (around plane i j) ≡ true → count ≡ run_length plane i j → ltb (j + count) plane.width ≡ broken
+    → row_from plane i j ≡ stretch i j count broken ∷ row_from plane i (j + count + 1)
+stretched plane i j count broken inside is e f =
+    row_from-stretch plane i j inside is
+    ∙ ap (λ n. stretch i j n (ltb (j + n) plane.width) ∷ row_from plane i (j + n + 1)) (sym e)
+    ∙ ap (λ b. stretch i j count b ∷ row_from plane i (j + count + 1)) f
+
+-- a run up to the line's end
+pub run-moved : (plane : Plane) (i j count : ℕ) (bits new : List Bool) (s after : Coding) (n : Neighbours) → j < plane.width → plane.width ≤ j + count
+    → n ≡ around plane i j → is_run n ≡ true → count ≡ run_length plane i j
+    → new ≡ bits ++ run_bits s.run_index (run_of count false) → after ≡ after_run s (run_of count false)
+    → (more : List Segment) → all_from plane new after (row_from plane i (j + count + 1) ++ more) ≡ all_from plane bits s (row_from plane i j ++ more)
+run-moved plane i j count bits new s after n inside far e is f h k more =
+    moved plane (stretch i j count false) (row_from plane i (j + count + 1)) more (row_from plane i j) bits new s after
+    (stretched plane i j count false inside (sym (ap is_run e) ∙ is) f (le-ltb (j + count) plane.width far)) h k
+
+-- a run, and the sample that interrupts it
+pub broken-moved : (plane : Plane) (i j count : ℕ) (bits new : List Bool) (s after : Coding) (n m : Neighbours) (x : ℕ)
+    → j < plane.width → j + count < plane.width → n ≡ around plane i j → is_run n ≡ true → count ≡ run_length plane i j
+    → m ≡ around plane i (j + count) → x ≡ at plane i (j + count)
+    → new ≡ bits ++ (run_bits s.run_index (run_of count true) ++ golomb_bits s.parameters (interruption_word_in (after_run s (run_of count true)) m x))
+    → after ≡ after_interruption (after_run s (run_of count true)) (is_flat m) (interruption_error s.parameters m x)
+    → (more : List Segment) → all_from plane new after (row_from plane i (j + count + 1) ++ more) ≡ all_from plane bits s (row_from plane i j ++ more)
+broken-moved plane i j count bits new s after n m x inside near e is f a b d l more =
+    let r : Coding = after_run s (run_of count true) in
+    moved plane (stretch i j count true) (row_from plane i (j + count + 1)) more (row_from plane i j) bits new s after
+    (stretched plane i j count true inside (sym (ap is_run e) ∙ is) f (lt-ltb (j + count) plane.width near))
+    (d ∙ ap (λ (w : Word). bits ++ (run_bits s.run_index (run_of count true) ++ golomb_bits s.parameters w))
+    (ap (λ (y : Neighbours). interruption_word_in r y x) a ∙ ap (interruption_word_in r (around plane i (j + count))) b))
+    (l ∙ ap (λ (y : Neighbours). after_interruption r (is_flat y) (interruption_error s.parameters y x)) a
+    ∙ ap (λ v. after_interruption r (is_flat (around plane i (j + count))) (interruption_error s.parameters (around plane i (j + count)) v)) b)
+
+-- ---- how long a run is
+
+left_around : (plane : Plane) (i j : ℕ) → (around plane i j).a ≡ left plane i j
+unfolding around
+left_around plane i j = refl
+
+equal_is : (plane : Plane) (i v most j end : ℕ) → most ≡ plane.width - j → j ≤ end → end ≤ plane.width → ((k : ℕ) → j ≤ k → k < end → at plane i k ≡ v)
+    → (end < plane.width → at plane i end ≢ v) → equal_from plane i v most j ≡ end - j
+equal_is plane i v zero j end e low high equal other = omega arith
+equal_is plane i v (suc most) j end e low high equal other =
+    elim (cases_lt j end) [
+      | inl more ↦
+          let count : suc (end - suc j) ≡ end - j = omega arith in
+          cond-true _ _ _ (eq-eqb (at plane i j) v (equal j (omega arith) more))
+          ∙ ap suc (equal_is plane i v most (suc j) end (omega arith) more high (λ k l h. equal k (omega arith) h) other) ∙ count
+      | inr far ↦
+          let same : end ≡ j = omega arith in
+          let none : 0 ≡ end - j = omega arith in
+          cond-false _ _ _ (ne_eqb (at plane i j) v (λ f. other (omega arith) (ap (at plane i) same ∙ f))) ∙ none
+    ]
+
+pub run_is : (plane : Plane) (i j end : ℕ) (above line : List ℕ) → AreLines plane i above line → j < plane.width → IsRunEnd line plane.width j end → end - j ≡ run_length plane i j
+run_is plane i j end above line lines inside h =
+    let value : get_or line j 0 ≡ left plane i j = ap (λ (n : Neighbours). n.a) (lines.nearby j inside) ∙ left_around plane i j in
+    sym (equal_is plane i (left plane i j) (plane.width - j) j end refl h.low h.high
+    (λ k l m. sym (lines.samples k (omega (arith, h.high))) ∙ h.equal k l m ∙ value)
+    (λ near e. h.other near (lines.samples end near ∙ e ∙ sym value)))
+
+-- ---- as the code has them, by the column behind the run
+
+-- what is left of that column is the run's value
+pub run_value : (line : List ℕ) (width j end : ℕ) → IsRunEnd line width j end → get_or line end 0 ≡ get_or line j 0
+run_value line width j end h =
+    elim (cases_lt j end) [
+      | inl more ↦
+          let last : end ≡ end - 1 + 1 = omega arith in
+          ap (λ n. get_or line n 0) last ∙ h.equal (end - 1) (omega arith) (omega arith)
+      | inr none ↦ let same : end ≡ j = omega (arith, h.low) in ap (λ n. get_or line n 0) same
+    ]
+
+of_plane : (line : List ℕ) (width j end : ℕ) (plane : Plane) → plane.width ≡ width → IsRunEnd line width j end → IsRunEnd line plane.width j end
+of_plane line width j end plane e h = subst (λ w. IsRunEnd line w j end) (sym e) h
+
+pub row_to_end : (plane : Plane) (i j end : ℕ) (above line : List ℕ) (bits new : List Bool) (s after : Coding) (n : Neighbours) (width : ℕ) → plane.width ≡ width → AreLines plane i above line
+    → j < width → IsRunEnd line width j end → end ≡ width → n ≡ near above line j → is_run n ≡ true
+    → new ≡ bits ++ run_bits s.run_index (run_of (end - j) false) → after ≡ after_run s (run_of (end - j) false)
+    → (more : List Segment) → all_from plane new after (row_from plane i (end + 1) ++ more) ≡ all_from plane bits s (row_from plane i j ++ more)
+row_to_end plane i j end above line bits new s after n width same lines inside h whole e is f g more =
+    let back : end ≡ j + (end - j) = omega (arith, h.low) in
+    let within : j < plane.width = omega arith in
+    ap (λ m. all_from plane new after (row_from plane i (m + 1) ++ more)) back
+    ∙ run-moved plane i j (end - j) bits new s after n within (omega (arith, h.low)) (e ∙ lines.nearby j within) is
+    (run_is plane i j end above line lines within (of_plane line width j end plane same h)) f g more
+
+pub row_to_break : (plane : Plane) (i j end : ℕ) (above line : List ℕ) (bits new : List Bool) (s after : Coding) (n m : Neighbours) (width : ℕ) → plane.width ≡ width → AreLines plane i above line
+    → j < width → IsRunEnd line width j end → end < width → n ≡ near above line j → is_run n ≡ true → m ≡ near above line end
+    → new ≡ bits ++ (run_bits s.run_index (run_of (end - j) true) ++ golomb_bits s.parameters (interruption_word_in (after_run s (run_of (end - j) true)) m (get_or line (end + 1) 0)))
+    → after ≡ after_interruption (after_run s (run_of (end - j) true)) (is_flat m) (interruption_error s.parameters m (get_or line (end + 1) 0))
+    → (more : List Segment) → all_from plane new after (row_from plane i (end + 1) ++ more) ≡ all_from plane bits s (row_from plane i j ++ more)
+row_to_break plane i j end above line bits new s after n m width same lines inside h short e is d f g more =
+    let back : end ≡ j + (end - j) = omega (arith, h.low) in
+    let within : j < plane.width = omega arith in
+    let near_end : end < plane.width = omega arith in
+    ap (λ k. all_from plane new after (row_from plane i (k + 1) ++ more)) back
+    ∙ broken-moved plane i j (end - j) bits new s after n m (get_or line (end + 1) 0) within (omega (arith, h.low)) (e ∙ lines.nearby j within) is
+    (run_is plane i j end above line lines within (of_plane line width j end plane same h))
+    (d ∙ lines.nearby end near_end ∙ ap (around plane i) back) (lines.samples end near_end ∙ ap (at plane i) back) f g more
+
+pub spent : (limit a b c : ℕ) → a + b ≡ c → limit * a + limit * b ≡ limit * c
+spent limit a b c e = let sum : limit * a + limit * b ≡ limit * (a + b) = omega arith in sum ∙ ap (λ n. limit * n) e
+
+pub not_run : (r b : Bool) → r ≡ not b → r ≡ true → b ≡ false
+not_run r true e h = absurd (false≢true (sym e ∙ h))
+not_run r false e h = refl
+
+pub in_run : (r b : Bool) → r ≡ not b → r ≡ false → b ≡ true
+in_run r true e h = refl
+in_run r false e h = absurd (false≢true (sym h ∙ e))

@@ -1,0 +1,39 @@
+use Rattle.std.proofs.Common.{◌≡◌, ◌+◌, ◌-◌, ◌*◌, ◌<◌, ◌≤◌, true, false, get_or, sym, ap, ◌∙◌, arith}
+use Rattle.ls_frame.specs.Parameters.{limit_of}
+use Rattle.ls_coding.specs.declared.neighbours.Neighbours.{Neighbours}
+use Rattle.ls_stream.proofs.RowLemmas.{sample-moved, run_value, row_to_end, row_to_break, spent, not_run, in_run}
+use Rattle.ls_stream.proofs.row.code_segment.Goals as goal
+
+pub returns-then-is_regular-clause-segment : goal.returns-then-is_regular-clause-segment
+returns-then-is_regular-clause-segment c plane i same lines more =
+    let inside : c.args.column < plane.width = omega arith in
+    sample-moved plane i c.args.column _ _ c.args.state.now _ c.near-neighbours.result (get_or c.args.line.now (c.args.column + 1) 0) inside
+    (c.near-neighbours.ensures ∙ lines.nearby c.args.column inside) (lines.samples c.args.column inside)
+    (not_run c.is_regular.result _ c.is_regular.ensures c.if-is_regular.true) c.code_sample.ensures.bits c.code_sample.ensures.state more
+
+pub returns-then-end-width-clause-segment : goal.returns-then-end-width-clause-segment
+returns-then-end-width-clause-segment c plane i same lines more =
+    row_to_end plane i c.args.column c.run_end-end.result c.args.above.now c.args.line.now _ _ c.args.state.now _ c.near-neighbours.result c.args.width same lines
+    c.requires.inside c.run_end-end.ensures c.if-end-width.true c.near-neighbours.ensures (in_run c.is_regular.result _ c.is_regular.ensures c.if-is_regular.false) c.code_run_to_end.ensures.bits c.code_run_to_end.ensures.state more
+
+pub code_broken_run-requires-clause-sample : goal.code_broken_run-requires-clause-sample
+code_broken_run-requires-clause-sample c =
+    let near : c.run_end-end.result < c.args.width = omega (arith, c.run_end-end.ensures.high) in
+    let left : c.near-around.result.a ≡ get_or c.args.line.now c.run_end-end.result 0 = ap (λ (n : Neighbours). n.a) c.near-around.ensures in
+    record {
+      within = c.requires.lines.line_small (c.run_end-end.result + 1);
+      other = λ e. c.run_end-end.ensures.other near (e ∙ left ∙ run_value c.args.line.now c.args.width c.args.column c.run_end-end.result c.run_end-end.ensures);
+    }
+
+pub returns-clause-segment : goal.returns-clause-segment
+returns-clause-segment c plane i same lines more =
+    row_to_break plane i c.args.column c.run_end-end.result c.args.above.now c.args.line.now _ _ c.args.state.now _ c.near-neighbours.result c.near-around.result c.args.width same lines
+    c.requires.inside c.run_end-end.ensures (omega (arith, c.run_end-end.ensures.high)) c.near-neighbours.ensures (in_run c.is_regular.result _ c.is_regular.ensures c.if-is_regular.false) c.near-around.ensures c.code_broken_run.ensures.bits c.code_broken_run.ensures.state more
+
+pub returns-clause-cost : goal.returns-clause-cost
+returns-clause-cost c =
+    let limit = limit_of c.args.state.now.parameters.maxval in
+    let column = c.args.column in
+    let end = c.run_end-end.result in
+    let near : end < c.args.width = omega (arith, c.run_end-end.ensures.high) in
+    omega (arith, c.code_broken_run.ensures.cost, spent limit (end - column + 1) (c.args.width - (end + 1)) (c.args.width - column) (omega (arith, c.run_end-end.ensures.low)))

@@ -1,0 +1,9 @@
+use Rattle.std.proofs.Common.{◌≡◌, ◌+◌, ◌-◌, ◌<◌, ◌≤◌, ℕ, get_or}
+use Rattle.ls_stream.proofs.row.run_end.Given as goal
+
+abbrev pub invariant-samples : goal.invariant-samples
+invariant-samples l =
+    (l.column ≤ l.end) × (l.end ≤ l.width) × ((k : ℕ) → l.column ≤ k → k < l.end → get_or l.line (k + 1) 0 ≡ get_or l.line l.column 0)
+
+abbrev pub decreases-samples : goal.decreases-samples
+decreases-samples l = l.width - l.end

@@ -1,0 +1,83 @@
+use Rattle.std.proofs.Common.{◌≡◌, ℕ, suc, ◌+◌, ◌-◌, ◌*◌, ◌/◌, ◌<◌, ◌≤◌, ◌++◌, List, length, get_or, refl, sym, ◌∙◌, ap, subst, append_assoc, arith}
+use Rattle.std.proofs.lemmas.Nat.{mul-le, mul-add-lt}
+use Rattle.ls_frame.specs.Parameters.{Parameters, limit_of}
+use Rattle.ls_bits.specs.Room.{Fits}
+use Rattle.ls_coding.specs.States.{Coding}
+use Rattle.ls_stream.specs.Planes.{Plane, Segment, at, row_segments, rows_from}
+use Rattle.ls_stream.specs.Coded.{all_from}
+use Rattle.ls_stream.specs.Components.{component_plane}
+use Rattle.ls_stream.specs.LineBuffers.{Holds, ArePadded}
+use Rattle.ls_stream.proofs.ComponentLemmas.{sample_at, has_row}
+use Rattle.ls_stream.proofs.LineLemmas.{filled, filled_small, row_small, held_lines}
+use Rattle.ls_stream.proofs.PlainRows.{row_from-start}
+use Rattle.ls_stream.proofs.PlainSegments.{rows_from-next}
+use Rattle.ls_stream.proofs.RowLemmas.{spent}
+use Rattle.ls_stream.proofs.rows.code_rows.Goals as goal
+
+pub code_row-requires-clause-lines : goal.code_row-requires-clause-lines
+code_row-requires-clause-lines c =
+    let maxval = c.args.state.now.parameters.maxval in
+    let line_length : length c.fill_line.new.line ≡ c.args.width + 2 = omega (arith, c.fill_line.auto.line, c.loop-row.invariant.line_length) in
+    let pixels = row_small maxval (c.args.width * c.args.count) (c.loop-row.row * (c.args.width * c.args.count)) c.args.samples.now c.row_of-pixels.result.now c.row_of-pixels.ensures.len c.row_of-pixels.ensures.samples c.requires.small in
+    subst (λ (q : Parameters). ArePadded q.maxval c.args.width c.loop-row.above c.fill_line.new.line) (sym c.loop-row.invariant.parameters) (record {
+      above_length = c.loop-row.invariant.above_length;
+      line_length = line_length;
+      above_small = c.loop-row.invariant.small;
+      line_small = filled_small maxval c.args.width c.args.count c.args.component c.loop-row.above c.fill_line.new.line c.row_of-pixels.result.now c.requires.some line_length c.loop-row.invariant.small pixels
+          c.fill_line.ensures.left c.fill_line.ensures.samples c.fill_line.ensures.right;
+    })
+
+pub code_row-requires-clause-room : goal.code_row-requires-clause-room
+code_row-requires-clause-room c =
+    let limit = limit_of c.args.state.now.parameters.maxval in
+    let rows : c.args.width * 1 ≤ c.args.width * (c.args.height - c.loop-row.row) = mul-le c.args.width 1 c.args.width (c.args.height - c.loop-row.row) (omega arith) (omega arith) in
+    let one : limit * (c.args.width * 1) ≤ limit * (c.args.width * (c.args.height - c.loop-row.row)) = mul-le limit (c.args.width * 1) limit (c.args.width * (c.args.height - c.loop-row.row)) (omega arith) rows in
+    subst (λ (q : Parameters). Fits (length c.loop-row.sink.bits + limit_of q.maxval * c.args.width) c.loop-row.sink.room) (sym c.loop-row.invariant.parameters)
+    (omega (arith, c.loop-row.invariant.cost, c.loop-row.invariant.room, c.requires.room))
+
+pub loop-row-preserved : goal.loop-row-preserved
+loop-row-preserved c =
+    let samples = c.args.samples.now in
+    let plane : Plane = component_plane c.args.width c.args.count c.args.component samples in
+    let row = c.loop-row.row in
+    let inside : row < c.args.height = c.loop-row-test.true in
+    let some : 1 ≤ c.args.count = omega arith in
+    let whole : length samples ≡ c.args.width * c.args.height * c.args.count = omega (arith, c.requires.samples) in
+    let next : suc row ≡ row + 1 = omega arith in
+    let maxval = c.args.state.now.parameters.maxval in
+    let limit = limit_of maxval in
+    let line_length : length c.fill_line.new.line ≡ c.args.width + 2 = omega (arith, c.fill_line.auto.line, c.loop-row.invariant.line_length) in
+    let pixels = row_small maxval (c.args.width * c.args.count) (row * (c.args.width * c.args.count)) samples c.row_of-pixels.result.now c.row_of-pixels.ensures.len c.row_of-pixels.ensures.samples c.requires.small in
+    let small = filled_small maxval c.args.width c.args.count c.args.component c.loop-row.above c.fill_line.new.line c.row_of-pixels.result.now c.requires.some line_length c.loop-row.invariant.small pixels
+    c.fill_line.ensures.left c.fill_line.ensures.samples c.fill_line.ensures.right in
+    let middle : (k : ℕ) → k < c.args.width → get_or c.fill_line.new.line (k + 1) 0 ≡ at plane row k =
+    λ k h. c.fill_line.ensures.samples k h
+    ∙ c.row_of-pixels.ensures.samples (k * c.args.count + c.args.component) (omega (arith, mul-add-lt k c.args.count c.args.component c.args.width h c.requires.component))
+    ∙ ap (λ n. get_or samples n 0) (omega arith)
+    ∙ sym (sample_at samples c.args.width c.args.height c.args.count c.args.component row k some whole inside h) in
+    let held : Holds plane (suc row) c.fill_line.new.line =
+    filled plane row c.loop-row.above c.fill_line.new.line c.requires.some (has_row samples c.args.width c.args.height c.args.count c.args.component row some whole inside) c.loop-row.invariant.held
+    c.fill_line.ensures.left middle c.fill_line.ensures.right in
+    let lines = held_lines plane row c.loop-row.above c.fill_line.new.line (has_row samples c.args.width c.args.height c.args.count c.args.component row some whole inside) c.loop-row.invariant.held held in
+    record {
+      rows = λ more.
+          c.code_row.ensures.row plane row refl lines (rows_from plane (c.args.height - (row + 1)) (row + 1) ++ more)
+          ∙ ap (λ (xs : List Segment). all_from plane c.loop-row.sink.bits c.loop-row.state (xs ++ (rows_from plane (c.args.height - (row + 1)) (row + 1) ++ more))) (sym (row_from-start plane row))
+          ∙ ap (all_from plane c.loop-row.sink.bits c.loop-row.state) (sym (append_assoc (row_segments plane row) (rows_from plane (c.args.height - (row + 1)) (row + 1)) more))
+          ∙ ap (λ (xs : List Segment). all_from plane c.loop-row.sink.bits c.loop-row.state (xs ++ more)) (sym (rows_from-next plane c.args.height row inside))
+          ∙ c.loop-row.invariant.rows more;
+      held = λ k h. ap (λ xs. get_or xs k 0) c.copy_from_slice.ensures.after ∙ subst (λ i. Holds plane i c.fill_line.new.line) next held k h;
+      small = λ k. subst (λ xs. get_or xs k 0 ≤ maxval) (sym c.copy_from_slice.ensures.after) (small k);
+      above_length = omega (arith, ap length c.copy_from_slice.ensures.after);
+      line_length = line_length;
+      cost =
+          let left : c.args.width + c.args.width * (c.args.height - (row + 1)) ≡ c.args.width * (c.args.height - row) = omega (arith, spent c.args.width 1 (c.args.height - (row + 1)) (c.args.height - row) (omega arith)) in
+          let spent_here : limit * c.args.width + limit * (c.args.width * (c.args.height - (row + 1))) ≡ limit * (c.args.width * (c.args.height - row)) =
+          spent limit c.args.width (c.args.width * (c.args.height - (row + 1))) (c.args.width * (c.args.height - row)) left in
+          let same_limit : limit_of c.loop-row.state.parameters.maxval * c.args.width ≡ limit * c.args.width = ap (λ (q : Parameters). limit_of q.maxval * c.args.width) c.loop-row.invariant.parameters in
+          omega (arith, c.code_row.ensures.cost, c.loop-row.invariant.cost);
+      whole = c.code_row.ensures.whole;
+      parameters = c.code_row.ensures.parameters ∙ c.loop-row.invariant.parameters;
+      front = c.code_row.ensures.front ∙ c.loop-row.invariant.front;
+      room = c.code_row.ensures.room ∙ c.loop-row.invariant.room;
+    }

@@ -1,0 +1,11 @@
+-- The planes of a picture: one for each component.
+use Rattle.std.specs.Prelude.{ℕ, ◌+◌, ◌*◌, ◌/◌, List, map, length, slice_index}
+use Rattle.std.specs.List.{range_with_len}
+use Rattle.ls_stream.specs.Planes.{Plane}
+
+-- the samples of a component: those whose places leave its number when divided by how many components there are
+unfoldable pub component_of : ℕ → ℕ → List ℕ → List ℕ
+component_of count component samples = map (λ k. slice_index samples (k * count + component)) (range_with_len 0 (length samples / count))
+
+abbrev pub component_plane : ℕ → ℕ → ℕ → List ℕ → Plane
+component_plane width count component samples = record { width = width; samples = component_of count component samples }

@@ -1,0 +1,123 @@
+//! A row of a plane, from left to right (T.87 Annex A).
+ghost use Rattle.std.specs.Prelude.{◌≡◌, ◌+◌, ◌-◌, ◌*◌, ◌<◌, ◌≤◌, ◌++◌, ℕ, false, not, List, length};
+ghost use Rattle.ls_frame.specs.Parameters.{qbpp_of, limit_of};
+ghost use Rattle.ls_bits.specs.Room.{Fits};
+ghost use Rattle.ls_coding.specs.Contexts.{is_run};
+ghost use Rattle.ls_stream.specs.Planes.{Plane, Segment};
+ghost use Rattle.ls_stream.specs.Histories.{row_from};
+ghost use Rattle.ls_stream.specs.Coded.{all_from};
+ghost use Rattle.ls_stream.specs.LineBuffers.{near, AreLines, ArePadded, IsRunEnd};
+
+use crate::events::{code_broken_run, code_run_to_end, code_sample};
+use ls_bits::RoomSink;
+use ls_coding::{Mode, Neighbours, State, mode_of};
+
+/// Codes the row whose line, and the line above, are these, each with one place more on the left and on the right.
+pub fn code_row(
+    state: &mut State,
+    sink: &mut RoomSink,
+    qbpp: u32,
+    above: &[u16],
+    line: &[u16],
+    width: usize,
+)
+    requires lines { ArePadded state.old.parameters.maxval width above.now line.now }
+    requires narrow { width ≤ 65535 }
+    requires whole { state.old.broken ≡ false }
+    requires qbpp { qbpp ≡ qbpp_of state.old.parameters.maxval }
+    requires room { Fits (length sink.old.bits + limit_of state.old.parameters.maxval * width) sink.old.room }
+    ensures row { (plane : Plane) (i : ℕ) → plane.width ≡ width → AreLines plane i above.now line.now → (more : List Segment)
+        → all_from plane sink.new.bits state.new more
+        ≡ all_from plane sink.old.bits state.old (row_from plane i 0 ++ more) }
+    ensures cost { length sink.new.bits ≤ length sink.old.bits + limit_of state.old.parameters.maxval * width }
+    ensures whole { state.new.broken ≡ false }
+    ensures parameters { state.new.parameters ≡ state.old.parameters }
+    ensures front { sink.new.front ≡ sink.old.front }
+    ensures room { sink.new.room ≡ sink.old.room }
+{
+    let mut column = 0;
+    'segments: while column < width {
+        column = code_segment(state, sink, qbpp, above, line, width, column);
+    }
+}
+
+/// Codes a sample of regular mode, or a run with the sample that interrupts it, and answers the column behind it.
+fn code_segment(
+    state: &mut State,
+    sink: &mut RoomSink,
+    qbpp: u32,
+    above: &[u16],
+    line: &[u16],
+    width: usize,
+    column: usize,
+) -> usize
+    requires lines { ArePadded state.old.parameters.maxval width above.now line.now }
+    requires inside { column < width }
+    requires narrow { width ≤ 65535 }
+    requires whole { state.old.broken ≡ false }
+    requires qbpp { qbpp ≡ qbpp_of state.old.parameters.maxval }
+    requires room { Fits (length sink.old.bits + limit_of state.old.parameters.maxval * (width - column)) sink.old.room }
+    ensures segment { (plane : Plane) (i : ℕ) → plane.width ≡ width → AreLines plane i above.now line.now → (more : List Segment)
+        → all_from plane sink.new.bits state.new (row_from plane i result ++ more)
+        ≡ all_from plane sink.old.bits state.old (row_from plane i column ++ more) }
+    ensures next { column < result }
+    ensures cost { length sink.new.bits + limit_of state.old.parameters.maxval * (width - result)
+        ≤ length sink.old.bits + limit_of state.old.parameters.maxval * (width - column) }
+    ensures whole { state.new.broken ≡ false }
+    ensures parameters { state.new.parameters ≡ state.old.parameters }
+    ensures front { sink.new.front ≡ sink.old.front }
+    ensures room { sink.new.room ≡ sink.old.room }
+{
+    let neighbours = near(above, line, column);
+    if is_regular(&neighbours) {
+        code_sample(state, sink, qbpp, &neighbours, line[column + 1]);
+        return column + 1;
+    }
+    let end = run_end(line, width, column);
+    let count = (end - column) as u32;
+    if end == width {
+        code_run_to_end(state, sink, count);
+        return end + 1;
+    }
+    let around = near(above, line, end);
+    code_broken_run(state, sink, qbpp, count, &around, line[end + 1]);
+    end + 1
+}
+
+/// Whether a sample with these neighbours is of regular mode.
+fn is_regular(neighbours: &Neighbours) -> bool
+    ensures { result ≡ not (is_run neighbours.now) }
+{
+    match mode_of(neighbours) {
+        Mode::Regular => true,
+        Mode::Run => false,
+    }
+}
+
+/// The samples around the one of a column.
+fn near(above: &[u16], line: &[u16], column: usize) -> Neighbours
+    requires above { column + 2 < length above.now }
+    requires line { column < length line.now }
+    ensures { result ≡ near above.now line.now column }
+{
+    Neighbours {
+        a: line[column],
+        b: above[column + 1],
+        c: above[column],
+        d: above[column + 2],
+    }
+}
+
+/// The first column from `column` on whose sample isn't that to the left of `column`, or the width.
+fn run_end(line: &[u16], width: usize, column: usize) -> usize
+    requires line { length line.now ≡ width + 2 }
+    requires inside { column < width }
+    ensures { IsRunEnd line.now width column result }
+{
+    let value = line[column];
+    let mut end = column;
+    'samples: while end < width && line[end + 1] == value {
+        end += 1;
+    }
+    end
+}
