@@ -10,11 +10,11 @@ use Rattle.ls_coding.proofs.StateLemmas.{state_of-run, fold-push}
 use Rattle.ls_stream.specs.Planes.{Plane, at, around, Segment, sample, stretch, sample_event, sample_bits, broken_event, broken_bits, coded, plane_bits, segments}
 use Rattle.ls_stream.specs.Coded.{sample_bits_in, sample_after, break_bits_in, break_after, bits_from}
 
-parameters_of : (p : Parameters) (events : List Event) → (state_of p events).parameters ≡ p
+pub parameters_of : (p : Parameters) (events : List Event) → (state_of p events).parameters ≡ p
 unfolding state_of
 parameters_of p events = refl
 
-whole_of : (p : Parameters) (events : List Event) → broken_in events ≡ false → (state_of p events).broken ≡ false
+pub whole_of : (p : Parameters) (events : List Event) → broken_in events ≡ false → (state_of p events).broken ≡ false
 unfolding state_of
 whole_of p events h = h
 

@@ -1,8 +1,8 @@
 -- The samples of a row of one component.
-use Rattle.std.proofs.Common.{◌≡◌, ℕ, ◌+◌, ◌*◌, ◌/◌, ◌<◌, ◌≤◌, List, length, get_or, refl, sym, ◌∙◌, ap, arith, mul-div_cancel}
+use Rattle.std.proofs.Common.{◌≡◌, ℕ, ◌+◌, ◌*◌, ◌/◌, ◌<◌, ◌≤◌, List, length, get_or, ◌∙◌, ap, arith, mul-div_cancel}
 use Rattle.std.proofs.lemmas.Nat.{mul-le, mul-add-lt}
 use Rattle.std.proofs.lemmas.List.FromFn.{get_or-map-range_with_len, length-map-range_with_len}
-use Rattle.ls_stream.specs.Planes.{Plane, at}
+use Rattle.ls_stream.specs.Planes.{at}
 use Rattle.ls_stream.specs.Components.{component_of, component_plane}
 use Rattle.ls_stream.proofs.LineLemmas.{HasRow}
 

@@ -1,5 +1,7 @@
 pub mod CodedLemmas
 pub mod ComponentLemmas
+pub mod FrameLemmas
+pub mod LayoutLemmas
 pub mod LineLemmas
 pub mod PlainCounters
 pub mod PlainHistories

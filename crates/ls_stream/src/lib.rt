@@ -8,12 +8,16 @@
 //! to right), `events` (one event, as bits), `laws`.
 #![tactic(auto)]
 
+pub mod encoder;
 pub mod events;
 pub mod laws;
 pub mod lines;
+pub mod marker;
 #[cfg(test)]
 mod plain;
+pub mod plane;
 pub mod row;
 pub mod rows;
+pub mod segments;
 
 pub use lines::Lines;

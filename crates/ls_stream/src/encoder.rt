@@ -1,0 +1,118 @@
+//! Frames, encoded as codestreams (T.87 Annex C).
+ghost use Rattle.std.specs.Prelude.{◌≡◌, ◌+◌, ◌-◌, ◌*◌, ◌/◌, ◌^◌, ◌<◌, ◌≤◌, ◌++◌, List, length, map, flat_map, IfOk, vec_len, vec_capacity, if◌then◌else◌};
+ghost use Rattle.std.specs.List.{range_with_len};
+ghost use Rattle.ls_frame.specs.Picture.{components};
+ghost use Rattle.ls_frame.specs.Parameters.{limit_of, default_parameters};
+ghost use Rattle.ls_stream.specs.Grammar.{asides_bytes};
+ghost use Rattle.ls_stream.specs.Layout.{are_told, told, told_length, codestream, scans_up_to, headers_length, scan_bound, bound};
+
+use crate::lines::Lines;
+use crate::marker::Marker;
+use crate::plane::put_scan;
+use crate::segments::{put_frame_header, put_marker, put_presets, put_scan_header};
+use ls_frame::{Frame, Presets};
+use std::alloc::{AllocError, Global};
+
+/// The most bytes that a frame's codestream may have: all headers, and for each component LIMIT bits a sample, seven to a
+/// byte, and one byte more.
+pub fn code_bound(frame: &Frame, presets: &Presets) -> u64
+    requires maxval { presets.now.maxval ≡ frame.now.maxval }
+    ensures { result ≡ bound frame.now presets.now }
+{
+    let count = u64::from(frame.kind().components());
+    headers_length(frame, presets) + count * scan_bound(frame, presets)
+}
+
+/// The bytes of a codestream that are no data: SOI, the frame header, preset parameters where they are told, a scan header
+/// for each component, EOI.
+#[tactic(auto, unfolding(crate::specs::Layout::headers_length))]
+fn headers_length(frame: &Frame, presets: &Presets) -> u64
+    ensures value { result ≡ headers_length frame.now presets.now }
+    ensures small { result ≤ 68 }
+{
+    let count = u64::from(frame.kind().components());
+    2 + (10 + 3 * count) + told_length(presets) + 10 * count + 2
+}
+
+/// The bytes of preset parameters, where they are told.
+fn told_length(presets: &Presets) -> u64
+    ensures value { result ≡ told_length presets.now }
+    ensures small { result ≤ 15 }
+{
+    if are_told(presets) { 15 } else { 0 }
+}
+
+/// The most bytes of a scan's data.
+fn scan_bound(frame: &Frame, presets: &Presets) -> u64
+    requires maxval { presets.now.maxval ≡ frame.now.maxval }
+    ensures value { result ≡ scan_bound frame.now presets.now }
+    ensures small { result ≤ 2 ^ 42 }
+{
+    let samples = u64::from(frame.width()) * u64::from(frame.height());
+    u64::from(presets.limit()) * samples / 7 + 1
+}
+
+/// Whether a codestream has to tell its parameters: they aren't the defaults of the greatest MAXVAL of their precision.
+fn are_told(presets: &Presets) -> bool
+    ensures { result ≡ are_told presets.now }
+{
+    *presets != Presets::default_of(greatest(presets.bpp()))
+}
+
+/// The greatest number of so many bits.
+fn greatest(bits: u32) -> u16
+    requires low { 2 ≤ bits }
+    requires high { bits ≤ 16 }
+    ensures value { result ≡ 2 ^ bits - 1 }
+    ensures some { 0 < result }
+{
+    ((1u32 << bits) - 1) as u16
+}
+
+/// The codestream of a frame, behind the bytes that are there, into room that is there: at least `code_bound`.
+///
+/// It takes no memory and can't be refused.
+pub fn encode_within(frame: &Frame, presets: &Presets, lines: &mut Lines, bytes: Vec<u8>) -> Vec<u8>
+    requires maxval { presets.now.maxval ≡ frame.now.maxval }
+    requires width { frame.now.width ≤ lines.old }
+    requires room { vec_len bytes + bound frame.now presets.now ≤ vec_capacity bytes }
+    ensures bytes { result.items ≡ bytes.items ++ codestream frame.now presets.now }
+    ensures lines { lines.new ≡ lines.old }
+{
+    let mut bytes = bytes;
+    put_marker(&mut bytes, Marker::StartOfImage);
+    put_frame_header(&mut bytes, frame);
+    put_told(&mut bytes, presets);
+    let mut bytes = put_scans(frame, presets, lines, bytes);
+    put_marker(&mut bytes, Marker::EndOfImage);
+    bytes
+}
+
+/// Preset parameters, where they have to be told.
+fn put_told(bytes: &mut Vec<u8>, presets: &Presets)
+    requires room { vec_len bytes.old + told_length presets.now ≤ vec_capacity bytes.old }
+    ensures bytes { bytes.new.items ≡ bytes.old.items ++ asides_bytes (told presets.now) }
+    ensures len { vec_len bytes.new ≡ vec_len bytes.old + told_length presets.now }
+    ensures capacity { vec_capacity bytes.new ≡ vec_capacity bytes.old }
+{
+    if are_told(presets) {
+        put_presets(bytes, presets);
+    }
+}
+
+/// A scan header and its data for each component.
+fn put_scans(frame: &Frame, presets: &Presets, lines: &mut Lines, bytes: Vec<u8>) -> Vec<u8>
+    requires maxval { presets.now.maxval ≡ frame.now.maxval }
+    requires width { frame.now.width ≤ lines.old }
+    requires room { vec_len bytes + components frame.now.kind * (10 + scan_bound frame.now presets.now) + 2 ≤ vec_capacity bytes }
+    ensures bytes { result.items ≡ bytes.items ++ scans_up_to frame.now presets.now (components frame.now.kind) }
+    ensures room { vec_len result + 2 ≤ vec_capacity result }
+    ensures lines { lines.new ≡ lines.old }
+{
+    let mut bytes = bytes;
+    for component in 0..frame.kind().components() {
+        put_scan_header(&mut bytes, component + 1);
+        bytes = put_scan(frame, presets, lines, bytes, usize::from(component));
+    }
+    bytes
+}

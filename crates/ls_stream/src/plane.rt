@@ -1,0 +1,84 @@
+//! The scan of one component: its plane, coded and stuffed (T.87 Annex A).
+ghost use Rattle.std.specs.Prelude.{◌≡◌, ◌+◌, ◌*◌, ◌/◌, ◌<◌, ◌≤◌, ◌++◌, [], length, vec_len, vec_capacity};
+ghost use Rattle.ls_frame.specs.Picture.{components};
+ghost use Rattle.ls_frame.specs.Parameters.{qbpp_of, limit_of};
+ghost use Rattle.ls_bits.specs.Room.{Fits};
+ghost use Rattle.ls_bits.specs.Stuffing.{stuff};
+ghost use Rattle.ls_coding.specs.States.{state_of};
+ghost use Rattle.ls_stream.specs.Planes.{plane_bits};
+ghost use Rattle.ls_stream.specs.Grammar.{plane_of};
+ghost use Rattle.ls_stream.specs.Layout.{scan_bound};
+
+use crate::lines::Lines;
+use crate::rows::code_rows;
+use ls_bits::RoomSink;
+use ls_coding::State;
+use ls_frame::{Frame, Presets};
+
+/// Codes a component's plane, from a scan's start on; `above` and `line` are room for two lines.
+fn code_plane(
+    frame: &Frame,
+    presets: &Presets,
+    above: &mut Vec<u16>,
+    line: &mut Vec<u16>,
+    sink: &mut RoomSink,
+    component: usize,
+)
+    requires maxval { presets.now.maxval ≡ frame.now.maxval }
+    requires above { frame.now.width + 2 ≤ vec_len above.old }
+    requires line { frame.now.width + 2 ≤ vec_len line.old }
+    requires component { component < components frame.now.kind }
+    requires empty { sink.old.bits ≡ [] }
+    requires room { Fits (limit_of presets.now.maxval * (frame.now.width * frame.now.height)) sink.old.room }
+    ensures bits { sink.new.bits ≡ plane_bits presets.now (plane_of frame.now component) }
+    ensures cost { length sink.new.bits ≤ limit_of presets.now.maxval * (frame.now.width * frame.now.height) }
+    ensures front { sink.new.front ≡ sink.old.front }
+    ensures room { sink.new.room ≡ sink.old.room }
+    ensures above { vec_len above.new ≡ vec_len above.old }
+    ensures line { vec_len line.new ≡ vec_len line.old }
+{
+    let width = usize::from(frame.width());
+    let places = width + 2;
+    let mut state = State::new(presets);
+    code_rows(
+        &mut state,
+        sink,
+        presets.qbpp(),
+        &mut above[..places],
+        &mut line[..places],
+        frame.samples(),
+        width,
+        usize::from(frame.height()),
+        usize::from(frame.kind().components()),
+        component,
+    );
+}
+
+/// Codes the scan of a component, behind the bytes that are there, into room that is there.
+pub fn put_scan(
+    frame: &Frame,
+    presets: &Presets,
+    lines: &mut Lines,
+    bytes: Vec<u8>,
+    component: usize,
+) -> Vec<u8>
+    requires maxval { presets.now.maxval ≡ frame.now.maxval }
+    requires width { frame.now.width ≤ lines.old }
+    requires component { component < components frame.now.kind }
+    requires room { vec_len bytes + scan_bound frame.now presets.now ≤ vec_capacity bytes }
+    ensures bytes { result.items ≡ bytes.items ++ stuff (plane_bits presets.now (plane_of frame.now component)) }
+    ensures short { vec_len result ≤ vec_len bytes + scan_bound frame.now presets.now }
+    ensures capacity { vec_capacity bytes ≤ vec_capacity result }
+    ensures lines { lines.new ≡ lines.old }
+{
+    let mut sink = RoomSink::new(bytes);
+    code_plane(
+        frame,
+        presets,
+        &mut lines.above,
+        &mut lines.line,
+        &mut sink,
+        component,
+    );
+    sink.finish()
+}
