@@ -34,32 +34,32 @@ own_error number e = rw (eq-eqb number number refl) refl
 others_error : (number other : ℕ) (e : ℤ) → number ≢ other → filter_map (regular_error number) (regular other e ∷ []) ≡ []
 others_error number other e h = rw (ne_eqb number other h) refl
 
-stats_in-own : (p : Parameters) (events : List Event) (number : ℕ) (e : ℤ) → stats_in p number (events ++ regular number e ∷ []) ≡ stats_step p.reset (stats_in p number events) e
+pub stats_in-own : (p : Parameters) (events : List Event) (number : ℕ) (e : ℤ) → stats_in p number (events ++ regular number e ∷ []) ≡ stats_step p.reset (stats_in p number events) e
 stats_in-own p events number e =
     ap (stats_after p) (filter_push (regular_error number) events (regular number e) ∙ ap (λ errors. filter_map (regular_error number) events ++ errors) (own_error number e))
     ∙ stats_push p (filter_map (regular_error number) events) e
 
-stats_in-other : (p : Parameters) (events : List Event) (number other : ℕ) (e : ℤ) → number ≢ other → stats_in p number (events ++ regular other e ∷ []) ≡ stats_in p number events
+pub stats_in-other : (p : Parameters) (events : List Event) (number other : ℕ) (e : ℤ) → number ≢ other → stats_in p number (events ++ regular other e ∷ []) ≡ stats_in p number events
 stats_in-other p events number other e h =
     ap (stats_after p) (filter_push (regular_error number) events (regular other e) ∙ ap (λ errors. filter_map (regular_error number) events ++ errors) (others_error number other e h) ∙ append-nil (filter_map (regular_error number) events))
 
-counts_in-regular : (p : Parameters) (events : List Event) (number : ℕ) (e : ℤ) (flat : Bool) → counts_in p flat events ≡ counts_in p flat (events ++ regular number e ∷ [])
+pub counts_in-regular : (p : Parameters) (events : List Event) (number : ℕ) (e : ℤ) (flat : Bool) → counts_in p flat events ≡ counts_in p flat (events ++ regular number e ∷ [])
 counts_in-regular p events number e flat =
     sym (ap (counts_after p flat) (filter_push (interruption_error_in flat) events (regular number e) ∙ append-nil (filter_map (interruption_error_in flat) events)))
 
-stats_in-interruption : (p : Parameters) (events : List Event) (flat : Bool) (e : ℤ) (number : ℕ) → stats_in p number events ≡ stats_in p number (events ++ interruption flat e ∷ [])
+pub stats_in-interruption : (p : Parameters) (events : List Event) (flat : Bool) (e : ℤ) (number : ℕ) → stats_in p number events ≡ stats_in p number (events ++ interruption flat e ∷ [])
 stats_in-interruption p events flat e number =
     sym (ap (stats_after p) (filter_push (regular_error number) events (interruption flat e) ∙ append-nil (filter_map (regular_error number) events)))
 
-counts_in-own : (p : Parameters) (events : List Event) (flat : Bool) (e : ℤ) → counts_in p flat (events ++ interruption flat e ∷ []) ≡ counts_step flat p.reset (counts_in p flat events) e
+pub counts_in-own : (p : Parameters) (events : List Event) (flat : Bool) (e : ℤ) → counts_in p flat (events ++ interruption flat e ∷ []) ≡ counts_step flat p.reset (counts_in p flat events) e
 counts_in-own p events true e = ap (counts_after p true) (filter_push (interruption_error_in true) events (interruption true e)) ∙ counts_push p true (filter_map (interruption_error_in true) events) e
 counts_in-own p events false e = ap (counts_after p false) (filter_push (interruption_error_in false) events (interruption false e)) ∙ counts_push p false (filter_map (interruption_error_in false) events) e
 
-flat_kept : (p : Parameters) (events : List Event) (e : ℤ) → counts_in p true events ≡ counts_in p true (events ++ interruption false e ∷ [])
+pub flat_kept : (p : Parameters) (events : List Event) (e : ℤ) → counts_in p true events ≡ counts_in p true (events ++ interruption false e ∷ [])
 flat_kept p events e =
     sym (ap (counts_after p true) (filter_push (interruption_error_in true) events (interruption false e) ∙ append-nil (filter_map (interruption_error_in true) events)))
 
-steep_kept : (p : Parameters) (events : List Event) (e : ℤ) → counts_in p false events ≡ counts_in p false (events ++ interruption true e ∷ [])
+pub steep_kept : (p : Parameters) (events : List Event) (e : ℤ) → counts_in p false events ≡ counts_in p false (events ++ interruption true e ∷ [])
 steep_kept p events e =
     sym (ap (counts_after p false) (filter_push (interruption_error_in false) events (interruption true e) ∙ append-nil (filter_map (interruption_error_in false) events)))
 

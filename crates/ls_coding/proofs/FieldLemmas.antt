@@ -113,29 +113,30 @@ first_counts_at a n nn p which all_a all_n all_nn h =
     ∙ ap (λ v. counts (first_a p) v (get_or nn which 0)) (all_n (365 + which) (omega arith))
     ∙ ap (λ v. counts (first_a p) 1 v) (all_nn which h)
 
-first_small : (p : Parameters) → IsLegal p → first_a p ≤ error_bound p.maxval
+first_small : (p : Parameters) → IsLegal p → first_a p ≤ 1 * error_bound p.maxval
 first_small p legal = omega (arith, legal.some_maxval)
+
+pub first_stats_sound : (p : Parameters) → IsLegal p → AreSound p.reset (error_bound p.maxval) (first_stats p)
+first_stats_sound p legal = record {
+  some = omega arith;
+  few = omega (arith, legal.some_reset);
+  sum = first_small p legal;
+  mean_low = omega (arith, ints);
+  mean_high = omega (arith, ints);
+  bias_low = omega (arith, ints);
+  bias_high = omega (arith, ints);
+}
+
+pub first_counts_sound : (p : Parameters) → IsLegal p → AreSoundCounts p.reset (error_bound p.maxval) (first_counts p)
+first_counts_sound p legal = record { some = omega arith; few = omega (arith, legal.some_reset); sum = first_small p legal; negative = omega arith }
 
 pub first_sound : (a n nn : List ℕ) (b c : List ℤ) (p : Parameters) → IsLegal p → AllAre a 367 0 (first_a p) → AllAre b 365 (pos 0) (pos 0) → AllAre c 365 (pos 0) (pos 0) → AllAre n 367 0 1 → AllAre nn 2 0 0
     → AreAllSound p.reset (error_bound p.maxval) a b c n nn
-first_sound a n nn b c p legal all_a all_b all_c all_n all_nn =
-    let some : 1 ≤ p.reset = omega (arith, legal.some_reset) in
-    let small : first_a p ≤ 1 * error_bound p.maxval = omega (arith, first_small p legal) in
-    let stats_sound : AreSound p.reset (error_bound p.maxval) (first_stats p) = record {
-      some = omega arith;
-      few = some;
-      sum = small;
-      mean_low = omega (arith, ints);
-      mean_high = omega (arith, ints);
-      bias_low = omega (arith, ints);
-      bias_high = omega (arith, ints);
-    } in
-    let counts_sound : AreSoundCounts p.reset (error_bound p.maxval) (first_counts p) = record { some = omega arith; few = some; sum = small; negative = omega arith } in
-    record {
-      regular = λ number h. subst (AreSound p.reset (error_bound p.maxval)) (sym (first_at a n b c p all_a all_b all_c all_n number h)) stats_sound;
-      steep = subst (AreSoundCounts p.reset (error_bound p.maxval)) (sym (first_counts_at a n nn p 0 all_a all_n all_nn (omega arith))) counts_sound;
-      flat = subst (AreSoundCounts p.reset (error_bound p.maxval)) (sym (first_counts_at a n nn p 1 all_a all_n all_nn (omega arith))) counts_sound;
-    }
+first_sound a n nn b c p legal all_a all_b all_c all_n all_nn = record {
+  regular = λ number h. subst (AreSound p.reset (error_bound p.maxval)) (sym (first_at a n b c p all_a all_b all_c all_n number h)) (first_stats_sound p legal);
+  steep = subst (AreSoundCounts p.reset (error_bound p.maxval)) (sym (first_counts_at a n nn p 0 all_a all_n all_nn (omega arith))) (first_counts_sound p legal);
+  flat = subst (AreSoundCounts p.reset (error_bound p.maxval)) (sym (first_counts_at a n nn p 1 all_a all_n all_nn (omega arith))) (first_counts_sound p legal);
+}
 
 -- ---- the counters of interrupting samples
 

@@ -1,4 +1,5 @@
 pub mod ContextLemmas
+pub mod CostLemmas
 pub mod ErrorLemmas
 pub mod EventLemmas
 pub mod FieldLemmas

@@ -38,11 +38,11 @@ alike p contexts others steep steep' flat flat' index index' broken broken' a b 
     ap (λ x. made p x steep flat index broken) a ∙ ap (λ x. made p others x flat index broken) b ∙ ap (λ x. made p others steep' x index broken) c
     ∙ ap (λ x. made p others steep' flat' x broken) d ∙ ap (λ x. made p others steep' flat' index' x) e
 
-stats_in-run : (p : Parameters) (events : List Event) (r : Run) (number : ℕ) → stats_in p number events ≡ stats_in p number (events ++ run r ∷ [])
+pub stats_in-run : (p : Parameters) (events : List Event) (r : Run) (number : ℕ) → stats_in p number events ≡ stats_in p number (events ++ run r ∷ [])
 stats_in-run p events r number =
     sym (ap (stats_after p) (filter_map-append (regular_error number) events (run r ∷ []) ∙ append-nil (filter_map (regular_error number) events)))
 
-counts_in-run : (p : Parameters) (events : List Event) (r : Run) (flat : Bool) → counts_in p flat events ≡ counts_in p flat (events ++ run r ∷ [])
+pub counts_in-run : (p : Parameters) (events : List Event) (r : Run) (flat : Bool) → counts_in p flat events ≡ counts_in p flat (events ++ run r ∷ [])
 counts_in-run p events r flat =
     sym (ap (counts_after p flat) (filter_map-append (interruption_error_in flat) events (run r ∷ []) ∙ append-nil (filter_map (interruption_error_in flat) events)))
 

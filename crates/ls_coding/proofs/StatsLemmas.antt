@@ -287,14 +287,3 @@ mean_is reset bound s sound most =
     let low : neg_ℤ (pos 131072) ≤ℤ s.b = omega (arith, ints, sound.mean_low, sound.few) in
     let high : s.b ≤ℤ pos 131072 = omega (arith, ints, sound.mean_high) in
     mean_through s.b low high
-
-pub bias_is : (reset bound : ℕ) (s : Stats) → AreSound reset bound s → to_z w32 (of_z w32 s.c) ≡ s.c
-bias_is reset bound s sound = bias_through s.c sound.bias_low sound.bias_high
-
--- A is in range
-pub sum_small : (reset maxval : ℕ) (s : Stats) → AreSound reset (error_bound maxval) s → reset ≤ 65535 → maxval ≤ 65535 → s.a < 2147483648
-sum_small reset maxval s sound most wide =
-    let bound : error_bound maxval ≤ 32768 = omega arith in
-    let few : s.n ≤ 65535 = omega (arith, sound.few) in
-    let product : s.n * error_bound maxval ≤ 65535 * 32768 = mul-le s.n (error_bound maxval) 65535 32768 few bound in
-    omega (arith, sound.sum)

@@ -1,16 +1,37 @@
 //! Laws over the definitions alone. Each is the contract of a function with nothing to do.
-ghost use Rattle.std.specs.Prelude.{◌≡◌, ◌+◌, ◌-◌, ◌*◌, ◌^◌, ◌<◌, ◌≤◌, ◌++◌, ◌∷◌, [], min, ℕ, Bool, true, false, List};
-ghost use Rattle.ls_frame.specs.Parameters.{Parameters};
+ghost use Rattle.std.specs.Prelude.{◌≡◌, ◌+◌, ◌-◌, ◌*◌, ◌^◌, ◌<◌, ◌≤◌, ◌++◌, ◌∷◌, [], min, ℕ, Bool, true, false, List, length};
+ghost use Rattle.ls_frame.specs.Parameters.{Parameters, IsLegal, limit_of};
 ghost use Rattle.ls_bits.specs.Bits.{bits_of};
+ghost use Rattle.ls_coding.specs.declared.neighbours.Neighbours.{Neighbours};
+ghost use Rattle.ls_coding.specs.Samples.{AreSamples};
 ghost use Rattle.ls_coding.specs.Numbers.{golomb_parameter};
-ghost use Rattle.ls_coding.specs.Runs.{order, run_of, run_bits};
-ghost use Rattle.ls_coding.specs.Events.{Event, run, index_in};
+ghost use Rattle.ls_coding.specs.Contexts.{context_of};
+ghost use Rattle.ls_coding.specs.Interruptions.{is_flat, interruption_error};
+ghost use Rattle.ls_coding.specs.Runs.{order, run_of, run_bits, index_at};
+ghost use Rattle.ls_coding.specs.Events.{Event, run, stats_in, counts_in, index_in, regular_e, regular_word, interruption_word, golomb_bits};
 ghost use Rattle.ls_coding.specs.States.{state_of};
+ghost use Rattle.ls_coding.specs.Plans.{Interrupts};
 ghost use Rattle.ls_coding.specs.Lawful.{IsLawful, IsReached};
 
 /// Every list of events that a scan may have is reached by calls from `State::new`.
 pub fn lawful_events_are_reached()
     ensures { (p : Parameters) (events : List Event) → IsLawful p events → IsReached p (state_of p events) }
+{}
+
+/// Behind lawful events, one of m samples takes at most LIMIT * m bits: a sample of regular mode, a run up to the line's
+/// end, and a run with the sample that interrupts it.
+pub fn lawful_events_are_short()
+    ensures sample { (p : Parameters) (events : List Event) → IsLegal p → IsLawful p events
+        → (n : Neighbours) (sample : ℕ) → AreSamples p.maxval n → sample ≤ p.maxval
+        → length (golomb_bits p (regular_word p (stats_in p (context_of p n).number events)
+        (regular_e p (context_of p n) (stats_in p (context_of p n).number events) n sample))) ≤ limit_of p.maxval }
+    ensures full_run { (p : Parameters) (events : List Event) → IsLegal p → IsLawful p events → (count : ℕ) → 0 < count
+        → length (run_bits (index_in events) (run_of count false)) ≤ limit_of p.maxval * count }
+    ensures broken_run { (p : Parameters) (events : List Event) → IsLegal p → IsLawful p events
+        → (count : ℕ) (n : Neighbours) (sample : ℕ) → AreSamples p.maxval n → Interrupts p.maxval n.a sample
+        → length (run_bits (index_in events) (run_of count true)
+        ++ golomb_bits p (interruption_word p (index_at (index_in events) (run_of count true)) (is_flat n)
+        (counts_in p (is_flat n) events) (interruption_error p n sample))) ≤ limit_of p.maxval * (count + 1) }
 {}
 
 /// The Golomb parameter is the least exponent that brings N to A.
