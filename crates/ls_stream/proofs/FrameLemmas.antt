@@ -3,7 +3,7 @@ use Rattle.std.proofs.Common.{◌≡◌, ℕ, ◌+◌, ◌*◌, ◌/◌, ◌<◌
 use Rattle.std.proofs.lemmas.Bool.{cases_lt}
 use Rattle.std.proofs.lemmas.List.{get_or_past}
 use Rattle.std.proofs.lemmas.List.Elements.{All-from_recursion}
-use Rattle.std.proofs.lemmas.List.FromFn.{length-map-range_with_len}
+use Rattle.std.proofs.lemmas.List.FromFn.{length-map-range_with_len, get_or-map-range_with_len}
 use Rattle.ls_frame.specs.declared.frame.Kind.{Kind}
 use Rattle.ls_frame.specs.declared.frame.Kind.TheVariants.{Gray, Color}
 use Rattle.ls_frame.specs.Picture.{Picture, IsFrame, components}
@@ -117,3 +117,18 @@ bits_of f width height count samples p s after component bits new are e none row
     (rows ∙ ap (λ (x : List Bool). all_from plane x s (rows_from plane height 0 ++ [])) none
     ∙ ap (λ (t : Coding). all_from plane [] t (rows_from plane height 0 ++ [])) e
     ∙ ap (λ h. all_from plane [] (state_of p []) (rows_from plane h 0 ++ [])) are.height_is))
+
+-- ---- planes
+
+-- each sample of a plane is at most maxval
+pub plane_small : (f : Picture) → IsFrame f → (component k : ℕ) → get_or (plane_of f component).samples k 0 ≤ f.maxval
+unfolding component_of
+plane_small f frame component k =
+    let count = length f.samples / components f.kind in
+    elim (cases_lt k count) [
+      | inl inside ↦
+          let first : 0 + k ≡ k = omega arith in
+          omega (arith, get_or-map-range_with_len (λ n. get_or f.samples (n * components f.kind + component) 0) 0 count k k 0 inside first, samples_small f frame (k * components f.kind + component))
+      | inr far ↦
+          let none : get_or (plane_of f component).samples k 0 ≡ 0 = get_or_past (plane_of f component).samples k 0 (omega (arith, length-map-range_with_len (λ n. get_or f.samples (n * components f.kind + component) 0) 0 count)) in omega arith
+    ]

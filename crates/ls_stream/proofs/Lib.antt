@@ -3,6 +3,7 @@ pub mod ComponentLemmas
 pub mod CostLemmas
 pub mod FrameLemmas
 pub mod LayoutLemmas
+pub mod LengthLemmas
 pub mod LineLemmas
 pub mod PlainCounters
 pub mod PlainHistories

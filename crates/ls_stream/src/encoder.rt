@@ -13,12 +13,35 @@ use crate::segments::{put_frame_header, put_marker, put_presets, put_scan_header
 use ls_frame::{Frame, Presets};
 use std::alloc::{AllocError, Global};
 
+/// A frame's codestream with the default parameters of its maxval. Refused only where memory is.
+pub fn encode_frame(alloc: Global, frame: &Frame) -> Result<Vec<u8>, AllocError>
+    ensures bytes { let f = frame.now in IfOk result (λ bytes. bytes.items ≡ codestream f (default_parameters f.maxval)) }
+    ensures short { IfOk result (λ bytes. length bytes.items < 2 ^ 32) }
+{
+    encode_with(alloc, frame, &Presets::default_of(frame.maxval()))
+}
+
+/// A frame's codestream with these parameters. Refused only where memory is.
+pub fn encode_with(alloc: Global, frame: &Frame, presets: &Presets) -> Result<Vec<u8>, AllocError>
+    requires maxval { presets.now.maxval ≡ frame.now.maxval }
+    ensures bytes { IfOk result (λ bytes. bytes.items ≡ codestream frame.now presets.now) }
+    ensures short { IfOk result (λ bytes. length bytes.items < 2 ^ 32) }
+{
+    let room = code_bound(frame, presets) as usize;
+    let bytes = Vec::with_capacity(alloc, room)?;
+    let mut lines = Lines::new(alloc, frame.width())?;
+    Ok(encode_within(frame, presets, &mut lines, bytes))
+}
+
 /// The most bytes that a frame's codestream may have: all headers, and for each component LIMIT bits a sample, seven to a
 /// byte, and one byte more.
 pub fn code_bound(frame: &Frame, presets: &Presets) -> u64
     requires maxval { presets.now.maxval ≡ frame.now.maxval }
-    ensures { result ≡ bound frame.now presets.now }
+    ensures value { result ≡ bound frame.now presets.now }
+    ensures enough { length (codestream frame.now presets.now) ≤ result }
+    ensures small { result < 2 ^ 32 }
 {
+    prove!(presets.maxval() == frame.maxval());
     let count = u64::from(frame.kind().components());
     headers_length(frame, presets) + count * scan_bound(frame, presets)
 }

@@ -1,5 +1,8 @@
 //! Laws over the definitions alone. Each is the contract of a function with nothing to do.
-ghost use Rattle.std.specs.Prelude.{◌≡◌, [], ◌∷◌};
+ghost use Rattle.std.specs.Prelude.{◌≡◌, ◌^◌, ◌<◌, ◌≤◌, [], ◌∷◌, length};
+ghost use Rattle.ls_frame.specs.Picture.{Picture, IsFrame};
+ghost use Rattle.ls_frame.specs.Parameters.{Parameters, IsLegal};
+ghost use Rattle.ls_stream.specs.Layout.{codestream, bound};
 ghost use Rattle.ls_stream.specs.Examples.{scan, default_scan, annex_h_picture, annex_h_scan};
 
 /// The picture of T.87's Annex H.3 has the scan that stands there.
@@ -26,4 +29,11 @@ pub fn small_planes_have_these_scans()
 pub fn an_early_reset_has_this_scan()
     ensures { scan (record { maxval = 255; t1 = 3; t2 = 7; t3 = 21; reset = 3 }) (record { width = 7; samples = 3 ∷ 3 ∷ 3 ∷ 3 ∷ 4 ∷ 6 ∷ 6 ∷ [] })
         ≡ 44 ∷ 164 ∷ 72 ∷ [] }
+{}
+
+/// A codestream has no more bytes than its bound, which is below 2^32.
+pub fn codestreams_are_short()
+    ensures bound { (f : Picture) (p : Parameters) → IsFrame f → IsLegal p → p.maxval ≡ f.maxval
+        → length (codestream f p) ≤ bound f p }
+    ensures small { (f : Picture) (p : Parameters) → IsFrame f → IsLegal p → bound f p < 2 ^ 32 }
 {}

@@ -1,11 +1,17 @@
-//! Scans and markers of T.87.
+//! Scans and markers of T.87: frames, encoded as codestreams.
 //!
-//! Today it has the definitions of a plane: its segments, its events and its bits (`specs/Planes.antt`), laws that show
-//! them at work, and for the tests alone a plain program (`plain`) that is proved to give a plane's bits. The coder of
-//! scans is begun: the rows of a plane, from a coder's state on, into room that is there.
+//! What it hands on: encoding answers exactly the codestream of T.87 (`specs/Layout.antt`, of planes in
+//! `specs/Planes.antt`), which spells its frame by the grammar that a decoder is held to (`specs/Grammar.antt`).
 //!
-//! In reading order: `rows` (the rows of a plane), `lines` (the two lines that a row is coded by), `row` (a row, from left
-//! to right), `events` (one event, as bits), `laws`.
+//! ```
+//! let bytes = encode_frame(alloc, &frame)?;
+//! let presets = Tuning { t1: 5, t2: 0, t3: 0, reset: 0 }.presets(frame.maxval())?;
+//! let other = encode_with(alloc, &frame, &presets)?;
+//! ```
+//!
+//! In reading order: `encoder` (frames), `segments` and `marker` (all that isn't data), `plane` (a scan's data), `rows`
+//! (the rows of a plane), `lines` (the two lines that a row is coded by), `row` (a row, from left to right), `events` (one
+//! event, as bits), `laws` (what follows from the definitions alone). For the tests `plain` computes a plane's bits plainly.
 #![tactic(auto)]
 
 pub mod encoder;
@@ -20,4 +26,5 @@ pub mod row;
 pub mod rows;
 pub mod segments;
 
+pub use encoder::{code_bound, encode_frame, encode_with, encode_within};
 pub use lines::Lines;
