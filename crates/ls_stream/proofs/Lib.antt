@@ -13,3 +13,4 @@ pub mod PlainSamples
 pub mod PlainSegments
 pub mod PlainWords
 pub mod RowLemmas
+pub mod SpellingLemmas

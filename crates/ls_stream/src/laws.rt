@@ -2,8 +2,11 @@
 ghost use Rattle.std.specs.Prelude.{◌≡◌, ◌^◌, ◌<◌, ◌≤◌, [], ◌∷◌, length};
 ghost use Rattle.ls_frame.specs.Picture.{Picture, IsFrame};
 ghost use Rattle.ls_frame.specs.Parameters.{Parameters, IsLegal};
+ghost use Rattle.ls_stream.specs.Grammar.{Spells};
 ghost use Rattle.ls_stream.specs.Layout.{codestream, bound};
 ghost use Rattle.ls_stream.specs.Examples.{scan, default_scan, annex_h_picture, annex_h_scan};
+
+use ls_frame::laws::parameters_are_legal_or_at_fault;
 
 /// The picture of T.87's Annex H.3 has the scan that stands there.
 pub fn annex_h_has_its_scan()
@@ -37,3 +40,10 @@ pub fn codestreams_are_short()
         → length (codestream f p) ≤ bound f p }
     ensures small { (f : Picture) (p : Parameters) → IsFrame f → IsLegal p → bound f p < 2 ^ 32 }
 {}
+
+/// The codestream of a frame spells it.
+pub fn codestreams_spell_their_frames()
+    ensures { (f : Picture) (p : Parameters) → IsFrame f → IsLegal p → p.maxval ≡ f.maxval → Spells (codestream f p) f }
+{
+    parameters_are_legal_or_at_fault();
+}
