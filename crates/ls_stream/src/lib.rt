@@ -15,16 +15,18 @@
 #![tactic(auto)]
 
 pub mod encoder;
-pub mod events;
+mod events;
 pub mod laws;
 pub mod lines;
-pub mod marker;
+mod marker;
 #[cfg(test)]
 mod plain;
-pub mod plane;
-pub mod row;
-pub mod rows;
-pub mod segments;
+mod plane;
+mod row;
+mod rows;
+mod segments;
+#[cfg(test)]
+mod testing;
 
 pub use encoder::{code_bound, encode_frame, encode_with, encode_within};
 pub use lines::Lines;

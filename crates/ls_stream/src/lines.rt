@@ -45,7 +45,7 @@ impl Lines {
 
 /// Makes the next line, below `above`: to the left what is above its first sample, then a row's samples of one of
 /// `count` components, and the last of them once more.
-pub fn fill_line(
+pub(crate) fn fill_line(
     line: &mut [u16],
     above: &[u16],
     row: &[u16],

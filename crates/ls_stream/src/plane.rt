@@ -82,3 +82,6 @@ pub fn put_scan(
     );
     sink.finish()
 }
+
+#[cfg(test)]
+mod tests;
