@@ -82,6 +82,3 @@ pub fn put_scan(
     );
     sink.finish()
 }
-
-#[cfg(test)]
-mod tests;

@@ -19,9 +19,10 @@ pub fn frame_of(
     samples: &[u16],
 ) -> Result<Frame, AllocError> {
     let made = Frame::new(kind, width, height, maxval, samples.to_vec(alloc)?);
-    Ok(made
-        .map_err(|refused| refused.0)
-        .expect(rt, "these parts make a frame"))
+    Ok(
+        made.map_err(|refused| refused.0)
+            .expect(rt, "these parts make a frame"),
+    )
 }
 
 /// The bits of a plane by the plain program, stuffed.
@@ -38,6 +39,116 @@ pub fn plain_scan(
         sink.put(u32::from(*bit), 1)?;
     }
     sink.finish()
+}
+
+/// The codestream of a frame, with its planes coded by the plain program.
+pub fn plain_codestream(
+    rt: &impl Abort,
+    alloc: Global,
+    frame: &Frame,
+    presets: Presets,
+) -> Result<Vec<u8>, AllocError> {
+    let count = frame.kind().components();
+    let precision = presets.bpp() as u8;
+    let mut bytes = vec![in alloc; 0xff, 0xd8, 0xff, 0xf7, 0x00, 8 + 3 * count, precision]?;
+    bytes.extend_from_slice(&frame.height().to_be_bytes())?;
+    bytes.extend_from_slice(&frame.width().to_be_bytes())?;
+    bytes.push(count)?;
+    for component in 0..count {
+        bytes.extend_from_slice(&[component + 1, 0x11, 0x00])?;
+    }
+    if frame.maxval().count_ones() != presets.bpp() || !presets.is_default() {
+        bytes.extend_from_slice(&[0xff, 0xf8, 0x00, 0x0d, 0x01])?;
+        let told = [
+            presets.maxval(),
+            presets.t1(),
+            presets.t2(),
+            presets.t3(),
+            presets.reset(),
+        ];
+        for field in told {
+            bytes.extend_from_slice(&field.to_be_bytes())?;
+        }
+    }
+    for component in 0..count {
+        bytes.extend_from_slice(&[0xff, 0xda, 0x00, 0x08, 0x01, component + 1, 0, 0, 0, 0])?;
+        let plane: Vec<u16> = frame
+            .samples()
+            .iter()
+            .skip(usize::from(component))
+            .step_by(usize::from(count))
+            .copied()
+            .collect(alloc)?;
+        let scan = plain_scan(rt, alloc, presets, usize::from(frame.width()), &plane)?;
+        bytes.extend_from_slice(&scan)?;
+    }
+    bytes.extend_from_slice(&[0xff, 0xd9])?;
+    Ok(bytes)
+}
+
+/// Numbers that look like chance, the same in each run (splitmix64).
+#[derive(Drop)]
+pub struct Chance {
+    pub state: u64,
+}
+
+impl Chance {
+    fn next(&mut self) -> u64 {
+        self.state = self.state.wrapping_add(0x9e37_79b9_7f4a_7c15);
+        let mut mixed = self.state;
+        mixed = (mixed ^ (mixed >> 30)).wrapping_mul(0xbf58_476d_1ce4_e5b9);
+        mixed = (mixed ^ (mixed >> 27)).wrapping_mul(0x94d0_49bb_1331_11eb);
+        mixed ^ (mixed >> 31)
+    }
+
+    /// A number up to `most`.
+    fn up_to(&mut self, most: u16) -> u16 {
+        (self.next() % (u64::from(most) + 1)) as u16
+    }
+}
+
+/// What a plane shows.
+#[derive(Clone, Copy, Debug)]
+pub enum Picture {
+    /// Any samples.
+    Noise,
+    /// Runs of a value, most of them some samples long.
+    Runs,
+    /// Values that rise by little.
+    Ramp,
+    /// The least and the greatest value alone.
+    Extremes,
+}
+
+pub const PICTURES: [Picture; 4] = [
+    Picture::Noise,
+    Picture::Runs,
+    Picture::Ramp,
+    Picture::Extremes,
+];
+
+/// So many samples up to `maxval`.
+pub fn samples_of(
+    alloc: Global,
+    chance: &mut Chance,
+    picture: Picture,
+    maxval: u16,
+    count: usize,
+) -> Result<Vec<u16>, AllocError> {
+    let mut samples = Vec::with_capacity(alloc, count)?;
+    let mut value = 0;
+    for place in 0..count {
+        value = match picture {
+            Picture::Noise => chance.up_to(maxval),
+            Picture::Runs if chance.up_to(15) > 0 => value,
+            Picture::Runs => chance.up_to(maxval),
+            Picture::Ramp => ((place as u64 + chance.next() % 3) % (u64::from(maxval) + 1)) as u16,
+            Picture::Extremes if chance.up_to(1) == 0 => 0,
+            Picture::Extremes => maxval,
+        };
+        samples.push(value)?;
+    }
+    Ok(samples)
 }
 
 /// What a plane shows, its maxval, its width, its samples, and its scan with the default parameters.

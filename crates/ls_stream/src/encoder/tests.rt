@@ -1,6 +1,6 @@
 use super::*;
-use crate::testing::{PLANES, Parts, frame_of, plain_scan};
-use ls_frame::{Kind, Tuning};
+use crate::testing::{Chance, PICTURES, PLANES, Parts, frame_of, plain_codestream, samples_of};
+use ls_frame::{Kind, PresetFault, Tuning};
 use std::process::Abort;
 use std::test::Fail;
 
@@ -173,9 +173,111 @@ fn parameters_are_told_where_they_are_not_the_default_with_ample_memory(
 
 #[test]
 fn counters_are_halved_as_reset_says_with_ample_memory(rt: HostRuntime) -> Result<(), Fail> {
-    let frame = frame_of(&rt, rt.alloc(), Kind::Gray, 7, 1, 255, &[3, 3, 3, 3, 4, 6, 6])?;
+    let frame = frame_of(
+        &rt,
+        rt.alloc(),
+        Kind::Gray,
+        7,
+        1,
+        255,
+        &[3, 3, 3, 3, 4, 6, 6],
+    )?;
     let presets = Presets::explicit(frame.maxval(), 3, 7, 21, 3)?;
     let bytes = encode_with(rt.alloc(), &frame, &presets)?;
-    assert_eq!(rt; &bytes[40..], [0x2c, 0xa4, 0x48, 0xff, 0xd9].as_slice());
+    assert_eq!(rt;
+        bytes.get(40..),
+        Some([0x2c, 0xa4, 0x48, 0xff, 0xd9].as_slice())
+    );
+    Ok(())
+}
+
+// ---- beside the plain program, which counts each context's counters anew for each sample
+
+const MAXVALS: [u16; 12] = [1, 2, 3, 5, 100, 128, 254, 255, 1000, 4095, 40000, 65535];
+
+const SIZES: [(u16, u16); 4] = [(1, 1), (1, 9), (13, 1), (23, 11)];
+
+/// The parameters that planes of a maxval are coded with: by default, with thresholds that are equal, and with the least
+/// and the greatest RESET.
+fn presets_of(maxval: u16) -> Result<[Presets; 4], PresetFault> {
+    let middle = maxval / 2 + 1;
+    Ok([
+        Presets::explicit(maxval, middle, middle, middle, 64)?,
+        Presets::explicit(maxval, middle, middle, maxval, 3)?,
+        Presets::explicit(maxval, 1, middle, middle, maxval.max(255))?,
+        Presets::default_of(maxval),
+    ])
+}
+
+/// The codestream of a frame by parameters of its maxval.
+fn encode_with_equal(
+    rt: &impl Abort,
+    alloc: Global,
+    frame: &Frame,
+    presets: Presets,
+) -> Result<Vec<u8>, AllocError> {
+    let maxval = presets.maxval();
+    assert!(rt; maxval == frame.maxval());
+    encode_with(alloc, frame, &presets)
+}
+
+#[test]
+fn planes_are_coded_as_the_plain_program_does_with_ample_memory(
+    rt: HostRuntime,
+) -> Result<(), Fail> {
+    let alloc = rt.alloc();
+    let mut chance = Chance { state: 1 };
+    for maxval in MAXVALS {
+        for presets in presets_of(maxval.max(1))? {
+            for picture in PICTURES {
+                for (width, height) in SIZES {
+                    let count = usize::from(width) * usize::from(height);
+                    let samples = samples_of(alloc, &mut chance, picture, maxval, count)?;
+                    let frame = frame_of(&rt, alloc, Kind::Gray, width, height, maxval, &samples)?;
+                    let plain = plain_codestream(&rt, alloc, &frame, presets)?;
+                    let bytes = encode_with_equal(&rt, alloc, &frame, presets)?;
+                    assert_eq!(rt; bytes, plain, "{presets:?}, {:?}", frame.samples());
+                }
+            }
+        }
+    }
+    Ok(())
+}
+
+/// Enough samples for counters to be halved many times, in three components.
+#[test]
+fn larger_frames_are_coded_as_the_plain_program_does_with_ample_memory(
+    rt: HostRuntime,
+) -> Result<(), Fail> {
+    let alloc = rt.alloc();
+    let mut chance = Chance { state: 2 };
+    for maxval in [1, 255, 65535] {
+        for picture in PICTURES {
+            let samples = samples_of(alloc, &mut chance, picture, maxval, 3 * 61 * 37)?;
+            let frame = frame_of(&rt, alloc, Kind::Color, 61, 37, maxval, &samples)?;
+            let plain = plain_codestream(&rt, alloc, &frame, Presets::default_of(maxval))?;
+            assert_eq!(rt;
+                encode_frame(alloc, &frame)?,
+                plain,
+                "{picture:?} of {maxval}"
+            );
+        }
+    }
+    Ok(())
+}
+
+/// Runs so long that RUNindex comes to its last: up to the line's end, and broken by the last sample.
+#[test]
+fn the_longest_runs_are_coded_as_the_plain_program_does_with_ample_memory(
+    rt: HostRuntime,
+) -> Result<(), Fail> {
+    let alloc = rt.alloc();
+    for last in [0, 7] {
+        let mut samples = vec![in alloc; 0u16; 65535]?;
+        samples[65534] = last;
+        let frame = frame_of(&rt, alloc, Kind::Gray, 65535, 1, 255, &samples)?;
+        let plain = plain_codestream(&rt, alloc, &frame, Presets::default_of(255))?;
+        assert_eq!(rt; encode_frame(alloc, &frame)?, plain, "broken by {last}");
+    }
     Ok(())
 }
