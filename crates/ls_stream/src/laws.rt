@@ -1,10 +1,11 @@
 //! Laws over the definitions alone. Each is the contract of a function with nothing to do.
-ghost use Rattle.std.specs.Prelude.{◌≡◌, ◌^◌, ◌<◌, ◌≤◌, [], ◌∷◌, length};
+ghost use Rattle.std.specs.Prelude.{◌≡◌, ◌^◌, ◌<◌, ◌≤◌, ◌++◌, [], ◌∷◌, length};
 ghost use Rattle.ls_frame.specs.Picture.{Picture, IsFrame};
+ghost use Rattle.ls_frame.specs.declared.frame.Kind.TheVariants.{Gray, Color};
 ghost use Rattle.ls_frame.specs.Parameters.{Parameters, IsLegal};
 ghost use Rattle.ls_stream.specs.Grammar.{Spells};
 ghost use Rattle.ls_stream.specs.Layout.{codestream, bound};
-ghost use Rattle.ls_stream.specs.Examples.{scan, default_scan, annex_h_picture, annex_h_scan};
+ghost use Rattle.ls_stream.specs.Examples.{scan, default_scan, annex_h_picture, annex_h_scan, lone, lone_codestream, lone_head, lone_scan, last_marker};
 
 use ls_frame::laws::parameters_are_legal_or_at_fault;
 
@@ -32,6 +33,22 @@ pub fn small_planes_have_these_scans()
 pub fn an_early_reset_has_this_scan()
     ensures { scan (record { maxval = 255; t1 = 3; t2 = 7; t3 = 21; reset = 3 }) (record { width = 7; samples = 3 ∷ 3 ∷ 3 ∷ 3 ∷ 4 ∷ 6 ∷ 6 ∷ [] })
         ≡ 44 ∷ 164 ∷ 72 ∷ [] }
+{}
+
+/// Frames of one pixel, and their codestreams with the default parameters.
+pub fn small_frames_have_these_codestreams()
+    ensures gray { lone_codestream Gray 255 (0 ∷ []) ≡ lone_head ++ lone_scan 1 128 ++ last_marker }
+    ensures two_values { lone_codestream Gray 1 (1 ∷ [])
+        ≡ 255 ∷ 216 ∷ 255 ∷ 247 ∷ 0 ∷ 11 ∷ 2 ∷ 0 ∷ 1 ∷ 0 ∷ 1 ∷ 1 ∷ 1 ∷ 17 ∷ 0 ∷ 255 ∷ 248 ∷ 0 ∷ 13 ∷ 1 ∷ 0 ∷ 1 ∷ 0 ∷ 1 ∷ 0 ∷ 1
+        ∷ 0 ∷ 1 ∷ 0 ∷ 64 ∷ 255 ∷ 218 ∷ 0 ∷ 8 ∷ 1 ∷ 1 ∷ 0 ∷ 0 ∷ 0 ∷ 0 ∷ 64 ∷ 255 ∷ 217 ∷ [] }
+    ensures sixteen_bits { lone_codestream Gray 65535 (65535 ∷ [])
+        ≡ 255 ∷ 216 ∷ 255 ∷ 247 ∷ 0 ∷ 11 ∷ 16 ∷ 0 ∷ 1 ∷ 0 ∷ 1 ∷ 1 ∷ 1 ∷ 17 ∷ 0 ∷ 255 ∷ 218 ∷ 0 ∷ 8 ∷ 1 ∷ 1 ∷ 0 ∷ 0 ∷ 0 ∷ 0
+        ∷ 64 ∷ 0 ∷ 255 ∷ 217 ∷ [] }
+    ensures colour { lone_codestream Color 255 (0 ∷ 0 ∷ 0 ∷ [])
+        ≡ (255 ∷ 216 ∷ 255 ∷ 247 ∷ 0 ∷ 17 ∷ 8 ∷ 0 ∷ 1 ∷ 0 ∷ 1 ∷ 3 ∷ 1 ∷ 17 ∷ 0 ∷ 2 ∷ 17 ∷ 0 ∷ 3 ∷ 17 ∷ 0 ∷ [])
+        ++ lone_scan 1 128 ++ lone_scan 2 128 ++ lone_scan 3 128 ++ last_marker }
+    ensures told { let p : Parameters = record { maxval = 255; t1 = 3; t2 = 7; t3 = 21; reset = 32 } in codestream (lone Gray 255 (0 ∷ [])) p
+        ≡ lone_head ++ (255 ∷ 248 ∷ 0 ∷ 13 ∷ 1 ∷ 0 ∷ 255 ∷ 0 ∷ 3 ∷ 0 ∷ 7 ∷ 0 ∷ 21 ∷ 0 ∷ 32 ∷ []) ++ lone_scan 1 128 ++ last_marker }
 {}
 
 /// A codestream has no more bytes than its bound, which is below 2^32.
