@@ -64,5 +64,9 @@ merged q1 q2 q3 = let negative = first_negative q1 q2 q3 in record {
   negative = negative;
 }
 
+-- the regions of a sample's gradients as one number, before any changes its sign
+unfoldable pub signed_number : Parameters → Neighbours → ℤ
+signed_number p n = number_of (region p (d1 n)) (region p (d2 n)) (region p (d3 n))
+
 unfoldable pub context_of : Parameters → Neighbours → Context
 context_of p n = merged (region p (d1 n)) (region p (d2 n)) (region p (d3 n))

@@ -1,6 +1,6 @@
 //! Contexts of regular mode (T.87 A.3).
-ghost use Rattle.std.specs.Prelude.{◌≡◌, ◌<◌, pos, neg_ℤ, ◌-ℤ◌, ◌≤ℤ◌};
-ghost use Rattle.ls_coding.specs.Contexts.{region, IsRegion, context_of, number_of};
+ghost use Rattle.std.specs.Prelude.{◌≡◌, ◌<◌, pos, neg_ℤ, ◌-ℤ◌, ◌≤ℤ◌, int_lt, unsigned_abs};
+ghost use Rattle.ls_coding.specs.Contexts.{region, IsRegion, is_zero, is_run, context_of, number_of, signed_number};
 ghost use Rattle.ls_coding.specs.Samples.{AreSamples};
 ghost use Rattle.ls_coding.specs.Sizes.{size_region};
 
@@ -14,6 +14,36 @@ pub struct Place {
     pub negative: bool,
 }
 
+/// The context of a sample with these neighbours as one number, -364 to 364: SIGN times the context's number, and 0 exactly
+/// where they call for run mode.
+pub fn signed_context(presets: &Presets, neighbours: &Neighbours) -> i16
+    requires { AreSamples presets.now.maxval neighbours.now }
+    ensures value { result ≡ signed_number presets.now neighbours.now }
+    ensures run { is_zero result ≡ is_run neighbours.now }
+    ensures low { neg_ℤ (pos 364) ≤ℤ result }
+    ensures high { result ≤ℤ pos 364 }
+{
+    let presets = *presets;
+    let q1 = region_of(presets, gradient(neighbours.d, neighbours.b));
+    let q2 = region_of(presets, gradient(neighbours.b, neighbours.c));
+    let q3 = region_of(presets, gradient(neighbours.c, neighbours.a));
+    joined(q1, q2, q3) as i16
+}
+
+/// The context that such a number stands for.
+pub fn place_of(context: i16) -> Place
+    requires low { neg_ℤ (pos 364) ≤ℤ context }
+    requires high { context ≤ℤ pos 364 }
+    ensures number { result.number ≡ unsigned_abs context }
+    ensures negative { result.negative ≡ int_lt context (pos 0) }
+    ensures within { result.number < 365 }
+{
+    Place {
+        number: usize::from(context.unsigned_abs()),
+        negative: context < 0,
+    }
+}
+
 /// The context of a sample with these neighbours.
 pub fn context_at(presets: Presets, neighbours: &Neighbours) -> Place
     requires { AreSamples presets.maxval neighbours.now }
@@ -21,14 +51,7 @@ pub fn context_at(presets: Presets, neighbours: &Neighbours) -> Place
     ensures negative { result.negative ≡ (context_of presets neighbours.now).negative }
     ensures within { result.number < 365 }
 {
-    let q1 = region_of(presets, gradient(neighbours.d, neighbours.b));
-    let q2 = region_of(presets, gradient(neighbours.b, neighbours.c));
-    let q3 = region_of(presets, gradient(neighbours.c, neighbours.a));
-    let number = joined(q1, q2, q3);
-    Place {
-        number: number.unsigned_abs() as usize,
-        negative: number < 0,
-    }
+    place_of(signed_context(&presets, neighbours))
 }
 
 /// Three regions as one number.
@@ -56,6 +79,7 @@ fn region_of(presets: Presets, gradient: i32) -> i32
     requires high { gradient ≤ℤ pos 65535 }
     ensures value { result ≡ region presets gradient }
     ensures region { IsRegion result }
+    ensures zero { is_zero result ≡ is_zero gradient }
 {
     let region = region_of_size(presets, gradient.unsigned_abs());
     if gradient < 0 { -region } else { region }
@@ -63,7 +87,9 @@ fn region_of(presets: Presets, gradient: i32) -> i32
 
 /// The region of a gradient that isn't negative: how many of the bounds it reaches.
 fn region_of_size(presets: Presets, size: u32) -> i32
-    ensures { result ≡ pos (size_region presets size) }
+    ensures value { result ≡ pos (size_region presets size) }
+    ensures none { size ≡ 0 → result ≡ pos 0 }
+    ensures some { 0 < size → pos 1 ≤ℤ result }
 {
     let reached = u32::from(size > 0)
         + u32::from(size >= u32::from(presets.t1()))

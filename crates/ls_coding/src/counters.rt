@@ -11,7 +11,7 @@ ghost use Rattle.ls_coding.specs.Interruptions.{first_counts, counts_step, ri_ty
 ghost use Rattle.ls_coding.specs.Plans.{regular_plan_by, interruption_plan_by, Interrupts, IsTheSample, NoSample};
 ghost use Rattle.ls_coding.specs.Fields.{regular_at, all_regular, interrupting_at, IsSound};
 
-use crate::context::context_at;
+use crate::context::{Place, context_at};
 use crate::error::{
     error_of, golomb_parameter, is_reduced, leans, mapped, predicted, sample_of, unmapped,
 };
@@ -71,9 +71,13 @@ impl Counters {
         &mut self,
         presets: Presets,
         limit: u32,
+        place: Place,
         neighbours: &Neighbours,
         sample: u16,
     ) -> Word
+        requires number { place.number ≡ (context_of presets neighbours.now).number }
+        requires negative { place.negative ≡ (context_of presets neighbours.now).negative }
+        requires within { place.number < 365 }
         requires samples { AreSamples presets.maxval neighbours.now }
         requires sample { sample ≤ presets.maxval }
         requires limit { limit ≡ limit_of presets.maxval }
@@ -92,7 +96,6 @@ impl Counters {
         ensures flat { interrupting_at self.new 1 ≡ interrupting_at self.old 1 }
         ensures sound { IsSound presets self.new }
     {
-        let place = context_at(presets, neighbours);
         let number = place.number;
         let prediction = predicted(presets, place.negative, self.c[number], neighbours);
         let error = error_of(presets, place.negative, prediction, sample);

@@ -40,6 +40,7 @@ pub mod state;
 mod update;
 pub mod word;
 
+pub use context::signed_context;
 pub use neighbours::{Mode, Neighbours, mode_of};
 pub use plan::Plan;
 pub use run::{RunWord, Tail};

@@ -3,13 +3,14 @@ ghost use Rattle.std.specs.Prelude.{◌≡◌, ◌+◌, ◌-◌, ◌*◌, ◌^�
 ghost use Rattle.ls_frame.specs.Parameters.{qbpp_of, limit_of};
 ghost use Rattle.ls_bits.specs.Golomb.{IsGolomb, most_value};
 ghost use Rattle.ls_coding.specs.Samples.{AreSamples};
-ghost use Rattle.ls_coding.specs.Contexts.{is_run};
+ghost use Rattle.ls_coding.specs.Contexts.{is_run, signed_number};
 ghost use Rattle.ls_coding.specs.Runs.{order, run_of, run_word, word_bits, tail_of, Fits};
 ghost use Rattle.ls_coding.specs.Interruptions.{is_flat, interruption_error};
 ghost use Rattle.ls_coding.specs.Events.{Event, run, golomb_bits};
 ghost use Rattle.ls_coding.specs.States.{Coding, state_of, place_of, regular_error_in, regular_word_in, interruption_word_in, after_regular, after_run, after_interruption, IsRegularEvent, IsInterruptionEvent};
 ghost use Rattle.ls_coding.specs.Plans.{regular_plan, interruption_plan, IsReadBy, Interrupts, IsTheSample, NoSample};
 
+use crate::context::{place_of, signed_context};
 use crate::counters::Counters;
 use crate::neighbours::Neighbours;
 use crate::plan::Plan;
@@ -81,8 +82,29 @@ impl State {
         ensures events { (events : List Event) → self.old ≡ state_of self.old.parameters events
             → IsRegularEvent self.old.parameters events neighbours.now sample result self.new }
     {
+        let context = signed_context(&self.presets, neighbours);
+        self.code_regular_at(context, neighbours, sample)
+    }
+
+    /// Codes a sample of regular mode whose context, as `signed_context` has it, is known.
+    pub fn code_regular_at(&mut self, context: i16, neighbours: &Neighbours, sample: u16) -> Word
+        requires context { context ≡ signed_number self.old.parameters neighbours.now }
+        requires samples { AreSamples self.old.parameters.maxval neighbours.now }
+        requires sample { sample ≤ self.old.parameters.maxval }
+        requires regular { is_run neighbours.now ≡ false }
+        requires whole { self.old.broken ≡ false }
+        ensures word { result ≡ regular_word_in self.old neighbours.now sample }
+        ensures golomb { IsGolomb result.k result.glimit (qbpp_of self.old.parameters.maxval) }
+        ensures value { result.value ≤ most_value (qbpp_of self.old.parameters.maxval) }
+        ensures cost { length (golomb_bits self.old.parameters result) ≤ limit_of self.old.parameters.maxval }
+        ensures state { self.new ≡ after_regular self.old (place_of self.old neighbours.now).number
+            (regular_error_in self.old neighbours.now sample) }
+        ensures events { (events : List Event) → self.old ≡ state_of self.old.parameters events
+            → IsRegularEvent self.old.parameters events neighbours.now sample result self.new }
+    {
+        let place = place_of(context);
         self.counters
-            .code(self.presets, self.limit, neighbours, sample)
+            .code(self.presets, self.limit, place, neighbours, sample)
     }
 
     /// What the word of a sample of regular mode is read by.

@@ -1,5 +1,6 @@
 pub mod CodedLemmas
 pub mod ComponentLemmas
+pub mod ContextLemmas
 pub mod CostLemmas
 pub mod FrameLemmas
 pub mod LayoutLemmas

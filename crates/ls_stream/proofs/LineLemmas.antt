@@ -5,7 +5,7 @@ use Rattle.std.proofs.lemmas.Nat.{mul-le}
 use Rattle.std.proofs.lemmas.List.{get_or-replicate, get_or-take, get_or-drop, get_or_append_left, get_or-append_right, get_or_past, length-take-le}
 use Rattle.ls_coding.specs.declared.neighbours.Neighbours.{Neighbours}
 use Rattle.ls_stream.specs.Planes.{Plane, at, around, left, above, above_left, above_right}
-use Rattle.ls_stream.specs.LineBuffers.{row_of, line_of, near, AreLines, Holds}
+use Rattle.ls_stream.specs.LineBuffers.{row_of, line_of, near, AreLines, ArePadded, Holds}
 
 -- the plane has a whole row i
 abbrev pub HasRow : Plane → ℕ → Type 0
@@ -131,7 +131,7 @@ pub filled : (plane : Plane) (i : ℕ) (above_buffer buffer : List ℕ) → 1 �
 filled = filled_at
 
 -- a line is of samples where what it was made of is
-pub filled_small : (maxval width count component : ℕ) (above_buffer buffer row : List ℕ) → 1 ≤ width → length buffer ≡ width + 2 → ((k : ℕ) → get_or above_buffer k 0 ≤ maxval) → ((k : ℕ) → get_or row k 0 ≤ maxval)
+filled_small : (maxval width count component : ℕ) (above_buffer buffer row : List ℕ) → 1 ≤ width → length buffer ≡ width + 2 → ((k : ℕ) → get_or above_buffer k 0 ≤ maxval) → ((k : ℕ) → get_or row k 0 ≤ maxval)
     → get_or buffer 0 0 ≡ get_or above_buffer 1 0 → ((k : ℕ) → k < width → get_or buffer (k + 1) 0 ≡ get_or row (k * count + component) 0) → get_or buffer (width + 1) 0 ≡ get_or buffer width 0
     → (k : ℕ) → get_or buffer k 0 ≤ maxval
 filled_small maxval width count component above_buffer buffer row some whole above_small row_small first middle last zero = omega (arith, above_small 1)
@@ -151,10 +151,22 @@ filled_small maxval width count component above_buffer buffer row some whole abo
       ]
     ])
 
-pub row_small : (maxval stride start : ℕ) (samples row : List ℕ) → length row ≡ stride → ((k : ℕ) → k < stride → get_or row k 0 ≡ get_or samples (start + k) 0) → ((k : ℕ) → get_or samples k 0 ≤ maxval)
+row_small : (maxval stride start : ℕ) (samples row : List ℕ) → length row ≡ stride → ((k : ℕ) → k < stride → get_or row k 0 ≡ get_or samples (start + k) 0) → ((k : ℕ) → get_or samples k 0 ≤ maxval)
     → (k : ℕ) → get_or row k 0 ≤ maxval
 row_small maxval stride start samples row whole same small k =
     elim (cases_lt k stride) [
       | inl inside ↦ omega (arith, same k inside, small (start + k))
       | inr far ↦ let none : get_or row k 0 ≡ 0 = get_or_past row k 0 (omega arith) in omega arith
     ]
+
+-- the line above, and one that was filled from a row of samples
+pub padded : (maxval width count component start : ℕ) (samples row above_buffer buffer : List ℕ) → 1 ≤ width → length above_buffer ≡ width + 2 → length buffer ≡ width + 2
+    → ((k : ℕ) → get_or above_buffer k 0 ≤ maxval) → length row ≡ width * count → ((k : ℕ) → k < width * count → get_or row k 0 ≡ get_or samples (start + k) 0)
+    → ((k : ℕ) → get_or samples k 0 ≤ maxval) → get_or buffer 0 0 ≡ get_or above_buffer 1 0 → ((k : ℕ) → k < width → get_or buffer (k + 1) 0 ≡ get_or row (k * count + component) 0)
+    → get_or buffer (width + 1) 0 ≡ get_or buffer width 0 → ArePadded maxval width above_buffer buffer
+padded maxval width count component start samples row above_buffer buffer some above_length line_length above_small row_length same small first middle last = record {
+  above_length = above_length;
+  line_length = line_length;
+  above_small = above_small;
+  line_small = filled_small maxval width count component above_buffer buffer row some line_length above_small (row_small maxval (width * count) start samples row row_length same small) first middle last;
+}

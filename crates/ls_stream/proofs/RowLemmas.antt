@@ -1,7 +1,6 @@
 -- The bits so far and those to come, while a row is coded.
 use Rattle.std.proofs.Common.{◌≡◌, ◌≢◌, ℕ, zero, suc, ◌+◌, ◌-◌, ◌*◌, ◌<◌, ◌≤◌, Bool, true, false, ltb, List, ◌∷◌, ◌++◌, get_or, eq-eqb, inl, inr, refl, sym, ◌∙◌, ap, subst, append_assoc, arith}
-use Rattle.std.specs.Prelude.{not}
-use Rattle.std.proofs.lemmas.Bool.{false≢true, lt-ltb, le-ltb, cases_lt, cond-true, cond-false, ne_eqb}
+use Rattle.std.proofs.lemmas.Bool.{lt-ltb, le-ltb, cases_lt, cond-true, cond-false, ne_eqb}
 use Rattle.ls_coding.specs.declared.neighbours.Neighbours.{Neighbours}
 use Rattle.ls_coding.specs.declared.word.Word.{Word}
 use Rattle.ls_coding.specs.Contexts.{is_run}
@@ -140,11 +139,3 @@ row_to_break plane i j end above line bits new s after n m width same lines insi
 
 pub spent : (limit a b c : ℕ) → a + b ≡ c → limit * a + limit * b ≡ limit * c
 spent limit a b c e = let sum : limit * a + limit * b ≡ limit * (a + b) = omega arith in sum ∙ ap (λ n. limit * n) e
-
-pub not_run : (r b : Bool) → r ≡ not b → r ≡ true → b ≡ false
-not_run r true e h = absurd (false≢true (sym e ∙ h))
-not_run r false e h = refl
-
-pub in_run : (r b : Bool) → r ≡ not b → r ≡ false → b ≡ true
-in_run r true e h = refl
-in_run r false e h = absurd (false≢true (sym h ∙ e))

@@ -4,7 +4,7 @@ ghost use Rattle.ls_frame.specs.Parameters.{qbpp_of, limit_of};
 ghost use Rattle.ls_bits.specs.Golomb.{IsGolomb, code_word, most_value};
 ghost use Rattle.ls_bits.specs.Room.{Fits};
 ghost use Rattle.ls_coding.specs.Samples.{AreSamples};
-ghost use Rattle.ls_coding.specs.Contexts.{is_run};
+ghost use Rattle.ls_coding.specs.Contexts.{is_run, signed_number};
 ghost use Rattle.ls_coding.specs.Interruptions.{is_flat, interruption_error};
 ghost use Rattle.ls_coding.specs.Plans.{Interrupts};
 ghost use Rattle.ls_coding.specs.Runs.{Fits as FitsTail, run_of, run_bits, word_bits, tail_bits};
@@ -14,14 +14,16 @@ ghost use Rattle.ls_coding.specs.States.{place_of, regular_error_in, regular_wor
 use ls_bits::RoomSink;
 use ls_coding::{Neighbours, RunWord, State, Tail, Word};
 
-/// Codes a sample of regular mode.
+/// Codes a sample of regular mode, whose context is known.
 pub fn code_sample(
     state: &mut State,
     sink: &mut RoomSink,
     qbpp: u32,
+    context: i16,
     neighbours: &Neighbours,
     sample: u16,
 )
+    requires context { context ≡ signed_number state.old.parameters neighbours.now }
     requires samples { AreSamples state.old.parameters.maxval neighbours.now }
     requires sample { sample ≤ state.old.parameters.maxval }
     requires regular { is_run neighbours.now ≡ false }
@@ -36,7 +38,7 @@ pub fn code_sample(
     ensures front { sink.new.front ≡ sink.old.front }
     ensures room { sink.new.room ≡ sink.old.room }
 {
-    let word = state.code_regular(neighbours, sample);
+    let word = state.code_regular_at(context, neighbours, sample);
     put_word(sink, qbpp, word);
 }
 

@@ -4,7 +4,7 @@ ghost use Rattle.std.specs.Prelude.{◌≡◌, ◌+◌, ◌*◌, ◌<◌, ◌≤
 use std::alloc::{AllocError, Global};
 use std::marker::Model;
 
-/// Room for two lines of a plane: the one that is coded, and the one above it.
+/// Room for two lines of a plane, the one that is coded and the one above it, and for the contexts of its samples.
 ///
 /// It is seen as the width of the lines that it has room for, in samples.
 #[derive(Drop)]
@@ -12,6 +12,8 @@ pub struct Lines {
     width: u16,
     pub(crate) above: Vec<u16>,
     pub(crate) line: Vec<u16>,
+    /// The contexts of a line's samples.
+    pub(crate) contexts: Vec<i16>,
 }
 
 impl Model for Lines {
@@ -21,7 +23,7 @@ impl Model for Lines {
 
     ghost view = { λ l. l.width };
 
-    ghost invariant = { λ l. (vec_len l.above ≡ l.width + 2) × (vec_len l.line ≡ l.width + 2) };
+    ghost invariant = { λ l. (vec_len l.above ≡ l.width + 2) × (vec_len l.line ≡ l.width + 2) × (vec_len l.contexts ≡ l.width) };
 }
 
 impl Lines {
@@ -32,7 +34,13 @@ impl Lines {
         let places = usize::from(width) + 2;
         let above = vec![in alloc; 0u16; places]?;
         let line = vec![in alloc; 0u16; places]?;
-        Ok(Lines { width, above, line })
+        let contexts = vec![in alloc; 0i16; usize::from(width)]?;
+        Ok(Lines {
+            width,
+            above,
+            line,
+            contexts,
+        })
     }
 
     /// How many samples a line may have.

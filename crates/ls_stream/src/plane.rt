@@ -1,7 +1,7 @@
 //! The scan of one component: its plane, coded and stuffed (T.87 Annex A).
 ghost use Rattle.std.specs.Prelude.{◌≡◌, ◌+◌, ◌*◌, ◌/◌, ◌<◌, ◌≤◌, ◌++◌, [], length, vec_len, vec_capacity};
 ghost use Rattle.ls_frame.specs.Picture.{components};
-ghost use Rattle.ls_frame.specs.Parameters.{qbpp_of, limit_of};
+ghost use Rattle.ls_frame.specs.Parameters.{limit_of};
 ghost use Rattle.ls_bits.specs.Room.{Fits};
 ghost use Rattle.ls_bits.specs.Stuffing.{stuff};
 ghost use Rattle.ls_coding.specs.States.{state_of};
@@ -15,18 +15,20 @@ use ls_bits::RoomSink;
 use ls_coding::State;
 use ls_frame::{Frame, Presets};
 
-/// Codes a component's plane, from a scan's start on; `above` and `line` are room for two lines.
+/// Codes a component's plane, from a scan's start on; `above`, `line` and `contexts` are room for what a row is coded by.
 fn code_plane(
     frame: &Frame,
     presets: &Presets,
     above: &mut Vec<u16>,
     line: &mut Vec<u16>,
+    contexts: &mut Vec<i16>,
     sink: &mut RoomSink,
     component: usize,
 )
     requires maxval { presets.now.maxval ≡ frame.now.maxval }
     requires above { frame.now.width + 2 ≤ vec_len above.old }
     requires line { frame.now.width + 2 ≤ vec_len line.old }
+    requires contexts { frame.now.width ≤ vec_len contexts.old }
     requires component { component < components frame.now.kind }
     requires empty { sink.old.bits ≡ [] }
     requires room { Fits (limit_of presets.now.maxval * (frame.now.width * frame.now.height)) sink.old.room }
@@ -36,6 +38,7 @@ fn code_plane(
     ensures room { sink.new.room ≡ sink.old.room }
     ensures above { vec_len above.new ≡ vec_len above.old }
     ensures line { vec_len line.new ≡ vec_len line.old }
+    ensures contexts { vec_len contexts.new ≡ vec_len contexts.old }
 {
     let width = usize::from(frame.width());
     let places = width + 2;
@@ -43,9 +46,10 @@ fn code_plane(
     code_rows(
         &mut state,
         sink,
-        presets.qbpp(),
+        presets,
         &mut above[..places],
         &mut line[..places],
+        &mut contexts[..width],
         frame.samples(),
         width,
         usize::from(frame.height()),
@@ -77,6 +81,7 @@ pub fn put_scan(
         presets,
         &mut lines.above,
         &mut lines.line,
+        &mut lines.contexts,
         &mut sink,
         component,
     );

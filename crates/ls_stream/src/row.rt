@@ -1,26 +1,29 @@
 //! A row of a plane, from left to right (T.87 Annex A).
-ghost use Rattle.std.specs.Prelude.{◌≡◌, ◌+◌, ◌-◌, ◌*◌, ◌<◌, ◌≤◌, ◌++◌, ℕ, false, not, List, length};
+ghost use Rattle.std.specs.Prelude.{◌≡◌, ◌+◌, ◌-◌, ◌*◌, ◌<◌, ◌≤◌, ◌++◌, ℕ, false, List, length};
 ghost use Rattle.ls_frame.specs.Parameters.{qbpp_of, limit_of};
 ghost use Rattle.ls_bits.specs.Room.{Fits};
-ghost use Rattle.ls_coding.specs.Contexts.{is_run};
 ghost use Rattle.ls_stream.specs.Planes.{Plane, Segment};
 ghost use Rattle.ls_stream.specs.Histories.{row_from};
 ghost use Rattle.ls_stream.specs.Coded.{all_from};
-ghost use Rattle.ls_stream.specs.LineBuffers.{near, AreLines, ArePadded, IsRunEnd};
+ghost use Rattle.ls_stream.specs.LineBuffers.{near, AreLines, ArePadded, AreContexts, IsRunEnd};
 
 use crate::events::{code_broken_run, code_run_to_end, code_sample};
 use ls_bits::RoomSink;
-use ls_coding::{Mode, Neighbours, State, mode_of};
+use ls_coding::{Neighbours, State, signed_context};
+use ls_frame::Presets;
 
-/// Codes the row whose line, and the line above, are these, each with one place more on the left and on the right.
+/// Codes the row whose line, and the line above, are these, each with one place more on the left and on the right. The
+/// contexts of its samples are known.
 pub fn code_row(
     state: &mut State,
     sink: &mut RoomSink,
     qbpp: u32,
     above: &[u16],
     line: &[u16],
+    contexts: &[i16],
     width: usize,
 )
+    requires contexts { AreContexts state.old.parameters width above.now line.now contexts.now }
     requires lines { ArePadded state.old.parameters.maxval width above.now line.now }
     requires narrow { width ≤ 65535 }
     requires whole { state.old.broken ≡ false }
@@ -37,7 +40,7 @@ pub fn code_row(
 {
     let mut column = 0;
     'segments: while column < width {
-        column = code_segment(state, sink, qbpp, above, line, width, column);
+        column = code_segment(state, sink, qbpp, above, line, contexts, width, column);
     }
 }
 
@@ -48,9 +51,11 @@ fn code_segment(
     qbpp: u32,
     above: &[u16],
     line: &[u16],
+    contexts: &[i16],
     width: usize,
     column: usize,
 ) -> usize
+    requires contexts { AreContexts state.old.parameters width above.now line.now contexts.now }
     requires lines { ArePadded state.old.parameters.maxval width above.now line.now }
     requires inside { column < width }
     requires narrow { width ≤ 65535 }
@@ -68,9 +73,10 @@ fn code_segment(
     ensures front { sink.new.front ≡ sink.old.front }
     ensures room { sink.new.room ≡ sink.old.room }
 {
-    let neighbours = near(above, line, column);
-    if is_regular(&neighbours) {
-        code_sample(state, sink, qbpp, &neighbours, line[column + 1]);
+    let context = contexts[column];
+    if context != 0 {
+        let neighbours = near(above, line, column);
+        code_sample(state, sink, qbpp, context, &neighbours, line[column + 1]);
         return column + 1;
     }
     let end = run_end(line, width, column);
@@ -84,13 +90,13 @@ fn code_segment(
     end + 1
 }
 
-/// Whether a sample with these neighbours is of regular mode.
-fn is_regular(neighbours: &Neighbours) -> bool
-    ensures { result ≡ not (is_run neighbours.now) }
+/// The contexts of a row's samples.
+pub fn find_contexts(presets: &Presets, above: &[u16], line: &[u16], contexts: &mut [i16])
+    requires { ArePadded presets.now.maxval (length contexts.old) above.now line.now }
+    ensures { AreContexts presets.now (length contexts.old) above.now line.now contexts.new }
 {
-    match mode_of(neighbours) {
-        Mode::Regular => true,
-        Mode::Run => false,
+    for column in 0..contexts.len() {
+        contexts[column] = signed_context(presets, &near(above, line, column));
     }
 }
 

@@ -1,24 +1,26 @@
 //! The rows of a plane, from the top (T.87 Annex A).
 ghost use Rattle.std.specs.Prelude.{◌≡◌, ◌+◌, ◌*◌, ◌^◌, ◌<◌, ◌≤◌, ◌++◌, ℕ, false, List, length, slice_index};
-ghost use Rattle.ls_frame.specs.Parameters.{qbpp_of, limit_of};
+ghost use Rattle.ls_frame.specs.Parameters.{limit_of};
 ghost use Rattle.ls_bits.specs.Room.{Fits};
 ghost use Rattle.ls_stream.specs.Planes.{Segment, rows_from};
 ghost use Rattle.ls_stream.specs.Coded.{all_from};
 ghost use Rattle.ls_stream.specs.Components.{component_plane};
 
 use crate::lines::fill_line;
-use crate::row::code_row;
+use crate::row::{code_row, find_contexts};
 use ls_bits::RoomSink;
 use ls_coding::State;
+use ls_frame::Presets;
 
 /// Codes the rows of one of `count` components, whose samples stand pixel by pixel; `above` and `line` are room for two
 /// lines.
 pub fn code_rows(
     state: &mut State,
     sink: &mut RoomSink,
-    qbpp: u32,
+    presets: &Presets,
     above: &mut [u16],
     line: &mut [u16],
+    contexts: &mut [i16],
     samples: &[u16],
     width: usize,
     height: usize,
@@ -34,7 +36,8 @@ pub fn code_rows(
     requires component { component < count }
     requires few { width * count < 2 ^ 32 }
     requires whole { state.old.broken ≡ false }
-    requires qbpp { qbpp ≡ qbpp_of state.old.parameters.maxval }
+    requires presets { state.old.parameters ≡ presets.now }
+    requires contexts { length contexts.old ≡ width }
     requires room { Fits (length sink.old.bits + limit_of state.old.parameters.maxval * (width * height)) sink.old.room }
     ensures rows { let plane = component_plane width count component samples.now in (more : List Segment)
         → all_from plane sink.new.bits state.new more
@@ -43,11 +46,13 @@ pub fn code_rows(
     ensures front { sink.new.front ≡ sink.old.front }
     ensures room { sink.new.room ≡ sink.old.room }
 {
+    let qbpp = presets.qbpp();
     clear(above);
     for row in 0..height {
         let pixels = row_of(samples, row, height, width * count);
         fill_line(line, above, pixels, width, count, component);
-        code_row(state, sink, qbpp, above, line, width);
+        find_contexts(presets, above, line, contexts);
+        code_row(state, sink, qbpp, above, line, contexts, width);
         above.copy_from_slice(line);
     }
 }

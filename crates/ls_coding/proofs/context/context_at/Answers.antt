@@ -1,35 +1,15 @@
-use Rattle.std.proofs.Common.{◌≡◌, pos, ap, ◌∙◌}
+use Rattle.std.proofs.Common.{pos, ap, sym, ◌∙◌}
 use Rattle.std.specs.Prelude.{unsigned_abs, int_lt}
-use mir.Syntax.{w32}
-use mir.Val.{to_z, of_z}
-use Rattle.ls_coding.specs.Contexts.{region, number_of, d1, d2, d3}
-use Rattle.ls_coding.proofs.SignedLemmas.{through}
-use Rattle.ls_coding.proofs.ContextLemmas.{number_is, negative_is}
+use Rattle.ls_coding.proofs.SignedLemmas.{through_16}
+use Rattle.ls_coding.proofs.ContextLemmas.{signed_place}
 use Rattle.ls_coding.proofs.context.context_at.Goals as goal
-
-q1 : (c : goal.After-unsigned_abs) → c.region_of-q1.result ≡ region c.args.presets (d1 c.args.neighbours.now)
-q1 c = c.region_of-q1.ensures.value ∙ ap (region c.args.presets) (through c.gradient.result c.gradient.type_inv ∙ c.gradient.ensures)
-
-q2 : (c : goal.After-unsigned_abs) → c.region_of-q2.result ≡ region c.args.presets (d2 c.args.neighbours.now)
-q2 c = c.region_of-q2.ensures.value ∙ ap (region c.args.presets) (through c.gradient-2.result c.gradient-2.type_inv ∙ c.gradient-2.ensures)
-
-q3 : (c : goal.After-unsigned_abs) → c.region_of-q3.result ≡ region c.args.presets (d3 c.args.neighbours.now)
-q3 c = c.region_of-q3.ensures.value ∙ ap (region c.args.presets) (through c.gradient-3.result c.gradient-3.type_inv ∙ c.gradient-3.ensures)
-
-sum : (c : goal.After-unsigned_abs) → to_z w32 (of_z w32 c.joined-number.result) ≡ number_of c.region_of-q1.result c.region_of-q2.result c.region_of-q3.result
-sum c =
-    through c.joined-number.result c.joined-number.type_inv
-    ∙ c.joined-number.ensures.value
-    ∙ ap (λ q. number_of q (to_z w32 (of_z w32 c.region_of-q2.result)) (to_z w32 (of_z w32 c.region_of-q3.result))) (through c.region_of-q1.result c.region_of-q1.type_inv)
-    ∙ ap (λ q. number_of c.region_of-q1.result q (to_z w32 (of_z w32 c.region_of-q3.result))) (through c.region_of-q2.result c.region_of-q2.type_inv)
-    ∙ ap (λ q. number_of c.region_of-q1.result c.region_of-q2.result q) (through c.region_of-q3.result c.region_of-q3.type_inv)
 
 pub returns-clause-number : goal.returns-clause-number
 returns-clause-number c =
-    number_is c.region_of-q1.result c.region_of-q2.result c.region_of-q3.result _ c.args.presets c.args.neighbours.now (q1 c) (q2 c) (q3 c)
-    (c.unsigned_abs.ensures.value ∙ ap unsigned_abs (sum c))
+    c.place_of.ensures.number ∙ ap unsigned_abs (through_16 c.signed_context.result c.signed_context.ensures.low c.signed_context.ensures.high ∙ c.signed_context.ensures.value)
+    ∙ sym (signed_place c.args.presets c.args.neighbours.now).0
 
 pub returns-clause-negative : goal.returns-clause-negative
 returns-clause-negative c =
-    negative_is c.region_of-q1.result c.region_of-q2.result c.region_of-q3.result _ c.args.presets c.args.neighbours.now (q1 c) (q2 c) (q3 c)
-    c.region_of-q2.ensures.region c.region_of-q3.ensures.region (ap (λ z. int_lt z (pos 0)) (sum c))
+    c.place_of.ensures.negative ∙ ap (λ z. int_lt z (pos 0)) (through_16 c.signed_context.result c.signed_context.ensures.low c.signed_context.ensures.high ∙ c.signed_context.ensures.value)
+    ∙ sym (signed_place c.args.presets c.args.neighbours.now).1

@@ -1,6 +1,5 @@
-use Rattle.std.proofs.Common.{[], refl, sym, ap, ◌∙◌}
+use Rattle.std.proofs.Common.{[], refl, ap, ◌∙◌}
 use Rattle.ls_frame.specs.Picture.{components}
-use Rattle.ls_frame.specs.Parameters.{Parameters, qbpp_of}
 use Rattle.ls_coding.specs.States.{Coding}
 use Rattle.ls_stream.proofs.CodedLemmas.{parameters_of, whole_of}
 use Rattle.ls_stream.proofs.FrameLemmas.{length_of, small_of, room_of, cost_of, bits_of}
@@ -29,10 +28,8 @@ code_rows-requires-clause-small c =
 pub code_rows-requires-clause-whole : goal.code_rows-requires-clause-whole
 code_rows-requires-clause-whole c = ap (λ (s : Coding). s.broken) c.new-state.ensures ∙ whole_of c.args.presets.now [] refl
 
-pub code_rows-requires-clause-qbpp : goal.code_rows-requires-clause-qbpp
-code_rows-requires-clause-qbpp c =
-    c.qbpp.ensures.value ∙ ap (λ (p : Parameters). qbpp_of p.maxval) (sym (parameters_of c.args.presets.now []))
-    ∙ ap (λ (s : Coding). qbpp_of s.parameters.maxval) (sym c.new-state.ensures)
+pub code_rows-requires-clause-presets : goal.code_rows-requires-clause-presets
+code_rows-requires-clause-presets c = ap (λ (s : Coding). s.parameters) c.new-state.ensures ∙ parameters_of c.args.presets.now []
 
 pub code_rows-requires-clause-room : goal.code_rows-requires-clause-room
 code_rows-requires-clause-room c =

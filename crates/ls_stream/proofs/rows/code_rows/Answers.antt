@@ -5,26 +5,35 @@ use Rattle.ls_bits.specs.Room.{Fits}
 use Rattle.ls_stream.specs.Planes.{Plane, Segment, at, row_segments, rows_from}
 use Rattle.ls_stream.specs.Coded.{all_from}
 use Rattle.ls_stream.specs.Components.{component_plane}
-use Rattle.ls_stream.specs.LineBuffers.{Holds, ArePadded}
+use Rattle.ls_stream.specs.LineBuffers.{Holds, ArePadded, AreContexts}
 use Rattle.ls_stream.proofs.ComponentLemmas.{sample_at, has_row}
-use Rattle.ls_stream.proofs.LineLemmas.{filled, filled_small, row_small, held_lines}
+use Rattle.ls_stream.proofs.LineLemmas.{filled, padded, held_lines}
 use Rattle.ls_stream.proofs.PlainRows.{row_from-start}
 use Rattle.ls_stream.proofs.PlainSegments.{rows_from-next}
 use Rattle.ls_stream.proofs.RowLemmas.{spent}
 use Rattle.ls_stream.proofs.rows.code_rows.Goals as goal
 
+pub find_contexts-requires : goal.find_contexts-requires
+find_contexts-requires c =
+    let contexts : c.args.width ≡ length c.loop-row.contexts = omega (arith, c.requires.contexts, c.loop-row.auto.contexts) in
+    subst (λ width. ArePadded c.args.presets.now.maxval width c.loop-row.above c.fill_line.new.line) contexts
+    (subst (λ (p : Parameters). ArePadded p.maxval c.args.width c.loop-row.above c.fill_line.new.line) c.requires.presets
+    (padded c.args.state.now.parameters.maxval c.args.width c.args.count c.args.component (c.loop-row.row * (c.args.width * c.args.count)) c.args.samples.now c.row_of-pixels.result.now _ _ c.requires.some
+    c.loop-row.invariant.above_length (omega (arith, c.fill_line.auto.line, c.loop-row.invariant.line_length)) c.loop-row.invariant.small c.row_of-pixels.ensures.len c.row_of-pixels.ensures.samples c.requires.small
+    c.fill_line.ensures.left c.fill_line.ensures.samples c.fill_line.ensures.right))
+
+pub code_row-requires-clause-contexts : goal.code_row-requires-clause-contexts
+code_row-requires-clause-contexts c =
+    let contexts : length c.loop-row.contexts ≡ c.args.width = omega (arith, c.requires.contexts, c.loop-row.auto.contexts) in
+    subst (λ width. AreContexts c.loop-row.state.parameters width c.loop-row.above c.fill_line.new.line c.find_contexts.new.contexts) contexts
+    (subst (λ (p : Parameters). AreContexts p (length c.loop-row.contexts) c.loop-row.above c.fill_line.new.line c.find_contexts.new.contexts) (sym (c.loop-row.invariant.parameters ∙ c.requires.presets)) c.find_contexts.ensures)
+
 pub code_row-requires-clause-lines : goal.code_row-requires-clause-lines
 code_row-requires-clause-lines c =
-    let maxval = c.args.state.now.parameters.maxval in
-    let line_length : length c.fill_line.new.line ≡ c.args.width + 2 = omega (arith, c.fill_line.auto.line, c.loop-row.invariant.line_length) in
-    let pixels = row_small maxval (c.args.width * c.args.count) (c.loop-row.row * (c.args.width * c.args.count)) c.args.samples.now c.row_of-pixels.result.now c.row_of-pixels.ensures.len c.row_of-pixels.ensures.samples c.requires.small in
-    subst (λ (q : Parameters). ArePadded q.maxval c.args.width c.loop-row.above c.fill_line.new.line) (sym c.loop-row.invariant.parameters) (record {
-      above_length = c.loop-row.invariant.above_length;
-      line_length = line_length;
-      above_small = c.loop-row.invariant.small;
-      line_small = filled_small maxval c.args.width c.args.count c.args.component c.loop-row.above c.fill_line.new.line c.row_of-pixels.result.now c.requires.some line_length c.loop-row.invariant.small pixels
-          c.fill_line.ensures.left c.fill_line.ensures.samples c.fill_line.ensures.right;
-    })
+    subst (λ (p : Parameters). ArePadded p.maxval c.args.width c.loop-row.above c.fill_line.new.line) (sym c.loop-row.invariant.parameters)
+    (padded c.args.state.now.parameters.maxval c.args.width c.args.count c.args.component (c.loop-row.row * (c.args.width * c.args.count)) c.args.samples.now c.row_of-pixels.result.now _ _ c.requires.some
+    c.loop-row.invariant.above_length (omega (arith, c.fill_line.auto.line, c.loop-row.invariant.line_length)) c.loop-row.invariant.small c.row_of-pixels.ensures.len c.row_of-pixels.ensures.samples c.requires.small
+    c.fill_line.ensures.left c.fill_line.ensures.samples c.fill_line.ensures.right)
 
 pub code_row-requires-clause-room : goal.code_row-requires-clause-room
 code_row-requires-clause-room c =
@@ -46,8 +55,8 @@ loop-row-preserved c =
     let maxval = c.args.state.now.parameters.maxval in
     let limit = limit_of maxval in
     let line_length : length c.fill_line.new.line ≡ c.args.width + 2 = omega (arith, c.fill_line.auto.line, c.loop-row.invariant.line_length) in
-    let pixels = row_small maxval (c.args.width * c.args.count) (row * (c.args.width * c.args.count)) samples c.row_of-pixels.result.now c.row_of-pixels.ensures.len c.row_of-pixels.ensures.samples c.requires.small in
-    let small = filled_small maxval c.args.width c.args.count c.args.component c.loop-row.above c.fill_line.new.line c.row_of-pixels.result.now c.requires.some line_length c.loop-row.invariant.small pixels
+    let pads = padded maxval c.args.width c.args.count c.args.component (row * (c.args.width * c.args.count)) samples c.row_of-pixels.result.now _ _ c.requires.some
+    c.loop-row.invariant.above_length line_length c.loop-row.invariant.small c.row_of-pixels.ensures.len c.row_of-pixels.ensures.samples c.requires.small
     c.fill_line.ensures.left c.fill_line.ensures.samples c.fill_line.ensures.right in
     let middle : (k : ℕ) → k < c.args.width → get_or c.fill_line.new.line (k + 1) 0 ≡ at plane row k =
     λ k h. c.fill_line.ensures.samples k h
@@ -66,7 +75,7 @@ loop-row-preserved c =
           ∙ ap (λ (xs : List Segment). all_from plane c.loop-row.sink.bits c.loop-row.state (xs ++ more)) (sym (rows_from-next plane c.args.height row inside))
           ∙ c.loop-row.invariant.rows more;
       held = λ k h. ap (λ xs. get_or xs k 0) c.copy_from_slice.ensures.after ∙ subst (λ i. Holds plane i c.fill_line.new.line) next held k h;
-      small = λ k. subst (λ xs. get_or xs k 0 ≤ maxval) (sym c.copy_from_slice.ensures.after) (small k);
+      small = λ k. subst (λ xs. get_or xs k 0 ≤ maxval) (sym c.copy_from_slice.ensures.after) (pads.line_small k);
       above_length = omega (arith, ap length c.copy_from_slice.ensures.after);
       line_length = line_length;
       cost =

@@ -9,19 +9,19 @@ use Rattle.ls_coding.proofs.counters.Counters.code.Goals as goal
 
 pub leans-leaning-requires-clause-low : goal.leans-leaning-requires-clause-low
 leans-leaning-requires-clause-low c =
-    mean_low _ _ (stats_at c.args.self.now.a c.args.self.now.b c.args.self.now.c c.args.self.now.n c.context_at-place.result.number)
-    (c.requires.sound.regular c.context_at-place.result.number c.context_at-place.ensures.within) (omega arith)
+    mean_low _ _ (stats_at c.args.self.now.a c.args.self.now.b c.args.self.now.c c.args.self.now.n c.args.place.number)
+    (c.requires.sound.regular c.args.place.number c.requires.within) (omega arith)
 
 pub leans-leaning-requires-clause-high : goal.leans-leaning-requires-clause-high
 leans-leaning-requires-clause-high c =
-    mean_high _ _ (stats_at c.args.self.now.a c.args.self.now.b c.args.self.now.c c.args.self.now.n c.context_at-place.result.number)
-    (c.requires.sound.regular c.context_at-place.result.number c.context_at-place.ensures.within) (omega arith)
+    mean_high _ _ (stats_at c.args.self.now.a c.args.self.now.b c.args.self.now.c c.args.self.now.n c.args.place.number)
+    (c.requires.sound.regular c.args.place.number c.requires.within) (omega arith)
 
 pub returns-clause-golomb : goal.returns-clause-golomb
 returns-clause-golomb c =
     rw (c.golomb_parameter-k.ensures, c.requires.limit)
-    (regular_code c.args.presets.reset c.args.presets.maxval (stats_at c.args.self.now.a c.args.self.now.b c.args.self.now.c c.args.self.now.n c.context_at-place.result.number) (omega arith) (omega arith)
-    (c.requires.sound.regular c.context_at-place.result.number c.context_at-place.ensures.within))
+    (regular_code c.args.presets.reset c.args.presets.maxval (stats_at c.args.self.now.a c.args.self.now.b c.args.self.now.c c.args.self.now.n c.args.place.number) (omega arith) (omega arith)
+    (c.requires.sound.regular c.args.place.number c.requires.within))
 
 pub returns-clause-value : goal.returns-clause-value
 returns-clause-value c =

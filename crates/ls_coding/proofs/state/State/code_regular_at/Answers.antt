@@ -1,4 +1,5 @@
-use Rattle.std.proofs.Common.{◌≡◌, ◌≤◌, length, refl, ap, subst, ◌∙◌}
+use Rattle.std.proofs.Common.{◌≡◌, ◌≤◌, ◌≤ℤ◌, pos, neg_ℤ, length, refl, sym, ap, subst, ◌∙◌}
+use Rattle.std.specs.Prelude.{unsigned_abs, int_lt}
 use Rattle.std.proofs.Math.ListN.{set}
 use Rattle.ls_frame.specs.Parameters.{Parameters, qbpp_of, limit_of}
 use Rattle.ls_bits.proofs.GolombLemmas.{length-code_word}
@@ -7,10 +8,11 @@ use Rattle.ls_coding.specs.Contexts.{context_of}
 use Rattle.ls_coding.specs.States.{Coding, place_of, regular_error_in, regular_word_in, after_regular}
 use Rattle.ls_coding.specs.Fields.{contexts_of}
 use Rattle.ls_coding.specs.Events.{golomb_bits}
+use Rattle.ls_coding.proofs.ContextLemmas.{signed_range, signed_place, context_through}
 use Rattle.ls_coding.proofs.EventLemmas.{word_of_regular, state_after_regular}
 use Rattle.ls_coding.proofs.StateLemmas.{alike}
 use Rattle.ls_coding.proofs.RegularLemmas.{word_in_view, step_in_view}
-use Rattle.ls_coding.proofs.state.State.code_regular.Goals as goal
+use Rattle.ls_coding.proofs.state.State.code_regular_at.Goals as goal
 
 pub returns-clause-word : goal.returns-clause-word
 returns-clause-word c =
@@ -42,3 +44,23 @@ returns-clause-events c events same = record {
   word_is = returns-clause-word c ∙ word_of_regular c.args.self.now c.args.neighbours.now c.args.sample events same;
   after_is = state_after_regular c.args.self.now _ c.args.neighbours.now c.args.sample c.requires.whole (returns-clause-state c) events same;
 }
+
+pub place_of-place-requires-clause-low : goal.place_of-place-requires-clause-low
+place_of-place-requires-clause-low c =
+    let range = signed_range c.args.self.now.parameters c.args.neighbours.now in
+    subst (λ z. neg_ℤ (pos 364) ≤ℤ z) (sym (context_through _ _ c.args.context c.requires.context)) range.0
+
+pub place_of-place-requires-clause-high : goal.place_of-place-requires-clause-high
+place_of-place-requires-clause-high c =
+    let range = signed_range c.args.self.now.parameters c.args.neighbours.now in
+    subst (λ z. z ≤ℤ pos 364) (sym (context_through _ _ c.args.context c.requires.context)) range.1
+
+pub code-requires-clause-number : goal.code-requires-clause-number
+code-requires-clause-number c =
+    c.place_of-place.ensures.number ∙ ap unsigned_abs (context_through _ _ c.args.context c.requires.context) ∙ sym (signed_place c.args.self.now.parameters c.args.neighbours.now).0
+    ∙ ap (λ (t : Coding). (context_of t.parameters c.args.neighbours.now).number) (sym c.self.view_is)
+
+pub code-requires-clause-negative : goal.code-requires-clause-negative
+code-requires-clause-negative c =
+    c.place_of-place.ensures.negative ∙ ap (λ z. int_lt z (pos 0)) (context_through _ _ c.args.context c.requires.context) ∙ sym (signed_place c.args.self.now.parameters c.args.neighbours.now).1
+    ∙ ap (λ (t : Coding). (context_of t.parameters c.args.neighbours.now).negative) (sym c.self.view_is)
