@@ -3,18 +3,20 @@
 //! - `ls_bench words [TIMES [WORDS]]`: code words, put into stuffed bytes and taken back (`words`).
 //! - `ls_bench events [TIMES [SIDE]]`: the samples of regular mode of a picture of SIDE lines, coded and accepted back
 //!   (`regular`).
+//! - `ls_bench frames TIMES FILM..`: the frames of films in Netpbm's binary forms, encoded whole (`frames`).
 //!
 //! What it prints to standard output is the same in each run; times go to standard error. `bench/` runs it beside its
 //! twins in C++.
 #![tactic(auto)]
 
 mod events;
+mod frames;
 mod picture;
 mod regular;
 mod words;
 
 use anyhow::{Context, Result, bail};
-use std::rt::{Clock, Env};
+use std::rt::{Clock, Env, Files};
 use std::time::Duration;
 use std::{env, io};
 
@@ -23,7 +25,7 @@ fn main(rt: HostRuntime) -> Result<()> {
 }
 
 /// Measures what the words behind the program's name ask for.
-fn run<R: Env + Clock + Print + Eprint + AllocGlobal>(rt: &R) -> Result<()> {
+fn run<R: Env + Files + Clock + Print + Eprint + AllocGlobal>(rt: &R) -> Result<()> {
     let mut asked = env::args(rt)?.skip(1);
     let Some(what) = asked.next() else {
         bail!("what is to be measured?");
@@ -38,6 +40,13 @@ fn run<R: Env + Clock + Print + Eprint + AllocGlobal>(rt: &R) -> Result<()> {
             let times = number(asked.next(), 1)?;
             let side = number(asked.next(), picture::USUAL_SIDE)?;
             regular::measure(rt, times, side)
+        }
+        "frames" => {
+            let times = number(asked.next(), 1)?;
+            for name in asked {
+                frames::measure(rt, times, &name)?;
+            }
+            Ok(())
         }
         other => bail!("{other} can't be measured"),
     }

@@ -1,0 +1,132 @@
+//! The frames of a film, encoded as codestreams into room that is there.
+ghost use Rattle.std.specs.Prelude.{◌≡◌, ◌≤◌, All};
+ghost use Rattle.ls_frame.specs.Parameters.{default_parameters};
+ghost use Rattle.ls_stream.specs.Layout.{bound};
+
+use crate::tell;
+use anyhow::{Context, Result, bail};
+use ls_frame::{Counted, Feed, Frame, Presets, next_frame};
+use ls_stream::{Lines, code_bound, encode_within};
+use std::alloc::{AllocError, Global};
+use std::fs::File;
+use std::io::BufReader;
+use std::rt::{Clock, Files};
+use std::time::{Duration, Instant};
+
+/// The most frames of a film.
+const MOST_FRAMES: u64 = 4_294_967_295;
+
+/// What encoding a film takes: how many bytes its codestreams have, each counted once, and how long it took.
+#[derive(Drop)]
+struct Encoding {
+    bytes: u64,
+    took: Duration,
+}
+
+/// Encodes each frame of a film so many times, and prints what it takes.
+pub fn measure<R: Files + Clock + Print + Eprint + AllocGlobal>(
+    rt: &R,
+    times: u32,
+    name: &str,
+) -> Result<()> {
+    let alloc = rt.alloc();
+    let opened = File::open(rt, name).context(format_args!("{name} can't be opened"))?;
+    let mut reader = Counted::new(BufReader::new(alloc, opened)?);
+    let frames = frames_of(alloc, &mut reader).context(format_args!("{name} is no film"))?;
+    let encoding = encode_all(rt, times, &frames)?;
+
+    let bytes = encoding.bytes;
+    println!(rt; "{name} {bytes}")?;
+    let samples = u64::from(times).saturating_mul(samples_of(&frames));
+    tell(rt, name, &encoding.took, samples, "a sample")?;
+    Ok(())
+}
+
+/// All frames of a film, from the first to the last.
+fn frames_of<R: Feed>(alloc: Global, reader: &mut R) -> Result<Vec<Frame>> {
+    let mut frames = Vec::new(alloc);
+    for _ in 0..MOST_FRAMES {
+        let Some(frame) = next_frame(alloc, reader)? else {
+            return Ok(frames);
+        };
+        frames.push(frame)?;
+    }
+    bail!("too many frames");
+}
+
+/// Encodes each frame so many times. What it takes memory for is there before the clock starts.
+fn encode_all<R: Clock + AllocGlobal>(rt: &R, times: u32, frames: &[Frame]) -> Result<Encoding> {
+    let mut lines = Lines::new(rt.alloc(), widest(frames))?;
+    let mut bytes = written_room(rt.alloc(), frames)?;
+    let mut encoding = Encoding {
+        bytes: 0,
+        took: Duration::ZERO,
+    };
+    for frame in frames {
+        let start = Instant::now(rt)?;
+        bytes = encode_times(times, frame, &mut lines, bytes)?;
+        encoding.took = encoding.took.saturating_add(start.elapsed(rt)?);
+        encoding.bytes = encoding.bytes.saturating_add(bytes.len() as u64);
+    }
+    Ok(encoding)
+}
+
+/// How many samples the frames have. In colour a pixel has three.
+fn samples_of(frames: &[Frame]) -> u64 {
+    frames.iter().fold(0, |samples: u64, frame| {
+        samples.saturating_add(frame.samples().len() as u64)
+    })
+}
+
+/// The greatest width of the frames.
+fn widest(frames: &[Frame]) -> u16
+    ensures { All (λ f. f.width ≤ result) frames.now }
+{
+    let mut widest = 0;
+    for frame in frames {
+        widest = frame.width().max(widest);
+    }
+    widest
+}
+
+/// No bytes, with room for the codestream of any of the frames. All of it has been written to.
+fn written_room(alloc: Global, frames: &[Frame]) -> Result<Vec<u8>, AllocError> {
+    let most = frames.iter().map(room_for).max().unwrap_or(0);
+    let mut bytes = vec![in alloc; 1u8; most]?;
+    bytes.clear();
+    Ok(bytes)
+}
+
+/// The codestream of a frame, so many times over in the place of the bytes that are there.
+fn encode_times(
+    times: u32,
+    frame: &Frame,
+    lines: &mut Lines,
+    mut bytes: Vec<u8>,
+) -> Result<Vec<u8>, AllocError>
+    requires width { frame.now.width ≤ lines.old }
+    ensures lines { lines.new ≡ lines.old }
+{
+    for _ in 0..times {
+        bytes = encode(frame, lines, bytes)?;
+    }
+    Ok(bytes)
+}
+
+/// The codestream of a frame in the place of the bytes that are there. Takes memory only where there is no room for it.
+fn encode(frame: &Frame, lines: &mut Lines, mut bytes: Vec<u8>) -> Result<Vec<u8>, AllocError>
+    requires width { frame.now.width ≤ lines.old }
+    ensures lines { lines.new ≡ lines.old }
+{
+    bytes.clear();
+    bytes.reserve(room_for(frame))?;
+    let presets = Presets::default_of(frame.maxval());
+    Ok(encode_within(frame, &presets, lines, bytes))
+}
+
+/// The most bytes that a frame's codestream with the default parameters may have.
+fn room_for(frame: &Frame) -> usize
+    ensures { result ≡ bound frame.now (default_parameters frame.now.maxval) }
+{
+    code_bound(frame, &Presets::default_of(frame.maxval())) as usize
+}
