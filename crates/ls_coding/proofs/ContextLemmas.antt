@@ -106,6 +106,9 @@ pub region_range : (p : Parameters) (d : ℤ) → IsRegion (region p d)
 region_range p d =
     region_by _ _ _ far_below (region_by _ _ _ well_below (region_by _ _ _ below (region_by _ _ _ just_below (region_by _ _ _ level (region_by _ _ _ just_above (region_by _ _ _ above (region_by _ _ _ well_above (far_above))))))))
 
+pub region_through : (z : ℤ) → IsRegion z → to_z w16 (of_z w16 z) ≡ z
+region_through z r = through_16 z (omega (arith, ints, r.low)) (omega (arith, ints, r.high))
+
 pub signed_range : (p : Parameters) (n : Neighbours) → (neg_ℤ (pos 364) ≤ℤ signed_number p n) × (signed_number p n ≤ℤ pos 364)
 unfolding signed_number
 signed_range p n =

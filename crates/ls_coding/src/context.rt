@@ -24,10 +24,10 @@ pub fn signed_context(presets: &Presets, neighbours: &Neighbours) -> i16
     ensures high { result ≤ℤ pos 364 }
 {
     let presets = *presets;
-    let q1 = region_of(presets, gradient(neighbours.d, neighbours.b));
-    let q2 = region_of(presets, gradient(neighbours.b, neighbours.c));
-    let q3 = region_of(presets, gradient(neighbours.c, neighbours.a));
-    joined(q1, q2, q3) as i16
+    let q1 = region_of(presets, neighbours.d, neighbours.b);
+    let q2 = region_of(presets, neighbours.b, neighbours.c);
+    let q3 = region_of(presets, neighbours.c, neighbours.a);
+    joined(q1, q2, q3)
 }
 
 /// The context that such a number stands for.
@@ -55,7 +55,7 @@ pub fn context_at(presets: Presets, neighbours: &Neighbours) -> Place
 }
 
 /// Three regions as one number.
-fn joined(q1: i32, q2: i32, q3: i32) -> i32
+fn joined(q1: i16, q2: i16, q3: i16) -> i16
     requires first { IsRegion q1 }
     requires second { IsRegion q2 }
     requires third { IsRegion q3 }
@@ -66,34 +66,25 @@ fn joined(q1: i32, q2: i32, q3: i32) -> i32
     81 * q1 + 9 * q2 + q3
 }
 
-/// How much one sample is over another.
-fn gradient(over: u16, other: u16) -> i32
-    ensures { result ≡ pos over -ℤ pos other }
-{
-    i32::from(over) - i32::from(other)
-}
-
-/// The region of a gradient, -4 to 4 (A.3.3).
-fn region_of(presets: Presets, gradient: i32) -> i32
-    requires low { neg_ℤ (pos 65535) ≤ℤ gradient }
-    requires high { gradient ≤ℤ pos 65535 }
-    ensures value { result ≡ region presets gradient }
+/// The region of the gradient from one sample to another that is so much over it, -4 to 4 (A.3.3).
+fn region_of(presets: Presets, over: u16, other: u16) -> i16
+    ensures value { result ≡ region presets (pos over -ℤ pos other) }
     ensures region { IsRegion result }
-    ensures zero { is_zero result ≡ is_zero gradient }
+    ensures zero { is_zero result ≡ is_zero (pos over -ℤ pos other) }
 {
-    let region = region_of_size(presets, gradient.unsigned_abs());
-    if gradient < 0 { -region } else { region }
+    let region = region_of_size(presets, over.abs_diff(other));
+    if over < other { -region } else { region }
 }
 
 /// The region of a gradient that isn't negative: how many of the bounds it reaches.
-fn region_of_size(presets: Presets, size: u32) -> i32
+fn region_of_size(presets: Presets, size: u16) -> i16
     ensures value { result ≡ pos (size_region presets size) }
     ensures none { size ≡ 0 → result ≡ pos 0 }
     ensures some { 0 < size → pos 1 ≤ℤ result }
 {
-    let reached = u32::from(size > 0)
-        + u32::from(size >= u32::from(presets.t1()))
-        + u32::from(size >= u32::from(presets.t2()))
-        + u32::from(size >= u32::from(presets.t3()));
-    reached as i32
+    let reached = u16::from(size > 0)
+        + u16::from(size >= presets.t1())
+        + u16::from(size >= presets.t2())
+        + u16::from(size >= presets.t3());
+    reached as i16
 }

@@ -70,9 +70,23 @@ pub(crate) fn fill_line(
     ensures samples { (k : ℕ) → k < width → slice_index line.new (k + 1) ≡ slice_index row.now (k * count + component) }
     ensures right { slice_index line.new (width + 1) ≡ slice_index line.new width }
 {
+    copy_component(line, row, width, count, component);
     line[0] = above[1];
+    line[width + 1] = line[width];
+}
+
+/// Copies the samples of one of `count` components, which stand pixel by pixel, behind the first place of a line.
+fn copy_component(line: &mut [u16], row: &[u16], width: usize, count: usize, component: usize)
+    requires line { length line.old ≡ width + 2 }
+    requires row { length row.now ≡ width * count }
+    requires component { component < count }
+    ensures { (k : ℕ) → k < width → slice_index line.new (k + 1) ≡ slice_index row.now (k * count + component) }
+{
+    if count == 1 {
+        line[1..width + 1].copy_from_slice(row);
+        return;
+    }
     for column in 0..width {
         line[column + 1] = row[column * count + component];
     }
-    line[width + 1] = line[width];
 }

@@ -1,5 +1,5 @@
 //! A row of a plane, from left to right (T.87 Annex A).
-ghost use Rattle.std.specs.Prelude.{◌≡◌, ◌+◌, ◌-◌, ◌*◌, ◌<◌, ◌≤◌, ◌++◌, ℕ, false, List, length};
+ghost use Rattle.std.specs.Prelude.{◌≡◌, ◌+◌, ◌-◌, ◌*◌, ◌<◌, ◌≤◌, ◌++◌, ℕ, false, IsTrue, List, length, slice_index};
 ghost use Rattle.ls_frame.specs.Parameters.{qbpp_of, limit_of};
 ghost use Rattle.ls_bits.specs.Room.{Fits};
 ghost use Rattle.ls_stream.specs.Planes.{Plane, Segment};
@@ -122,8 +122,23 @@ fn run_end(line: &[u16], width: usize, column: usize) -> usize
 {
     let value = line[column];
     let mut end = column;
+    'blocks: while end + 8 <= width && are_eight(line, end + 1, value) {
+        end += 8;
+    }
     'samples: while end < width && line[end + 1] == value {
         end += 1;
     }
     end
+}
+
+/// Whether the eight samples from a place on have this value.
+fn are_eight(line: &[u16], place: usize, value: u16) -> bool
+    requires { place + 8 ≤ length line.now }
+    ensures { IsTrue result → (k : ℕ) → k < 8 → slice_index line.now (place + k) ≡ value }
+{
+    let mut same = true;
+    for k in 0..8 {
+        same &= line[place + k] == value;
+    }
+    same
 }
