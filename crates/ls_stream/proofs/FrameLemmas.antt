@@ -12,7 +12,8 @@ use Rattle.ls_bits.specs.Room.{Fits}
 use Rattle.ls_coding.specs.States.{Coding, state_of}
 use Rattle.ls_stream.specs.Planes.{Plane, rows_from, segments, plane_bits}
 use Rattle.ls_stream.specs.Coded.{bits_from, all_from}
-use Rattle.ls_stream.specs.Components.{component_of, component_plane}
+use Rattle.ls_stream.specs.declared.shape.Shape.{Shape}
+use Rattle.ls_stream.specs.Components.{component_of, component_plane, IsShapeOf}
 use Rattle.ls_stream.specs.Grammar.{plane_of}
 use Rattle.ls_stream.proofs.CodedLemmas.{plane_from, parameters_of}
 
@@ -58,65 +59,56 @@ all_rows p f frame component bits s e =
     ∙ ap (λ xs. bits_from (plane_of f component) xs (state_of p [])) (append-nil (rows_from (plane_of f component) f.height 0) ∙ sym (plane_rows f frame component))
     ∙ sym (plane_from p (plane_of f component))
 
--- ---- the same, of what a frame's accessors answer
+-- ---- the same, of a frame's shape and its samples
 
--- a width, a height, a count of components and samples are a frame's
-pub record AreOf (f : Picture) (width height count : ℕ) (samples : List ℕ) : Type 0 where
-  pub frame : IsFrame f
-  pub width_is : width ≡ f.width
-  pub height_is : height ≡ f.height
-  pub count_is : count ≡ components f.kind
-  pub samples_are : samples ≡ f.samples
-
-pub length_of : (f : Picture) (width height count : ℕ) (samples : List ℕ) → AreOf f width height count samples → length samples ≡ height * (width * count)
-length_of f width height count samples are =
+pub length_of : (f : Picture) (shape : Shape) (samples : List ℕ) → IsShapeOf f shape → samples ≡ f.samples → length samples ≡ shape.height * (shape.width * shape.count)
+length_of f shape samples is same =
     let turned : f.width * f.height * components f.kind ≡ f.height * (f.width * components f.kind) = omega arith in
-    ap length are.samples_are ∙ are.frame.count ∙ turned
-    ∙ ap (λ h. h * (f.width * components f.kind)) (sym are.height_is)
-    ∙ ap (λ w. height * (w * components f.kind)) (sym are.width_is)
-    ∙ ap (λ n. height * (width * n)) (sym are.count_is)
+    ap length same ∙ is.frame.count ∙ turned
+    ∙ ap (λ h. h * (f.width * components f.kind)) (sym is.height)
+    ∙ ap (λ w. shape.height * (w * components f.kind)) (sym is.width)
+    ∙ ap (λ n. shape.height * (shape.width * n)) (sym is.count)
 
-pub small_of : (f : Picture) (width height count : ℕ) (samples : List ℕ) (p : Parameters) (s : Coding) → AreOf f width height count samples → s ≡ state_of p [] → p.maxval ≡ f.maxval
-    → (k : ℕ) → get_or samples k 0 ≤ s.parameters.maxval
-small_of f width height count samples p s are e same k =
-    omega (arith, samples_small f are.frame k, ap (λ xs. get_or xs k 0) are.samples_are, ap (λ (t : Coding). t.parameters.maxval) e, ap (λ (q : Parameters). q.maxval) (parameters_of p []))
+pub small_of : (f : Picture) (samples : List ℕ) (p : Parameters) (s : Coding) → IsFrame f → samples ≡ f.samples → s ≡ state_of p [] → p.maxval ≡ f.maxval → (k : ℕ) → get_or samples k 0 ≤ s.parameters.maxval
+small_of f samples p s frame same e maxval k =
+    omega (arith, samples_small f frame k, ap (λ xs. get_or xs k 0) same, ap (λ (t : Coding). t.parameters.maxval) e, ap (λ (q : Parameters). q.maxval) (parameters_of p []))
 
 -- the most bits of a plane
 abbrev pub most : ℕ → ℕ → ℕ → ℕ
 most maxval width height = limit_of maxval * (width * height)
 
-pub most_of : (f : Picture) (width height count : ℕ) (samples : List ℕ) (p : Parameters) (s : Coding) → AreOf f width height count samples → s ≡ state_of p []
-    → most s.parameters.maxval width height ≡ most p.maxval f.width f.height
-most_of f width height count samples p s are e =
-    ap (λ (t : Coding). most t.parameters.maxval width height) e
-    ∙ ap (λ (q : Parameters). most q.maxval width height) (parameters_of p [])
-    ∙ ap (λ w. most p.maxval w height) are.width_is ∙ ap (most p.maxval f.width) are.height_is
+most_of : (f : Picture) (shape : Shape) (p : Parameters) (s : Coding) → IsShapeOf f shape → s ≡ state_of p [] → most s.parameters.maxval shape.width shape.height ≡ most p.maxval f.width f.height
+most_of f shape p s is e =
+    ap (λ (t : Coding). most t.parameters.maxval shape.width shape.height) e
+    ∙ ap (λ (q : Parameters). most q.maxval shape.width shape.height) (parameters_of p [])
+    ∙ ap (λ w. most p.maxval w shape.height) is.width ∙ ap (most p.maxval f.width) is.height
 
-pub room_of : (f : Picture) (width height count : ℕ) (samples : List ℕ) (p : Parameters) (s : Coding) (bits : List Bool) (room : ℕ) → AreOf f width height count samples → s ≡ state_of p []
-    → bits ≡ [] → Fits (most p.maxval f.width f.height) room → Fits (length bits + most s.parameters.maxval width height) room
-room_of f width height count samples p s bits room are e none fits =
+pub room_of : (f : Picture) (shape : Shape) (p : Parameters) (s : Coding) (bits : List Bool) (room : ℕ) → IsShapeOf f shape → s ≡ state_of p []
+    → bits ≡ [] → Fits (most p.maxval f.width f.height) room → Fits (length bits + most s.parameters.maxval shape.width shape.height) room
+room_of f shape p s bits room is e none fits =
     let nothing : length bits ≡ 0 = ap length none in
-    let same : most p.maxval f.width f.height ≡ length bits + most s.parameters.maxval width height = omega (arith, most_of f width height count samples p s are e) in
+    let same : most p.maxval f.width f.height ≡ length bits + most s.parameters.maxval shape.width shape.height = omega (arith, most_of f shape p s is e) in
     subst (λ n. Fits n room) same fits
 
-pub cost_of : (f : Picture) (width height count : ℕ) (samples : List ℕ) (p : Parameters) (s : Coding) (bits new : List Bool) → AreOf f width height count samples → s ≡ state_of p []
-    → bits ≡ [] → length new ≤ length bits + most s.parameters.maxval width height → length new ≤ most p.maxval f.width f.height
-cost_of f width height count samples p s bits new are e none cost = omega (arith, most_of f width height count samples p s are e, ap length none)
+pub cost_of : (f : Picture) (shape : Shape) (p : Parameters) (s : Coding) (bits new : List Bool) → IsShapeOf f shape → s ≡ state_of p []
+    → bits ≡ [] → length new ≤ length bits + most s.parameters.maxval shape.width shape.height → length new ≤ most p.maxval f.width f.height
+cost_of f shape p s bits new is e none cost = omega (arith, most_of f shape p s is e, ap length none)
 
-pub bits_of : (f : Picture) (width height count : ℕ) (samples : List ℕ) (p : Parameters) (s after : Coding) (component : ℕ) (bits new : List Bool) → AreOf f width height count samples
+pub bits_of : (f : Picture) (shape : Shape) (samples : List ℕ) (p : Parameters) (s after : Coding) (component : ℕ) (bits new : List Bool) → IsShapeOf f shape → samples ≡ f.samples
     → s ≡ state_of p [] → bits ≡ []
-    → all_from (component_plane width count component samples) new after [] ≡ all_from (component_plane width count component samples) bits s (rows_from (component_plane width count component samples) height 0 ++ [])
+    → all_from (component_plane shape.width shape.count component samples) new after []
+    ≡ all_from (component_plane shape.width shape.count component samples) bits s (rows_from (component_plane shape.width shape.count component samples) shape.height 0 ++ [])
     → new ≡ plane_bits p (plane_of f component)
-bits_of f width height count samples p s after component bits new are e none rows =
-    let plane : Plane = component_plane width count component samples in
+bits_of f shape samples p s after component bits new is samples_are e none rows =
+    let plane : Plane = component_plane shape.width shape.count component samples in
     let same : plane ≡ plane_of f component =
-    ap (λ w. component_plane w count component samples) are.width_is ∙ ap (λ n. component_plane f.width n component samples) are.count_is
-    ∙ ap (component_plane f.width (components f.kind) component) are.samples_are in
-    all_rows p f are.frame component new after
+    ap (λ w. component_plane w shape.count component samples) is.width ∙ ap (λ n. component_plane f.width n component samples) is.count
+    ∙ ap (component_plane f.width (components f.kind) component) samples_are in
+    all_rows p f is.frame component new after
     (subst (λ (q : Plane). all_from q new after [] ≡ all_from q [] (state_of p []) (rows_from q f.height 0 ++ [])) same
-    (rows ∙ ap (λ (x : List Bool). all_from plane x s (rows_from plane height 0 ++ [])) none
-    ∙ ap (λ (t : Coding). all_from plane [] t (rows_from plane height 0 ++ [])) e
-    ∙ ap (λ h. all_from plane [] (state_of p []) (rows_from plane h 0 ++ [])) are.height_is))
+    (rows ∙ ap (λ (x : List Bool). all_from plane x s (rows_from plane shape.height 0 ++ [])) none
+    ∙ ap (λ (t : Coding). all_from plane [] t (rows_from plane shape.height 0 ++ [])) e
+    ∙ ap (λ h. all_from plane [] (state_of p []) (rows_from plane h 0 ++ [])) is.height))
 
 -- ---- planes
 

@@ -9,9 +9,10 @@
 //! let other = encode_with(alloc, &frame, &presets)?;
 //! ```
 //!
-//! In reading order: `encoder` (frames), `segments` and `marker` (all that isn't data), `plane` (a scan's data), `rows`
-//! (the rows of a plane), `lines` (the two lines that a row is coded by), `row` (a row, from left to right), `events` (one
-//! event, as bits), `laws` (what follows from the definitions alone). For the tests `plain` computes a plane's bits plainly.
+//! In reading order: `encoder` (frames), `segments` and `marker` (all that isn't data), `plane` (a scan's data), `shape`
+//! (where a frame's samples stand), `rows` (the rows of a plane), `lines` (what a row is coded by), `row` (a row, from left
+//! to right), `events` (one event, as bits), `laws` (what follows from the definitions alone). For the tests `plain`
+//! computes a plane's bits plainly.
 #![tactic(auto)]
 
 pub mod encoder;
@@ -25,6 +26,7 @@ mod plane;
 mod row;
 mod rows;
 mod segments;
+mod shape;
 #[cfg(test)]
 mod testing;
 

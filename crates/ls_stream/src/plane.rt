@@ -11,6 +11,7 @@ ghost use Rattle.ls_stream.specs.Layout.{scan_bound};
 
 use crate::lines::Lines;
 use crate::rows::code_rows;
+use crate::shape::shape_of;
 use ls_bits::RoomSink;
 use ls_coding::State;
 use ls_frame::{Frame, Presets};
@@ -40,8 +41,8 @@ fn code_plane(
     ensures line { vec_len line.new ≡ vec_len line.old }
     ensures contexts { vec_len contexts.new ≡ vec_len contexts.old }
 {
-    let width = usize::from(frame.width());
-    let places = width + 2;
+    let shape = shape_of(frame);
+    let places = shape.width + 2;
     let mut state = State::new(presets);
     code_rows(
         &mut state,
@@ -49,11 +50,9 @@ fn code_plane(
         presets,
         &mut above[..places],
         &mut line[..places],
-        &mut contexts[..width],
+        &mut contexts[..shape.width],
         frame.samples(),
-        width,
-        usize::from(frame.height()),
-        usize::from(frame.kind().components()),
+        shape,
         component,
     );
 }

@@ -8,12 +8,12 @@ ghost use Rattle.ls_stream.specs.Components.{component_plane};
 
 use crate::lines::fill_line;
 use crate::row::{code_row, find_contexts};
+use crate::shape::Shape;
 use ls_bits::RoomSink;
 use ls_coding::State;
 use ls_frame::Presets;
 
-/// Codes the rows of one of `count` components, whose samples stand pixel by pixel; `above` and `line` are room for two
-/// lines.
+/// Codes the rows of one component; `above`, `line` and `contexts` are room for what a row is coded by.
 pub fn code_rows(
     state: &mut State,
     sink: &mut RoomSink,
@@ -22,37 +22,35 @@ pub fn code_rows(
     line: &mut [u16],
     contexts: &mut [i16],
     samples: &[u16],
-    width: usize,
-    height: usize,
-    count: usize,
+    shape: Shape,
     component: usize,
 )
-    requires above { length above.old ≡ width + 2 }
-    requires line { length line.old ≡ width + 2 }
-    requires some { 1 ≤ width }
-    requires narrow { width ≤ 65535 }
-    requires samples { length samples.now ≡ height * (width * count) }
+    requires above { length above.old ≡ shape.width + 2 }
+    requires line { length line.old ≡ shape.width + 2 }
+    requires some { 1 ≤ shape.width }
+    requires narrow { shape.width ≤ 65535 }
+    requires samples { length samples.now ≡ shape.height * (shape.width * shape.count) }
     requires small { (k : ℕ) → slice_index samples.now k ≤ state.old.parameters.maxval }
-    requires component { component < count }
-    requires few { width * count < 2 ^ 32 }
+    requires component { component < shape.count }
+    requires few { shape.width * shape.count < 2 ^ 32 }
     requires whole { state.old.broken ≡ false }
     requires presets { state.old.parameters ≡ presets.now }
-    requires contexts { length contexts.old ≡ width }
-    requires room { Fits (length sink.old.bits + limit_of state.old.parameters.maxval * (width * height)) sink.old.room }
-    ensures rows { let plane = component_plane width count component samples.now in (more : List Segment)
+    requires contexts { length contexts.old ≡ shape.width }
+    requires room { Fits (length sink.old.bits + limit_of state.old.parameters.maxval * (shape.width * shape.height)) sink.old.room }
+    ensures rows { let plane = component_plane shape.width shape.count component samples.now in (more : List Segment)
         → all_from plane sink.new.bits state.new more
-        ≡ all_from plane sink.old.bits state.old (rows_from plane height 0 ++ more) }
-    ensures cost { length sink.new.bits ≤ length sink.old.bits + limit_of state.old.parameters.maxval * (width * height) }
+        ≡ all_from plane sink.old.bits state.old (rows_from plane shape.height 0 ++ more) }
+    ensures cost { length sink.new.bits ≤ length sink.old.bits + limit_of state.old.parameters.maxval * (shape.width * shape.height) }
     ensures front { sink.new.front ≡ sink.old.front }
     ensures room { sink.new.room ≡ sink.old.room }
 {
     let qbpp = presets.qbpp();
     clear(above);
-    for row in 0..height {
-        let pixels = row_of(samples, row, height, width * count);
-        fill_line(line, above, pixels, width, count, component);
+    for row in 0..shape.height {
+        let pixels = row_of(samples, row, shape.height, shape.width * shape.count);
+        fill_line(line, above, pixels, shape.width, shape.count, component);
         find_contexts(presets, above, line, contexts);
-        code_row(state, sink, qbpp, above, line, contexts, width);
+        code_row(state, sink, qbpp, above, line, contexts, shape.width);
         above.copy_from_slice(line);
     }
 }

@@ -1,29 +1,14 @@
 use Rattle.std.proofs.Common.{[], refl, ap, ◌∙◌}
-use Rattle.ls_frame.specs.Picture.{components}
 use Rattle.ls_coding.specs.States.{Coding}
 use Rattle.ls_stream.proofs.CodedLemmas.{parameters_of, whole_of}
 use Rattle.ls_stream.proofs.FrameLemmas.{length_of, small_of, room_of, cost_of, bits_of}
 use Rattle.ls_stream.proofs.plane.code_plane.Goals as goal
 
 pub code_rows-requires-clause-samples : goal.code_rows-requires-clause-samples
-code_rows-requires-clause-samples c =
-    length_of c.args.frame.now _ _ _ _ (record {
-      frame = c.samples.ensures.lawful;
-      width_is = c.from-width.ensures ∙ c.width.ensures.value;
-      height_is = c.from.ensures ∙ c.height.ensures.value;
-      count_is = c.from-2.ensures ∙ c.components.ensures ∙ ap components c.kind.ensures.value;
-      samples_are = c.samples.ensures.value;
-    })
+code_rows-requires-clause-samples c = length_of c.args.frame.now c.shape_of-shape.result _ c.shape_of-shape.ensures c.samples.ensures.value
 
 pub code_rows-requires-clause-small : goal.code_rows-requires-clause-small
-code_rows-requires-clause-small c =
-    small_of c.args.frame.now _ _ _ _ c.args.presets.now _ (record {
-      frame = c.samples.ensures.lawful;
-      width_is = c.from-width.ensures ∙ c.width.ensures.value;
-      height_is = c.from.ensures ∙ c.height.ensures.value;
-      count_is = c.from-2.ensures ∙ c.components.ensures ∙ ap components c.kind.ensures.value;
-      samples_are = c.samples.ensures.value;
-    }) c.new-state.ensures c.requires.maxval
+code_rows-requires-clause-small c = small_of c.args.frame.now _ c.args.presets.now _ c.samples.ensures.lawful c.samples.ensures.value c.new-state.ensures c.requires.maxval
 
 pub code_rows-requires-clause-whole : goal.code_rows-requires-clause-whole
 code_rows-requires-clause-whole c = ap (λ (s : Coding). s.broken) c.new-state.ensures ∙ whole_of c.args.presets.now [] refl
@@ -33,30 +18,12 @@ code_rows-requires-clause-presets c = ap (λ (s : Coding). s.parameters) c.new-s
 
 pub code_rows-requires-clause-room : goal.code_rows-requires-clause-room
 code_rows-requires-clause-room c =
-    room_of c.args.frame.now _ _ _ _ c.args.presets.now _ _ _ (record {
-      frame = c.samples.ensures.lawful;
-      width_is = c.from-width.ensures ∙ c.width.ensures.value;
-      height_is = c.from.ensures ∙ c.height.ensures.value;
-      count_is = c.from-2.ensures ∙ c.components.ensures ∙ ap components c.kind.ensures.value;
-      samples_are = c.samples.ensures.value;
-    }) c.new-state.ensures c.requires.empty c.requires.room
+    room_of c.args.frame.now c.shape_of-shape.result c.args.presets.now _ _ _ c.shape_of-shape.ensures c.new-state.ensures c.requires.empty c.requires.room
 
 pub returns-clause-bits : goal.returns-clause-bits
 returns-clause-bits c =
-    bits_of c.args.frame.now _ _ _ _ c.args.presets.now _ _ c.args.component _ _ (record {
-      frame = c.samples.ensures.lawful;
-      width_is = c.from-width.ensures ∙ c.width.ensures.value;
-      height_is = c.from.ensures ∙ c.height.ensures.value;
-      count_is = c.from-2.ensures ∙ c.components.ensures ∙ ap components c.kind.ensures.value;
-      samples_are = c.samples.ensures.value;
-    }) c.new-state.ensures c.requires.empty (c.code_rows.ensures.rows [])
+    bits_of c.args.frame.now c.shape_of-shape.result _ c.args.presets.now _ _ c.args.component _ _ c.shape_of-shape.ensures c.samples.ensures.value c.new-state.ensures c.requires.empty (c.code_rows.ensures.rows [])
 
 pub returns-clause-cost : goal.returns-clause-cost
 returns-clause-cost c =
-    cost_of c.args.frame.now _ _ _ _ c.args.presets.now _ _ _ (record {
-      frame = c.samples.ensures.lawful;
-      width_is = c.from-width.ensures ∙ c.width.ensures.value;
-      height_is = c.from.ensures ∙ c.height.ensures.value;
-      count_is = c.from-2.ensures ∙ c.components.ensures ∙ ap components c.kind.ensures.value;
-      samples_are = c.samples.ensures.value;
-    }) c.new-state.ensures c.requires.empty c.code_rows.ensures.cost
+    cost_of c.args.frame.now c.shape_of-shape.result c.args.presets.now _ _ _ c.shape_of-shape.ensures c.new-state.ensures c.requires.empty c.code_rows.ensures.cost

@@ -15,74 +15,74 @@ use Rattle.ls_stream.proofs.rows.code_rows.Goals as goal
 
 pub find_contexts-requires : goal.find_contexts-requires
 find_contexts-requires c =
-    let contexts : c.args.width ≡ length c.loop-row.contexts = omega (arith, c.requires.contexts, c.loop-row.auto.contexts) in
+    let contexts : c.args.shape.width ≡ length c.loop-row.contexts = omega (arith, c.requires.contexts, c.loop-row.auto.contexts) in
     subst (λ width. ArePadded c.args.presets.now.maxval width c.loop-row.above c.fill_line.new.line) contexts
-    (subst (λ (p : Parameters). ArePadded p.maxval c.args.width c.loop-row.above c.fill_line.new.line) c.requires.presets
-    (padded c.args.state.now.parameters.maxval c.args.width c.args.count c.args.component (c.loop-row.row * (c.args.width * c.args.count)) c.args.samples.now c.row_of-pixels.result.now _ _ c.requires.some
+    (subst (λ (p : Parameters). ArePadded p.maxval c.args.shape.width c.loop-row.above c.fill_line.new.line) c.requires.presets
+    (padded c.args.state.now.parameters.maxval c.args.shape.width c.args.shape.count c.args.component (c.loop-row.row * (c.args.shape.width * c.args.shape.count)) c.args.samples.now c.row_of-pixels.result.now _ _ c.requires.some
     c.loop-row.invariant.above_length (omega (arith, c.fill_line.auto.line, c.loop-row.invariant.line_length)) c.loop-row.invariant.small c.row_of-pixels.ensures.len c.row_of-pixels.ensures.samples c.requires.small
     c.fill_line.ensures.left c.fill_line.ensures.samples c.fill_line.ensures.right))
 
 pub code_row-requires-clause-contexts : goal.code_row-requires-clause-contexts
 code_row-requires-clause-contexts c =
-    let contexts : length c.loop-row.contexts ≡ c.args.width = omega (arith, c.requires.contexts, c.loop-row.auto.contexts) in
+    let contexts : length c.loop-row.contexts ≡ c.args.shape.width = omega (arith, c.requires.contexts, c.loop-row.auto.contexts) in
     subst (λ width. AreContexts c.loop-row.state.parameters width c.loop-row.above c.fill_line.new.line c.find_contexts.new.contexts) contexts
     (subst (λ (p : Parameters). AreContexts p (length c.loop-row.contexts) c.loop-row.above c.fill_line.new.line c.find_contexts.new.contexts) (sym (c.loop-row.invariant.parameters ∙ c.requires.presets)) c.find_contexts.ensures)
 
 pub code_row-requires-clause-lines : goal.code_row-requires-clause-lines
 code_row-requires-clause-lines c =
-    subst (λ (p : Parameters). ArePadded p.maxval c.args.width c.loop-row.above c.fill_line.new.line) (sym c.loop-row.invariant.parameters)
-    (padded c.args.state.now.parameters.maxval c.args.width c.args.count c.args.component (c.loop-row.row * (c.args.width * c.args.count)) c.args.samples.now c.row_of-pixels.result.now _ _ c.requires.some
+    subst (λ (p : Parameters). ArePadded p.maxval c.args.shape.width c.loop-row.above c.fill_line.new.line) (sym c.loop-row.invariant.parameters)
+    (padded c.args.state.now.parameters.maxval c.args.shape.width c.args.shape.count c.args.component (c.loop-row.row * (c.args.shape.width * c.args.shape.count)) c.args.samples.now c.row_of-pixels.result.now _ _ c.requires.some
     c.loop-row.invariant.above_length (omega (arith, c.fill_line.auto.line, c.loop-row.invariant.line_length)) c.loop-row.invariant.small c.row_of-pixels.ensures.len c.row_of-pixels.ensures.samples c.requires.small
     c.fill_line.ensures.left c.fill_line.ensures.samples c.fill_line.ensures.right)
 
 pub code_row-requires-clause-room : goal.code_row-requires-clause-room
 code_row-requires-clause-room c =
     let limit = limit_of c.args.state.now.parameters.maxval in
-    let rows : c.args.width * 1 ≤ c.args.width * (c.args.height - c.loop-row.row) = mul-le c.args.width 1 c.args.width (c.args.height - c.loop-row.row) (omega arith) (omega arith) in
-    let one : limit * (c.args.width * 1) ≤ limit * (c.args.width * (c.args.height - c.loop-row.row)) = mul-le limit (c.args.width * 1) limit (c.args.width * (c.args.height - c.loop-row.row)) (omega arith) rows in
-    subst (λ (q : Parameters). Fits (length c.loop-row.sink.bits + limit_of q.maxval * c.args.width) c.loop-row.sink.room) (sym c.loop-row.invariant.parameters)
+    let rows : c.args.shape.width * 1 ≤ c.args.shape.width * (c.args.shape.height - c.loop-row.row) = mul-le c.args.shape.width 1 c.args.shape.width (c.args.shape.height - c.loop-row.row) (omega arith) (omega arith) in
+    let one : limit * (c.args.shape.width * 1) ≤ limit * (c.args.shape.width * (c.args.shape.height - c.loop-row.row)) = mul-le limit (c.args.shape.width * 1) limit (c.args.shape.width * (c.args.shape.height - c.loop-row.row)) (omega arith) rows in
+    subst (λ (q : Parameters). Fits (length c.loop-row.sink.bits + limit_of q.maxval * c.args.shape.width) c.loop-row.sink.room) (sym c.loop-row.invariant.parameters)
     (omega (arith, c.loop-row.invariant.cost, c.loop-row.invariant.room, c.requires.room))
 
 pub loop-row-preserved : goal.loop-row-preserved
 loop-row-preserved c =
     let samples = c.args.samples.now in
-    let plane : Plane = component_plane c.args.width c.args.count c.args.component samples in
+    let plane : Plane = component_plane c.args.shape.width c.args.shape.count c.args.component samples in
     let row = c.loop-row.row in
-    let inside : row < c.args.height = c.loop-row-test.true in
-    let some : 1 ≤ c.args.count = omega arith in
-    let whole : length samples ≡ c.args.width * c.args.height * c.args.count = omega (arith, c.requires.samples) in
+    let inside : row < c.args.shape.height = c.loop-row-test.true in
+    let some : 1 ≤ c.args.shape.count = omega arith in
+    let whole : length samples ≡ c.args.shape.width * c.args.shape.height * c.args.shape.count = omega (arith, c.requires.samples) in
     let next : suc row ≡ row + 1 = omega arith in
     let maxval = c.args.state.now.parameters.maxval in
     let limit = limit_of maxval in
-    let line_length : length c.fill_line.new.line ≡ c.args.width + 2 = omega (arith, c.fill_line.auto.line, c.loop-row.invariant.line_length) in
-    let pads = padded maxval c.args.width c.args.count c.args.component (row * (c.args.width * c.args.count)) samples c.row_of-pixels.result.now _ _ c.requires.some
+    let line_length : length c.fill_line.new.line ≡ c.args.shape.width + 2 = omega (arith, c.fill_line.auto.line, c.loop-row.invariant.line_length) in
+    let pads = padded maxval c.args.shape.width c.args.shape.count c.args.component (row * (c.args.shape.width * c.args.shape.count)) samples c.row_of-pixels.result.now _ _ c.requires.some
     c.loop-row.invariant.above_length line_length c.loop-row.invariant.small c.row_of-pixels.ensures.len c.row_of-pixels.ensures.samples c.requires.small
     c.fill_line.ensures.left c.fill_line.ensures.samples c.fill_line.ensures.right in
-    let middle : (k : ℕ) → k < c.args.width → get_or c.fill_line.new.line (k + 1) 0 ≡ at plane row k =
+    let middle : (k : ℕ) → k < c.args.shape.width → get_or c.fill_line.new.line (k + 1) 0 ≡ at plane row k =
     λ k h. c.fill_line.ensures.samples k h
-    ∙ c.row_of-pixels.ensures.samples (k * c.args.count + c.args.component) (omega (arith, mul-add-lt k c.args.count c.args.component c.args.width h c.requires.component))
+    ∙ c.row_of-pixels.ensures.samples (k * c.args.shape.count + c.args.component) (omega (arith, mul-add-lt k c.args.shape.count c.args.component c.args.shape.width h c.requires.component))
     ∙ ap (λ n. get_or samples n 0) (omega arith)
-    ∙ sym (sample_at samples c.args.width c.args.height c.args.count c.args.component row k some whole inside h) in
+    ∙ sym (sample_at samples c.args.shape.width c.args.shape.height c.args.shape.count c.args.component row k some whole inside h) in
     let held : Holds plane (suc row) c.fill_line.new.line =
-    filled plane row c.loop-row.above c.fill_line.new.line c.requires.some (has_row samples c.args.width c.args.height c.args.count c.args.component row some whole inside) c.loop-row.invariant.held
+    filled plane row c.loop-row.above c.fill_line.new.line c.requires.some (has_row samples c.args.shape.width c.args.shape.height c.args.shape.count c.args.component row some whole inside) c.loop-row.invariant.held
     c.fill_line.ensures.left middle c.fill_line.ensures.right in
-    let lines = held_lines plane row c.loop-row.above c.fill_line.new.line (has_row samples c.args.width c.args.height c.args.count c.args.component row some whole inside) c.loop-row.invariant.held held in
+    let lines = held_lines plane row c.loop-row.above c.fill_line.new.line (has_row samples c.args.shape.width c.args.shape.height c.args.shape.count c.args.component row some whole inside) c.loop-row.invariant.held held in
     record {
       rows = λ more.
-          c.code_row.ensures.row plane row refl lines (rows_from plane (c.args.height - (row + 1)) (row + 1) ++ more)
-          ∙ ap (λ (xs : List Segment). all_from plane c.loop-row.sink.bits c.loop-row.state (xs ++ (rows_from plane (c.args.height - (row + 1)) (row + 1) ++ more))) (sym (row_from-start plane row))
-          ∙ ap (all_from plane c.loop-row.sink.bits c.loop-row.state) (sym (append_assoc (row_segments plane row) (rows_from plane (c.args.height - (row + 1)) (row + 1)) more))
-          ∙ ap (λ (xs : List Segment). all_from plane c.loop-row.sink.bits c.loop-row.state (xs ++ more)) (sym (rows_from-next plane c.args.height row inside))
+          c.code_row.ensures.row plane row refl lines (rows_from plane (c.args.shape.height - (row + 1)) (row + 1) ++ more)
+          ∙ ap (λ (xs : List Segment). all_from plane c.loop-row.sink.bits c.loop-row.state (xs ++ (rows_from plane (c.args.shape.height - (row + 1)) (row + 1) ++ more))) (sym (row_from-start plane row))
+          ∙ ap (all_from plane c.loop-row.sink.bits c.loop-row.state) (sym (append_assoc (row_segments plane row) (rows_from plane (c.args.shape.height - (row + 1)) (row + 1)) more))
+          ∙ ap (λ (xs : List Segment). all_from plane c.loop-row.sink.bits c.loop-row.state (xs ++ more)) (sym (rows_from-next plane c.args.shape.height row inside))
           ∙ c.loop-row.invariant.rows more;
       held = λ k h. ap (λ xs. get_or xs k 0) c.copy_from_slice.ensures.after ∙ subst (λ i. Holds plane i c.fill_line.new.line) next held k h;
       small = λ k. subst (λ xs. get_or xs k 0 ≤ maxval) (sym c.copy_from_slice.ensures.after) (pads.line_small k);
       above_length = omega (arith, ap length c.copy_from_slice.ensures.after);
       line_length = line_length;
       cost =
-          let left : c.args.width + c.args.width * (c.args.height - (row + 1)) ≡ c.args.width * (c.args.height - row) = omega (arith, spent c.args.width 1 (c.args.height - (row + 1)) (c.args.height - row) (omega arith)) in
-          let spent_here : limit * c.args.width + limit * (c.args.width * (c.args.height - (row + 1))) ≡ limit * (c.args.width * (c.args.height - row)) =
-          spent limit c.args.width (c.args.width * (c.args.height - (row + 1))) (c.args.width * (c.args.height - row)) left in
-          let same_limit : limit_of c.loop-row.state.parameters.maxval * c.args.width ≡ limit * c.args.width = ap (λ (q : Parameters). limit_of q.maxval * c.args.width) c.loop-row.invariant.parameters in
+          let left : c.args.shape.width + c.args.shape.width * (c.args.shape.height - (row + 1)) ≡ c.args.shape.width * (c.args.shape.height - row) = omega (arith, spent c.args.shape.width 1 (c.args.shape.height - (row + 1)) (c.args.shape.height - row) (omega arith)) in
+          let spent_here : limit * c.args.shape.width + limit * (c.args.shape.width * (c.args.shape.height - (row + 1))) ≡ limit * (c.args.shape.width * (c.args.shape.height - row)) =
+          spent limit c.args.shape.width (c.args.shape.width * (c.args.shape.height - (row + 1))) (c.args.shape.width * (c.args.shape.height - row)) left in
+          let same_limit : limit_of c.loop-row.state.parameters.maxval * c.args.shape.width ≡ limit * c.args.shape.width = ap (λ (q : Parameters). limit_of q.maxval * c.args.shape.width) c.loop-row.invariant.parameters in
           omega (arith, c.code_row.ensures.cost, c.loop-row.invariant.cost);
       whole = c.code_row.ensures.whole;
       parameters = c.code_row.ensures.parameters ∙ c.loop-row.invariant.parameters;

@@ -1,0 +1,24 @@
+//! Where a frame's samples stand: rows from the top, and in a row pixel by pixel.
+ghost use Rattle.std.specs.Prelude.{◌≡◌};
+ghost use Rattle.ls_stream.specs.Components.{IsShapeOf};
+
+use ls_frame::Frame;
+
+/// How many pixels a row has, how many rows there are, and how many components.
+#[derive(Clone, Copy)]
+pub struct Shape {
+    pub width: usize,
+    pub height: usize,
+    pub count: usize,
+}
+
+/// The shape of a frame.
+pub fn shape_of(frame: &Frame) -> Shape
+    ensures { IsShapeOf frame.now result }
+{
+    Shape {
+        width: usize::from(frame.width()),
+        height: usize::from(frame.height()),
+        count: usize::from(frame.kind().components()),
+    }
+}
