@@ -23,6 +23,9 @@
 //! its value stands for; a run is read by `accept_one`, `break_width` and `accept_break`, the sample that interrupts it
 //! by `plan_interruption` and `accept_interruption`.
 //!
+//! A sample's context may be found ahead of the sample (`signed_context`), a line at a time, and handed to
+//! `code_regular_at`.
+//!
 //! In reading order: `neighbours` (the samples around one, and the mode that they call for), `state` (all calls), `word`,
 //! `plan`, `run` (what they answer), `counters` (the counters of all contexts), and below these `context`, `error`,
 //! `update` (a sample of regular mode), `interruption`; `laws` (what follows from the definitions alone).

@@ -59,7 +59,7 @@ break_after-same p plane i j events r =
 
 -- ---- all segments
 
-last_of : (events : List Event) (event : Event) → broken_in (events ++ event ∷ []) ≡ is_broken event
+pub last_of : (events : List Event) (event : Event) → broken_in (events ++ event ∷ []) ≡ is_broken event
 last_of events event = fold-push (λ (broken : Bool) (event : Event). is_broken event) false events event
 
 last_of_two : (events : List Event) (event last : Event) → broken_in (events ++ event ∷ last ∷ []) ≡ is_broken last

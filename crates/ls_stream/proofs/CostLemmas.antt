@@ -6,14 +6,14 @@ use Rattle.ls_frame.specs.Parameters.{Parameters, IsLegal, limit_of}
 use Rattle.ls_coding.specs.Samples.{AreSamples}
 use Rattle.ls_coding.specs.Contexts.{is_run}
 use Rattle.ls_coding.specs.Runs.{run_of}
-use Rattle.ls_coding.specs.Events.{Event, run, broken_in, is_broken}
+use Rattle.ls_coding.specs.Events.{Event, run, broken_in}
 use Rattle.ls_coding.specs.Lawful.{by_sample, by_run, by_interruption, IsLawful, none, more}
 use Rattle.ls_coding.specs.Plans.{Interrupts}
 use Rattle.ls_coding.proofs.CostLemmas.{sample_cost, full_run_cost, broken_run_cost}
 use Rattle.ls_coding.proofs.FieldLemmas.{same_or_not}
-use Rattle.ls_coding.proofs.StateLemmas.{fold-push}
 use Rattle.ls_coding.proofs.StatsLemmas.{choose}
 use Rattle.ls_stream.specs.Planes.{Plane, at, around, left, above, above_left, above_right, equal_from, run_length, Segment, sample, stretch, cut, row_segments, rows_from, segments, sample_event, sample_bits, broken_event, broken_bits, segment_events, segment_bits, coded, plane_bits}
+use Rattle.ls_stream.proofs.CodedLemmas.{last_of}
 
 -- ---- the neighbours of a sample are samples
 
@@ -106,9 +106,6 @@ interrupted maxval plane i most j count small h short = record {
 -- behind lawful events no more bits than these
 abbrev Cost : Parameters → Plane → List Segment → ℕ → Type 0
 Cost p plane list most = (events : List Event) → IsLawful p events → broken_in events ≡ false → length (coded p plane list events) ≤ most
-
-last_of : (events : List Event) (event : Event) → broken_in (events ++ event ∷ []) ≡ is_broken event
-last_of events event = fold-push (λ (broken : Bool) (event : Event). is_broken event) false events event
 
 one_more : (p : Parameters) (plane : Plane) (segment : Segment) (later : List Segment) (events : List Event) (own rest : ℕ) → length (segment_bits p plane segment events) ≤ own
     → length (coded p plane later (events ++ segment_events p plane segment events)) ≤ rest → length (coded p plane (segment ∷ later) events) ≤ own + rest
