@@ -1,2 +1,4 @@
+pub mod Coding
 pub mod Listing
 pub mod Stopping
+pub mod Texts

@@ -1,17 +1,75 @@
-//! The steps of an engine that reads a film and writes a text of its frames.
-ghost use Rattle.std.specs.Prelude.{◌≡◌, ◌+◌, ◌<◌, ◌^◌, IfOk, IfErr, OnOk, IfSome, IfNone, length};
+//! The engine that reads a film and writes a text of its frames, and its steps.
+ghost use Rattle.std.specs.Prelude.{◌≡◌, ℕ, ◌+◌, ◌<◌, ◌^◌, IfOk, IfErr, OnOk, IfSome, IfNone, List, [], length};
 ghost use Rattle.std.specs.Io.KnownBytes.{Appends};
 ghost use Rattle.ls_frame.specs.Devices.{count_after};
-ghost use Rattle.ls_frame.specs.Netpbm.{Spells};
+ghost use Rattle.ls_frame.specs.Engine.{Completes};
 ghost use Rattle.ls_frame.specs.Film.{Gave, WasAtEnd};
-ghost use Rattle.jlsrec.specs.Stopping.{StopsNext, StopsPiece, failed_reader, failed_writer};
+ghost use Rattle.ls_frame.specs.Netpbm.{Spells};
+ghost use Rattle.ls_frame.specs.Picture.{Picture};
+ghost use Rattle.jlsrec.specs.Stopping.{Stops, StopsNext, StopsOver, StopsPiece, IsTextOf, failed_reader, failed_writer};
+ghost use Rattle.jlsrec.specs.Texts.{GrowsBy};
 
-use crate::faults::FilmFault;
-use ls_frame::{Feed, Frame, Outlet, next_frame, write_bytes};
-use std::alloc::Global;
+use crate::faults::{FilmFault, MOST_FRAMES};
+use ls_frame::{Counted, Feed, Frame, Outlet, next_frame, write_bytes};
+use std::alloc::{AllocError, Global};
+
+/// A text of a film, made of a piece for each frame.
+pub trait Text {
+    /// The text of these frames.
+    ghost text: { List Picture → List ℕ };
+
+    /// The piece of the frame of this number, by which the text grows. Refused only where memory is.
+    fn piece(alloc: Global, number: u64, frame: &Frame) -> Result<Vec<u8>, AllocError>
+        ensures grows { IfOk result (λ piece. GrowsBy text number frame.now piece.items) }
+        ensures short { IfOk result (λ piece. length piece.items < 2 ^ 32) };
+
+    /// No frames have no text.
+    ghost empty: { text [] ≡ [] };
+}
+
+/// Writes the text of a film, frame by frame, and says how many frames there were.
+///
+/// Where reader and writer tell their bytes, the clauses say which were read and written. After a fault
+/// nothing is said of the reader's place.
+pub fn write_text<T: Text, R: Feed, W: Outlet>(
+    alloc: Global,
+    reader: &mut R,
+    writer: &mut W,
+) -> Result<u64, FilmFault>
+    ensures completes { IfOk result (Completes T.text
+        (R.remaining reader.old) (R.remaining reader.new) (W.contents writer.old) (W.contents writer.new)) }
+    ensures stops { IfErr result (Stops T.text
+        (R.remaining reader.old) (R.remaining reader.new) (W.contents writer.old) (W.contents writer.new)) }
+    ensures reads { R.failed_reads reader.new ≡ count_after (failed_reader result) (R.failed_reads reader.old) }
+    ensures writes { W.failed_writes writer.new ≡ count_after (failed_writer result) (W.failed_writes writer.old) }
+{
+    let mut written = 0;
+    for number in 0..MOST_FRAMES {
+        let Some(frame) = next_of_film(alloc, reader, number)? else {
+            return Ok(number);
+        };
+        let piece = T::piece(alloc, number, &frame)?;
+        written = write_piece(writer, &piece, written)?;
+    }
+    match next_of_film(alloc, reader, MOST_FRAMES)? {
+        None => Ok(MOST_FRAMES),
+        Some(_) => Err(FilmFault::TooMany),
+    }
+}
+
+/// The text of a film in memory, as far as it was written, and how the writing ended.
+pub fn text_of_bytes<T: Text>(alloc: Global, film: &[u8]) -> (Vec<u8>, Result<u64, FilmFault>)
+    ensures completes { IfOk result.1 (IsTextOf T.text film.now result.0.items) }
+    ensures stops { IfErr result.1 (StopsOver T.text film.now result.0.items) }
+{
+    let mut reader = film;
+    let mut writer = Counted::new(Vec::new(alloc));
+    let ended = write_text::<T, &[u8], Counted<Vec<u8>>>(alloc, &mut reader, &mut writer);
+    (writer.into_inner(), ended)
+}
 
 /// Reads the next frame of a film, which has this number; `None` exactly at the end.
-pub fn next_of_film<R: Feed>(
+fn next_of_film<R: Feed>(
     alloc: Global,
     reader: &mut R,
     number: u64,
@@ -29,7 +87,7 @@ pub fn next_of_film<R: Feed>(
 }
 
 /// Writes a piece of the text behind the `written` bytes of it, and says how many there are then.
-pub fn write_piece<W: Outlet>(writer: &mut W, piece: &[u8], written: u64) -> Result<u64, FilmFault>
+fn write_piece<W: Outlet>(writer: &mut W, piece: &[u8], written: u64) -> Result<u64, FilmFault>
     requires { written + length piece.now < 2 ^ 64 }
     ensures all { OnOk result (Appends (W.contents writer.old) (W.contents writer.new) piece.now) }
     ensures count { IfOk result (λ count. count ≡ written + length piece.now) }

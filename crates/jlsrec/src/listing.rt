@@ -1,14 +1,14 @@
 //! `list`: a line for each frame of a film.
-ghost use Rattle.std.specs.Prelude.{◌≡◌, ◌≤◌, IfOk, IfErr, length, string_bytes};
+ghost use Rattle.std.specs.Prelude.{◌≡◌, ◌≤◌, IfOk, IfErr, length, refl, string_bytes};
 ghost use Rattle.ls_frame.specs.Devices.{count_after};
 ghost use Rattle.ls_frame.specs.Engine.{Completes};
 ghost use Rattle.jlsrec.specs.Listing.{kind_text, columns, line, lines};
 ghost use Rattle.jlsrec.specs.Stopping.{Stops, StopsOver, IsTextOf, failed_reader, failed_writer};
 
-use crate::faults::{FilmFault, MOST_FRAMES};
-use crate::film::{next_of_film, write_piece};
+use crate::faults::FilmFault;
+use crate::film::{Text, text_of_bytes, write_text};
 use itoa::Buffer;
-use ls_frame::{Counted, Feed, Frame, Kind, Outlet, Presets};
+use ls_frame::{Feed, Frame, Kind, Outlet, Presets};
 use std::alloc::{AllocError, Global};
 
 fn kind_text(kind: Kind) -> &'static str
@@ -71,18 +71,7 @@ pub fn list_film<R: Feed, W: Outlet>(
     ensures reads { R.failed_reads reader.new ≡ count_after (failed_reader result) (R.failed_reads reader.old) }
     ensures writes { W.failed_writes writer.new ≡ count_after (failed_writer result) (W.failed_writes writer.old) }
 {
-    let mut written = 0;
-    for number in 0..MOST_FRAMES {
-        let Some(frame) = next_of_film(alloc, reader, number)? else {
-            return Ok(number);
-        };
-        let line = line_of(alloc, number, &frame)?;
-        written = write_piece(writer, line.as_bytes(), written)?;
-    }
-    match next_of_film(alloc, reader, MOST_FRAMES)? {
-        None => Ok(MOST_FRAMES),
-        Some(_) => Err(FilmFault::TooMany),
-    }
+    write_text::<Lines, R, W>(alloc, reader, writer)
 }
 
 /// The lines of a film in memory, as far as they were written, and how the listing ended.
@@ -90,10 +79,20 @@ pub fn list_bytes(alloc: Global, film: &[u8]) -> (Vec<u8>, Result<u64, FilmFault
     ensures completes { IfOk result.1 (IsTextOf lines film.now result.0.items) }
     ensures stops { IfErr result.1 (StopsOver lines film.now result.0.items) }
 {
-    let mut reader = film;
-    let mut writer = Counted::new(Vec::new(alloc));
-    let ended = list_film(alloc, &mut reader, &mut writer);
-    (writer.into_inner(), ended)
+    text_of_bytes::<Lines>(alloc, film)
+}
+
+/// What `list` writes: a line for each frame.
+struct Lines;
+
+impl Text for Lines {
+    ghost text = { lines };
+
+    fn piece(alloc: Global, number: u64, frame: &Frame) -> Result<Vec<u8>, AllocError> {
+        Ok(line_of(alloc, number, frame)?.into_bytes())
+    }
+
+    ghost empty = { refl };
 }
 
 #[cfg(test)]

@@ -1,9 +1,11 @@
 //! `jlsrec`: a lossless recorder of image sequences.
 //!
 //! In reading order: `command_line` (the words, by `clap`), `program` (the whole program over words, files and its two
-//! streams), `listing` (`list`), `film` (the steps of an engine that reads a film), `faults` (why one stopped).
+//! streams), `listing` (`list`), `coding` (`code`), `film` (the engine under both, which reads a film and writes a text of
+//! its frames), `faults` (why it stopped).
 #![tactic(auto)]
 
+mod coding;
 mod command_line;
 mod faults;
 mod film;

@@ -1,5 +1,7 @@
 //! The whole program over its words, its files and its two streams.
+use crate::coding::code_film;
 use crate::command_line::{Request, read_words, usage_fault};
+use crate::faults::FilmFault;
 use crate::listing::list_film;
 use clap::Error;
 use clap::error::ErrorKind;
@@ -37,16 +39,23 @@ where
 {
     let alloc = rt.alloc();
     match read_words(alloc, words) {
-        Ok(Request::List { file }) => list(rt, file, output, errors),
+        Ok(Request::List { file }) => {
+            read_film(rt, file, errors, |film| list_film(alloc, film, output))
+        }
+        Ok(Request::Code { file }) => {
+            read_film(rt, file, errors, |film| code_film(alloc, film, output))
+        }
         Err(error) => answer(alloc, &error, output, errors),
     }
 }
 
-fn list<R, W, E>(rt: &R, file: &str, output: &mut W, errors: &mut E) -> u8
+/// Opens a film, has an engine read it, says why either failed, and answers the status.
+fn read_film<R, E, F>(rt: &R, file: &str, errors: &mut E, engine: F) -> u8
 where
     R: Files + AllocGlobal,
-    W: Outlet,
     E: Outlet,
+    F: FnOnce(&mut Counted<BufReader<R::File>>) -> Result<u64, FilmFault> + Drop,
+    requires { F.IsAlwaysCallable engine }
 {
     let alloc = rt.alloc();
     let opened = match File::open(rt, file) {
@@ -60,8 +69,7 @@ where
         say(alloc, errors, format_args!("{file}: no memory"));
         return FAILED;
     };
-    let mut reader = Counted::new(buffered);
-    match list_film(alloc, &mut reader, output) {
+    match engine(&mut Counted::new(buffered)) {
         Ok(_frames) => DONE,
         Err(fault) => {
             say(alloc, errors, format_args!("{file}: {fault}"));

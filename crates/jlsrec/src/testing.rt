@@ -1,10 +1,12 @@
-//! Films, words, readers and writers for the tests. Only the words take memory.
+//! Films and what is written of them, words, readers and writers for the tests. Only the words take memory.
 ghost use Rattle.std.specs.Prelude.{◌≤◌};
 ghost use Rattle.jlsrec.specs.declared.testing.TheConstants.{ROOM};
 
+use crate::faults::FilmFault;
 use std::alloc::{AllocError, Global};
 use std::io;
 use std::io::{Read, Write};
+use std::process::Abort;
 
 /// Where memory may be refused, the want of it is an answer too.
 #[derive(Clone, Copy, Debug, PartialEq, Eq)]
@@ -13,7 +15,7 @@ pub enum Memory {
     Refusable,
 }
 
-/// Three gray images joined: 4 by 4 up to 255, 1 by 1 up to 1 and 1 by 1 up to 65535.
+/// Three gray images joined: that of T.87's Annex H.3, 4 by 4 up to 255, then 1 by 1 up to 1 and 1 by 1 up to 65535.
 pub const FILM: &[u8] = b"P5\n4 4\n255\n\
 \x00\x00\x5a\x4a\x44\x32\x2b\xcd\x40\x91\x91\x91\x64\x91\x91\x91\
 P5\n1 1\n1\n\x01\
@@ -23,11 +25,35 @@ pub const FILM_LINES: &[u8] = b"0 gray 4 4 255 8 3 7 21 64 32\n\
 1 gray 1 1 1 2 1 1 1 64 20\n\
 2 gray 1 1 65535 16 18 67 276 64 64\n";
 
+/// The first is the codestream of Annex H.3; the second has to tell its parameters.
+pub const FILM_CODESTREAMS: &[u8] = b"\xff\xd8\
+\xff\xf7\x00\x0b\x08\x00\x04\x00\x04\x01\x01\x11\x00\
+\xff\xda\x00\x08\x01\x01\x00\x00\x00\x00\
+\xc0\x00\x00\x6c\x80\x20\x8e\x01\xc0\x00\x00\x57\x40\x00\x00\x6e\xe6\x00\x00\x01\xbc\x18\x00\
+\x00\x05\xd8\x00\x00\x91\x60\xff\xd9\
+\xff\xd8\
+\xff\xf7\x00\x0b\x02\x00\x01\x00\x01\x01\x01\x11\x00\
+\xff\xf8\x00\x0d\x01\x00\x01\x00\x01\x00\x01\x00\x01\x00\x40\
+\xff\xda\x00\x08\x01\x01\x00\x00\x00\x00\x40\xff\xd9\
+\xff\xd8\
+\xff\xf7\x00\x0b\x10\x00\x01\x00\x01\x01\x01\x11\x00\
+\xff\xda\x00\x08\x01\x01\x00\x00\x00\x00\x40\x00\xff\xd9";
+
 /// An image of one black sample up to 255.
 pub const BLACK: &[u8] = b"P5\n1 1\n255\n\x00";
 
 /// The line of the frame 0, of one gray sample up to 255.
 pub const FIRST_LINE: &[u8] = b"0 gray 1 1 255 8 3 7 21 64 32\n";
+
+/// The image `BLACK`, and behind it the same with a white sample.
+pub const TWO_IMAGES: &[u8] = b"P5\n1 1\n255\n\x00P5\n1 1\n255\n\xff";
+
+pub const TWO_CODESTREAMS: &[u8] = b"\xff\xd8\
+\xff\xf7\x00\x0b\x08\x00\x01\x00\x01\x01\x01\x11\x00\
+\xff\xda\x00\x08\x01\x01\x00\x00\x00\x00\x80\xff\xd9\
+\xff\xd8\
+\xff\xf7\x00\x0b\x08\x00\x01\x00\x01\x01\x01\x11\x00\
+\xff\xda\x00\x08\x01\x01\x00\x00\x00\x00\x40\xff\xd9";
 
 /// The words as a program gets them.
 pub fn words_of(alloc: Global, words: &[&str]) -> Result<Vec<String>, AllocError> {
@@ -36,6 +62,31 @@ pub fn words_of(alloc: Global, words: &[&str]) -> Result<Vec<String>, AllocError
         all.push(String::from_str(alloc, *word)?)?;
     }
     Ok(all)
+}
+
+/// What an engine answered, and the text that it wrote.
+pub type Outcome<'a> = (Result<u64, FilmFault>, &'a [u8]);
+
+/// That an engine ended so. Or, where memory may be refused, that it says so and wrote the first pieces of the
+/// text, each of which ends in `mark`.
+pub fn check_outcome(
+    rt: &impl Abort,
+    memory: Memory,
+    mark: &[u8],
+    got: Outcome<'_>,
+    want: Outcome<'_>,
+    case: &str,
+) {
+    if memory == Memory::Refusable && got.0 == Err(FilmFault::NoMemory) {
+        assert!(rt; want.1.starts_with(got.1), "{case}: another text");
+        assert!(rt;
+            got.1.is_empty() || got.1.ends_with(mark),
+            "{case}: a part of a piece"
+        );
+    } else {
+        assert_eq!(rt; got.0, want.0, "{case}");
+        assert_eq!(rt; got.1, want.1, "{case}");
+    }
 }
 
 /// A header of 65,536 bytes that hasn't ended.

@@ -13,13 +13,18 @@ fn fixture(rt: &impl Abort, alloc: Global, memory: Memory, line: &[&str]) -> Opt
 }
 
 fn check_files(rt: &impl Abort, alloc: Global, memory: Memory) {
-    let cases: [(&[&str], &str); 2] = [(&["list", "x"], "x"), (&["list", "--", "-x"], "-x")];
+    let cases: [(&[&str], Request<'_>); 4] = [
+        (&["list", "x"], Request::List { file: "x" }),
+        (&["list", "--", "-x"], Request::List { file: "-x" }),
+        (&["code", "x"], Request::Code { file: "x" }),
+        (&["code", "--", "-x"], Request::Code { file: "-x" }),
+    ];
     for (line, want) in cases {
         let Some(words) = fixture(rt, alloc, memory, line) else {
             return;
         };
         match read_words(alloc, &words) {
-            Ok(Request::List { file }) => assert_eq!(rt; file, want, "at {line:?}"),
+            Ok(request) => assert_eq!(rt; request, want, "at {line:?}"),
             Err(error) => {
                 assert_eq!(rt; error.kind(), ErrorKind::OutOfMemory, "at {line:?}");
                 assert_eq!(rt; memory, Memory::Refusable, "at {line:?}");
@@ -29,27 +34,31 @@ fn check_files(rt: &impl Abort, alloc: Global, memory: Memory) {
 }
 
 #[test]
-fn a_film_to_list_is_named_with_ample_memory(rt: HostRuntime) {
+fn a_film_is_named_with_ample_memory(rt: HostRuntime) {
     check_files(&rt, rt.alloc(), Memory::Ample);
 }
 
 #[test]
-fn a_film_to_list_is_named_or_memory_is_wanting(rt: HostRuntime) {
+fn a_film_is_named_or_memory_is_wanting(rt: HostRuntime) {
     check_files(&rt, rt.alloc(), Memory::Refusable);
 }
 
 /// The words that ask for nothing, and whether they are a fault.
-const ANSWERED: [(&[&str], bool); 12] = [
+const ANSWERED: [(&[&str], bool); 16] = [
     (&[], true),
     (&["list"], true),
     (&["list", "a", "b"], true),
+    (&["code"], true),
+    (&["code", "a", "b"], true),
     (&["foo"], true),
     (&["--nope"], true),
     (&["list", "--nope"], true),
+    (&["code", "--nope"], true),
     (&["--help"], false),
     (&["-h"], false),
     (&["help"], false),
     (&["list", "--help"], false),
+    (&["code", "--help"], false),
     (&["--version"], false),
     (&["-V"], false),
 ];
@@ -87,7 +96,7 @@ const COLUMNS: [&str; 11] = [
 ];
 
 /// That lines of the help begin with the columns' names, in their order.
-fn check_help(rt: &impl Abort, help: &str) {
+fn check_columns(rt: &impl Abort, help: &str) {
     let mut lines = help.lines();
     for column in COLUMNS {
         let mut names = lines
@@ -100,18 +109,44 @@ fn check_help(rt: &impl Abort, help: &str) {
     }
 }
 
+/// What the help of `code` says: where the output goes, its form, and what is written before a fault.
+const CODING: [&str; 4] = [
+    "to standard output",
+    "a codestream of JPEG-LS (ITU-T T.87) for each frame",
+    "joined with nothing between",
+    "the codestreams of exactly the good frames before it are written",
+];
+
+fn check_coding(rt: &impl Abort, help: &str) {
+    for words in CODING {
+        assert!(rt; help.contains(words), "no {words}");
+    }
+}
+
+/// The help of a command.
+fn help_of<R: Abort + AllocGlobal>(rt: &R, command: &str) -> String {
+    let alloc = rt.alloc();
+    let text = match words_of(alloc, &[command, "--help"]) {
+        Ok(words) => match read_words(alloc, &words) {
+            Ok(request) => panic!(rt; "{request:?}"),
+            Err(error) => error.to_string(alloc),
+        },
+        Err(refused) => Err(refused),
+    };
+    match text {
+        Ok(text) => text,
+        Err(_) => panic!(rt; "no memory"),
+    }
+}
+
 #[test]
 fn help_names_the_columns_with_ample_memory(rt: HostRuntime) {
-    let Some(words) = fixture(&rt, rt.alloc(), Memory::Ample, &["list", "--help"]) else {
-        return;
-    };
-    match read_words(rt.alloc(), &words) {
-        Ok(request) => panic!(rt; "{request:?}"),
-        Err(error) => match error.to_string(rt.alloc()) {
-            Ok(help) => check_help(&rt, &help),
-            Err(_) => panic!(rt; "no memory"),
-        },
-    }
+    check_columns(&rt, &help_of(&rt, "list"));
+}
+
+#[test]
+fn help_says_what_is_coded_with_ample_memory(rt: HostRuntime) {
+    check_coding(&rt, &help_of(&rt, "code"));
 }
 
 fn check_usage_fault(rt: &impl Abort, alloc: Global, memory: Memory) {

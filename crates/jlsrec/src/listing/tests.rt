@@ -1,32 +1,13 @@
 use super::*;
 use crate::testing::{
-    BLACK, FILM, FILM_LINES, FIRST_LINE, Memory, Mishap, Pieces, Sink, endless_header,
+    BLACK, FILM, FILM_LINES, FIRST_LINE, Memory, Mishap, Outcome, Pieces, Sink, TWO_IMAGES,
+    check_outcome, endless_header,
 };
 use ls_frame::{Counted, NetpbmFault};
 use std::process::Abort;
 
-const TWO_IMAGES: &[u8] = b"P5\n1 1\n255\n\x00P5\n1 1\n255\n\xff";
-
-/// That a listing answered so and wrote this text. Or, where memory may be refused, that it says so and
-/// wrote the first lines.
-fn check_listing(
-    rt: &impl Abort,
-    memory: Memory,
-    got: (Result<u64, FilmFault>, &[u8]),
-    want: (Result<u64, FilmFault>, &[u8]),
-    case: &str,
-) {
-    if memory == Memory::Refusable && got.0 == Err(FilmFault::NoMemory) {
-        assert!(rt; want.1.starts_with(got.1), "{case}: other lines");
-        assert!(rt;
-            got.1.is_empty() || got.1.ends_with(b"\n"),
-            "{case}: a part of a line"
-        );
-    } else {
-        assert_eq!(rt; got.0, want.0, "{case}");
-        assert_eq!(rt; got.1, want.1, "{case}");
-    }
-}
+/// What each line ends in.
+const MARK: &[u8] = b"\n";
 
 /// Lists a film in memory, and by pieces of three bytes to a writer that takes two.
 fn check_film(
@@ -34,20 +15,34 @@ fn check_film(
     alloc: Global,
     memory: Memory,
     film: &[u8],
-    want: (Result<u64, FilmFault>, &[u8]),
+    want: Outcome<'_>,
     case: &str,
 ) {
     let mut rest = film;
     let mut writer = Counted::new(Sink::new(4096, Mishap::Nothing));
     let got = list_film(alloc, &mut rest, &mut writer);
-    check_listing(rt, memory, (got, writer.into_inner().written()), want, case);
+    check_outcome(
+        rt,
+        memory,
+        MARK,
+        (got, writer.into_inner().written()),
+        want,
+        case,
+    );
 
     let mut reader = Counted::new(Pieces::new(film, 3, None));
     let mut writer = Counted::new(Sink::new(2, Mishap::Nothing));
     let got = list_film(alloc, &mut reader, &mut writer);
     assert_eq!(rt; Feed::failures(&reader), 0, "{case}");
     assert_eq!(rt; Outlet::failures(&writer), 0, "{case}");
-    check_listing(rt, memory, (got, writer.into_inner().written()), want, case);
+    check_outcome(
+        rt,
+        memory,
+        MARK,
+        (got, writer.into_inner().written()),
+        want,
+        case,
+    );
 }
 
 const WHOLE_FILMS: [(&str, &[u8], u64, &[u8]); 3] = [
@@ -164,9 +159,10 @@ fn check_failed_reads(rt: &impl Abort, alloc: Global, memory: Memory) {
         };
         let want = Err(FilmFault::Input(frame, NetpbmFault::Io));
         let written = writer.into_inner();
-        check_listing(
+        check_outcome(
             rt,
             memory,
+            MARK,
             (got, written.written()),
             (want, text),
             "a failed read",

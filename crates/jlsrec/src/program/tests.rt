@@ -1,6 +1,7 @@
 use super::*;
 use crate::testing::{
-    BLACK, FILM, FILM_LINES, FIRST_LINE, Memory, Mishap, Sink, endless_header, words_of,
+    BLACK, FILM, FILM_CODESTREAMS, FILM_LINES, FIRST_LINE, Memory, Mishap, Sink, TWO_CODESTREAMS,
+    endless_header, words_of,
 };
 use std::fs;
 use std::io::Write;
@@ -42,20 +43,17 @@ fn check_ending(rt: &impl Abort, memory: Memory, got: Ending<'_>, want: Ending<'
     }
 }
 
-/// Lists a file, and compares. Its errors are to be this text behind the names of program and file.
-fn check_list<R: Files + Abort + AllocGlobal>(
+/// Runs a command over a file, and compares. Its errors are to be this text behind the names of program and file.
+fn check_file<R: Files + Abort + AllocGlobal>(
     rt: &R,
     memory: Memory,
-    file: &str,
+    words: [&str; 2],
     mishap: Mishap,
     want: (u8, &[u8], &str),
 ) {
-    let Some((status, output, errors)) = run_words(
-        rt,
-        memory,
-        &["list", file],
-        (mishap, Mishap::Nothing),
-    ) else {
+    let [_, file] = words;
+    let Some((status, output, errors)) = run_words(rt, memory, &words, (mishap, Mishap::Nothing))
+    else {
         return;
     };
     let (want_status, want_output, text) = want;
@@ -73,17 +71,18 @@ fn check_list<R: Files + Abort + AllocGlobal>(
     );
 }
 
-/// Lists a file of these bytes, which is made for it, and compares.
+/// Runs a command over a file of these bytes, which is made for it, and compares.
 fn check_film<R: Files + Abort + AllocGlobal>(
     rt: &R,
     memory: Memory,
-    file: &str,
+    words: [&str; 2],
     film: &[u8],
     mishap: Mishap,
     want: (u8, &[u8], &str),
 ) {
+    let [_, file] = words;
     if fs::write(rt, file, film).is_ok() {
-        check_list(rt, memory, file, mishap, want);
+        check_file(rt, memory, words, mishap, want);
     } else {
         assert_eq!(rt; memory, Memory::Refusable, "{file} isn't written");
     }
@@ -104,45 +103,78 @@ const BAD_FILMS: [(&[u8], &[u8], &str); 7] = [
     ),
 ];
 
-fn check_films<R: Files + Abort + AllocGlobal>(rt: &R, memory: Memory, file: &str) {
-    check_film(rt, memory, file, FILM, Mishap::Nothing, (0, FILM_LINES, ""));
-    for (film, output, text) in BAD_FILMS {
-        check_film(rt, memory, file, film, Mishap::Nothing, (1, output, text));
-    }
+/// That a command over this file does as it should where nothing can be read, and where nothing can be written.
+fn check_mishaps<R: Files + Abort + AllocGlobal>(rt: &R, memory: Memory, words: [&str; 2]) {
+    let nothing = Mishap::Nothing;
+    check_film(rt, memory, words, b"", nothing, (0, b"", ""));
     let film = endless_header();
     let want = (1, b"".as_slice(), "frame 0: header too long");
-    check_film(rt, memory, file, &film, Mishap::Nothing, want);
+    check_film(rt, memory, words, &film, nothing, want);
     let want = (1, b"".as_slice(), "output failed after 0 bytes");
-    check_film(rt, memory, file, BLACK, Mishap::Fails(0), want);
-    check_film(rt, memory, file, BLACK, Mishap::TakesNothing(0), want);
+    check_film(rt, memory, words, BLACK, Mishap::Fails(0), want);
+    check_film(rt, memory, words, BLACK, Mishap::TakesNothing(0), want);
     let want = (1, b"".as_slice(), "can't open");
-    check_list(rt, memory, file, Mishap::Nothing, want);
+    check_file(rt, memory, words, nothing, want);
     let want = (1, b"".as_slice(), "frame 0: read failed");
-    check_list(rt, memory, ".", Mishap::Nothing, want);
+    check_file(rt, memory, [words[0], "."], nothing, want);
+}
+
+fn check_listings<R: Files + Abort + AllocGlobal>(rt: &R, memory: Memory, file: &str) {
+    let words = ["list", file];
+    let nothing = Mishap::Nothing;
+    check_film(rt, memory, words, FILM, nothing, (0, FILM_LINES, ""));
+    for (film, output, text) in BAD_FILMS {
+        check_film(rt, memory, words, film, nothing, (1, output, text));
+    }
+    check_mishaps(rt, memory, words);
 }
 
 #[test]
 fn films_are_listed_with_ample_memory(rt: HostRuntime) {
-    check_films(&rt, Memory::Ample, "listed_with_ample_memory.pgm");
+    check_listings(&rt, Memory::Ample, "listed_with_ample_memory.pgm");
 }
 
 #[test]
 fn films_are_listed_or_memory_is_wanting(rt: HostRuntime) {
-    check_films(&rt, Memory::Refusable, "listed_or_memory_is_wanting.pgm");
+    check_listings(&rt, Memory::Refusable, "listed_or_memory_is_wanting.pgm");
+}
+
+fn check_codings<R: Files + Abort + AllocGlobal>(rt: &R, memory: Memory, file: &str) {
+    let words = ["code", file];
+    let nothing = Mishap::Nothing;
+    check_film(rt, memory, words, FILM, nothing, (0, FILM_CODESTREAMS, ""));
+    let film = b"P5 1 1 255\n\x00P5 1 1 7\n\x08";
+    let want = (1, &TWO_CODESTREAMS[..28], "frame 1: sample too large");
+    check_film(rt, memory, words, film, nothing, want);
+    check_mishaps(rt, memory, words);
+}
+
+#[test]
+fn films_are_coded_with_ample_memory(rt: HostRuntime) {
+    check_codings(&rt, Memory::Ample, "coded_with_ample_memory.pgm");
+}
+
+#[test]
+fn films_are_coded_or_memory_is_wanting(rt: HostRuntime) {
+    check_codings(&rt, Memory::Refusable, "coded_or_memory_is_wanting.pgm");
 }
 
 /// The words that ask for nothing, and the status.
-const ANSWERED: [(&[&str], u8); 12] = [
+const ANSWERED: [(&[&str], u8); 16] = [
     (&[], 2),
     (&["list"], 2),
     (&["list", "a", "b"], 2),
+    (&["code"], 2),
+    (&["code", "a", "b"], 2),
     (&["foo"], 2),
     (&["--nope"], 2),
     (&["list", "--nope"], 2),
+    (&["code", "--nope"], 2),
     (&["--help"], 0),
     (&["-h"], 0),
     (&["help"], 0),
     (&["list", "--help"], 0),
+    (&["code", "--help"], 0),
     (&["--version"], 0),
     (&["-V"], 0),
 ];
