@@ -33,6 +33,25 @@ pub fn encode_with(alloc: Global, frame: &Frame, presets: &Presets) -> Result<Ve
     Ok(encode_within(frame, presets, &mut lines, bytes))
 }
 
+/// The codestream of a frame, behind the bytes that are there, into room that is there: at least `code_bound`.
+///
+/// It takes no memory and can't be refused.
+pub fn encode_within(frame: &Frame, presets: &Presets, lines: &mut Lines, bytes: Vec<u8>) -> Vec<u8>
+    requires maxval { presets.now.maxval ≡ frame.now.maxval }
+    requires width { frame.now.width ≤ lines.old }
+    requires room { vec_len bytes + bound frame.now presets.now ≤ vec_capacity bytes }
+    ensures bytes { result.items ≡ bytes.items ++ codestream frame.now presets.now }
+    ensures lines { lines.new ≡ lines.old }
+{
+    let mut bytes = bytes;
+    put_marker(&mut bytes, Marker::StartOfImage);
+    put_frame_header(&mut bytes, frame);
+    put_told(&mut bytes, presets);
+    let mut bytes = put_scans(frame, presets, lines, bytes);
+    put_marker(&mut bytes, Marker::EndOfImage);
+    bytes
+}
+
 /// The most bytes that a frame's codestream may have: all headers, and for each component LIMIT bits a sample, seven to a
 /// byte, and one byte more.
 pub fn code_bound(frame: &Frame, presets: &Presets) -> u64
@@ -90,25 +109,6 @@ fn greatest(bits: u32) -> u16
     ensures some { 0 < result }
 {
     ((1u32 << bits) - 1) as u16
-}
-
-/// The codestream of a frame, behind the bytes that are there, into room that is there: at least `code_bound`.
-///
-/// It takes no memory and can't be refused.
-pub fn encode_within(frame: &Frame, presets: &Presets, lines: &mut Lines, bytes: Vec<u8>) -> Vec<u8>
-    requires maxval { presets.now.maxval ≡ frame.now.maxval }
-    requires width { frame.now.width ≤ lines.old }
-    requires room { vec_len bytes + bound frame.now presets.now ≤ vec_capacity bytes }
-    ensures bytes { result.items ≡ bytes.items ++ codestream frame.now presets.now }
-    ensures lines { lines.new ≡ lines.old }
-{
-    let mut bytes = bytes;
-    put_marker(&mut bytes, Marker::StartOfImage);
-    put_frame_header(&mut bytes, frame);
-    put_told(&mut bytes, presets);
-    let mut bytes = put_scans(frame, presets, lines, bytes);
-    put_marker(&mut bytes, Marker::EndOfImage);
-    bytes
 }
 
 /// Preset parameters, where they have to be told.
