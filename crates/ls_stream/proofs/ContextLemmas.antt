@@ -1,22 +1,22 @@
 -- The contexts of a row, kept as numbers with a sign.
-use Rattle.std.proofs.Common.{◌≡◌, ℕ, zero, suc, ◌+◌, ◌<◌, true, false, ℤ, pos, negsuc, List, length, get_or, refl, sym, ◌∙◌, ap, subst, inl, inr, arith}
+use Rattle.std.proofs.Common.{◌≡◌, ℕ, zero, suc, ◌+◌, ◌<◌, ◌≤◌, true, false, ℤ, pos, negsuc, List, length, get_or, refl, sym, ◌∙◌, ap, subst, inl, inr, arith}
 use Rattle.std.proofs.Math.ListN.{set}
 use Rattle.std.proofs.lemmas.Bool.{cases_lt, ne_eqb}
 use Rattle.std.proofs.lemmas.List.{get_or-set_same, get_or-set_other}
 use mir.Syntax.{w16}
 use mir.Val.{to_z, of_z}
 use Rattle.ls_frame.specs.Parameters.{Parameters}
+use Rattle.ls_coding.specs.declared.neighbours.Neighbours.{Neighbours}
 use Rattle.ls_coding.specs.Contexts.{is_zero, is_run, signed_number}
 use Rattle.ls_coding.proofs.SignedLemmas.{through_16}
 use Rattle.ls_coding.proofs.ContextLemmas.{signed_range}
-use Rattle.ls_stream.specs.LineBuffers.{near, AreContexts}
 
 -- one place more of which something holds
-pub set_more : (xs : List ℤ) (k : ℕ) (x : ℤ) (P : ℕ → ℤ → Type 0) → k < length xs → P k x → ((j : ℕ) → j < k → P j (get_or xs j (pos 0)))
-    → (j : ℕ) → j < k + 1 → P j (get_or (set xs k x) j (pos 0))
-set_more xs k x P inside here before j h =
+pub set_more : (xs : List ℤ) (start k : ℕ) (x : ℤ) (P : ℕ → ℤ → Type 0) → k < length xs → P k x → ((j : ℕ) → start ≤ j → j < k → P j (get_or xs j (pos 0)))
+    → (j : ℕ) → start ≤ j → j < k + 1 → P j (get_or (set xs k x) j (pos 0))
+set_more xs start k x P inside here before j low h =
     elim (cases_lt j k) [
-      | inl earlier ↦ subst (P j) (sym (get_or-set_other xs k j x (pos 0) (λ e. omega arith))) (before j earlier)
+      | inl earlier ↦ subst (P j) (sym (get_or-set_other xs k j x (pos 0) (λ e. omega arith))) (before j low earlier)
       | inr later ↦
           let same : k ≡ j = omega arith in
           subst (λ n. P n (get_or (set xs k x) n (pos 0))) same (subst (P k) (sym (get_or-set_same xs k x (pos 0) inside)) here)
@@ -29,14 +29,11 @@ other_bits (pos zero) h = absurd (h refl)
 other_bits (pos (suc n)) h = ne_eqb (suc n) 0 (λ e. absurd (omega arith))
 other_bits (negsuc n) h = refl
 
-pub regular_at : (p : Parameters) (width : ℕ) (above line : List ℕ) (contexts : List ℤ) (j : ℕ) → AreContexts p width above line contexts → j < width
-    → (of_z w16 (get_or contexts j (pos 0)) ≡ 0 → ⊥) → is_run (near above line j) ≡ false
-regular_at p width above line contexts j are inside h = sym (are.modes j inside) ∙ other_bits (get_or contexts j (pos 0)) h
+pub regular_by : (n : Neighbours) (z : ℤ) → is_zero z ≡ is_run n → (of_z w16 z ≡ 0 → ⊥) → is_run n ≡ false
+regular_by n z mode h = sym mode ∙ other_bits z h
 
-pub run_at : (p : Parameters) (width : ℕ) (above line : List ℕ) (contexts : List ℤ) (j : ℕ) → AreContexts p width above line contexts → j < width
-    → of_z w16 (get_or contexts j (pos 0)) ≡ 0 → is_run (near above line j) ≡ true
-run_at p width above line contexts j are inside h =
-    let range = signed_range p (near above line j) in
-    let number : signed_number p (near above line j) ≡ pos 0 =
-    sym (through_16 (signed_number p (near above line j)) range.0 range.1) ∙ ap (λ z. to_z w16 (of_z w16 z)) (sym (are.numbers j inside)) ∙ ap (to_z w16) h in
-    sym (are.modes j inside) ∙ ap is_zero (are.numbers j inside ∙ number)
+pub run_by : (p : Parameters) (n : Neighbours) (z : ℤ) → z ≡ signed_number p n → is_zero z ≡ is_run n → of_z w16 z ≡ 0 → is_run n ≡ true
+run_by p n z number mode h =
+    let range = signed_range p n in
+    let none : signed_number p n ≡ pos 0 = sym (through_16 (signed_number p n) range.0 range.1) ∙ ap (λ x. to_z w16 (of_z w16 x)) (sym number) ∙ ap (to_z w16) h in
+    sym mode ∙ ap is_zero (number ∙ none)

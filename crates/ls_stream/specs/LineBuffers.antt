@@ -46,8 +46,8 @@ pub record IsRunEnd (line : List ℕ) (width j end : ℕ) : Type 0 where
   pub equal : (k : ℕ) → j ≤ k → k < end → slice_index line (k + 1) ≡ slice_index line j
   pub other : end < width → slice_index line (end + 1) ≢ slice_index line j
 
--- the contexts of a row's samples by its two lines, each 0 exactly where its sample calls for run mode
-pub record AreContexts (p : Parameters) (width : ℕ) (above line : List ℕ) (contexts : List ℤ) : Type 0 where
-  pub whole : length contexts ≡ width
-  pub numbers : (j : ℕ) → j < width → slice_index_or contexts j (pos 0) ≡ signed_number p (near above line j)
-  pub modes : (j : ℕ) → j < width → is_zero (slice_index_or contexts j (pos 0)) ≡ is_run (near above line j)
+-- the contexts of samples from a column up to another, by the row's two lines, each 0 exactly where its sample calls for run
+-- mode
+pub record AreContexts (p : Parameters) (start end : ℕ) (above line : List ℕ) (contexts : List ℤ) : Type 0 where
+  pub numbers : (j : ℕ) → start ≤ j → j < end → slice_index_or contexts j (pos 0) ≡ signed_number p (near above line j)
+  pub modes : (j : ℕ) → start ≤ j → j < end → is_zero (slice_index_or contexts j (pos 0)) ≡ is_run (near above line j)

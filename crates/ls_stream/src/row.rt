@@ -2,6 +2,7 @@
 ghost use Rattle.std.specs.Prelude.{◌≡◌, ◌+◌, ◌-◌, ◌*◌, ◌<◌, ◌≤◌, ◌++◌, ℕ, false, IsTrue, List, length, slice_index};
 ghost use Rattle.ls_frame.specs.Parameters.{qbpp_of, limit_of};
 ghost use Rattle.ls_bits.specs.Room.{Fits};
+ghost use Rattle.ls_coding.specs.Contexts.{is_zero, is_run, signed_number};
 ghost use Rattle.ls_stream.specs.Planes.{Plane, Segment};
 ghost use Rattle.ls_stream.specs.Histories.{row_from};
 ghost use Rattle.ls_stream.specs.Coded.{all_from};
@@ -12,22 +13,25 @@ use ls_bits::RoomSink;
 use ls_coding::{Neighbours, State, signed_context};
 use ls_frame::Presets;
 
-/// Codes the row whose line, and the line above, are these, each with one place more on the left and on the right. The
-/// contexts of its samples are known.
+/// How many contexts are found at once. Those behind a long run aren't wanted.
+const BLOCK: usize = 64;
+
+/// Codes the row whose line, and the line above, are these, each with one place more on the left and on the right;
+/// `contexts` is room for those of its samples.
 pub fn code_row(
     state: &mut State,
     sink: &mut RoomSink,
-    qbpp: u32,
+    presets: &Presets,
     above: &[u16],
     line: &[u16],
-    contexts: &[i16],
+    contexts: &mut [i16],
     width: usize,
 )
-    requires contexts { AreContexts state.old.parameters width above.now line.now contexts.now }
     requires lines { ArePadded state.old.parameters.maxval width above.now line.now }
     requires narrow { width ≤ 65535 }
     requires whole { state.old.broken ≡ false }
-    requires qbpp { qbpp ≡ qbpp_of state.old.parameters.maxval }
+    requires presets { state.old.parameters ≡ presets.now }
+    requires contexts { length contexts.old ≡ width }
     requires room { Fits (length sink.old.bits + limit_of state.old.parameters.maxval * width) sink.old.room }
     ensures row { (plane : Plane) (i : ℕ) → plane.width ≡ width → AreLines plane i above.now line.now → (more : List Segment)
         → all_from plane sink.new.bits state.new more
@@ -38,14 +42,18 @@ pub fn code_row(
     ensures front { sink.new.front ≡ sink.old.front }
     ensures room { sink.new.room ≡ sink.old.room }
 {
+    let qbpp = presets.qbpp();
     let mut column = 0;
-    'segments: while column < width {
-        column = code_segment(state, sink, qbpp, above, line, contexts, width, column);
+    'columns: while column < width {
+        let end = (column + BLOCK).min(width);
+        find_contexts(presets, above, line, contexts, column, end);
+        column = code_block(state, sink, qbpp, above, line, contexts, width, column, end);
     }
 }
 
-/// Codes a sample of regular mode, or a run with the sample that interrupts it, and answers the column behind it.
-fn code_segment(
+/// Codes the segments that begin at the columns from `start` up to `end`, whose contexts are known, and answers the column
+/// behind them.
+fn code_block(
     state: &mut State,
     sink: &mut RoomSink,
     qbpp: u32,
@@ -53,9 +61,58 @@ fn code_segment(
     line: &[u16],
     contexts: &[i16],
     width: usize,
+    start: usize,
+    end: usize,
+) -> usize
+    requires lines { ArePadded state.old.parameters.maxval width above.now line.now }
+    requires contexts { AreContexts state.old.parameters start end above.now line.now contexts.now }
+    requires long { end ≤ length contexts.now }
+    requires some { start < end }
+    requires inside { end ≤ width }
+    requires narrow { width ≤ 65535 }
+    requires whole { state.old.broken ≡ false }
+    requires qbpp { qbpp ≡ qbpp_of state.old.parameters.maxval }
+    requires room { Fits (length sink.old.bits + limit_of state.old.parameters.maxval * (width - start)) sink.old.room }
+    ensures block { (plane : Plane) (i : ℕ) → plane.width ≡ width → AreLines plane i above.now line.now → (more : List Segment)
+        → all_from plane sink.new.bits state.new (row_from plane i result ++ more)
+        ≡ all_from plane sink.old.bits state.old (row_from plane i start ++ more) }
+    ensures next { start < result }
+    ensures cost { length sink.new.bits + limit_of state.old.parameters.maxval * (width - result)
+        ≤ length sink.old.bits + limit_of state.old.parameters.maxval * (width - start) }
+    ensures whole { state.new.broken ≡ false }
+    ensures parameters { state.new.parameters ≡ state.old.parameters }
+    ensures front { sink.new.front ≡ sink.old.front }
+    ensures room { sink.new.room ≡ sink.old.room }
+{
+    let mut column = start;
+    'segments: while column < end {
+        column = code_segment(
+            state,
+            sink,
+            qbpp,
+            contexts[column],
+            above,
+            line,
+            width,
+            column,
+        );
+    }
+    column
+}
+
+/// Codes a sample of regular mode, or a run with the sample that interrupts it, and answers the column behind it.
+fn code_segment(
+    state: &mut State,
+    sink: &mut RoomSink,
+    qbpp: u32,
+    context: i16,
+    above: &[u16],
+    line: &[u16],
+    width: usize,
     column: usize,
 ) -> usize
-    requires contexts { AreContexts state.old.parameters width above.now line.now contexts.now }
+    requires context { context ≡ signed_number state.old.parameters (near above.now line.now column) }
+    requires mode { is_zero context ≡ is_run (near above.now line.now column) }
     requires lines { ArePadded state.old.parameters.maxval width above.now line.now }
     requires inside { column < width }
     requires narrow { width ≤ 65535 }
@@ -73,7 +130,6 @@ fn code_segment(
     ensures front { sink.new.front ≡ sink.old.front }
     ensures room { sink.new.room ≡ sink.old.room }
 {
-    let context = contexts[column];
     if context != 0 {
         let neighbours = near(above, line, column);
         code_sample(state, sink, qbpp, context, &neighbours, line[column + 1]);
@@ -90,12 +146,20 @@ fn code_segment(
     end + 1
 }
 
-/// The contexts of a row's samples.
-pub fn find_contexts(presets: &Presets, above: &[u16], line: &[u16], contexts: &mut [i16])
-    requires { ArePadded presets.now.maxval (length contexts.old) above.now line.now }
-    ensures { AreContexts presets.now (length contexts.old) above.now line.now contexts.new }
+/// Finds the contexts of the samples from column `start` up to `end`.
+fn find_contexts(
+    presets: &Presets,
+    above: &[u16],
+    line: &[u16],
+    contexts: &mut [i16],
+    start: usize,
+    end: usize,
+)
+    requires lines { ArePadded presets.now.maxval (length contexts.old) above.now line.now }
+    requires end { end ≤ length contexts.old }
+    ensures { AreContexts presets.now start end above.now line.now contexts.new }
 {
-    for column in 0..contexts.len() {
+    for column in start..end {
         contexts[column] = signed_context(presets, &near(above, line, column));
     }
 }

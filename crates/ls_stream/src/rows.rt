@@ -7,7 +7,7 @@ ghost use Rattle.ls_stream.specs.Coded.{all_from};
 ghost use Rattle.ls_stream.specs.Components.{component_plane};
 
 use crate::lines::fill_line;
-use crate::row::{code_row, find_contexts};
+use crate::row::code_row;
 use crate::shape::Shape;
 use ls_bits::RoomSink;
 use ls_coding::State;
@@ -44,13 +44,11 @@ pub fn code_rows(
     ensures front { sink.new.front ≡ sink.old.front }
     ensures room { sink.new.room ≡ sink.old.room }
 {
-    let qbpp = presets.qbpp();
     clear(above);
     for row in 0..shape.height {
         let pixels = row_of(samples, row, shape.height, shape.width * shape.count);
         fill_line(line, above, pixels, shape.width, shape.count, component);
-        find_contexts(presets, above, line, contexts);
-        code_row(state, sink, qbpp, above, line, contexts, shape.width);
+        code_row(state, sink, presets, above, line, contexts, shape.width);
         above.copy_from_slice(line);
     }
 }

@@ -6,6 +6,6 @@ use Rattle.ls_stream.proofs.row.code_row.Goals as goal
 
 pub returns-clause-row : goal.returns-clause-row
 returns-clause-row c plane i same lines more =
-    let far : plane.width ≤ c.segments.column = omega arith in
-    ap (λ (xs : List Segment). all_from plane c.segments.sink.bits c.segments.state (xs ++ more)) (sym (row_from-end plane i c.segments.column far))
-    ∙ c.segments.invariant.row plane i same lines more
+    let far : plane.width ≤ c.columns.column = omega arith in
+    ap (λ (xs : List Segment). all_from plane c.columns.sink.bits c.columns.state (xs ++ more)) (sym (row_from-end plane i c.columns.column far))
+    ∙ c.columns.invariant.row plane i same lines more

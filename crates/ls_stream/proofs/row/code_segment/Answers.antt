@@ -3,7 +3,7 @@ use Rattle.ls_frame.specs.Parameters.{limit_of}
 use Rattle.ls_coding.specs.declared.neighbours.Neighbours.{Neighbours}
 use Rattle.ls_coding.specs.Contexts.{is_run}
 use Rattle.ls_stream.specs.LineBuffers.{near}
-use Rattle.ls_stream.proofs.ContextLemmas.{regular_at, run_at}
+use Rattle.ls_stream.proofs.ContextLemmas.{regular_by, run_by}
 use Rattle.ls_stream.proofs.RowLemmas.{sample-moved, run_value, row_to_end, row_to_break, spent}
 use Rattle.ls_stream.proofs.row.code_segment.Goals as goal
 
@@ -12,12 +12,12 @@ returns-then-context-ne0-clause-segment c plane i same lines more =
     let inside : c.args.column < plane.width = omega arith in
     sample-moved plane i c.args.column _ _ c.args.state.now _ c.near-neighbours.result (get_or c.args.line.now (c.args.column + 1) 0) inside
     (c.near-neighbours.ensures ∙ lines.nearby c.args.column inside) (lines.samples c.args.column inside)
-    (ap is_run c.near-neighbours.ensures ∙ regular_at _ c.args.width c.args.above.now c.args.line.now c.args.contexts.now c.args.column c.requires.contexts c.requires.inside c.if-context-ne0.true) c.code_sample.ensures.bits c.code_sample.ensures.state more
+    (ap is_run c.near-neighbours.ensures ∙ regular_by (near c.args.above.now c.args.line.now c.args.column) c.args.context c.requires.mode c.if-context-ne0.true) c.code_sample.ensures.bits c.code_sample.ensures.state more
 
 pub returns-then-end-width-clause-segment : goal.returns-then-end-width-clause-segment
 returns-then-end-width-clause-segment c plane i same lines more =
     row_to_end plane i c.args.column c.run_end-end.result c.args.above.now c.args.line.now _ _ c.args.state.now _ (near c.args.above.now c.args.line.now c.args.column) c.args.width same lines
-    c.requires.inside c.run_end-end.ensures c.if-end-width.true refl (run_at _ c.args.width c.args.above.now c.args.line.now c.args.contexts.now c.args.column c.requires.contexts c.requires.inside c.if-context-ne0.false) c.code_run_to_end.ensures.bits c.code_run_to_end.ensures.state more
+    c.requires.inside c.run_end-end.ensures c.if-end-width.true refl (run_by c.args.state.now.parameters (near c.args.above.now c.args.line.now c.args.column) c.args.context c.requires.context c.requires.mode c.if-context-ne0.false) c.code_run_to_end.ensures.bits c.code_run_to_end.ensures.state more
 
 pub code_broken_run-requires-clause-sample : goal.code_broken_run-requires-clause-sample
 code_broken_run-requires-clause-sample c =
@@ -31,7 +31,7 @@ code_broken_run-requires-clause-sample c =
 pub returns-clause-segment : goal.returns-clause-segment
 returns-clause-segment c plane i same lines more =
     row_to_break plane i c.args.column c.run_end-end.result c.args.above.now c.args.line.now _ _ c.args.state.now _ (near c.args.above.now c.args.line.now c.args.column) c.near-around.result c.args.width same lines
-    c.requires.inside c.run_end-end.ensures (omega (arith, c.run_end-end.ensures.high)) refl (run_at _ c.args.width c.args.above.now c.args.line.now c.args.contexts.now c.args.column c.requires.contexts c.requires.inside c.if-context-ne0.false) c.near-around.ensures c.code_broken_run.ensures.bits c.code_broken_run.ensures.state more
+    c.requires.inside c.run_end-end.ensures (omega (arith, c.run_end-end.ensures.high)) refl (run_by c.args.state.now.parameters (near c.args.above.now c.args.line.now c.args.column) c.args.context c.requires.context c.requires.mode c.if-context-ne0.false) c.near-around.ensures c.code_broken_run.ensures.bits c.code_broken_run.ensures.state more
 
 pub returns-clause-cost : goal.returns-clause-cost
 returns-clause-cost c =

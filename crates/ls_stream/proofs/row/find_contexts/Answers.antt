@@ -13,9 +13,8 @@ loop-column-preserved c =
     let through = through_16 c.signed_context.result c.signed_context.ensures.low c.signed_context.ensures.high in
     record {
       whole = search rules;
-      end = c.loop-column.invariant.end;
-      numbers = set_more c.loop-column.contexts c.loop-column.column _ (λ j z. z ≡ signed_number p (near above line j)) (omega (arith, c.loop-column.invariant.whole))
+      numbers = set_more c.loop-column.contexts c.args.start c.loop-column.column _ (λ j z. z ≡ signed_number p (near above line j)) (omega (arith, c.loop-column.invariant.whole))
           (through ∙ c.signed_context.ensures.value ∙ ap (signed_number p) c.near.ensures) c.loop-column.invariant.numbers;
-      modes = set_more c.loop-column.contexts c.loop-column.column _ (λ j z. is_zero z ≡ is_run (near above line j)) (omega (arith, c.loop-column.invariant.whole))
+      modes = set_more c.loop-column.contexts c.args.start c.loop-column.column _ (λ j z. is_zero z ≡ is_run (near above line j)) (omega (arith, c.loop-column.invariant.whole))
           (ap is_zero through ∙ c.signed_context.ensures.run ∙ ap is_run c.near.ensures) c.loop-column.invariant.modes;
     }

@@ -5,28 +5,13 @@ use Rattle.ls_bits.specs.Room.{Fits}
 use Rattle.ls_stream.specs.Planes.{Plane, Segment, at, row_segments, rows_from}
 use Rattle.ls_stream.specs.Coded.{all_from}
 use Rattle.ls_stream.specs.Components.{component_plane}
-use Rattle.ls_stream.specs.LineBuffers.{Holds, ArePadded, AreContexts}
+use Rattle.ls_stream.specs.LineBuffers.{Holds, ArePadded}
 use Rattle.ls_stream.proofs.ComponentLemmas.{sample_at, has_row}
 use Rattle.ls_stream.proofs.LineLemmas.{filled, padded, held_lines}
 use Rattle.ls_stream.proofs.PlainRows.{row_from-start}
 use Rattle.ls_stream.proofs.PlainSegments.{rows_from-next}
 use Rattle.ls_stream.proofs.RowLemmas.{spent}
 use Rattle.ls_stream.proofs.rows.code_rows.Goals as goal
-
-pub find_contexts-requires : goal.find_contexts-requires
-find_contexts-requires c =
-    let contexts : c.args.shape.width ≡ length c.loop-row.contexts = omega (arith, c.requires.contexts, c.loop-row.auto.contexts) in
-    subst (λ width. ArePadded c.args.presets.now.maxval width c.loop-row.above c.fill_line.new.line) contexts
-    (subst (λ (p : Parameters). ArePadded p.maxval c.args.shape.width c.loop-row.above c.fill_line.new.line) c.requires.presets
-    (padded c.args.state.now.parameters.maxval c.args.shape.width c.args.shape.count c.args.component (c.loop-row.row * (c.args.shape.width * c.args.shape.count)) c.args.samples.now c.row_of-pixels.result.now _ _ c.requires.some
-    c.loop-row.invariant.above_length (omega (arith, c.fill_line.auto.line, c.loop-row.invariant.line_length)) c.loop-row.invariant.small c.row_of-pixels.ensures.len c.row_of-pixels.ensures.samples c.requires.small
-    c.fill_line.ensures.left c.fill_line.ensures.samples c.fill_line.ensures.right))
-
-pub code_row-requires-clause-contexts : goal.code_row-requires-clause-contexts
-code_row-requires-clause-contexts c =
-    let contexts : length c.loop-row.contexts ≡ c.args.shape.width = omega (arith, c.requires.contexts, c.loop-row.auto.contexts) in
-    subst (λ width. AreContexts c.loop-row.state.parameters width c.loop-row.above c.fill_line.new.line c.find_contexts.new.contexts) contexts
-    (subst (λ (p : Parameters). AreContexts p (length c.loop-row.contexts) c.loop-row.above c.fill_line.new.line c.find_contexts.new.contexts) (sym (c.loop-row.invariant.parameters ∙ c.requires.presets)) c.find_contexts.ensures)
 
 pub code_row-requires-clause-lines : goal.code_row-requires-clause-lines
 code_row-requires-clause-lines c =
