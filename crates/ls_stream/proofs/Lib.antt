@@ -9,9 +9,9 @@ pub mod LineLemmas
 pub mod PlainCounters
 pub mod PlainHistories
 pub mod PlainNumbers
-pub mod PlainRows
 pub mod PlainSamples
 pub mod PlainSegments
 pub mod PlainWords
 pub mod RowLemmas
+pub mod SegmentLemmas
 pub mod SpellingLemmas

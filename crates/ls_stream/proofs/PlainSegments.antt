@@ -1,13 +1,13 @@
 -- The bits so far and those to come, segment by segment and row by row.
-use Rattle.std.proofs.Common.{◌≡◌, ℕ, suc, ◌+◌, ◌-◌, ◌<◌, ◌≤◌, Bool, true, false, ltb, ℤ, List, [], ◌∷◌, ◌++◌, sym, ◌∙◌, ap, append_assoc, arith}
+use Rattle.std.proofs.Common.{◌≡◌, ℕ, ◌+◌, ◌-◌, ◌<◌, ◌≤◌, Bool, true, false, ltb, ℤ, List, [], ◌∷◌, ◌++◌, sym, ◌∙◌, ap, append_assoc, arith}
 use Rattle.std.proofs.lemmas.Bool.{lt-ltb, le-ltb}
 use Rattle.std.proofs.lemmas.List.{append-nil}
 use Rattle.ls_frame.specs.Parameters.{Parameters}
 use Rattle.ls_coding.specs.Contexts.{is_run}
 use Rattle.ls_coding.specs.Runs.{run_of, run_bits, index_at}
-use Rattle.ls_stream.specs.Planes.{Plane, around, run_length, Segment, sample, stretch, row_segments, rows_from}
-use Rattle.ls_stream.specs.Histories.{History, history, after, bits_of_segment, bits_behind, all_bits, row_from, bits_at, pair_at, break_bits, break_pair}
-use Rattle.ls_stream.proofs.PlainRows.{row_from-sample, row_from-stretch}
+use Rattle.ls_stream.specs.Planes.{Plane, around, run_length, Segment, sample, stretch, row_from, rows_from}
+use Rattle.ls_stream.specs.Histories.{History, history, after, bits_of_segment, bits_behind, all_bits, bits_at, pair_at, break_bits, break_pair}
+use Rattle.ls_stream.proofs.SegmentLemmas.{row_from-sample, row_from-run}
 
 -- a segment's bits move from those to come to those so far
 moved : (p : Parameters) (plane : Plane) (segment : Segment) (rest more segments : List Segment) (bits new : List Bool) (h : History) → segments ≡ segment ∷ rest
@@ -33,14 +33,6 @@ sample-moved p plane i j bits new errors errors' breaks breaks' index index' ins
     ap (λ h. all_bits p plane new h (row_from plane i (j + 1) ++ more)) (same_history errors' (errors ++ pair_at p plane i j errors ∷ []) breaks' breaks index' index b c d)
     ∙ moved p plane (sample i j) (row_from plane i (j + 1)) more (row_from plane i j) bits new (history errors breaks index) (row_from-sample plane i j inside regular) a
 
--- the segment of a run, by its count
-stretched : (plane : Plane) (i j count : ℕ) (broken : Bool) → j < plane.width → is_run (around plane i j) ≡ true → count ≡ run_length plane i j → ltb (j + count) plane.width ≡ broken
-    → row_from plane i j ≡ stretch i j count broken ∷ row_from plane i (j + count + 1)
-stretched plane i j count broken inside is e f =
-    row_from-stretch plane i j inside is
-    ∙ ap (λ n. stretch i j n (ltb (j + n) plane.width) ∷ row_from plane i (j + n + 1)) (sym e)
-    ∙ ap (λ b. stretch i j count b ∷ row_from plane i (j + count + 1)) f
-
 pub run-moved : (p : Parameters) (plane : Plane) (i j count : ℕ) (broken : Bool) (bits new : List Bool) (errors : List (ℕ × ℤ)) (breaks : List (Bool × ℤ)) (index index' : ℕ)
     → j < plane.width → is_run (around plane i j) ≡ true → count ≡ run_length plane i j → ltb (j + count) plane.width ≡ broken → plane.width ≤ j + count
     → new ≡ bits ++ run_bits index (run_of count broken) → index' ≡ index_at index (run_of count broken) → (more : List Segment)
@@ -50,7 +42,7 @@ run-moved p plane i j count broken bits new errors breaks index index' inside is
     let same : broken ≡ false = sym f ∙ whole in
     ap (λ x. all_bits p plane new (history errors breaks x) (row_from plane i (j + count + 1) ++ more)) b
     ∙ moved p plane (stretch i j count false) (row_from plane i (j + count + 1)) more (row_from plane i j) bits new (history errors breaks index)
-    (stretched plane i j count false inside is e whole) (a ∙ ap (λ x. bits ++ run_bits index (run_of count x)) same)
+    (row_from-run plane i j count false inside is e whole) (a ∙ ap (λ x. bits ++ run_bits index (run_of count x)) same)
 
 pub broken-moved : (p : Parameters) (plane : Plane) (i j count : ℕ) (broken : Bool) (bits mid new : List Bool) (errors errors' : List (ℕ × ℤ)) (breaks breaks' : List (Bool × ℤ))
     (index at index' : ℕ) → j < plane.width → is_run (around plane i j) ≡ true → count ≡ run_length plane i j → ltb (j + count) plane.width ≡ broken → j + count < plane.width
@@ -65,18 +57,12 @@ broken-moved p plane i j count broken bits mid new errors errors' breaks breaks'
     ap (λ h. all_bits p plane new h (row_from plane i (j + count + 1) ++ more))
     (same_history errors' errors breaks' (breaks ++ break_pair p plane i (j + count) ∷ []) index' (behind - 1) l m (n ∙ ap (λ x. x - 1) b))
     ∙ moved p plane (stretch i j count true) (row_from plane i (j + count + 1)) more (row_from plane i j) bits new (history errors breaks index)
-    (stretched plane i j count true inside is e cut)
+    (row_from-run plane i j count true inside is e cut)
     (k ∙ ap (λ x. mid ++ break_bits p plane i (j + count) x breaks) b
     ∙ ap (λ x. x ++ break_bits p plane i (j + count) behind breaks) (a ∙ ap (λ x. bits ++ run_bits index (run_of count x)) same)
     ∙ append_assoc bits (run_bits index (run_of count true)) (break_bits p plane i (j + count) behind breaks))
 
 -- ---- rows
-
-pub rows_from-next : (plane : Plane) (rows i : ℕ) → i < rows → rows_from plane (rows - i) i ≡ row_segments plane i ++ rows_from plane (rows - (i + 1)) (i + 1)
-rows_from-next plane rows i h =
-    let left : rows - i ≡ suc (rows - (i + 1)) = omega arith in
-    let next : suc i ≡ i + 1 = omega arith in
-    ap (λ n. rows_from plane n i) left ∙ ap (λ m. row_segments plane i ++ rows_from plane (rows - (i + 1)) m) next
 
 pub nothing_left : (p : Parameters) (plane : Plane) (bits : List Bool) (h : History) (rows i : ℕ) → rows ≤ i → all_bits p plane bits h (rows_from plane (rows - i) i) ≡ bits
 unfolding bits_behind

@@ -1,5 +1,5 @@
 -- The bits so far and those to come, while a row is coded.
-use Rattle.std.proofs.Common.{◌≡◌, ◌≢◌, ℕ, zero, suc, ◌+◌, ◌-◌, ◌*◌, ◌<◌, ◌≤◌, Bool, true, false, ltb, List, ◌∷◌, ◌++◌, get_or, eq-eqb, inl, inr, refl, sym, ◌∙◌, ap, subst, append_assoc, arith}
+use Rattle.std.proofs.Common.{◌≡◌, ◌≢◌, ℕ, zero, suc, ◌+◌, ◌-◌, ◌*◌, ◌<◌, ◌≤◌, Bool, true, false, List, ◌∷◌, ◌++◌, get_or, eq-eqb, inl, inr, refl, sym, ◌∙◌, ap, subst, append_assoc, arith}
 use Rattle.std.proofs.lemmas.Bool.{lt-ltb, le-ltb, cases_lt, cond-true, cond-false, ne_eqb}
 use Rattle.ls_coding.specs.declared.neighbours.Neighbours.{Neighbours}
 use Rattle.ls_coding.specs.declared.word.Word.{Word}
@@ -8,11 +8,10 @@ use Rattle.ls_coding.specs.Interruptions.{is_flat, interruption_error}
 use Rattle.ls_coding.specs.Runs.{run_of, run_bits}
 use Rattle.ls_coding.specs.Events.{golomb_bits}
 use Rattle.ls_coding.specs.States.{Coding, place_of, regular_error_in, regular_word_in, after_regular, after_run, interruption_word_in, after_interruption}
-use Rattle.ls_stream.specs.Planes.{Plane, at, around, left, equal_from, run_length, Segment, sample, stretch}
+use Rattle.ls_stream.specs.Planes.{Plane, at, around, left, equal_from, run_length, Segment, sample, stretch, row_from}
 use Rattle.ls_stream.specs.LineBuffers.{near, AreLines, IsRunEnd}
-use Rattle.ls_stream.specs.Histories.{row_from}
 use Rattle.ls_stream.specs.Coded.{segment_bits_in, segment_after, bits_from, all_from}
-use Rattle.ls_stream.proofs.PlainRows.{row_from-sample, row_from-stretch}
+use Rattle.ls_stream.proofs.SegmentLemmas.{row_from-sample, row_from-run}
 
 -- a segment's bits move from those to come to those so far
 moved : (plane : Plane) (segment : Segment) (rest more segments : List Segment) (bits new : List Bool) (s after : Coding) → segments ≡ segment ∷ rest
@@ -36,14 +35,6 @@ sample-moved plane i j bits new s after n x inside e f regular h k more =
     (h ∙ ap (λ (w : Word). bits ++ golomb_bits s.parameters w) (ap (λ (m : Neighbours). regular_word_in s m x) e ∙ ap (regular_word_in s (around plane i j)) f))
     (k ∙ ap (λ (m : Neighbours). after_regular s (place_of s m).number (regular_error_in s m x)) e ∙ ap (λ v. after_regular s (place_of s (around plane i j)).number (regular_error_in s (around plane i j) v)) f)
 
--- a row from a run on
-stretched : (plane : Plane) (i j count : ℕ) (broken : Bool) → j < plane.width → is_run (around plane i j) ≡ true → count ≡ run_length plane i j → ltb (j + count) plane.width ≡ broken
-    → row_from plane i j ≡ stretch i j count broken ∷ row_from plane i (j + count + 1)
-stretched plane i j count broken inside is e f =
-    row_from-stretch plane i j inside is
-    ∙ ap (λ n. stretch i j n (ltb (j + n) plane.width) ∷ row_from plane i (j + n + 1)) (sym e)
-    ∙ ap (λ b. stretch i j count b ∷ row_from plane i (j + count + 1)) f
-
 -- a run up to the line's end
 pub run-moved : (plane : Plane) (i j count : ℕ) (bits new : List Bool) (s after : Coding) (n : Neighbours) → j < plane.width → plane.width ≤ j + count
     → n ≡ around plane i j → is_run n ≡ true → count ≡ run_length plane i j
@@ -51,7 +42,7 @@ pub run-moved : (plane : Plane) (i j count : ℕ) (bits new : List Bool) (s afte
     → (more : List Segment) → all_from plane new after (row_from plane i (j + count + 1) ++ more) ≡ all_from plane bits s (row_from plane i j ++ more)
 run-moved plane i j count bits new s after n inside far e is f h k more =
     moved plane (stretch i j count false) (row_from plane i (j + count + 1)) more (row_from plane i j) bits new s after
-    (stretched plane i j count false inside (sym (ap is_run e) ∙ is) f (le-ltb (j + count) plane.width far)) h k
+    (row_from-run plane i j count false inside (sym (ap is_run e) ∙ is) f (le-ltb (j + count) plane.width far)) h k
 
 -- a run, and the sample that interrupts it
 pub broken-moved : (plane : Plane) (i j count : ℕ) (bits new : List Bool) (s after : Coding) (n m : Neighbours) (x : ℕ)
@@ -63,7 +54,7 @@ pub broken-moved : (plane : Plane) (i j count : ℕ) (bits new : List Bool) (s a
 broken-moved plane i j count bits new s after n m x inside near e is f a b d l more =
     let r : Coding = after_run s (run_of count true) in
     moved plane (stretch i j count true) (row_from plane i (j + count + 1)) more (row_from plane i j) bits new s after
-    (stretched plane i j count true inside (sym (ap is_run e) ∙ is) f (lt-ltb (j + count) plane.width near))
+    (row_from-run plane i j count true inside (sym (ap is_run e) ∙ is) f (lt-ltb (j + count) plane.width near))
     (d ∙ ap (λ (w : Word). bits ++ (run_bits s.run_index (run_of count true) ++ golomb_bits s.parameters w))
     (ap (λ (y : Neighbours). interruption_word_in r y x) a ∙ ap (interruption_word_in r (around plane i (j + count))) b))
     (l ∙ ap (λ (y : Neighbours). after_interruption r (is_flat y) (interruption_error s.parameters y x)) a

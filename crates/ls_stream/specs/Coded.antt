@@ -38,3 +38,11 @@ bits_from plane (segment ∷ more) s = segment_bits_in plane segment s ++ bits_f
 -- the bits so far, and those of the segments to come
 abbrev pub all_from : Plane → List Bool → Coding → List Segment → List Bool
 all_from plane bits s more = bits ++ bits_from plane more s
+
+-- a scan that is being written: the state of its coding, the bytes in front of it, how many more there was room for, and its bits
+-- so far
+pub record Written : Type 0 where
+  pub state : Coding
+  pub front : List ℕ
+  pub room : ℕ
+  pub bits : List Bool

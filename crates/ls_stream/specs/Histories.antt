@@ -8,7 +8,7 @@ use Rattle.ls_coding.specs.Stats.{Stats, stats_after}
 use Rattle.ls_coding.specs.Interruptions.{Counts, counts_after, is_flat, interruption_error}
 use Rattle.ls_coding.specs.Runs.{run_of, run_bits, index_at}
 use Rattle.ls_coding.specs.Events.{same, regular_e, regular_word, interruption_word, golomb_bits}
-use Rattle.ls_stream.specs.Planes.{Plane, at, around, sample_context, Segment, sample, stretch, cut}
+use Rattle.ls_stream.specs.Planes.{Plane, at, around, sample_context, Segment, sample, stretch}
 
 -- a plane of rows of this width
 abbrev pub plane_of : ℕ → List ℕ → Plane
@@ -99,10 +99,6 @@ bits_behind p plane (segment ∷ more) h = bits_of_segment p plane segment h ++ 
 -- the bits so far, and those of the segments to come
 abbrev pub all_bits : Parameters → Plane → List Bool → History → List Segment → List Bool
 all_bits p plane bits h more = bits ++ bits_behind p plane more h
-
--- the segments of a row from a column on
-unfoldable pub row_from : Plane → ℕ → ℕ → List Segment
-row_from plane i j = cut plane i (plane.width - j) j
 
 -- what the counters of interruption samples keep to: in A at most 2^32 for each of N errors, and at most N of them negative
 pub record AreKept (reset : ℕ) (s : Counts) : Type 0 where

@@ -70,6 +70,10 @@ cut plane i (suc most) j =
 unfoldable pub row_segments : Plane → ℕ → List Segment
 row_segments plane i = cut plane i plane.width 0
 
+-- those from a column on, of a row that is coded so far
+unfoldable pub row_from : Plane → ℕ → ℕ → List Segment
+row_from plane i j = cut plane i (plane.width - j) j
+
 -- those of so many rows from a row on
 abbrev pub rows_from : Plane → ℕ → ℕ → List Segment
 rows_from plane zero i = []

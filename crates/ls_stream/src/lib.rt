@@ -11,12 +11,12 @@
 //!
 //! In reading order: `encoder` (frames), `segments` and `marker` (all that isn't data), `plane` (a scan's data), `shape`
 //! (where a frame's samples stand), `rows` (the rows of a plane), `lines` (what a row is coded by), `row` (a row, from left
-//! to right), `events` (one event, as bits), `laws` (what follows from the definitions alone). For the tests `plain`
+//! to right), `coder` (one event, as bits), `laws` (what follows from the definitions alone). For the tests `plain`
 //! computes a plane's bits plainly.
 #![tactic(auto)]
 
+mod coder;
 pub mod encoder;
-mod events;
 pub mod laws;
 pub mod lines;
 mod marker;

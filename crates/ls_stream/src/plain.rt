@@ -7,8 +7,8 @@
 //! In reading order: `neighbours`, `context`, `prediction`, `number` (what the sections share), `stats` and `regular` (a
 //! sample of regular mode), `run`, `counts` and `interruption` (the sample that interrupts one), `word` (bits).
 ghost use Rattle.std.specs.Prelude.{◌≡◌, ◌-◌, ◌<◌, ◌≤◌, ◌++◌, ◌∷◌, [], List, length, OnOk, IfOk};
-ghost use Rattle.ls_stream.specs.Planes.{Segment, row_segments, plane_bits};
-ghost use Rattle.ls_stream.specs.Histories.{plane_of, IsPlace, history, all_bits, row_from, bits_at, pair_at, break_bits, break_pair};
+ghost use Rattle.ls_stream.specs.Planes.{Segment, row_segments, row_from, plane_bits};
+ghost use Rattle.ls_stream.specs.Histories.{plane_of, IsPlace, history, all_bits, bits_at, pair_at, break_bits, break_pair};
 
 use crate::plain::interruption::{interruption, is_flat};
 use crate::plain::neighbours::{around, is_run, sample_at};

@@ -9,45 +9,41 @@ ghost use Rattle.ls_stream.specs.Planes.{plane_bits};
 ghost use Rattle.ls_stream.specs.Grammar.{plane_of};
 ghost use Rattle.ls_stream.specs.Layout.{scan_bound};
 
+use crate::coder::Coder;
 use crate::lines::Lines;
 use crate::rows::code_rows;
 use crate::shape::shape_of;
-use ls_bits::RoomSink;
-use ls_coding::State;
 use ls_frame::{Frame, Presets};
 
-/// Codes a component's plane, from a scan's start on; `above`, `line` and `contexts` are room for what a row is coded by.
+/// Codes a component's plane, at a scan's start; `above`, `line` and `contexts` are room for what a row is coded by.
 fn code_plane(
+    coder: &mut Coder,
     frame: &Frame,
-    presets: &Presets,
     above: &mut Vec<u16>,
     line: &mut Vec<u16>,
     contexts: &mut Vec<i16>,
-    sink: &mut RoomSink,
     component: usize,
 )
-    requires maxval { presets.now.maxval ≡ frame.now.maxval }
+    requires maxval { coder.old.state.parameters.maxval ≡ frame.now.maxval }
     requires above { frame.now.width + 2 ≤ vec_len above.old }
     requires line { frame.now.width + 2 ≤ vec_len line.old }
     requires contexts { frame.now.width ≤ vec_len contexts.old }
     requires component { component < components frame.now.kind }
-    requires empty { sink.old.bits ≡ [] }
-    requires room { Fits (limit_of presets.now.maxval * (frame.now.width * frame.now.height)) sink.old.room }
-    ensures bits { sink.new.bits ≡ plane_bits presets.now (plane_of frame.now component) }
-    ensures cost { length sink.new.bits ≤ limit_of presets.now.maxval * (frame.now.width * frame.now.height) }
-    ensures front { sink.new.front ≡ sink.old.front }
-    ensures room { sink.new.room ≡ sink.old.room }
+    requires state { coder.old.state ≡ state_of coder.old.state.parameters [] }
+    requires empty { coder.old.bits ≡ [] }
+    requires room { Fits (limit_of coder.old.state.parameters.maxval * (frame.now.width * frame.now.height)) coder.old.room }
+    ensures bits { coder.new.bits ≡ plane_bits coder.old.state.parameters (plane_of frame.now component) }
+    ensures cost { length coder.new.bits ≤ limit_of coder.old.state.parameters.maxval * (frame.now.width * frame.now.height) }
+    ensures front { coder.new.front ≡ coder.old.front }
+    ensures room { coder.new.room ≡ coder.old.room }
     ensures above { vec_len above.new ≡ vec_len above.old }
     ensures line { vec_len line.new ≡ vec_len line.old }
     ensures contexts { vec_len contexts.new ≡ vec_len contexts.old }
 {
     let shape = shape_of(frame);
     let places = shape.width + 2;
-    let mut state = State::new(presets);
     code_rows(
-        &mut state,
-        sink,
-        presets,
+        coder,
         &mut above[..places],
         &mut line[..places],
         &mut contexts[..shape.width],
@@ -74,15 +70,14 @@ pub fn put_scan(
     ensures capacity { vec_capacity bytes ≤ vec_capacity result }
     ensures lines { lines.new ≡ lines.old }
 {
-    let mut sink = RoomSink::new(bytes);
+    let mut coder = Coder::new(presets, bytes);
     code_plane(
+        &mut coder,
         frame,
-        presets,
         &mut lines.above,
         &mut lines.line,
         &mut lines.contexts,
-        &mut sink,
         component,
     );
-    sink.finish()
+    coder.finish()
 }

@@ -1,16 +1,14 @@
 //! A row of a plane, from left to right (T.87 Annex A).
 ghost use Rattle.std.specs.Prelude.{◌≡◌, ◌+◌, ◌-◌, ◌*◌, ◌<◌, ◌≤◌, ◌++◌, ℕ, false, IsTrue, List, length, slice_index};
-ghost use Rattle.ls_frame.specs.Parameters.{qbpp_of, limit_of};
+ghost use Rattle.ls_frame.specs.Parameters.{limit_of};
 ghost use Rattle.ls_bits.specs.Room.{Fits};
 ghost use Rattle.ls_coding.specs.Contexts.{is_zero, is_run, signed_number};
-ghost use Rattle.ls_stream.specs.Planes.{Plane, Segment};
-ghost use Rattle.ls_stream.specs.Histories.{row_from};
+ghost use Rattle.ls_stream.specs.Planes.{Plane, Segment, row_from};
 ghost use Rattle.ls_stream.specs.Coded.{all_from};
 ghost use Rattle.ls_stream.specs.LineBuffers.{near, AreLines, ArePadded, AreContexts, IsRunEnd};
 
-use crate::events::{code_broken_run, code_run_to_end, code_sample};
-use ls_bits::RoomSink;
-use ls_coding::{Neighbours, State, signed_context};
+use crate::coder::Coder;
+use ls_coding::{Neighbours, signed_context};
 use ls_frame::Presets;
 
 /// How many contexts are found at once. Those behind a long run aren't wanted.
@@ -18,45 +16,33 @@ const BLOCK: usize = 64;
 
 /// Codes the row whose line, and the line above, are these, each with one place more on the left and on the right;
 /// `contexts` is room for those of its samples.
-pub fn code_row(
-    state: &mut State,
-    sink: &mut RoomSink,
-    presets: &Presets,
-    above: &[u16],
-    line: &[u16],
-    contexts: &mut [i16],
-    width: usize,
-)
-    requires lines { ArePadded state.old.parameters.maxval width above.now line.now }
+pub fn code_row(coder: &mut Coder, above: &[u16], line: &[u16], contexts: &mut [i16], width: usize)
+    requires lines { ArePadded coder.old.state.parameters.maxval width above.now line.now }
     requires narrow { width ≤ 65535 }
-    requires whole { state.old.broken ≡ false }
-    requires presets { state.old.parameters ≡ presets.now }
+    requires whole { coder.old.state.broken ≡ false }
     requires contexts { length contexts.old ≡ width }
-    requires room { Fits (length sink.old.bits + limit_of state.old.parameters.maxval * width) sink.old.room }
+    requires room { Fits (length coder.old.bits + limit_of coder.old.state.parameters.maxval * width) coder.old.room }
     ensures row { (plane : Plane) (i : ℕ) → plane.width ≡ width → AreLines plane i above.now line.now → (more : List Segment)
-        → all_from plane sink.new.bits state.new more
-        ≡ all_from plane sink.old.bits state.old (row_from plane i 0 ++ more) }
-    ensures cost { length sink.new.bits ≤ length sink.old.bits + limit_of state.old.parameters.maxval * width }
-    ensures whole { state.new.broken ≡ false }
-    ensures parameters { state.new.parameters ≡ state.old.parameters }
-    ensures front { sink.new.front ≡ sink.old.front }
-    ensures room { sink.new.room ≡ sink.old.room }
+        → all_from plane coder.new.bits coder.new.state more
+        ≡ all_from plane coder.old.bits coder.old.state (row_from plane i 0 ++ more) }
+    ensures cost { length coder.new.bits ≤ length coder.old.bits + limit_of coder.old.state.parameters.maxval * width }
+    ensures whole { coder.new.state.broken ≡ false }
+    ensures parameters { coder.new.state.parameters ≡ coder.old.state.parameters }
+    ensures front { coder.new.front ≡ coder.old.front }
+    ensures room { coder.new.room ≡ coder.old.room }
 {
-    let qbpp = presets.qbpp();
     let mut column = 0;
     'columns: while column < width {
         let end = (column + BLOCK).min(width);
-        find_contexts(presets, above, line, contexts, column, end);
-        column = code_block(state, sink, qbpp, above, line, contexts, width, column, end);
+        find_contexts(coder.presets(), above, line, contexts, column, end);
+        column = code_block(coder, above, line, contexts, width, column, end);
     }
 }
 
 /// Codes the segments that begin at the columns from `start` up to `end`, whose contexts are known, and answers the column
 /// behind them.
 fn code_block(
-    state: &mut State,
-    sink: &mut RoomSink,
-    qbpp: u32,
+    coder: &mut Coder,
     above: &[u16],
     line: &[u16],
     contexts: &[i16],
@@ -64,85 +50,72 @@ fn code_block(
     start: usize,
     end: usize,
 ) -> usize
-    requires lines { ArePadded state.old.parameters.maxval width above.now line.now }
-    requires contexts { AreContexts state.old.parameters start end above.now line.now contexts.now }
+    requires lines { ArePadded coder.old.state.parameters.maxval width above.now line.now }
+    requires contexts { AreContexts coder.old.state.parameters start end above.now line.now contexts.now }
     requires long { end ≤ length contexts.now }
     requires some { start < end }
     requires inside { end ≤ width }
     requires narrow { width ≤ 65535 }
-    requires whole { state.old.broken ≡ false }
-    requires qbpp { qbpp ≡ qbpp_of state.old.parameters.maxval }
-    requires room { Fits (length sink.old.bits + limit_of state.old.parameters.maxval * (width - start)) sink.old.room }
+    requires whole { coder.old.state.broken ≡ false }
+    requires room { Fits (length coder.old.bits + limit_of coder.old.state.parameters.maxval * (width - start)) coder.old.room }
     ensures block { (plane : Plane) (i : ℕ) → plane.width ≡ width → AreLines plane i above.now line.now → (more : List Segment)
-        → all_from plane sink.new.bits state.new (row_from plane i result ++ more)
-        ≡ all_from plane sink.old.bits state.old (row_from plane i start ++ more) }
+        → all_from plane coder.new.bits coder.new.state (row_from plane i result ++ more)
+        ≡ all_from plane coder.old.bits coder.old.state (row_from plane i start ++ more) }
     ensures next { start < result }
-    ensures cost { length sink.new.bits + limit_of state.old.parameters.maxval * (width - result)
-        ≤ length sink.old.bits + limit_of state.old.parameters.maxval * (width - start) }
-    ensures whole { state.new.broken ≡ false }
-    ensures parameters { state.new.parameters ≡ state.old.parameters }
-    ensures front { sink.new.front ≡ sink.old.front }
-    ensures room { sink.new.room ≡ sink.old.room }
+    ensures cost { length coder.new.bits + limit_of coder.old.state.parameters.maxval * (width - result)
+        ≤ length coder.old.bits + limit_of coder.old.state.parameters.maxval * (width - start) }
+    ensures whole { coder.new.state.broken ≡ false }
+    ensures parameters { coder.new.state.parameters ≡ coder.old.state.parameters }
+    ensures front { coder.new.front ≡ coder.old.front }
+    ensures room { coder.new.room ≡ coder.old.room }
 {
     let mut column = start;
     'segments: while column < end {
-        column = code_segment(
-            state,
-            sink,
-            qbpp,
-            contexts[column],
-            above,
-            line,
-            width,
-            column,
-        );
+        column = code_segment(coder, contexts[column], above, line, width, column);
     }
     column
 }
 
 /// Codes a sample of regular mode, or a run with the sample that interrupts it, and answers the column behind it.
 fn code_segment(
-    state: &mut State,
-    sink: &mut RoomSink,
-    qbpp: u32,
+    coder: &mut Coder,
     context: i16,
     above: &[u16],
     line: &[u16],
     width: usize,
     column: usize,
 ) -> usize
-    requires context { context ≡ signed_number state.old.parameters (near above.now line.now column) }
+    requires context { context ≡ signed_number coder.old.state.parameters (near above.now line.now column) }
     requires mode { is_zero context ≡ is_run (near above.now line.now column) }
-    requires lines { ArePadded state.old.parameters.maxval width above.now line.now }
+    requires lines { ArePadded coder.old.state.parameters.maxval width above.now line.now }
     requires inside { column < width }
     requires narrow { width ≤ 65535 }
-    requires whole { state.old.broken ≡ false }
-    requires qbpp { qbpp ≡ qbpp_of state.old.parameters.maxval }
-    requires room { Fits (length sink.old.bits + limit_of state.old.parameters.maxval * (width - column)) sink.old.room }
+    requires whole { coder.old.state.broken ≡ false }
+    requires room { Fits (length coder.old.bits + limit_of coder.old.state.parameters.maxval * (width - column)) coder.old.room }
     ensures segment { (plane : Plane) (i : ℕ) → plane.width ≡ width → AreLines plane i above.now line.now → (more : List Segment)
-        → all_from plane sink.new.bits state.new (row_from plane i result ++ more)
-        ≡ all_from plane sink.old.bits state.old (row_from plane i column ++ more) }
+        → all_from plane coder.new.bits coder.new.state (row_from plane i result ++ more)
+        ≡ all_from plane coder.old.bits coder.old.state (row_from plane i column ++ more) }
     ensures next { column < result }
-    ensures cost { length sink.new.bits + limit_of state.old.parameters.maxval * (width - result)
-        ≤ length sink.old.bits + limit_of state.old.parameters.maxval * (width - column) }
-    ensures whole { state.new.broken ≡ false }
-    ensures parameters { state.new.parameters ≡ state.old.parameters }
-    ensures front { sink.new.front ≡ sink.old.front }
-    ensures room { sink.new.room ≡ sink.old.room }
+    ensures cost { length coder.new.bits + limit_of coder.old.state.parameters.maxval * (width - result)
+        ≤ length coder.old.bits + limit_of coder.old.state.parameters.maxval * (width - column) }
+    ensures whole { coder.new.state.broken ≡ false }
+    ensures parameters { coder.new.state.parameters ≡ coder.old.state.parameters }
+    ensures front { coder.new.front ≡ coder.old.front }
+    ensures room { coder.new.room ≡ coder.old.room }
 {
     if context != 0 {
         let neighbours = near(above, line, column);
-        code_sample(state, sink, qbpp, context, &neighbours, line[column + 1]);
+        coder.code_sample(context, &neighbours, line[column + 1]);
         return column + 1;
     }
     let end = run_end(line, width, column);
     let count = (end - column) as u32;
     if end == width {
-        code_run_to_end(state, sink, count);
+        coder.code_run_to_end(count);
         return end + 1;
     }
     let around = near(above, line, end);
-    code_broken_run(state, sink, qbpp, count, &around, line[end + 1]);
+    coder.code_broken_run(count, &around, line[end + 1]);
     end + 1
 }
 

@@ -6,18 +6,14 @@ ghost use Rattle.ls_stream.specs.Planes.{Segment, rows_from};
 ghost use Rattle.ls_stream.specs.Coded.{all_from};
 ghost use Rattle.ls_stream.specs.Components.{component_plane};
 
+use crate::coder::Coder;
 use crate::lines::fill_line;
 use crate::row::code_row;
 use crate::shape::Shape;
-use ls_bits::RoomSink;
-use ls_coding::State;
-use ls_frame::Presets;
 
 /// Codes the rows of one component; `above`, `line` and `contexts` are room for what a row is coded by.
 pub fn code_rows(
-    state: &mut State,
-    sink: &mut RoomSink,
-    presets: &Presets,
+    coder: &mut Coder,
     above: &mut [u16],
     line: &mut [u16],
     contexts: &mut [i16],
@@ -30,25 +26,24 @@ pub fn code_rows(
     requires some { 1 ≤ shape.width }
     requires narrow { shape.width ≤ 65535 }
     requires samples { length samples.now ≡ shape.height * (shape.width * shape.count) }
-    requires small { (k : ℕ) → slice_index samples.now k ≤ state.old.parameters.maxval }
+    requires small { (k : ℕ) → slice_index samples.now k ≤ coder.old.state.parameters.maxval }
     requires component { component < shape.count }
     requires few { shape.width * shape.count < 2 ^ 32 }
-    requires whole { state.old.broken ≡ false }
-    requires presets { state.old.parameters ≡ presets.now }
+    requires whole { coder.old.state.broken ≡ false }
     requires contexts { length contexts.old ≡ shape.width }
-    requires room { Fits (length sink.old.bits + limit_of state.old.parameters.maxval * (shape.width * shape.height)) sink.old.room }
+    requires room { Fits (length coder.old.bits + limit_of coder.old.state.parameters.maxval * (shape.width * shape.height)) coder.old.room }
     ensures rows { let plane = component_plane shape.width shape.count component samples.now in (more : List Segment)
-        → all_from plane sink.new.bits state.new more
-        ≡ all_from plane sink.old.bits state.old (rows_from plane shape.height 0 ++ more) }
-    ensures cost { length sink.new.bits ≤ length sink.old.bits + limit_of state.old.parameters.maxval * (shape.width * shape.height) }
-    ensures front { sink.new.front ≡ sink.old.front }
-    ensures room { sink.new.room ≡ sink.old.room }
+        → all_from plane coder.new.bits coder.new.state more
+        ≡ all_from plane coder.old.bits coder.old.state (rows_from plane shape.height 0 ++ more) }
+    ensures cost { length coder.new.bits ≤ length coder.old.bits + limit_of coder.old.state.parameters.maxval * (shape.width * shape.height) }
+    ensures front { coder.new.front ≡ coder.old.front }
+    ensures room { coder.new.room ≡ coder.old.room }
 {
     clear(above);
     for row in 0..shape.height {
         let pixels = row_of(samples, row, shape.height, shape.width * shape.count);
         fill_line(line, above, pixels, shape.width, shape.count, component);
-        code_row(state, sink, presets, above, line, contexts, shape.width);
+        code_row(coder, above, line, contexts, shape.width);
         above.copy_from_slice(line);
     }
 }

@@ -1,6 +1,6 @@
 use Rattle.std.proofs.Common.{◌++◌, sym, ◌∙◌, ap}
 use Rattle.ls_stream.specs.Histories.{plane_of, history, all_bits}
-use Rattle.ls_stream.proofs.PlainRows.{row_from-start, row_from-end}
+use Rattle.ls_stream.proofs.SegmentLemmas.{row_from-start, row_from-end}
 use Rattle.ls_stream.proofs.plain.code_row.Goals as goal
 
 pub returns-clause-row : goal.returns-clause-row

@@ -1,6 +1,6 @@
 use Rattle.std.proofs.Common.{◌≡◌, ◌-◌, ◌≤◌, ◌++◌, List}
-use Rattle.ls_stream.specs.Planes.{Segment}
-use Rattle.ls_stream.specs.Histories.{plane_of, history, all_bits, row_from}
+use Rattle.ls_stream.specs.Planes.{Segment, row_from}
+use Rattle.ls_stream.specs.Histories.{plane_of, history, all_bits}
 use Rattle.ls_stream.proofs.plain.code_row.Given as goal
 
 abbrev pub invariant-loop-column : goal.invariant-loop-column

@@ -2,7 +2,8 @@ use Rattle.std.proofs.Common.{◌+◌, ◌-◌, ◌/◌, length, sym, ◌∙◌,
 use Rattle.ls_stream.specs.Planes.{rows_from}
 use Rattle.ls_stream.specs.Histories.{plane_of, history, all_bits}
 use Rattle.ls_stream.proofs.PlainHistories.{plane_bits-same}
-use Rattle.ls_stream.proofs.PlainSegments.{rows_from-next, nothing_left}
+use Rattle.ls_stream.proofs.PlainSegments.{nothing_left}
+use Rattle.ls_stream.proofs.SegmentLemmas.{rows_from-next}
 use Rattle.ls_stream.proofs.plain.plane_bits.Goals as goal
 
 pub loop-row-preserved : goal.loop-row-preserved

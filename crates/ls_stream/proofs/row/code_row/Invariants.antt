@@ -1,7 +1,6 @@
 use Rattle.std.proofs.Common.{◌≡◌, ◌+◌, ◌-◌, ◌*◌, ◌≤◌, ◌++◌, ℕ, false, List, length}
 use Rattle.ls_frame.specs.Parameters.{limit_of}
-use Rattle.ls_stream.specs.Planes.{Plane, Segment}
-use Rattle.ls_stream.specs.Histories.{row_from}
+use Rattle.ls_stream.specs.Planes.{Plane, Segment, row_from}
 use Rattle.ls_stream.specs.Coded.{all_from}
 use Rattle.ls_stream.specs.LineBuffers.{AreLines}
 use Rattle.ls_stream.proofs.row.code_row.Given as goal
@@ -9,13 +8,13 @@ use Rattle.ls_stream.proofs.row.code_row.Given as goal
 abbrev pub invariant-columns : goal.invariant-columns
 invariant-columns l = record {
   row : (plane : Plane) (i : ℕ) → plane.width ≡ l.width → AreLines plane i l.above l.line → (more : List Segment)
-      → all_from plane l.sink.bits l.state (row_from plane i l.column ++ more) ≡ all_from plane l.fn.sink.bits l.fn.state (row_from plane i 0 ++ more);
-  cost : length l.sink.bits + limit_of l.fn.state.parameters.maxval * (l.width - l.column) ≤ length l.fn.sink.bits + limit_of l.fn.state.parameters.maxval * l.width;
+      → all_from plane l.coder.bits l.coder.state (row_from plane i l.column ++ more) ≡ all_from plane l.fn.coder.bits l.fn.coder.state (row_from plane i 0 ++ more);
+  cost : length l.coder.bits + limit_of l.fn.coder.state.parameters.maxval * (l.width - l.column) ≤ length l.fn.coder.bits + limit_of l.fn.coder.state.parameters.maxval * l.width;
   contexts : length l.contexts ≡ l.width;
-  whole : l.state.broken ≡ false;
-  parameters : l.state.parameters ≡ l.fn.state.parameters;
-  front : l.sink.front ≡ l.fn.sink.front;
-  room : l.sink.room ≡ l.fn.sink.room;
+  whole : l.coder.state.broken ≡ false;
+  parameters : l.coder.state.parameters ≡ l.fn.coder.state.parameters;
+  front : l.coder.front ≡ l.fn.coder.front;
+  room : l.coder.room ≡ l.fn.coder.room;
 }
 
 abbrev pub decreases-columns : goal.decreases-columns

@@ -10,14 +10,14 @@ use Rattle.ls_stream.proofs.row.code_segment.Goals as goal
 pub returns-then-context-ne0-clause-segment : goal.returns-then-context-ne0-clause-segment
 returns-then-context-ne0-clause-segment c plane i same lines more =
     let inside : c.args.column < plane.width = omega arith in
-    sample-moved plane i c.args.column _ _ c.args.state.now _ c.near-neighbours.result (get_or c.args.line.now (c.args.column + 1) 0) inside
+    sample-moved plane i c.args.column _ _ c.args.coder.now.state _ c.near-neighbours.result (get_or c.args.line.now (c.args.column + 1) 0) inside
     (c.near-neighbours.ensures ∙ lines.nearby c.args.column inside) (lines.samples c.args.column inside)
     (ap is_run c.near-neighbours.ensures ∙ regular_by (near c.args.above.now c.args.line.now c.args.column) c.args.context c.requires.mode c.if-context-ne0.true) c.code_sample.ensures.bits c.code_sample.ensures.state more
 
 pub returns-then-end-width-clause-segment : goal.returns-then-end-width-clause-segment
 returns-then-end-width-clause-segment c plane i same lines more =
-    row_to_end plane i c.args.column c.run_end-end.result c.args.above.now c.args.line.now _ _ c.args.state.now _ (near c.args.above.now c.args.line.now c.args.column) c.args.width same lines
-    c.requires.inside c.run_end-end.ensures c.if-end-width.true refl (run_by c.args.state.now.parameters (near c.args.above.now c.args.line.now c.args.column) c.args.context c.requires.context c.requires.mode c.if-context-ne0.false) c.code_run_to_end.ensures.bits c.code_run_to_end.ensures.state more
+    row_to_end plane i c.args.column c.run_end-end.result c.args.above.now c.args.line.now _ _ c.args.coder.now.state _ (near c.args.above.now c.args.line.now c.args.column) c.args.width same lines
+    c.requires.inside c.run_end-end.ensures c.if-end-width.true refl (run_by c.args.coder.now.state.parameters (near c.args.above.now c.args.line.now c.args.column) c.args.context c.requires.context c.requires.mode c.if-context-ne0.false) c.code_run_to_end.ensures.bits c.code_run_to_end.ensures.state more
 
 pub code_broken_run-requires-clause-sample : goal.code_broken_run-requires-clause-sample
 code_broken_run-requires-clause-sample c =
@@ -30,12 +30,12 @@ code_broken_run-requires-clause-sample c =
 
 pub returns-clause-segment : goal.returns-clause-segment
 returns-clause-segment c plane i same lines more =
-    row_to_break plane i c.args.column c.run_end-end.result c.args.above.now c.args.line.now _ _ c.args.state.now _ (near c.args.above.now c.args.line.now c.args.column) c.near-around.result c.args.width same lines
-    c.requires.inside c.run_end-end.ensures (omega (arith, c.run_end-end.ensures.high)) refl (run_by c.args.state.now.parameters (near c.args.above.now c.args.line.now c.args.column) c.args.context c.requires.context c.requires.mode c.if-context-ne0.false) c.near-around.ensures c.code_broken_run.ensures.bits c.code_broken_run.ensures.state more
+    row_to_break plane i c.args.column c.run_end-end.result c.args.above.now c.args.line.now _ _ c.args.coder.now.state _ (near c.args.above.now c.args.line.now c.args.column) c.near-around.result c.args.width same lines
+    c.requires.inside c.run_end-end.ensures (omega (arith, c.run_end-end.ensures.high)) refl (run_by c.args.coder.now.state.parameters (near c.args.above.now c.args.line.now c.args.column) c.args.context c.requires.context c.requires.mode c.if-context-ne0.false) c.near-around.ensures c.code_broken_run.ensures.bits c.code_broken_run.ensures.state more
 
 pub returns-clause-cost : goal.returns-clause-cost
 returns-clause-cost c =
-    let limit = limit_of c.args.state.now.parameters.maxval in
+    let limit = limit_of c.args.coder.now.state.parameters.maxval in
     let column = c.args.column in
     let end = c.run_end-end.result in
     let near : end < c.args.width = omega (arith, c.run_end-end.ensures.high) in

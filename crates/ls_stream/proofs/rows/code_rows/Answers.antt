@@ -8,24 +8,23 @@ use Rattle.ls_stream.specs.Components.{component_plane}
 use Rattle.ls_stream.specs.LineBuffers.{Holds, ArePadded}
 use Rattle.ls_stream.proofs.ComponentLemmas.{sample_at, has_row}
 use Rattle.ls_stream.proofs.LineLemmas.{filled, padded, held_lines}
-use Rattle.ls_stream.proofs.PlainRows.{row_from-start}
-use Rattle.ls_stream.proofs.PlainSegments.{rows_from-next}
+use Rattle.ls_stream.proofs.SegmentLemmas.{row_from-start, rows_from-next}
 use Rattle.ls_stream.proofs.RowLemmas.{spent}
 use Rattle.ls_stream.proofs.rows.code_rows.Goals as goal
 
 pub code_row-requires-clause-lines : goal.code_row-requires-clause-lines
 code_row-requires-clause-lines c =
     subst (λ (p : Parameters). ArePadded p.maxval c.args.shape.width c.loop-row.above c.fill_line.new.line) (sym c.loop-row.invariant.parameters)
-    (padded c.args.state.now.parameters.maxval c.args.shape.width c.args.shape.count c.args.component (c.loop-row.row * (c.args.shape.width * c.args.shape.count)) c.args.samples.now c.row_of-pixels.result.now _ _ c.requires.some
+    (padded c.args.coder.now.state.parameters.maxval c.args.shape.width c.args.shape.count c.args.component (c.loop-row.row * (c.args.shape.width * c.args.shape.count)) c.args.samples.now c.row_of-pixels.result.now _ _ c.requires.some
     c.loop-row.invariant.above_length (omega (arith, c.fill_line.auto.line, c.loop-row.invariant.line_length)) c.loop-row.invariant.small c.row_of-pixels.ensures.len c.row_of-pixels.ensures.samples c.requires.small
     c.fill_line.ensures.left c.fill_line.ensures.samples c.fill_line.ensures.right)
 
 pub code_row-requires-clause-room : goal.code_row-requires-clause-room
 code_row-requires-clause-room c =
-    let limit = limit_of c.args.state.now.parameters.maxval in
+    let limit = limit_of c.args.coder.now.state.parameters.maxval in
     let rows : c.args.shape.width * 1 ≤ c.args.shape.width * (c.args.shape.height - c.loop-row.row) = mul-le c.args.shape.width 1 c.args.shape.width (c.args.shape.height - c.loop-row.row) (omega arith) (omega arith) in
     let one : limit * (c.args.shape.width * 1) ≤ limit * (c.args.shape.width * (c.args.shape.height - c.loop-row.row)) = mul-le limit (c.args.shape.width * 1) limit (c.args.shape.width * (c.args.shape.height - c.loop-row.row)) (omega arith) rows in
-    subst (λ (q : Parameters). Fits (length c.loop-row.sink.bits + limit_of q.maxval * c.args.shape.width) c.loop-row.sink.room) (sym c.loop-row.invariant.parameters)
+    subst (λ (q : Parameters). Fits (length c.loop-row.coder.bits + limit_of q.maxval * c.args.shape.width) c.loop-row.coder.room) (sym c.loop-row.invariant.parameters)
     (omega (arith, c.loop-row.invariant.cost, c.loop-row.invariant.room, c.requires.room))
 
 pub loop-row-preserved : goal.loop-row-preserved
@@ -37,7 +36,7 @@ loop-row-preserved c =
     let some : 1 ≤ c.args.shape.count = omega arith in
     let whole : length samples ≡ c.args.shape.width * c.args.shape.height * c.args.shape.count = omega (arith, c.requires.samples) in
     let next : suc row ≡ row + 1 = omega arith in
-    let maxval = c.args.state.now.parameters.maxval in
+    let maxval = c.args.coder.now.state.parameters.maxval in
     let limit = limit_of maxval in
     let line_length : length c.fill_line.new.line ≡ c.args.shape.width + 2 = omega (arith, c.fill_line.auto.line, c.loop-row.invariant.line_length) in
     let pads = padded maxval c.args.shape.width c.args.shape.count c.args.component (row * (c.args.shape.width * c.args.shape.count)) samples c.row_of-pixels.result.now _ _ c.requires.some
@@ -55,9 +54,9 @@ loop-row-preserved c =
     record {
       rows = λ more.
           c.code_row.ensures.row plane row refl lines (rows_from plane (c.args.shape.height - (row + 1)) (row + 1) ++ more)
-          ∙ ap (λ (xs : List Segment). all_from plane c.loop-row.sink.bits c.loop-row.state (xs ++ (rows_from plane (c.args.shape.height - (row + 1)) (row + 1) ++ more))) (sym (row_from-start plane row))
-          ∙ ap (all_from plane c.loop-row.sink.bits c.loop-row.state) (sym (append_assoc (row_segments plane row) (rows_from plane (c.args.shape.height - (row + 1)) (row + 1)) more))
-          ∙ ap (λ (xs : List Segment). all_from plane c.loop-row.sink.bits c.loop-row.state (xs ++ more)) (sym (rows_from-next plane c.args.shape.height row inside))
+          ∙ ap (λ (xs : List Segment). all_from plane c.loop-row.coder.bits c.loop-row.coder.state (xs ++ (rows_from plane (c.args.shape.height - (row + 1)) (row + 1) ++ more))) (sym (row_from-start plane row))
+          ∙ ap (all_from plane c.loop-row.coder.bits c.loop-row.coder.state) (sym (append_assoc (row_segments plane row) (rows_from plane (c.args.shape.height - (row + 1)) (row + 1)) more))
+          ∙ ap (λ (xs : List Segment). all_from plane c.loop-row.coder.bits c.loop-row.coder.state (xs ++ more)) (sym (rows_from-next plane c.args.shape.height row inside))
           ∙ c.loop-row.invariant.rows more;
       held = λ k h. ap (λ xs. get_or xs k 0) c.copy_from_slice.ensures.after ∙ subst (λ i. Holds plane i c.fill_line.new.line) next held k h;
       small = λ k. subst (λ xs. get_or xs k 0 ≤ maxval) (sym c.copy_from_slice.ensures.after) (pads.line_small k);
@@ -67,7 +66,7 @@ loop-row-preserved c =
           let left : c.args.shape.width + c.args.shape.width * (c.args.shape.height - (row + 1)) ≡ c.args.shape.width * (c.args.shape.height - row) = omega (arith, spent c.args.shape.width 1 (c.args.shape.height - (row + 1)) (c.args.shape.height - row) (omega arith)) in
           let spent_here : limit * c.args.shape.width + limit * (c.args.shape.width * (c.args.shape.height - (row + 1))) ≡ limit * (c.args.shape.width * (c.args.shape.height - row)) =
           spent limit c.args.shape.width (c.args.shape.width * (c.args.shape.height - (row + 1))) (c.args.shape.width * (c.args.shape.height - row)) left in
-          let same_limit : limit_of c.loop-row.state.parameters.maxval * c.args.shape.width ≡ limit * c.args.shape.width = ap (λ (q : Parameters). limit_of q.maxval * c.args.shape.width) c.loop-row.invariant.parameters in
+          let same_limit : limit_of c.loop-row.coder.state.parameters.maxval * c.args.shape.width ≡ limit * c.args.shape.width = ap (λ (q : Parameters). limit_of q.maxval * c.args.shape.width) c.loop-row.invariant.parameters in
           omega (arith, c.code_row.ensures.cost, c.loop-row.invariant.cost);
       whole = c.code_row.ensures.whole;
       parameters = c.code_row.ensures.parameters ∙ c.loop-row.invariant.parameters;

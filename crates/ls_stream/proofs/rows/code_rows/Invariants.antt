@@ -8,15 +8,15 @@ use Rattle.ls_stream.proofs.rows.code_rows.Given as goal
 
 abbrev pub invariant-loop-row : goal.invariant-loop-row
 invariant-loop-row l = record {
-  rows : (more : List Segment) → all_from (component_plane l.shape.width l.shape.count l.component l.samples) l.sink.bits l.state (rows_from (component_plane l.shape.width l.shape.count l.component l.samples) (l.shape.height - l.row) l.row ++ more)
-      ≡ all_from (component_plane l.shape.width l.shape.count l.component l.samples) l.fn.sink.bits l.fn.state (rows_from (component_plane l.shape.width l.shape.count l.component l.samples) l.shape.height 0 ++ more);
+  rows : (more : List Segment) → all_from (component_plane l.shape.width l.shape.count l.component l.samples) l.coder.bits l.coder.state (rows_from (component_plane l.shape.width l.shape.count l.component l.samples) (l.shape.height - l.row) l.row ++ more)
+      ≡ all_from (component_plane l.shape.width l.shape.count l.component l.samples) l.fn.coder.bits l.fn.coder.state (rows_from (component_plane l.shape.width l.shape.count l.component l.samples) l.shape.height 0 ++ more);
   held : Holds (component_plane l.shape.width l.shape.count l.component l.samples) l.row l.above;
-  small : (k : ℕ) → get_or l.above k 0 ≤ l.fn.state.parameters.maxval;
+  small : (k : ℕ) → get_or l.above k 0 ≤ l.fn.coder.state.parameters.maxval;
   above_length : length l.above ≡ l.shape.width + 2;
   line_length : length l.line ≡ l.shape.width + 2;
-  cost : length l.sink.bits + limit_of l.fn.state.parameters.maxval * (l.shape.width * (l.shape.height - l.row)) ≤ length l.fn.sink.bits + limit_of l.fn.state.parameters.maxval * (l.shape.width * l.shape.height);
-  whole : l.state.broken ≡ false;
-  parameters : l.state.parameters ≡ l.fn.state.parameters;
-  front : l.sink.front ≡ l.fn.sink.front;
-  room : l.sink.room ≡ l.fn.sink.room;
+  cost : length l.coder.bits + limit_of l.fn.coder.state.parameters.maxval * (l.shape.width * (l.shape.height - l.row)) ≤ length l.fn.coder.bits + limit_of l.fn.coder.state.parameters.maxval * (l.shape.width * l.shape.height);
+  whole : l.coder.state.broken ≡ false;
+  parameters : l.coder.state.parameters ≡ l.fn.coder.state.parameters;
+  front : l.coder.front ≡ l.fn.coder.front;
+  room : l.coder.room ≡ l.fn.coder.room;
 }

@@ -1,6 +1,6 @@
 use Rattle.std.proofs.Common.{sym, ◌∙◌, arith}
 use Rattle.ls_stream.specs.Histories.{plane_of}
-use Rattle.ls_stream.proofs.PlainRows.{equal_from-more}
+use Rattle.ls_stream.proofs.SegmentLemmas.{equal_from-more}
 use Rattle.ls_stream.proofs.plain.run.run_length.Goals as goal
 
 pub loop-end-preserved : goal.loop-end-preserved

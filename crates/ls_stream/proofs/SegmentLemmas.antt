@@ -1,9 +1,8 @@
--- A row from left to right.
-use Rattle.std.proofs.Common.{◌≡◌, ℕ, zero, suc, ◌+◌, ◌-◌, ◌<◌, ◌≤◌, true, false, cond, leb, ltb, [], ◌∷◌, refl, sym, ◌∙◌, ap, eq-eqb, arith}
+-- The segments of a row, from left to right.
+use Rattle.std.proofs.Common.{◌≡◌, ℕ, zero, suc, ◌+◌, ◌-◌, ◌<◌, ◌≤◌, Bool, true, false, cond, leb, ltb, [], ◌∷◌, ◌++◌, refl, sym, ◌∙◌, ap, eq-eqb, arith}
 use Rattle.std.proofs.lemmas.Bool.{le-leb, lt-leb, cond-true, cond-false}
 use Rattle.ls_coding.specs.Contexts.{is_run}
-use Rattle.ls_stream.specs.Planes.{Plane, at, around, equal_from, run_length, Segment, sample, stretch, cut, row_segments}
-use Rattle.ls_stream.specs.Histories.{row_from}
+use Rattle.ls_stream.specs.Planes.{Plane, at, around, equal_from, run_length, Segment, sample, stretch, cut, row_segments, row_from, rows_from}
 
 -- ---- the samples of a run
 
@@ -50,7 +49,7 @@ row_from-sample plane i j h e =
     ∙ cond-false _ _ _ (lt-leb plane.width j h)
     ∙ cond-false _ _ _ e
 
-pub row_from-stretch : (plane : Plane) (i j : ℕ) → j < plane.width → is_run (around plane i j) ≡ true
+row_from-stretch : (plane : Plane) (i j : ℕ) → j < plane.width → is_run (around plane i j) ≡ true
     → row_from plane i j ≡ stretch i j (run_length plane i j) (ltb (j + run_length plane i j) plane.width) ∷ row_from plane i (j + run_length plane i j + 1)
 unfolding row_from
 row_from-stretch plane i j h e =
@@ -60,3 +59,19 @@ row_from-stretch plane i j h e =
     ∙ cond-false _ _ _ (lt-leb plane.width j h)
     ∙ cond-true _ _ _ e
     ∙ ap (λ rest. run ∷ rest) (cut-enough plane i (plane.width - (j + 1)) (plane.width - (j + count + 1)) (j + count + 1) (omega arith) (omega arith))
+
+-- the segment of a run, by its count
+pub row_from-run : (plane : Plane) (i j count : ℕ) (broken : Bool) → j < plane.width → is_run (around plane i j) ≡ true → count ≡ run_length plane i j → ltb (j + count) plane.width ≡ broken
+    → row_from plane i j ≡ stretch i j count broken ∷ row_from plane i (j + count + 1)
+row_from-run plane i j count broken inside is e f =
+    row_from-stretch plane i j inside is
+    ∙ ap (λ n. stretch i j n (ltb (j + n) plane.width) ∷ row_from plane i (j + n + 1)) (sym e)
+    ∙ ap (λ b. stretch i j count b ∷ row_from plane i (j + count + 1)) f
+
+-- ---- rows
+
+pub rows_from-next : (plane : Plane) (rows i : ℕ) → i < rows → rows_from plane (rows - i) i ≡ row_segments plane i ++ rows_from plane (rows - (i + 1)) (i + 1)
+rows_from-next plane rows i h =
+    let left : rows - i ≡ suc (rows - (i + 1)) = omega arith in
+    let next : suc i ≡ i + 1 = omega arith in
+    ap (λ n. rows_from plane n i) left ∙ ap (λ m. row_segments plane i ++ rows_from plane (rows - (i + 1)) m) next

@@ -1,5 +1,5 @@
 use Rattle.std.proofs.Common.{◌≡◌, ◌++◌, true, replicate}
-use Rattle.ls_stream.proofs.events.put_ones.Given as goal
+use Rattle.ls_stream.proofs.coder.put_ones.Given as goal
 
 abbrev pub invariant-loop-done : goal.invariant-loop-done
 invariant-loop-done l =

@@ -3,7 +3,7 @@ use Rattle.ls_bits.specs.Bits.{bits_of}
 use Rattle.ls_bits.proofs.BitLemmas.{length-bits_of}
 use Rattle.ls_coding.specs.declared.run.Tail.{Tail}
 use Rattle.ls_coding.specs.Runs.{tail_bits}
-use Rattle.ls_stream.proofs.events.put_tail.Goals as goal
+use Rattle.ls_stream.proofs.coder.put_tail.Goals as goal
 
 pub put-requires-in-Broken-2-clause-room : goal.put-requires-in-Broken-2-clause-room
 put-requires-in-Broken-2-clause-room c =
