@@ -21,7 +21,7 @@ use std::marker::Model;
 #[derive(Drop)]
 pub struct Coder {
     presets: Presets,
-    /// The bits of an error, of so many values as RANGE (qbpp).
+    /// The bits of an error (qbpp).
     qbpp: u32,
     state: State,
     sink: RoomSink,
