@@ -9,8 +9,8 @@ use Rattle.std.proofs.lemmas.Bool.{cond-true}
 use Rattle.ls_coding.specs.declared.neighbours.Neighbours.{Neighbours}
 use Rattle.ls_coding.specs.Samples.{AreSamples}
 use Rattle.ls_coding.specs.Contexts.{signed}
-use Rattle.ls_coding.specs.Interruptions.{is_flat, is_turned, foretold, interruption_error}
-use Rattle.ls_coding.specs.Plans.{Interrupts}
+use Rattle.ls_coding.specs.Interruptions.{ri_type_of, interruption_negative, interruption_prediction, interruption_error}
+use Rattle.ls_coding.specs.View.Plans.{Interrupts}
 use Rattle.ls_coding.specs.Errors.{IsReduced, reduced, error_of}
 use Rattle.ls_coding.proofs.StatsLemmas.{choose, le_true, le_false, lt_true, lt_false, mean_through}
 
@@ -20,40 +20,40 @@ data IsAlike (range : ℕ) (d e : ℤ) : Type 0 where
   above : d ≡ e +ℤ pos range → IsAlike range d e
   below : d ≡ e -ℤ pos range → IsAlike range d e
 
-centred : ℕ → ℤ → ℤ
-centred range up = cond (int_le (pos ((range + 1) / 2)) up) (up -ℤ pos range) up
+signed_residue : ℕ → ℤ → ℤ
+signed_residue range up = cond (int_le (pos ((range + 1) / 2)) up) (up -ℤ pos range) up
 
-centred_alike : (range : ℕ) (d : ℤ) → d <ℤ pos range → IsAlike range d (centred range d)
-unfolding centred
-centred_alike range d high =
+signed_residue_alike : (range : ℕ) (d : ℤ) → d <ℤ pos range → IsAlike range d (signed_residue range d)
+unfolding signed_residue
+signed_residue_alike range d high =
     choose (int_le (pos ((range + 1) / 2)) d) (d -ℤ pos range) d (IsAlike range d) (λ e. above (omega (arith, ints))) (λ e. here refl)
 
-wrapped_alike : (range : ℕ) (d : ℤ) → neg_ℤ (pos range) <ℤ d → d <ℤ pos 0 → IsAlike range d (centred range (d +ℤ pos range))
-unfolding centred
-wrapped_alike range d low high =
+nonnegative_alike : (range : ℕ) (d : ℤ) → neg_ℤ (pos range) <ℤ d → d <ℤ pos 0 → IsAlike range d (signed_residue range (d +ℤ pos range))
+unfolding signed_residue
+nonnegative_alike range d low high =
     choose (int_le (pos ((range + 1) / 2)) (d +ℤ pos range)) (d +ℤ pos range -ℤ pos range) (d +ℤ pos range) (IsAlike range d)
     (λ e. here (omega (arith, ints))) (λ e. below (omega (arith, ints)))
 
 -- reducing takes off no more than a RANGE
 reduced_alike : (range : ℕ) (d : ℤ) → neg_ℤ (pos range) <ℤ d → d <ℤ pos range → IsAlike range d (reduced range d)
-unfolding centred
+unfolding signed_residue
 reduced_alike range d low high =
-    choose (int_lt d (pos 0)) (d +ℤ pos range) d (λ up. IsAlike range d (centred range up))
-    (λ e. wrapped_alike range d low (lt_true d (pos 0) e)) (λ e. centred_alike range d high)
+    choose (int_lt d (pos 0)) (d +ℤ pos range) d (λ up. IsAlike range d (signed_residue range up))
+    (λ e. nonnegative_alike range d low (lt_true d (pos 0) e)) (λ e. signed_residue_alike range d high)
 
-centred_reduced : (range : ℕ) (up : ℤ) → pos 0 ≤ℤ up → up <ℤ pos range → IsReduced range (centred range up)
-unfolding centred
-centred_reduced range up low high =
+signed_residue_reduced : (range : ℕ) (up : ℤ) → pos 0 ≤ℤ up → up <ℤ pos range → IsReduced range (signed_residue range up)
+unfolding signed_residue
+signed_residue_reduced range up low high =
     choose (int_le (pos ((range + 1) / 2)) up) (up -ℤ pos range) up (IsReduced range)
     (λ e. let h = le_true (pos ((range + 1) / 2)) up e in record { low = omega (arith, ints, h); high = omega (arith, ints, h) })
     (λ e. let h = le_false (pos ((range + 1) / 2)) up e in record { low = omega (arith, ints, h); high = omega (arith, ints, h) })
 
 reduced_reduced : (range : ℕ) (d : ℤ) → neg_ℤ (pos range) <ℤ d → d <ℤ pos range → IsReduced range (reduced range d)
-unfolding centred
+unfolding signed_residue
 reduced_reduced range d low high =
-    choose (int_lt d (pos 0)) (d +ℤ pos range) d (λ up. IsReduced range (centred range up))
-    (λ e. let h = lt_true d (pos 0) e in centred_reduced range (d +ℤ pos range) (omega (arith, ints, h)) (omega (arith, ints, h)))
-    (λ e. let h = lt_false d (pos 0) e in centred_reduced range d h high)
+    choose (int_lt d (pos 0)) (d +ℤ pos range) d (λ up. IsReduced range (signed_residue range up))
+    (λ e. let h = lt_true d (pos 0) e in signed_residue_reduced range (d +ℤ pos range) (omega (arith, ints, h)) (omega (arith, ints, h)))
+    (λ e. let h = lt_false d (pos 0) e in signed_residue_reduced range d h high)
 
 -- no two reduced errors are alike
 alike_once : (range : ℕ) (d e f : ℤ) → IsReduced range e → IsReduced range f → IsAlike range d e → IsAlike range d f → e ≡ f
@@ -73,11 +73,11 @@ reduced_is range d e low high h alike =
 
 -- ---- the sample of an error
 
-brought_back : ℕ → ℤ → ℤ
-brought_back range z = cond (int_lt z (pos 0)) (z +ℤ pos range) (cond (int_le (pos range) z) (z -ℤ pos range) z)
+modulo_range : ℕ → ℤ → ℤ
+modulo_range range z = cond (int_lt z (pos 0)) (z +ℤ pos range) (cond (int_le (pos range) z) (z -ℤ pos range) z)
 
-brought_alike : (range : ℕ) (z : ℤ) → IsAlike range z (brought_back range z)
-unfolding brought_back
+brought_alike : (range : ℕ) (z : ℤ) → IsAlike range z (modulo_range range z)
+unfolding modulo_range
 brought_alike range z =
     choose (int_lt z (pos 0)) (z +ℤ pos range) (cond (int_le (pos range) z) (z -ℤ pos range) z) (IsAlike range z)
     (λ e. below (omega (arith, ints)))
@@ -103,7 +103,7 @@ difference_high range px x false h k = omega (arith, ints)
 pub sample_has : (range px x : ℕ) (negative : Bool) (e z : ℤ) → px < range → x < range → IsReduced range e → z ≡ pos px +ℤ signed negative e
     → pos x ≡ cond (int_lt z (pos 0)) (z +ℤ pos range) (cond (int_le (pos range) z) (z -ℤ pos range) z)
     → reduced range (signed negative (pos x -ℤ pos px)) ≡ e
-unfolding brought_back
+unfolding modulo_range
 sample_has range px x negative e z h k error sum back =
     reduced_is range (signed negative (pos x -ℤ pos px)) e (difference_low range px x negative h k) (difference_high range px x negative h k) error
     (has_error range px x negative e z sum (subst (IsAlike range z) (sym back) (brought_alike range z)))
@@ -133,7 +133,7 @@ same_sample range px x y false e h k (below p) (below q) = omega (arith, ints)
 pub sample_once : (range px x y : ℕ) (negative : Bool) (e z : ℤ) → px < range → x < range → y < range → z ≡ pos px +ℤ signed negative e
     → pos x ≡ cond (int_lt z (pos 0)) (z +ℤ pos range) (cond (int_le (pos range) z) (z -ℤ pos range) z)
     → reduced range (signed negative (pos y -ℤ pos px)) ≡ e → y ≡ x
-unfolding brought_back
+unfolding modulo_range
 sample_once range px x y negative e z h k l sum back same =
     same_sample range px y x negative e l k
     (subst (IsAlike range (signed negative (pos y -ℤ pos px))) same
@@ -181,9 +181,9 @@ error_of-zero p px x negative h k e =
     (subst (IsAlike (range_of p.maxval) (signed negative (pos x -ℤ pos px))) e
     (reduced_alike (range_of p.maxval) (signed negative (pos x -ℤ pos px)) (difference_low (range_of p.maxval) px x negative below inside) (difference_high (range_of p.maxval) px x negative below inside)))
 
-pub foretold_small : (maxval : ℕ) (n : Neighbours) → AreSamples maxval n → foretold n ≤ maxval
-foretold_small maxval n h = choose (is_flat n) n.a n.b (λ v. v ≤ maxval) (λ e. h.left) (λ e. h.above)
+pub interruption_prediction_small : (maxval : ℕ) (n : Neighbours) → AreSamples maxval n → interruption_prediction n ≤ maxval
+interruption_prediction_small maxval n h = choose (ri_type_of n) n.a n.b (λ v. v ≤ maxval) (λ e. h.left) (λ e. h.above)
 
-pub interrupting_error : (p : Parameters) (n : Neighbours) (sample : ℕ) → AreSamples p.maxval n → Interrupts p.maxval n.a sample → is_flat n ≡ true → interruption_error p n sample ≡ pos 0 → ⊥
-interrupting_error p n sample h k flat e =
-    k.other (error_of-zero p (foretold n) sample (is_turned n) (foretold_small p.maxval n h) k.within e ∙ cond-true (is_flat n) n.a n.b flat)
+pub interrupting_error : (p : Parameters) (n : Neighbours) (sample : ℕ) → AreSamples p.maxval n → Interrupts p.maxval n.a sample → ri_type_of n ≡ true → interruption_error p n sample ≡ pos 0 → ⊥
+interrupting_error p n sample h k ri_type e =
+    k.other (error_of-zero p (interruption_prediction n) sample (interruption_negative n) (interruption_prediction_small p.maxval n h) k.within e ∙ cond-true (ri_type_of n) n.a n.b ri_type)

@@ -10,8 +10,8 @@ use Rattle.std.proofs.lemmas.List.{get_or-set_same, get_or-set_other, length-set
 use Rattle.std.proofs.lemmas.List.FromFn.{get_or-map-range_with_len, length-map-range_with_len}
 use Rattle.ls_frame.specs.Parameters.{Parameters, IsLegal}
 use Rattle.ls_coding.specs.Stats.{Stats, stats, error_bound, AreSound, first_a, first_stats}
-use Rattle.ls_coding.specs.Interruptions.{Counts, counts, first_counts, ri_type, map_of, interruption_k, interruption_value, AreSoundCounts}
-use Rattle.ls_coding.specs.Fields.{stats_at, contexts_of, counts_at, AreAllSound}
+use Rattle.ls_coding.specs.Interruptions.{Counts, counts, first_counts, ri_value, map_of, interruption_k, interruption_value, AreSoundCounts}
+use Rattle.ls_coding.specs.View.Fields.{stats_at, contexts_of, counts_at, AreAllSound}
 
 same_or_by : (i j : ℕ) (test : Bool) → eqb i j ≡ test → (i ≡ j) ⊎ (i ≢ j)
 same_or_by i j true e = inl (eqb-true i j e)
@@ -88,8 +88,8 @@ regular_sound reset bound a n b c nn i x w y z whole h sound here =
         | inl same ↦ subst (λ k. AreSound reset bound (stats_at (set a i x) (set b i y) (set c i z) (set n i w) k)) (sym same) (subst (AreSound reset bound) (sym (at_same a n b c i x w y z whole h)) here)
         | inr other ↦ subst (AreSound reset bound) (sym (at_other a n b c i x w y z j other)) (sound.regular j low)
       ];
-      steep = rw (get_or-set_other a i 365 x 0 far_0, get_or-set_other n i 365 w 0 far_0) sound.steep;
-      flat = rw (get_or-set_other a i 366 x 0 far_1, get_or-set_other n i 366 w 0 far_1) sound.flat;
+      ri_type_0 = rw (get_or-set_other a i 365 x 0 far_0, get_or-set_other n i 365 w 0 far_0) sound.ri_type_0;
+      ri_type_1 = rw (get_or-set_other a i 366 x 0 far_1, get_or-set_other n i 366 w 0 far_1) sound.ri_type_1;
     }
 
 -- ---- at a scan's start
@@ -134,8 +134,8 @@ pub first_sound : (a n nn : List ℕ) (b c : List ℤ) (p : Parameters) → IsLe
     → AreAllSound p.reset (error_bound p.maxval) a b c n nn
 first_sound a n nn b c p legal all_a all_b all_c all_n all_nn = record {
   regular = λ number h. subst (AreSound p.reset (error_bound p.maxval)) (sym (first_at a n b c p all_a all_b all_c all_n number h)) (first_stats_sound p legal);
-  steep = subst (AreSoundCounts p.reset (error_bound p.maxval)) (sym (first_counts_at a n nn p 0 all_a all_n all_nn (omega arith))) (first_counts_sound p legal);
-  flat = subst (AreSoundCounts p.reset (error_bound p.maxval)) (sym (first_counts_at a n nn p 1 all_a all_n all_nn (omega arith))) (first_counts_sound p legal);
+  ri_type_0 = subst (AreSoundCounts p.reset (error_bound p.maxval)) (sym (first_counts_at a n nn p 0 all_a all_n all_nn (omega arith))) (first_counts_sound p legal);
+  ri_type_1 = subst (AreSoundCounts p.reset (error_bound p.maxval)) (sym (first_counts_at a n nn p 1 all_a all_n all_nn (omega arith))) (first_counts_sound p legal);
 }
 
 -- ---- the counters of interrupting samples
@@ -176,34 +176,34 @@ contexts_kept a n b c which x y =
     map_alike (stats_at a b c n) (stats_at (set a (365 + which) x) b c (set n (365 + which) y)) 365 (stats 0 (pos 0) (pos 0) 0) (regular_kept a n b c which x y)
 
 -- the counters of both, one of them with an error more
-pub steep_after : (flat : Bool) (a n nn : List ℕ) (x y z : ℕ) (s : Counts) → AreWholeCounts a n nn → (flat ≡ false → counts x y z ≡ s)
-    → counts_at (set a (365 + ri_type flat) x) (set n (365 + ri_type flat) y) (set nn (ri_type flat) z) 0 ≡ cond flat (counts_at a n nn 0) s
-steep_after true a n nn x y z s whole e = counts_other a n nn 1 0 x y z (omega arith)
-steep_after false a n nn x y z s whole e = counts_own a n nn 0 x y z whole (omega arith) ∙ e refl
+pub ri_type_0_after : (ri_type : Bool) (a n nn : List ℕ) (x y z : ℕ) (s : Counts) → AreWholeCounts a n nn → (ri_type ≡ false → counts x y z ≡ s)
+    → counts_at (set a (365 + ri_value ri_type) x) (set n (365 + ri_value ri_type) y) (set nn (ri_value ri_type) z) 0 ≡ cond ri_type (counts_at a n nn 0) s
+ri_type_0_after true a n nn x y z s whole e = counts_other a n nn 1 0 x y z (omega arith)
+ri_type_0_after false a n nn x y z s whole e = counts_own a n nn 0 x y z whole (omega arith) ∙ e refl
 
-pub flat_after : (flat : Bool) (a n nn : List ℕ) (x y z : ℕ) (s : Counts) → AreWholeCounts a n nn → (flat ≡ true → counts x y z ≡ s)
-    → counts_at (set a (365 + ri_type flat) x) (set n (365 + ri_type flat) y) (set nn (ri_type flat) z) 1 ≡ cond flat s (counts_at a n nn 1)
-flat_after true a n nn x y z s whole e = counts_own a n nn 1 x y z whole (omega arith) ∙ e refl
-flat_after false a n nn x y z s whole e = counts_other a n nn 0 1 x y z (omega arith)
+pub ri_type_1_after : (ri_type : Bool) (a n nn : List ℕ) (x y z : ℕ) (s : Counts) → AreWholeCounts a n nn → (ri_type ≡ true → counts x y z ≡ s)
+    → counts_at (set a (365 + ri_value ri_type) x) (set n (365 + ri_value ri_type) y) (set nn (ri_value ri_type) z) 1 ≡ cond ri_type s (counts_at a n nn 1)
+ri_type_1_after true a n nn x y z s whole e = counts_own a n nn 1 x y z whole (omega arith) ∙ e refl
+ri_type_1_after false a n nn x y z s whole e = counts_other a n nn 0 1 x y z (omega arith)
 
-pub interruption_sound : (flat : Bool) (reset bound : ℕ) (a n : List ℕ) (b c : List ℤ) (nn : List ℕ) (x y z : ℕ) → AreWholeCounts a n nn
+pub interruption_sound : (ri_type : Bool) (reset bound : ℕ) (a n : List ℕ) (b c : List ℤ) (nn : List ℕ) (x y z : ℕ) → AreWholeCounts a n nn
     → AreAllSound reset bound a b c n nn → AreSoundCounts reset bound (counts x y z)
-    → AreAllSound reset bound (set a (365 + ri_type flat) x) b c (set n (365 + ri_type flat) y) (set nn (ri_type flat) z)
+    → AreAllSound reset bound (set a (365 + ri_value ri_type) x) b c (set n (365 + ri_value ri_type) y) (set nn (ri_value ri_type) z)
 interruption_sound true reset bound a n b c nn x y z whole sound here = record {
   regular = λ number h. subst (AreSound reset bound) (sym (regular_kept a n b c 1 x y number h)) (sound.regular number h);
-  steep = subst (AreSoundCounts reset bound) (sym (counts_other a n nn 1 0 x y z (omega arith))) sound.steep;
-  flat = subst (AreSoundCounts reset bound) (sym (counts_own a n nn 1 x y z whole (omega arith))) here;
+  ri_type_0 = subst (AreSoundCounts reset bound) (sym (counts_other a n nn 1 0 x y z (omega arith))) sound.ri_type_0;
+  ri_type_1 = subst (AreSoundCounts reset bound) (sym (counts_own a n nn 1 x y z whole (omega arith))) here;
 }
 interruption_sound false reset bound a n b c nn x y z whole sound here = record {
   regular = λ number h. subst (AreSound reset bound) (sym (regular_kept a n b c 0 x y number h)) (sound.regular number h);
-  steep = subst (AreSoundCounts reset bound) (sym (counts_own a n nn 0 x y z whole (omega arith))) here;
-  flat = subst (AreSoundCounts reset bound) (sym (counts_other a n nn 0 1 x y z (omega arith))) sound.flat;
+  ri_type_0 = subst (AreSoundCounts reset bound) (sym (counts_own a n nn 0 x y z whole (omega arith))) here;
+  ri_type_1 = subst (AreSoundCounts reset bound) (sym (counts_other a n nn 0 1 x y z (omega arith))) sound.ri_type_1;
 }
 
-pub counts_sound_at : (flat : Bool) (reset bound : ℕ) (a n : List ℕ) (b c : List ℤ) (nn : List ℕ) → AreAllSound reset bound a b c n nn
-    → AreSoundCounts reset bound (counts_at a n nn (ri_type flat))
-counts_sound_at true reset bound a n b c nn sound = sound.flat
-counts_sound_at false reset bound a n b c nn sound = sound.steep
+pub counts_sound_at : (ri_type : Bool) (reset bound : ℕ) (a n : List ℕ) (b c : List ℤ) (nn : List ℕ) → AreAllSound reset bound a b c n nn
+    → AreSoundCounts reset bound (counts_at a n nn (ri_value ri_type))
+counts_sound_at true reset bound a n b c nn sound = sound.ri_type_1
+counts_sound_at false reset bound a n b c nn sound = sound.ri_type_0
 
 -- A, where N is at most 65535
 pub counts_sum : (reset maxval : ℕ) (s : Counts) → AreSoundCounts reset (error_bound maxval) s → maxval ≤ 65535 → s.a ≤ s.n * 32768
@@ -213,15 +213,15 @@ counts_sum reset maxval s sound wide =
     omega (arith, sound.sum)
 
 -- a value as the code has it, and as it is defined
-value_at : (a n nn : List ℕ) (which k : ℕ) (flat : Bool) (e : ℤ) → ℕ
-value_at a n nn which k flat e = 2 * unsigned_abs e - ri_type flat - map_of k (counts 0 (get_or n (365 + which) 0) (get_or nn which 0)) e
+value_at : (a n nn : List ℕ) (which k : ℕ) (ri_type : Bool) (e : ℤ) → ℕ
+value_at a n nn which k ri_type e = 2 * unsigned_abs e - ri_value ri_type - map_of k (counts 0 (get_or n (365 + which) 0) (get_or nn which 0)) e
 
-pub value_is : (a n nn : List ℕ) (flat code_flat : Bool) (which k : ℕ) (e : ℤ) → code_flat ≡ flat → which ≡ ri_type code_flat
-    → k ≡ interruption_k flat (counts_at a n nn (ri_type flat))
-    → 2 * unsigned_abs e - ri_type code_flat - map_of k (counts 0 (get_or n (365 + which) 0) (get_or nn which 0)) e
-    ≡ interruption_value flat (counts_at a n nn (ri_type flat)) e
+pub value_is : (a n nn : List ℕ) (ri_type code_ri_type : Bool) (which k : ℕ) (e : ℤ) → code_ri_type ≡ ri_type → which ≡ ri_value code_ri_type
+    → k ≡ interruption_k ri_type (counts_at a n nn (ri_value ri_type))
+    → 2 * unsigned_abs e - ri_value code_ri_type - map_of k (counts 0 (get_or n (365 + which) 0) (get_or nn which 0)) e
+    ≡ interruption_value ri_type (counts_at a n nn (ri_value ri_type)) e
 unfolding value_at
-value_is a n nn flat code_flat which k e same place known =
-    ap (λ w. value_at a n nn w k code_flat e) (place ∙ ap ri_type same)
-    ∙ ap (λ f. value_at a n nn (ri_type flat) k f e) same
-    ∙ ap (λ m. value_at a n nn (ri_type flat) m flat e) known
+value_is a n nn ri_type code_ri_type which k e same place known =
+    ap (λ w. value_at a n nn w k code_ri_type e) (place ∙ ap ri_value same)
+    ∙ ap (λ f. value_at a n nn (ri_value ri_type) k f e) same
+    ∙ ap (λ m. value_at a n nn (ri_value ri_type) m ri_type e) known

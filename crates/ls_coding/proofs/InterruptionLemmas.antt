@@ -4,14 +4,14 @@ use Rattle.std.specs.Prelude.{IsTrue, int_lt, unsigned_abs}
 use Rattle.std.proofs.lemmas.Bool.{eqb-true, eqb-false, lt-ltb, le-ltb, cond-true, cond-false}
 use Rattle.std.proofs.lemmas.Grind.{common_steps}
 use mir.Val.{bool_byte}
-use Rattle.ls_coding.specs.Interruptions.{AreSoundCounts, counts, counts_step, interruption_value, map_of, ri_type}
+use Rattle.ls_coding.specs.Interruptions.{AreSoundCounts, counts, counts_step, interruption_value, map_of, ri_value}
 use Rattle.ls_coding.proofs.StatsLemmas.{counted_sound}
 
 -- ---- map
 
--- it marks the errors of one sign: of the negative ones where it leans
+-- it marks the errors of one sign: of the negative ones where it maps_negative
 marked : Bool → ℤ → ℕ
-marked leaning e = cond (cond leaning (int_lt e (pos 0)) (int_lt (pos 0) e)) 1 0
+marked negative e = cond (cond negative (int_lt e (pos 0)) (int_lt (pos 0) e)) 1 0
 
 map_is : (k n nn : ℕ) (e : ℤ) → map_of k (counts 0 n nn) e ≡ marked (not (eqb k 0) || leb n (2 * nn)) e
 unfolding marked
@@ -37,29 +37,29 @@ even_over : (t m : ℕ) → m ≡ (t + 1) / 2 → (t % 2 ≡ 1 → ⊥) → 2 * 
 unfolding marked
 even_over t m p q = omega (arith, cond-false {A = ℕ} (ltb m 0) 1 0 (le-ltb m 0 (omega arith)))
 
-sized : (leaning : Bool) (t m : ℕ) (odd : Bool) → eqb (t % 2) 1 ≡ odd → m ≡ (t + 1) / 2
-    → let r = cond (cond leaning odd (not odd)) (neg_ℤ (pos m)) (pos m) in 2 * unsigned_abs r ≡ t + marked leaning r
+sized : (negative : Bool) (t m : ℕ) (odd : Bool) → eqb (t % 2) 1 ≡ odd → m ≡ (t + 1) / 2
+    → let r = cond (cond negative odd (not odd)) (neg_ℤ (pos m)) (pos m) in 2 * unsigned_abs r ≡ t + marked negative r
 sized true t m true e p = odd_below t m p (eqb-true (t % 2) 1 e)
 sized true t m false e p = even_over t m p (eqb-false (t % 2) 1 e)
 sized false t m true e p = odd_over t m p (eqb-true (t % 2) 1 e)
 sized false t m false e p = even_below t m p (eqb-false (t % 2) 1 e)
 
-taken_off : (flat : Bool) (size value map : ℕ) → 2 * size ≡ value + bool_byte flat + map → 2 * size - ri_type flat - map ≡ value
+taken_off : (ri_type : Bool) (size value map : ℕ) → 2 * size ≡ value + bool_byte ri_type + map → 2 * size - ri_value ri_type - map ≡ value
 taken_off true size value map e = omega arith
 taken_off false size value map e = omega arith
 
-pub value_stood_for : (flat : Bool) (k n nn value : ℕ) (leaning : Bool) (type : ℕ) (r : ℤ) → leaning ≡ (not (eqb k 0) || leb n (2 * nn)) → type ≡ bool_byte flat
-    → r ≡ cond (cond leaning (eqb ((value + type) % 2) 1) (not (eqb ((value + type) % 2) 1))) (neg_ℤ (pos ((value + type + 1) / 2))) (pos ((value + type + 1) / 2))
-    → 2 * unsigned_abs r - ri_type flat - map_of k (counts 0 n nn) r ≡ value
-value_stood_for flat k n nn value leaning type r p q s =
-    let whole : 2 * unsigned_abs r ≡ value + type + marked leaning r =
-    subst (λ z. 2 * unsigned_abs z ≡ value + type + marked leaning z) (sym s) (sized leaning (value + type) ((value + type + 1) / 2) (eqb ((value + type) % 2) 1) refl refl) in
-    let map : map_of k (counts 0 n nn) r ≡ marked leaning r = map_is k n nn r ∙ sym (ap (λ l. marked l r) p) in
-    taken_off flat (unsigned_abs r) value (map_of k (counts 0 n nn) r) (omega (arith, whole, map, q))
+pub value_stood_for : (ri_type : Bool) (k n nn value : ℕ) (negative : Bool) (type : ℕ) (r : ℤ) → negative ≡ (not (eqb k 0) || leb n (2 * nn)) → type ≡ bool_byte ri_type
+    → r ≡ cond (cond negative (eqb ((value + type) % 2) 1) (not (eqb ((value + type) % 2) 1))) (neg_ℤ (pos ((value + type + 1) / 2))) (pos ((value + type + 1) / 2))
+    → 2 * unsigned_abs r - ri_value ri_type - map_of k (counts 0 n nn) r ≡ value
+value_stood_for ri_type k n nn value negative type r p q s =
+    let whole : 2 * unsigned_abs r ≡ value + type + marked negative r =
+    subst (λ z. 2 * unsigned_abs z ≡ value + type + marked negative z) (sym s) (sized negative (value + type) ((value + type + 1) / 2) (eqb ((value + type) % 2) 1) refl refl) in
+    let map : map_of k (counts 0 n nn) r ≡ marked negative r = map_is k n nn r ∙ sym (ap (λ l. marked l r) p) in
+    taken_off ri_type (unsigned_abs r) value (map_of k (counts 0 n nn) r) (omega (arith, whole, map, q))
 
 -- no other error has the value
-only_one : (leaning : Bool) (t : ℕ) (odd : Bool) (e : ℤ) → eqb (t % 2) 1 ≡ odd → 2 * unsigned_abs e ≡ t + marked leaning e
-    → e ≡ cond (cond leaning odd (not odd)) (neg_ℤ (pos ((t + 1) / 2))) (pos ((t + 1) / 2))
+only_one : (negative : Bool) (t : ℕ) (odd : Bool) (e : ℤ) → eqb (t % 2) 1 ≡ odd → 2 * unsigned_abs e ≡ t + marked negative e
+    → e ≡ cond (cond negative odd (not odd)) (neg_ℤ (pos ((t + 1) / 2))) (pos ((t + 1) / 2))
 unfolding marked
 only_one true t true (pos n) p h = absurd (omega (arith, eqb-true (t % 2) 1 p, cond-false {A = ℕ} (ltb n 0) 1 0 (le-ltb n 0 (omega arith))))
 only_one true t true (negsuc n) p h = let m : (t + 1) / 2 ≡ suc n = omega arith in rw m refl
@@ -72,40 +72,40 @@ only_one false t false (pos zero) p h = let m : (t + 1) / 2 ≡ zero = omega ari
 only_one false t false (pos (suc n)) p h = absurd (omega (arith, eqb-false (t % 2) 1 p, cond-true {A = ℕ} (ltb 0 (suc n)) 1 0 (lt-ltb 0 (suc n) (omega arith))))
 only_one false t false (negsuc n) p h = let m : (t + 1) / 2 ≡ suc n = omega arith in rw m refl
 
-marked_few : (leaning : Bool) (e : ℤ) → marked leaning e ≤ 1
+marked_few : (negative : Bool) (e : ℤ) → marked negative e ≤ 1
 unfolding marked
-marked_few leaning e = grind (arith, common_steps)
+marked_few negative e = grind (arith, common_steps)
 
-none_marked : (leaning : Bool) → marked leaning (pos 0) ≡ 0
+none_marked : (negative : Bool) → marked negative (pos 0) ≡ 0
 unfolding marked
 none_marked true = refl
 none_marked false = refl
 
-put_back : (flat leaning : Bool) (e : ℤ) (value type : ℕ) → type ≡ bool_byte flat → (IsTrue flat → e ≡ pos 0 → ⊥)
-    → 2 * unsigned_abs e - ri_type flat - marked leaning e ≡ value → 2 * unsigned_abs e ≡ value + type + marked leaning e
-put_back true leaning (pos zero) value type p some h = absurd (some refl refl)
-put_back false leaning (pos zero) value type p some h = omega (arith, none_marked leaning)
-put_back true leaning (pos (suc n)) value type p some h = omega (arith, marked_few leaning (pos (suc n)))
-put_back true leaning (negsuc n) value type p some h = omega (arith, marked_few leaning (negsuc n))
-put_back false leaning (pos (suc n)) value type p some h = omega (arith, marked_few leaning (pos (suc n)))
-put_back false leaning (negsuc n) value type p some h = omega (arith, marked_few leaning (negsuc n))
+put_back : (ri_type negative : Bool) (e : ℤ) (value type : ℕ) → type ≡ bool_byte ri_type → (IsTrue ri_type → e ≡ pos 0 → ⊥)
+    → 2 * unsigned_abs e - ri_value ri_type - marked negative e ≡ value → 2 * unsigned_abs e ≡ value + type + marked negative e
+put_back true negative (pos zero) value type p some h = absurd (some refl refl)
+put_back false negative (pos zero) value type p some h = omega (arith, none_marked negative)
+put_back true negative (pos (suc n)) value type p some h = omega (arith, marked_few negative (pos (suc n)))
+put_back true negative (negsuc n) value type p some h = omega (arith, marked_few negative (negsuc n))
+put_back false negative (pos (suc n)) value type p some h = omega (arith, marked_few negative (pos (suc n)))
+put_back false negative (negsuc n) value type p some h = omega (arith, marked_few negative (negsuc n))
 
-pub only_stood_for : (flat : Bool) (k n nn value : ℕ) (leaning : Bool) (type : ℕ) (r e : ℤ) → leaning ≡ (not (eqb k 0) || leb n (2 * nn)) → type ≡ bool_byte flat
-    → r ≡ cond (cond leaning (eqb ((value + type) % 2) 1) (not (eqb ((value + type) % 2) 1))) (neg_ℤ (pos ((value + type + 1) / 2))) (pos ((value + type + 1) / 2))
-    → (IsTrue flat → e ≡ pos 0 → ⊥) → 2 * unsigned_abs e - ri_type flat - map_of k (counts 0 n nn) e ≡ value → e ≡ r
-only_stood_for flat k n nn value leaning type r e p q s some h =
-    let map : map_of k (counts 0 n nn) e ≡ marked leaning e = map_is k n nn e ∙ sym (ap (λ l. marked l e) p) in
-    let whole : 2 * unsigned_abs e - ri_type flat - marked leaning e ≡ value = ap (λ x. 2 * unsigned_abs e - ri_type flat - x) (sym map) ∙ h in
-    only_one leaning (value + type) (eqb ((value + type) % 2) 1) e refl (put_back flat leaning e value type q some whole) ∙ sym s
+pub only_stood_for : (ri_type : Bool) (k n nn value : ℕ) (negative : Bool) (type : ℕ) (r e : ℤ) → negative ≡ (not (eqb k 0) || leb n (2 * nn)) → type ≡ bool_byte ri_type
+    → r ≡ cond (cond negative (eqb ((value + type) % 2) 1) (not (eqb ((value + type) % 2) 1))) (neg_ℤ (pos ((value + type + 1) / 2))) (pos ((value + type + 1) / 2))
+    → (IsTrue ri_type → e ≡ pos 0 → ⊥) → 2 * unsigned_abs e - ri_value ri_type - map_of k (counts 0 n nn) e ≡ value → e ≡ r
+only_stood_for ri_type k n nn value negative type r e p q s some h =
+    let map : map_of k (counts 0 n nn) e ≡ marked negative e = map_is k n nn e ∙ sym (ap (λ l. marked l e) p) in
+    let whole : 2 * unsigned_abs e - ri_value ri_type - marked negative e ≡ value = ap (λ x. 2 * unsigned_abs e - ri_value ri_type - x) (sym map) ∙ h in
+    only_one negative (value + type) (eqb ((value + type) % 2) 1) e refl (put_back ri_type negative e value type q some whole) ∙ sym s
 
 -- ---- one error more
 
 -- what is added to A is at most the error's size
-added_small : (flat : Bool) (size value map type : ℕ) → value ≡ 2 * size - ri_type flat - map → type ≡ bool_byte flat → (value + 1 - type) / 2 ≤ size
+added_small : (ri_type : Bool) (size value map type : ℕ) → value ≡ 2 * size - ri_value ri_type - map → type ≡ bool_byte ri_type → (value + 1 - type) / 2 ≤ size
 added_small true size value map type p q = omega arith
 added_small false size value map type p q = omega arith
 
-type_is : (flat : Bool) → bool_byte flat ≡ ri_type flat
+type_is : (ri_type : Bool) → bool_byte ri_type ≡ ri_value ri_type
 type_is true = refl
 type_is false = refl
 
@@ -118,16 +118,16 @@ counted_is : (test : Bool) (a n nn a1 n1 nn1 : ℕ) → a1 ≡ cond test (a / 2)
 counted_is true a n nn a1 n1 nn1 p q r = cc
 counted_is false a n nn a1 n1 nn1 p q r = cc
 
-pub counts_step_is : (flat : Bool) (reset a n nn value type more : ℕ) (e : ℤ) (a1 n1 nn1 : ℕ) → value ≡ interruption_value flat (counts a n nn) e → type ≡ bool_byte flat → more ≡ bool_byte (int_lt e (pos 0))
+pub counts_step_is : (ri_type : Bool) (reset a n nn value type more : ℕ) (e : ℤ) (a1 n1 nn1 : ℕ) → value ≡ interruption_value ri_type (counts a n nn) e → type ≡ bool_byte ri_type → more ≡ bool_byte (int_lt e (pos 0))
     → a1 ≡ cond (eqb n reset) ((a + (value + 1 - type) / 2) / 2) (a + (value + 1 - type) / 2)
     → n1 ≡ cond (eqb n reset) (n / 2 + 1) (n + 1)
     → nn1 ≡ cond (eqb n reset) ((nn + more) / 2) (nn + more)
-    → counts a1 n1 nn1 ≡ counts_step flat reset (counts a n nn) e
+    → counts a1 n1 nn1 ≡ counts_step ri_type reset (counts a n nn) e
 unfolding counts_step
-counts_step_is flat reset a n nn value type more e a1 n1 nn1 v t m p q r =
+counts_step_is ri_type reset a n nn value type more e a1 n1 nn1 v t m p q r =
     let nn2 : ℕ = cond (int_lt e (pos 0)) (nn + 1) nn in
-    let a2 : ℕ = a + (interruption_value flat (counts a n nn) e + 1 - ri_type flat) / 2 in
-    let ea : a + (value + 1 - type) / 2 ≡ a2 = ap (λ x. a + (x + 1 - type) / 2) v ∙ ap (λ x. a + (interruption_value flat (counts a n nn) e + 1 - x) / 2) (t ∙ type_is flat) in
+    let a2 : ℕ = a + (interruption_value ri_type (counts a n nn) e + 1 - ri_value ri_type) / 2 in
+    let ea : a + (value + 1 - type) / 2 ≡ a2 = ap (λ x. a + (x + 1 - type) / 2) v ∙ ap (λ x. a + (interruption_value ri_type (counts a n nn) e + 1 - x) / 2) (t ∙ type_is ri_type) in
     let enn : nn + more ≡ nn2 = one_more (int_lt e (pos 0)) nn more m in
     counted_is (eqb n reset) a2 n nn2 a1 n1 nn1 (p ∙ ap (λ x. cond (eqb n reset) (x / 2) x) ea) q (r ∙ ap (λ x. cond (eqb n reset) (x / 2) x) enn)
 
@@ -137,14 +137,14 @@ fewer true false n nn more e h = omega arith
 fewer false true n nn more e h = omega arith
 fewer false false n nn more e h = omega arith
 
-pub sound_counts : (flat : Bool) (reset bound a n nn value type more : ℕ) (e : ℤ) (a1 n1 nn1 : ℕ) → 3 ≤ reset → AreSoundCounts reset bound (counts a n nn) → unsigned_abs e ≤ bound
-    → value ≡ interruption_value flat (counts a n nn) e → type ≡ bool_byte flat → more ≡ bool_byte (int_lt e (pos 0))
+pub sound_counts : (ri_type : Bool) (reset bound a n nn value type more : ℕ) (e : ℤ) (a1 n1 nn1 : ℕ) → 3 ≤ reset → AreSoundCounts reset bound (counts a n nn) → unsigned_abs e ≤ bound
+    → value ≡ interruption_value ri_type (counts a n nn) e → type ≡ bool_byte ri_type → more ≡ bool_byte (int_lt e (pos 0))
     → a1 ≡ cond (eqb n reset) ((a + (value + 1 - type) / 2) / 2) (a + (value + 1 - type) / 2)
     → n1 ≡ cond (eqb n reset) (n / 2 + 1) (n + 1)
     → nn1 ≡ cond (eqb n reset) ((nn + more) / 2) (nn + more)
     → AreSoundCounts reset bound (counts a1 n1 nn1)
-sound_counts flat reset bound a n nn value type more e a1 n1 nn1 least sound small v t m p q r =
-    let added : (value + 1 - type) / 2 ≤ unsigned_abs e = added_small flat (unsigned_abs e) value _ type v t in
+sound_counts ri_type reset bound a n nn value type more e a1 n1 nn1 least sound small v t m p q r =
+    let added : (value + 1 - type) / 2 ≤ unsigned_abs e = added_small ri_type (unsigned_abs e) value _ type v t in
     let total : a + (value + 1 - type) / 2 ≤ n * bound + bound = omega (arith, sound.sum) in
     let counted = counted_sound reset bound n (a + (value + 1 - type) / 2) least sound.few total in
     record {

@@ -6,15 +6,15 @@ use Rattle.std.proofs.lemmas.Int.{ints}
 use Rattle.std.proofs.lemmas.List.FromFn.{get_or-map-range_with_len}
 use Rattle.ls_frame.specs.Parameters.{Parameters}
 use Rattle.ls_coding.specs.declared.neighbours.Neighbours.{Neighbours}
-use Rattle.ls_coding.specs.Contexts.{IsRegion, region, context_of, number_of, signed, d1, d2, d3}
-use Rattle.ls_coding.specs.Numbers.{between}
-use Rattle.ls_coding.specs.Errors.{median, error_of, leans, mapped}
+use Rattle.ls_coding.specs.Contexts.{IsRegion, region, context_of, context_number, signed, d1, d2, d3}
+use Rattle.ls_coding.specs.Numbers.{clamped}
+use Rattle.ls_coding.specs.Errors.{median, error_of, is_inverted, mapped_error}
 use Rattle.ls_coding.specs.Stats.{Stats, stats, stats_step}
 use Rattle.ls_coding.specs.Interruptions.{Counts}
-use Rattle.ls_coding.specs.Events.{regular_e, regular_word}
-use Rattle.ls_coding.specs.States.{Coding, stats_of, place_of, regular_error_in, regular_word_in, after_regular}
-use Rattle.ls_coding.specs.Fields.{stats_at, contexts_of}
-use Rattle.ls_coding.specs.Plans.{Planned, regular_plan_by, regular_plan, IsReadBy, IsTheSample, NoSample}
+use Rattle.ls_coding.specs.Events.{regular_error_of, regular_word}
+use Rattle.ls_coding.specs.View.States.{Coding, stats_in, context_in, regular_error_in, regular_word_in, regular_after}
+use Rattle.ls_coding.specs.View.Fields.{stats_at, contexts_of}
+use Rattle.ls_coding.specs.View.Plans.{Planned, regular_plan_by, regular_plan, IsReadBy, IsTheSample, NoSample}
 use Rattle.ls_coding.proofs.ContextLemmas.{merged-number}
 use Rattle.ls_coding.proofs.StatsLemmas.{choose, lt_false}
 use Rattle.ls_coding.proofs.StateLemmas.{made}
@@ -36,9 +36,9 @@ region_is p d =
 size_small : (z : ℤ) → neg_ℤ (pos 364) ≤ℤ z → z ≤ℤ pos 364 → unsigned_abs z < 365
 size_small z low high = grind (arith, ints)
 
-number_small : (q1 q2 q3 : ℤ) → IsRegion q1 → IsRegion q2 → IsRegion q3 → unsigned_abs (number_of q1 q2 q3) < 365
+number_small : (q1 q2 q3 : ℤ) → IsRegion q1 → IsRegion q2 → IsRegion q3 → unsigned_abs (context_number q1 q2 q3) < 365
 number_small q1 q2 q3 a b c =
-    size_small (number_of q1 q2 q3) (omega (arith, ints, a.low, b.low, c.low)) (omega (arith, ints, a.high, b.high, c.high))
+    size_small (context_number q1 q2 q3) (omega (arith, ints, a.low, b.low, c.low)) (omega (arith, ints, a.high, b.high, c.high))
 
 pub place_small : (p : Parameters) (n : Neighbours) → (context_of p n).number < 365
 unfolding context_of
@@ -52,24 +52,24 @@ pub stats_in_view : (a n : List ℕ) (b c : List ℤ) (number : ℕ) → number 
 unfolding contexts_of
 stats_in_view a n b c number h = get_or-map-range_with_len (stats_at a b c n) 0 365 number number (stats 0 (pos 0) (pos 0) 0) h (omega arith)
 
-pub word_in_view : (p : Parameters) (a n : List ℕ) (b c : List ℤ) (steep flat : Counts) (index : ℕ) (broken : Bool) (x : Neighbours) (sample : ℕ)
-    → regular_word p (stats_at a b c n (context_of p x).number) (regular_e p (context_of p x) (stats_at a b c n (context_of p x).number) x sample)
-    ≡ regular_word_in (made p (contexts_of a b c n) steep flat index broken) x sample
+pub word_in_view : (p : Parameters) (a n : List ℕ) (b c : List ℤ) (steep ri_type : Counts) (index : ℕ) (broken : Bool) (x : Neighbours) (sample : ℕ)
+    → regular_word p (stats_at a b c n (context_of p x).number) (regular_error_of p (context_of p x) (stats_at a b c n (context_of p x).number) x sample)
+    ≡ regular_word_in (made p (contexts_of a b c n) steep ri_type index broken) x sample
 unfolding regular_word_in regular_error_in
-word_in_view p a n b c steep flat index broken x sample =
-    ap (λ (t : Stats). regular_word p t (regular_e p (context_of p x) t x sample)) (sym (stats_in_view a n b c (context_of p x).number (place_small p x)))
+word_in_view p a n b c steep ri_type index broken x sample =
+    ap (λ (t : Stats). regular_word p t (regular_error_of p (context_of p x) t x sample)) (sym (stats_in_view a n b c (context_of p x).number (place_small p x)))
 
-pub step_in_view : (p : Parameters) (a n : List ℕ) (b c : List ℤ) (steep flat : Counts) (index : ℕ) (broken : Bool) (x : Neighbours) (sample : ℕ)
-    → stats_step p.reset (stats_at a b c n (context_of p x).number) (regular_e p (context_of p x) (stats_at a b c n (context_of p x).number) x sample)
-    ≡ stats_step p.reset (stats_of (made p (contexts_of a b c n) steep flat index broken) (context_of p x).number)
-    (regular_error_in (made p (contexts_of a b c n) steep flat index broken) x sample)
+pub step_in_view : (p : Parameters) (a n : List ℕ) (b c : List ℤ) (steep ri_type : Counts) (index : ℕ) (broken : Bool) (x : Neighbours) (sample : ℕ)
+    → stats_step p.reset (stats_at a b c n (context_of p x).number) (regular_error_of p (context_of p x) (stats_at a b c n (context_of p x).number) x sample)
+    ≡ stats_step p.reset (stats_in (made p (contexts_of a b c n) steep ri_type index broken) (context_of p x).number)
+    (regular_error_in (made p (contexts_of a b c n) steep ri_type index broken) x sample)
 unfolding regular_error_in
-step_in_view p a n b c steep flat index broken x sample =
-    ap (λ (t : Stats). stats_step p.reset t (regular_e p (context_of p x) t x sample)) (sym (stats_in_view a n b c (context_of p x).number (place_small p x)))
+step_in_view p a n b c steep ri_type index broken x sample =
+    ap (λ (t : Stats). stats_step p.reset t (regular_error_of p (context_of p x) t x sample)) (sym (stats_in_view a n b c (context_of p x).number (place_small p x)))
 
-pub plan_in_view : (p : Parameters) (a n : List ℕ) (b c : List ℤ) (steep flat : Counts) (index : ℕ) (broken : Bool) (x : Neighbours)
-    → regular_plan_by p (context_of p x) (stats_at a b c n (context_of p x).number) x ≡ regular_plan (made p (contexts_of a b c n) steep flat index broken) x
-plan_in_view p a n b c steep flat index broken x =
+pub plan_in_view : (p : Parameters) (a n : List ℕ) (b c : List ℤ) (steep ri_type : Counts) (index : ℕ) (broken : Bool) (x : Neighbours)
+    → regular_plan_by p (context_of p x) (stats_at a b c n (context_of p x).number) x ≡ regular_plan (made p (contexts_of a b c n) steep ri_type index broken) x
+plan_in_view p a n b c steep ri_type index broken x =
     ap (λ (t : Stats). regular_plan_by p (context_of p x) t x) (sym (stats_in_view a n b c (context_of p x).number (place_small p x)))
 
 pub neighbours_of_regular : (s : Coding) (x : Neighbours) → (regular_plan s x).neighbours ≡ x
@@ -84,44 +84,44 @@ read_regular s x sample = record { same_k = refl; same_limit = refl }
 -- ---- what a plan is used for
 
 abbrev value_by : Parameters → Planned → Stats → ℕ → ℕ
-value_by p plan t sample = mapped (leans plan.k t.b t.n) (error_of p plan.negative plan.prediction sample)
+value_by p plan t sample = mapped_error (is_inverted plan.k t.b t.n) (error_of p plan.negative plan.prediction sample)
 
-pub value_same : (p : Parameters) (a n : List ℕ) (b c : List ℤ) (steep flat : Counts) (index : ℕ) (broken : Bool) (x : Neighbours) (plan : Planned)
-    → plan ≡ regular_plan (made p (contexts_of a b c n) steep flat index broken) x → (sample : ℕ)
-    → mapped (leans plan.k (stats_at a b c n plan.number).b (stats_at a b c n plan.number).n) (error_of p plan.negative plan.prediction sample)
-    ≡ (regular_word_in (made p (contexts_of a b c n) steep flat index broken) x sample).value
+pub value_same : (p : Parameters) (a n : List ℕ) (b c : List ℤ) (steep ri_type : Counts) (index : ℕ) (broken : Bool) (x : Neighbours) (plan : Planned)
+    → plan ≡ regular_plan (made p (contexts_of a b c n) steep ri_type index broken) x → (sample : ℕ)
+    → mapped_error (is_inverted plan.k (stats_at a b c n plan.number).b (stats_at a b c n plan.number).n) (error_of p plan.negative plan.prediction sample)
+    ≡ (regular_word_in (made p (contexts_of a b c n) steep ri_type index broken) x sample).value
 unfolding regular_plan_by regular_word_in regular_error_in
-value_same p a n b c steep flat index broken x plan e sample =
+value_same p a n b c steep ri_type index broken x plan e sample =
     ap (λ (q : Planned). value_by p q (stats_at a b c n q.number) sample) e
-    ∙ ap (λ (t : Stats). value_by p (regular_plan (made p (contexts_of a b c n) steep flat index broken) x) t sample) (sym (stats_in_view a n b c (context_of p x).number (place_small p x)))
+    ∙ ap (λ (t : Stats). value_by p (regular_plan (made p (contexts_of a b c n) steep ri_type index broken) x) t sample) (sym (stats_in_view a n b c (context_of p x).number (place_small p x)))
 
 pub error_same : (s : Coding) (x : Neighbours) (plan : Planned) → plan ≡ regular_plan s x → (sample : ℕ) → error_of s.parameters plan.negative plan.prediction sample ≡ regular_error_in s x sample
 unfolding regular_plan_by regular_error_in
 error_same s x plan e sample = ap (λ (q : Planned). error_of s.parameters q.negative q.prediction sample) e
 
-pub number_same : (s : Coding) (x : Neighbours) (plan : Planned) → plan ≡ regular_plan s x → plan.number ≡ (place_of s x).number
+pub number_same : (s : Coding) (x : Neighbours) (plan : Planned) → plan ≡ regular_plan s x → plan.number ≡ (context_in s x).number
 unfolding regular_plan_by
 number_same s x plan e = ap (λ (q : Planned). q.number) e
 
-pub stepped_same : (p : Parameters) (a n : List ℕ) (b c : List ℤ) (steep flat : Counts) (index : ℕ) (broken : Bool) (x : Neighbours) (plan : Planned)
-    → plan ≡ regular_plan (made p (contexts_of a b c n) steep flat index broken) x → (sample : ℕ)
+pub stepped_same : (p : Parameters) (a n : List ℕ) (b c : List ℤ) (steep ri_type : Counts) (index : ℕ) (broken : Bool) (x : Neighbours) (plan : Planned)
+    → plan ≡ regular_plan (made p (contexts_of a b c n) steep ri_type index broken) x → (sample : ℕ)
     → set (contexts_of a b c n) plan.number (stats_step p.reset (stats_at a b c n plan.number) (error_of p plan.negative plan.prediction sample))
-    ≡ (after_regular (made p (contexts_of a b c n) steep flat index broken) (context_of p x).number (regular_error_in (made p (contexts_of a b c n) steep flat index broken) x sample)).contexts
-stepped_same p a n b c steep flat index broken x plan e sample =
-    let s : Coding = made p (contexts_of a b c n) steep flat index broken in
+    ≡ (regular_after (made p (contexts_of a b c n) steep ri_type index broken) (context_of p x).number (regular_error_in (made p (contexts_of a b c n) steep ri_type index broken) x sample)).contexts
+stepped_same p a n b c steep ri_type index broken x plan e sample =
+    let s : Coding = made p (contexts_of a b c n) steep ri_type index broken in
     ap (λ number. set (contexts_of a b c n) number (stats_step p.reset (stats_at a b c n number) (error_of p plan.negative plan.prediction sample))) (number_same s x plan e)
     ∙ ap (λ (t : Stats). set (contexts_of a b c n) (context_of p x).number (stats_step p.reset t (error_of p plan.negative plan.prediction sample))) (sym (stats_in_view a n b c (context_of p x).number (place_small p x)))
-    ∙ ap (λ (z : ℤ). set (contexts_of a b c n) (context_of p x).number (stats_step p.reset (stats_of s (context_of p x).number) z)) (error_same s x plan e sample)
+    ∙ ap (λ (z : ℤ). set (contexts_of a b c n) (context_of p x).number (stats_step p.reset (stats_in s (context_of p x).number) z)) (error_same s x plan e sample)
 
 pub prediction_small : (s : Coding) (x : Neighbours) (plan : Planned) (prediction : ℕ) → plan ≡ regular_plan s x → plan.prediction ≡ pos prediction → prediction ≤ s.parameters.maxval
 unfolding regular_plan_by
 prediction_small s x plan prediction e same =
-    let t : Stats = stats_of s (place_of s x).number in
-    let z : ℤ = pos (median x) +ℤ signed (place_of s x).negative t.c in
-    let small : (between (pos 0) (pos s.parameters.maxval) z) ≤ℤ pos s.parameters.maxval =
+    let t : Stats = stats_in s (context_in s x).number in
+    let z : ℤ = pos (median x) +ℤ signed (context_in s x).negative t.c in
+    let small : (clamped (pos 0) (pos s.parameters.maxval) z) ≤ℤ pos s.parameters.maxval =
     choose (int_lt z (pos 0)) (pos 0) (if int_lt (pos s.parameters.maxval) z then pos s.parameters.maxval else z) (λ v. v ≤ℤ pos s.parameters.maxval) (λ f. omega (arith, ints))
     (λ f. choose (int_lt (pos s.parameters.maxval) z) (pos s.parameters.maxval) z (λ v. v ≤ℤ pos s.parameters.maxval) (λ g. omega (arith, ints)) (λ g. lt_false (pos s.parameters.maxval) z g)) in
-    let known : pos prediction ≡ between (pos 0) (pos s.parameters.maxval) z = sym same ∙ ap (λ (q : Planned). q.prediction) e in
+    let known : pos prediction ≡ clamped (pos 0) (pos s.parameters.maxval) z = sym same ∙ ap (λ (q : Planned). q.prediction) e in
     let bounded : pos prediction ≤ℤ pos s.parameters.maxval = subst (λ v. v ≤ℤ pos s.parameters.maxval) (sym known) small in
     omega (arith, ints)
 

@@ -5,8 +5,8 @@ use Rattle.ls_frame.specs.Parameters.{Parameters}
 use Rattle.ls_bits.specs.Bits.{bits_of}
 use Rattle.ls_coding.specs.declared.run.Tail.TheVariants.{LineFull, LinePart}
 use Rattle.ls_coding.specs.Runs.{order, run_of, Walk, walk, walked, tail_of, tail_bits, run_word, run_bits, index_at}
-use Rattle.ls_coding.specs.Events.{Event, run, index_in}
-use Rattle.ls_coding.specs.States.{Coding, state_of, after_run}
+use Rattle.ls_coding.specs.Events.{Event, run, run_index_after_events}
+use Rattle.ls_coding.specs.View.States.{Coding, state_of, run_after}
 use Rattle.ls_coding.proofs.RunLemmas.{at, further, some_samples, walk-more, walk-stop, walk-on, walked_one, walked_part}
 use Rattle.ls_coding.proofs.StateLemmas.{made, state_of-run}
 
@@ -68,22 +68,22 @@ index_joined index rest broken =
     ∙ ap (λ n. (walked (min (index + 1) 31) n).index) (sym back)
     ∙ sym (ap (λ (w : Walk). w.index) (walked_on index (samples + rest) enough))
 
-after_joined : (s : Coding) (rest : ℕ) (broken : Bool) → after_run (after_run s (run_of (2 ^ order s.run_index) false)) (run_of rest broken) ≡ after_run s (run_of (2 ^ order s.run_index + rest) broken)
-after_joined s rest broken = ap (λ i. made s.parameters s.contexts s.steep s.flat i broken) (index_joined s.run_index rest broken)
+after_joined : (s : Coding) (rest : ℕ) (broken : Bool) → run_after (run_after s (run_of (2 ^ order s.run_index) false)) (run_of rest broken) ≡ run_after s (run_of (2 ^ order s.run_index + rest) broken)
+after_joined s rest broken = ap (λ i. made s.parameters s.contexts s.ri_type_0 s.ri_type_1 i broken) (index_joined s.run_index rest broken)
 
-index_of-state : (p : Parameters) (events : List Event) → (state_of p events).run_index ≡ index_in events
+index_of-state : (p : Parameters) (events : List Event) → (state_of p events).run_index ≡ run_index_after_events events
 unfolding state_of
 index_of-state p events = refl
 
 pub joined : (p : Parameters) (events : List Event) (rest : ℕ) (broken : Bool)
-    → state_of p ((events ++ run (run_of (2 ^ order (index_in events)) false) ∷ []) ++ run (run_of rest broken) ∷ [])
-    ≡ state_of p (events ++ run (run_of (2 ^ order (index_in events) + rest) broken) ∷ [])
+    → state_of p ((events ++ run (run_of (2 ^ order (run_index_after_events events)) false) ∷ []) ++ run (run_of rest broken) ∷ [])
+    ≡ state_of p (events ++ run (run_of (2 ^ order (run_index_after_events events) + rest) broken) ∷ [])
 joined p events rest broken =
-    let samples : ℕ = 2 ^ order (index_in events) in
+    let samples : ℕ = 2 ^ order (run_index_after_events events) in
     let known : 2 ^ order (state_of p events).run_index ≡ samples = ap (λ i. 2 ^ order i) (index_of-state p events) in
     sym (state_of-run p (events ++ run (run_of samples false) ∷ []) (run_of rest broken))
-    ∙ ap (λ (s : Coding). after_run s (run_of rest broken)) (sym (state_of-run p events (run_of samples false)))
-    ∙ ap (λ n. after_run (after_run (state_of p events) (run_of n false)) (run_of rest broken)) (sym known)
+    ∙ ap (λ (s : Coding). run_after s (run_of rest broken)) (sym (state_of-run p events (run_of samples false)))
+    ∙ ap (λ n. run_after (run_after (state_of p events) (run_of n false)) (run_of rest broken)) (sym known)
     ∙ after_joined (state_of p events) rest broken
-    ∙ ap (λ n. after_run (state_of p events) (run_of (n + rest) broken)) known
+    ∙ ap (λ n. run_after (state_of p events) (run_of (n + rest) broken)) known
     ∙ state_of-run p events (run_of (samples + rest) broken)

@@ -7,7 +7,7 @@ use Rattle.ls_bits.proofs.BitLemmas.{length-bits_of}
 use Rattle.ls_coding.specs.declared.run.Tail.{Tail}
 use Rattle.ls_coding.specs.declared.run.Tail.TheVariants.{LineFull, LinePart, Broken}
 use Rattle.ls_coding.specs.declared.run.RunWord.{RunWord}
-use Rattle.ls_coding.specs.Runs.{run_orders, order, run_of, Walk, walk, walked, tail_of, tail_bits, Fits, run_word, word_bits, index_at}
+use Rattle.ls_coding.specs.Runs.{run_orders, order, run_of, Walk, walk, walked, tail_of, tail_bits, TailFits, run_word, word_bits, index_at}
 
 all_small : List ℕ → Bool
 all_small [] = true
@@ -162,11 +162,11 @@ walked_ends : (index count : ℕ) → (walked index count).left < 2 ^ order (wal
 unfolding walked
 walked_ends index count = walk_ends count (at 0 index count) (omega arith)
 
-full_fits : (test : Bool) → Fits (cond test LineFull LinePart)
+full_fits : (test : Bool) → TailFits (cond test LineFull LinePart)
 full_fits true = tt
 full_fits false = tt
 
-pub tail_fits : (index count : ℕ) (broken : Bool) → Fits (run_word index (run_of count broken)).tail
+pub tail_fits : (index count : ℕ) (broken : Bool) → TailFits (run_word index (run_of count broken)).tail
 unfolding run_word
 tail_fits index count true = (order_small (walked index count).index, walked_ends index count)
 tail_fits index count false = full_fits (eqb (walked index count).left 0)

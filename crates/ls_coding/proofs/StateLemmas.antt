@@ -9,8 +9,8 @@ use Rattle.ls_coding.specs.declared.run.RunWord.{RunWord}
 use Rattle.ls_coding.specs.Runs.{Run, Walk, order, run_of, run_word, tail_of, walked}
 use Rattle.ls_coding.specs.Stats.{Stats, stats_after}
 use Rattle.ls_coding.specs.Interruptions.{Counts, counts_after}
-use Rattle.ls_coding.specs.Events.{Event, run, regular_error, interruption_error_in, stats_in, counts_in, index_step, is_broken}
-use Rattle.ls_coding.specs.States.{Coding, state_of, after_run}
+use Rattle.ls_coding.specs.Events.{Event, run, error_of_regular_event, error_of_interruption_event, stats_after_events, counts_after_events, index_step, is_broken}
+use Rattle.ls_coding.specs.View.States.{Coding, state_of, run_after}
 use Rattle.ls_coding.proofs.RunLemmas.{walked_one, walked_part}
 
 pub map_same : {A B : Type 0} → (f g : A → B) (xs : List A) → ((x : A) → f x ≡ g x) → map f xs ≡ map g xs
@@ -28,38 +28,38 @@ walk_is w ones index left a b c =
     ∙ ap (λ n. let walk : Walk = record { ones = w.ones; index = w.index; left = n } in walk) c
 
 abbrev pub made : Parameters → List Stats → Counts → Counts → ℕ → Bool → Coding
-made p contexts steep flat run_index broken = record { parameters = p; contexts = contexts; steep = steep; flat = flat; run_index = run_index; broken = broken }
+made p contexts ri_type_0 ri_type_1 run_index broken = record { parameters = p; contexts = contexts; ri_type_0 = ri_type_0; ri_type_1 = ri_type_1; run_index = run_index; broken = broken }
 
 -- the same, part by part
-pub alike : (p : Parameters) (contexts others : List Stats) (steep steep' flat flat' : Counts) (index index' : ℕ) (broken broken' : Bool)
-    → contexts ≡ others → steep ≡ steep' → flat ≡ flat' → index ≡ index' → broken ≡ broken'
-    → made p contexts steep flat index broken ≡ made p others steep' flat' index' broken'
-alike p contexts others steep steep' flat flat' index index' broken broken' a b c d e =
-    ap (λ x. made p x steep flat index broken) a ∙ ap (λ x. made p others x flat index broken) b ∙ ap (λ x. made p others steep' x index broken) c
-    ∙ ap (λ x. made p others steep' flat' x broken) d ∙ ap (λ x. made p others steep' flat' index' x) e
+pub alike : (p : Parameters) (contexts others : List Stats) (ri_type_0 ri_type_0' ri_type_1 ri_type_1' : Counts) (index index' : ℕ) (broken broken' : Bool)
+    → contexts ≡ others → ri_type_0 ≡ ri_type_0' → ri_type_1 ≡ ri_type_1' → index ≡ index' → broken ≡ broken'
+    → made p contexts ri_type_0 ri_type_1 index broken ≡ made p others ri_type_0' ri_type_1' index' broken'
+alike p contexts others ri_type_0 ri_type_0' ri_type_1 ri_type_1' index index' broken broken' a b c d e =
+    ap (λ x. made p x ri_type_0 ri_type_1 index broken) a ∙ ap (λ x. made p others x ri_type_1 index broken) b ∙ ap (λ x. made p others ri_type_0' x index broken) c
+    ∙ ap (λ x. made p others ri_type_0' ri_type_1' x broken) d ∙ ap (λ x. made p others ri_type_0' ri_type_1' index' x) e
 
-pub stats_in-run : (p : Parameters) (events : List Event) (r : Run) (number : ℕ) → stats_in p number events ≡ stats_in p number (events ++ run r ∷ [])
-stats_in-run p events r number =
-    sym (ap (stats_after p) (filter_map-append (regular_error number) events (run r ∷ []) ∙ append-nil (filter_map (regular_error number) events)))
+pub stats_after_events-run : (p : Parameters) (events : List Event) (r : Run) (number : ℕ) → stats_after_events p number events ≡ stats_after_events p number (events ++ run r ∷ [])
+stats_after_events-run p events r number =
+    sym (ap (stats_after p) (filter_map-append (error_of_regular_event number) events (run r ∷ []) ∙ append-nil (filter_map (error_of_regular_event number) events)))
 
-pub counts_in-run : (p : Parameters) (events : List Event) (r : Run) (flat : Bool) → counts_in p flat events ≡ counts_in p flat (events ++ run r ∷ [])
-counts_in-run p events r flat =
-    sym (ap (counts_after p flat) (filter_map-append (interruption_error_in flat) events (run r ∷ []) ∙ append-nil (filter_map (interruption_error_in flat) events)))
+pub counts_after_events-run : (p : Parameters) (events : List Event) (r : Run) (ri_type_1 : Bool) → counts_after_events p ri_type_1 events ≡ counts_after_events p ri_type_1 (events ++ run r ∷ [])
+counts_after_events-run p events r ri_type_1 =
+    sym (ap (counts_after p ri_type_1) (filter_map-append (error_of_interruption_event ri_type_1) events (run r ∷ []) ∙ append-nil (filter_map (error_of_interruption_event ri_type_1) events)))
 
 -- a run leaves the counters, raises RUNindex, and says whether a sample interrupts it
-pub state_of-run : (p : Parameters) (events : List Event) (r : Run) → after_run (state_of p events) r ≡ state_of p (events ++ run r ∷ [])
+pub state_of-run : (p : Parameters) (events : List Event) (r : Run) → run_after (state_of p events) r ≡ state_of p (events ++ run r ∷ [])
 unfolding state_of
 state_of-run p events r =
     alike p _ _ _ _ _ _ _ _ _ _
-    (map_same _ _ (range_with_len 0 365) (stats_in-run p events r))
-    (counts_in-run p events r false)
-    (counts_in-run p events r true)
+    (map_same _ _ (range_with_len 0 365) (stats_after_events-run p events r))
+    (counts_after_events-run p events r false)
+    (counts_after_events-run p events r true)
     (sym (fold-push index_step 0 events (run r)))
     (sym (fold-push (λ (broken : Bool) (event : Event). is_broken event) false events (run r)))
 
-pub state_after_run : (before after : Coding) (r : Run) → after ≡ after_run before r → (events : List Event) → before ≡ state_of before.parameters events
+pub state_after_run : (before after : Coding) (r : Run) → after ≡ run_after before r → (events : List Event) → before ≡ state_of before.parameters events
     → after ≡ state_of before.parameters (events ++ run r ∷ [])
-state_after_run before after r step events e = step ∙ ap (λ s. after_run s r) e ∙ state_of-run before.parameters events r
+state_after_run before after r step events e = step ∙ ap (λ s. run_after s r) e ∙ state_of-run before.parameters events r
 
 -- a run's word, from how far it came
 abbrev word : ℕ → Tail → RunWord
@@ -78,18 +78,18 @@ word_is index inside count ones at left broken tail same a b c e =
 -- ---- a run as it is read
 
 -- its end, before the sample that interrupts it
-pub break_after : (s : Coding) (rest : ℕ) → rest < 2 ^ order s.run_index → made s.parameters s.contexts s.steep s.flat s.run_index true ≡ after_run s (run_of rest true)
-break_after s rest h = ap (λ i. made s.parameters s.contexts s.steep s.flat i true) (sym (ap (λ (w : Walk). w.index) (walked_part s.run_index rest h)))
+pub break_after : (s : Coding) (rest : ℕ) → rest < 2 ^ order s.run_index → made s.parameters s.contexts s.ri_type_0 s.ri_type_1 s.run_index true ≡ run_after s (run_of rest true)
+break_after s rest h = ap (λ i. made s.parameters s.contexts s.ri_type_0 s.ri_type_1 i true) (sym (ap (λ (w : Walk). w.index) (walked_part s.run_index rest h)))
 
 -- a bit 1 for the samples that are left in the line
-pub part_after : (s : Coding) (left : ℕ) → left < 2 ^ order s.run_index → s.broken ≡ false → s ≡ after_run s (run_of left false)
+pub part_after : (s : Coding) (left : ℕ) → left < 2 ^ order s.run_index → s.broken ≡ false → s ≡ run_after s (run_of left false)
 part_after s left h whole =
-    ap (λ b. made s.parameters s.contexts s.steep s.flat s.run_index b) whole
-    ∙ ap (λ i. made s.parameters s.contexts s.steep s.flat i false) (sym (ap (λ (w : Walk). w.index) (walked_part s.run_index left h)))
+    ap (λ b. made s.parameters s.contexts s.ri_type_0 s.ri_type_1 s.run_index b) whole
+    ∙ ap (λ i. made s.parameters s.contexts s.ri_type_0 s.ri_type_1 i false) (sym (ap (λ (w : Walk). w.index) (walked_part s.run_index left h)))
 
 -- a bit 1 for 2^J samples
 pub one_after : (s : Coding) (index samples : ℕ) → index ≡ min (s.run_index + 1) 31 → samples ≡ 2 ^ order s.run_index → s.broken ≡ false
-    → made s.parameters s.contexts s.steep s.flat index s.broken ≡ after_run s (run_of samples false)
+    → made s.parameters s.contexts s.ri_type_0 s.ri_type_1 index s.broken ≡ run_after s (run_of samples false)
 one_after s index samples e f whole =
-    ap (λ b. made s.parameters s.contexts s.steep s.flat index b) whole
-    ∙ ap (λ i. made s.parameters s.contexts s.steep s.flat i false) (e ∙ sym (ap (λ (w : Walk). w.index) (ap (walked s.run_index) f ∙ walked_one s.run_index)))
+    ap (λ b. made s.parameters s.contexts s.ri_type_0 s.ri_type_1 index b) whole
+    ∙ ap (λ i. made s.parameters s.contexts s.ri_type_0 s.ri_type_1 i false) (e ∙ sym (ap (λ (w : Walk). w.index) (ap (walked s.run_index) f ∙ walked_one s.run_index)))

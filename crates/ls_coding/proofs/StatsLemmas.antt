@@ -10,7 +10,7 @@ use mir.Val.{to_z, of_z}
 use Rattle.ls_coding.specs.Numbers.{halved}
 use Rattle.ls_frame.specs.Parameters.{range_of}
 use Rattle.ls_coding.specs.Errors.{IsReduced}
-use Rattle.ls_coding.specs.Stats.{Stats, stats, error_bound, lowered, raised, balanced, counted, added, stats_step, AreSound}
+use Rattle.ls_coding.specs.Stats.{Stats, stats, error_bound, lowered, raised, bias_corrected, counted, added, stats_step, AreSound}
 use Rattle.ls_coding.proofs.SignedLemmas.{through}
 
 -- ---- as the code passes numbers
@@ -40,11 +40,11 @@ lowered_b b n = cond (int_le (b +ℤ n) (neg_ℤ n)) (pos 1 -ℤ n) (b +ℤ n)
 raised_b : ℤ → ℤ → ℤ
 raised_b b n = cond (int_lt (pos 0) (b -ℤ n)) (pos 0) (b -ℤ n)
 
-pub balanced-low : (b c : ℤ) (n : ℕ) → int_le b (neg_ℤ (pos n)) ≡ true → balanced (stats 0 b c n) ≡ lowered (stats 0 b c n)
-balanced-low b c n e = cond-true _ _ _ e
+pub bias_corrected-low : (b c : ℤ) (n : ℕ) → int_le b (neg_ℤ (pos n)) ≡ true → bias_corrected (stats 0 b c n) ≡ lowered (stats 0 b c n)
+bias_corrected-low b c n e = cond-true _ _ _ e
 
-pub balanced-high : (b c : ℤ) (n : ℕ) → int_le b (neg_ℤ (pos n)) ≡ false → int_lt (pos 0) b ≡ true → balanced (stats 0 b c n) ≡ raised (stats 0 b c n)
-balanced-high b c n e f = cond-false _ _ _ e ∙ cond-true _ _ _ f
+pub bias_corrected-high : (b c : ℤ) (n : ℕ) → int_le b (neg_ℤ (pos n)) ≡ false → int_lt (pos 0) b ≡ true → bias_corrected (stats 0 b c n) ≡ raised (stats 0 b c n)
+bias_corrected-high b c n e f = cond-false _ _ _ e ∙ cond-true _ _ _ f
 
 -- the test that the code makes is the definition's
 pub is_low : (b : ℤ) (n : ℕ) (test : Bool) → n ≤ 65536 → neg_ℤ (pos 131072) ≤ℤ b → b ≤ℤ pos 131072
@@ -99,24 +99,24 @@ both_same : {A : Type 0} → (test : Bool) (x : A) → cond test x x ≡ x
 both_same true x = refl
 both_same false x = refl
 
-same_a : (s : Stats) → (balanced s).a ≡ s.a
+same_a : (s : Stats) → (bias_corrected s).a ≡ s.a
 same_a s =
     under (λ (t : Stats). t.a) (int_le s.b (neg_ℤ (pos s.n))) (lowered s) (cond (int_lt (pos 0) s.b) (raised s) s)
     ∙ ap (cond (int_le s.b (neg_ℤ (pos s.n))) s.a) (under (λ (t : Stats). t.a) (int_lt (pos 0) s.b) (raised s) s ∙ both_same (int_lt (pos 0) s.b) s.a)
     ∙ both_same (int_le s.b (neg_ℤ (pos s.n))) s.a
 
-same_n : (s : Stats) → (balanced s).n ≡ s.n
+same_n : (s : Stats) → (bias_corrected s).n ≡ s.n
 same_n s =
     under (λ (t : Stats). t.n) (int_le s.b (neg_ℤ (pos s.n))) (lowered s) (cond (int_lt (pos 0) s.b) (raised s) s)
     ∙ ap (cond (int_le s.b (neg_ℤ (pos s.n))) s.n) (under (λ (t : Stats). t.n) (int_lt (pos 0) s.b) (raised s) s ∙ both_same (int_lt (pos 0) s.b) s.n)
     ∙ both_same (int_le s.b (neg_ℤ (pos s.n))) s.n
 
-part_b : (a : ℕ) (b c : ℤ) (n : ℕ) → (balanced (stats a b c n)).b ≡ cond (int_le b (neg_ℤ (pos n))) (lowered (stats 0 b c n)).b (cond (int_lt (pos 0) b) (raised (stats 0 b c n)).b b)
+part_b : (a : ℕ) (b c : ℤ) (n : ℕ) → (bias_corrected (stats a b c n)).b ≡ cond (int_le b (neg_ℤ (pos n))) (lowered (stats 0 b c n)).b (cond (int_lt (pos 0) b) (raised (stats 0 b c n)).b b)
 part_b a b c n =
     under (λ (t : Stats). t.b) (int_le b (neg_ℤ (pos n))) (lowered (stats a b c n)) (cond (int_lt (pos 0) b) (raised (stats a b c n)) (stats a b c n))
     ∙ ap (cond (int_le b (neg_ℤ (pos n))) (lowered (stats a b c n)).b) (under (λ (t : Stats). t.b) (int_lt (pos 0) b) (raised (stats a b c n)) (stats a b c n))
 
-part_c : (a : ℕ) (b c : ℤ) (n : ℕ) → (balanced (stats a b c n)).c ≡ cond (int_le b (neg_ℤ (pos n))) (lowered (stats 0 b c n)).c (cond (int_lt (pos 0) b) (raised (stats 0 b c n)).c c)
+part_c : (a : ℕ) (b c : ℤ) (n : ℕ) → (bias_corrected (stats a b c n)).c ≡ cond (int_le b (neg_ℤ (pos n))) (lowered (stats 0 b c n)).c (cond (int_lt (pos 0) b) (raised (stats 0 b c n)).c c)
 part_c a b c n =
     under (λ (t : Stats). t.c) (int_le b (neg_ℤ (pos n))) (lowered (stats a b c n)) (cond (int_lt (pos 0) b) (raised (stats a b c n)) (stats a b c n))
     ∙ ap (cond (int_le b (neg_ℤ (pos n))) (lowered (stats a b c n)).c) (under (λ (t : Stats). t.c) (int_lt (pos 0) b) (raised (stats a b c n)) (stats a b c n))
@@ -140,7 +140,7 @@ pub step_is : (reset a n size : ℕ) (b c e : ℤ) (a1 n1 : ℕ) (b1 sum b2 c2 :
     → a1 ≡ cond (eqb n reset) ((a + size) / 2) (a + size)
     → b1 ≡ cond (eqb n reset) (halved sum) sum
     → n1 ≡ cond (eqb n reset) (n / 2 + 1) (n + 1)
-    → b2 ≡ (balanced (stats 0 b1 c n1)).b → c2 ≡ (balanced (stats 0 b1 c n1)).c
+    → b2 ≡ (bias_corrected (stats 0 b1 c n1)).b → c2 ≡ (bias_corrected (stats 0 b1 c n1)).c
     → stats a1 b2 c2 n1 ≡ stats_step reset (stats a b c n) e
 unfolding stats_step
 step_is reset a n size b c e a1 n1 b1 sum b2 c2 p q i j k l m =
@@ -150,9 +150,9 @@ step_is reset a n size b c e a1 n1 b1 sum b2 c2 p q i j k l m =
     let ec : c ≡ s.c = sym (counted_c reset (added (stats a b c n) e)) in
     let en : n1 ≡ s.n = k ∙ sym (counted_n reset (added (stats a b c n) e)) in
     let whole : stats a1 b1 c n1 ≡ s = stats_is s a1 b1 c n1 ea eb ec en in
-    stats_is (balanced (stats a1 b1 c n1)) a1 b2 c2 n1 (sym (same_a (stats a1 b1 c n1))) (l ∙ part_b 0 b1 c n1 ∙ sym (part_b a1 b1 c n1))
+    stats_is (bias_corrected (stats a1 b1 c n1)) a1 b2 c2 n1 (sym (same_a (stats a1 b1 c n1))) (l ∙ part_b 0 b1 c n1 ∙ sym (part_b a1 b1 c n1))
     (m ∙ part_c 0 b1 c n1 ∙ sym (part_c a1 b1 c n1)) (sym (same_n (stats a1 b1 c n1)))
-    ∙ ap balanced whole
+    ∙ ap bias_corrected whole
 
 -- ---- what counters keep to
 
@@ -251,7 +251,7 @@ counted_sound reset bound n a least few size = counted_by reset bound n a (eqb n
 -- all that the counters keep to
 pub sound_is : (reset bound a n size a1 n1 : ℕ) (b c b1 b2 c2 : ℤ) → 3 ≤ reset → AreSound reset bound (stats a b c n) → size ≤ bound
     → a1 ≡ cond (eqb n reset) ((a + size) / 2) (a + size) → n1 ≡ cond (eqb n reset) (n / 2 + 1) (n + 1)
-    → b2 ≡ (balanced (stats 0 b1 c n1)).b → neg_ℤ (pos 128) ≤ℤ c2 → c2 ≤ℤ pos 127
+    → b2 ≡ (bias_corrected (stats 0 b1 c n1)).b → neg_ℤ (pos 128) ≤ℤ c2 → c2 ≤ℤ pos 127
     → AreSound reset bound (stats a1 b2 c2 n1)
 sound_is reset bound a n size a1 n1 b c b1 b2 c2 least sound small i k l low high =
     let total : a + size ≤ n * bound + bound = omega (arith, sound.sum) in

@@ -9,7 +9,7 @@ use Rattle.ls_frame.specs.Parameters.{range_of, qbpp_of, limit_of}
 use Rattle.ls_frame.proofs.ExponentLemmas.{ceil_log2-reaches, ceil_log2-least}
 use Rattle.ls_bits.specs.Golomb.{IsGolomb}
 use Rattle.ls_coding.specs.Numbers.{golomb_parameter}
-use Rattle.ls_coding.specs.Errors.{IsReduced, mapped}
+use Rattle.ls_coding.specs.Errors.{IsReduced, mapped_error}
 use Rattle.ls_coding.specs.Stats.{Stats, error_bound, AreSound}
 use Rattle.ls_coding.specs.Interruptions.{Counts, AreSoundCounts, interruption_k}
 use Rattle.ls_coding.specs.Runs.{order}
@@ -63,7 +63,7 @@ half_more a n q h =
 pub regular_k : (reset maxval q : ℕ) (s : Stats) → 0 < maxval → AreBits maxval q → AreSound reset (error_bound maxval) s → golomb_parameter s.n s.a ≤ q
 regular_k reset maxval q s some bits sound = golomb_parameter-least s.n s.a q (scaled s.a s.n (error_bound maxval) q sound.sum (bound_fits maxval q some bits))
 
-pub interruption_k_small : (flat : Bool) (reset maxval q : ℕ) (s : Counts) → 0 < maxval → AreBits maxval q → AreSoundCounts reset (error_bound maxval) s → interruption_k flat s ≤ q + 1
+pub interruption_k_small : (ri_type : Bool) (reset maxval q : ℕ) (s : Counts) → 0 < maxval → AreBits maxval q → AreSoundCounts reset (error_bound maxval) s → interruption_k ri_type s ≤ q + 1
 interruption_k_small true reset maxval q s some bits sound =
     let fits : s.a ≤ s.n * 2 ^ q = scaled s.a s.n (error_bound maxval) q sound.sum (bound_fits maxval q some bits) in
     let k = golomb_parameter-least s.n (s.a + s.n / 2) (suc q) (half_more s.a s.n q fits) in
@@ -84,11 +84,11 @@ regular_code reset maxval s some most sound =
     let small = limit_small maxval (qbpp_of maxval) refl bits.few in
     record { some_zeros = omega (arith, large); small_k = omega (arith, k); small_qbpp = bits.few; small_glimit = small }
 
-pub interruption_code : (flat : Bool) (reset maxval index : ℕ) (s : Counts) → 0 < maxval → maxval ≤ 65535 → AreSoundCounts reset (error_bound maxval) s
-    → IsGolomb (interruption_k flat s) (limit_of maxval - order index - 1) (qbpp_of maxval)
-interruption_code flat reset maxval index s some most sound =
+pub interruption_code : (ri_type : Bool) (reset maxval index : ℕ) (s : Counts) → 0 < maxval → maxval ≤ 65535 → AreSoundCounts reset (error_bound maxval) s
+    → IsGolomb (interruption_k ri_type s) (limit_of maxval - order index - 1) (qbpp_of maxval)
+interruption_code ri_type reset maxval index s some most sound =
     let bits = qbpp_are maxval some most in
-    let k = interruption_k_small flat reset maxval (qbpp_of maxval) s some bits sound in
+    let k = interruption_k_small ri_type reset maxval (qbpp_of maxval) s some bits sound in
     let large = limit_large maxval (qbpp_of maxval) refl in
     let small = limit_small maxval (qbpp_of maxval) refl bits.few in
     let few = order_small index in
@@ -96,16 +96,16 @@ interruption_code flat reset maxval index s some most sound =
 
 -- ---- the value
 
-mapped_small : (leaning : Bool) (range : ℕ) (e : ℤ) → IsReduced range e → mapped leaning e ≤ range
-mapped_small true range (pos n) h =
+mapped_error_small : (inverted : Bool) (range : ℕ) (e : ℤ) → IsReduced range e → mapped_error inverted e ≤ range
+mapped_error_small true range (pos n) h =
     choose (int_le (pos 0) (pos n)) (2 * unsigned_abs (pos n) + 1) (2 * unsigned_abs (pos n +ℤ pos 1)) (λ v. v ≤ range) (λ e. omega (arith, ints, h.high)) (λ e. absurd (omega (arith, ints, le_false (pos 0) (pos n) e)))
-mapped_small true range (negsuc n) h = omega (arith, ints, h.low)
-mapped_small false range (pos n) h =
+mapped_error_small true range (negsuc n) h = omega (arith, ints, h.low)
+mapped_error_small false range (pos n) h =
     choose (int_le (pos 0) (pos n)) (2 * unsigned_abs (pos n)) (2 * unsigned_abs (pos n) - 1) (λ v. v ≤ range) (λ e. omega (arith, ints, h.high)) (λ e. omega (arith, ints, h.high))
-mapped_small false range (negsuc n) h = omega (arith, ints, h.low)
+mapped_error_small false range (negsuc n) h = omega (arith, ints, h.low)
 
-pub regular_value : (leaning : Bool) (maxval : ℕ) (e : ℤ) → 0 < maxval → maxval ≤ 65535 → IsReduced (range_of maxval) e → mapped leaning e ≤ 2 ^ qbpp_of maxval
-regular_value leaning maxval e some most h = omega (arith, mapped_small leaning (range_of maxval) e h, (qbpp_are maxval some most).enough)
+pub regular_value : (inverted : Bool) (maxval : ℕ) (e : ℤ) → 0 < maxval → maxval ≤ 65535 → IsReduced (range_of maxval) e → mapped_error inverted e ≤ 2 ^ qbpp_of maxval
+regular_value inverted maxval e some most h = omega (arith, mapped_error_small inverted (range_of maxval) e h, (qbpp_are maxval some most).enough)
 
 size_small : (range : ℕ) (e : ℤ) → IsReduced range e → 2 * unsigned_abs e ≤ range
 size_small range (pos n) h = omega (arith, ints, h.high)

@@ -54,19 +54,19 @@ signed true z = neg_ℤ z
 signed false z = z
 
 -- three regions as one number
-abbrev pub number_of : ℤ → ℤ → ℤ → ℤ
-number_of q1 q2 q3 = pos 81 *ℤ q1 +ℤ pos 9 *ℤ q2 +ℤ q3
+abbrev pub context_number : ℤ → ℤ → ℤ → ℤ
+context_number q1 q2 q3 = pos 81 *ℤ q1 +ℤ pos 9 *ℤ q2 +ℤ q3
 
 -- the context of three regions: all three change their sign where the first that isn't 0 is negative (A.3.4)
 abbrev pub merged : ℤ → ℤ → ℤ → Context
 merged q1 q2 q3 = let negative = first_negative q1 q2 q3 in record {
-  number = unsigned_abs (number_of (signed negative q1) (signed negative q2) (signed negative q3));
+  number = unsigned_abs (context_number (signed negative q1) (signed negative q2) (signed negative q3));
   negative = negative;
 }
 
 -- the regions of a sample's gradients as one number, before any changes its sign
-unfoldable pub signed_number : Parameters → Neighbours → ℤ
-signed_number p n = number_of (region p (d1 n)) (region p (d2 n)) (region p (d3 n))
+unfoldable pub signed_context : Parameters → Neighbours → ℤ
+signed_context p n = context_number (region p (d1 n)) (region p (d2 n)) (region p (d3 n))
 
 unfoldable pub context_of : Parameters → Neighbours → Context
 context_of p n = merged (region p (d1 n)) (region p (d2 n)) (region p (d3 n))

@@ -2,7 +2,7 @@
 use Rattle.std.specs.Prelude.{ℕ, ◌+◌, ◌-◌, ◌*◌, ◌/◌, ◌==◌, ◌&&◌, min, max, nat_le, Bool, if◌then◌else◌, ℤ, pos, neg_ℤ, ◌+ℤ◌, ◌-ℤ◌, ◌*ℤ◌, int_lt, int_le, ◌<ℤ◌, ◌≤ℤ◌, unsigned_abs}
 use Rattle.ls_frame.specs.Parameters.{Parameters, range_of}
 use Rattle.ls_coding.specs.declared.neighbours.Neighbours.{Neighbours}
-use Rattle.ls_coding.specs.Numbers.{between}
+use Rattle.ls_coding.specs.Numbers.{clamped}
 use Rattle.ls_coding.specs.Contexts.{signed}
 
 -- the edge-detecting predictor (A.4.1)
@@ -14,14 +14,14 @@ median n =
 
 -- the prediction corrected by the context's C, within the samples (A.4.2)
 abbrev pub predicted : Parameters → Bool → ℤ → Neighbours → ℤ
-predicted p negative c n = between (pos 0) (pos p.maxval) (pos (median n) +ℤ signed negative c)
+predicted p negative c n = clamped (pos 0) (pos p.maxval) (pos (median n) +ℤ signed negative c)
 
 -- an error modulo RANGE (A.4.5): from -RANGE / 2 to (RANGE - 1) / 2, both rounded down in size
-abbrev pub wrapped : ℕ → ℤ → ℤ
-wrapped range e = if int_lt e (pos 0) then e +ℤ pos range else e
+abbrev pub nonnegative : ℕ → ℤ → ℤ
+nonnegative range e = if int_lt e (pos 0) then e +ℤ pos range else e
 
 abbrev pub reduced : ℕ → ℤ → ℤ
-reduced range e = let up = wrapped range e in if int_le (pos ((range + 1) / 2)) up then up -ℤ pos range else up
+reduced range e = let up = nonnegative range e in if int_le (pos ((range + 1) / 2)) up then up -ℤ pos range else up
 
 pub record IsReduced (range : ℕ) (e : ℤ) : Type 0 where
   pub low : neg_ℤ (pos (range / 2)) ≤ℤ e
@@ -33,11 +33,11 @@ error_of p negative prediction sample = reduced (range_of p.maxval) (signed nega
 
 -- the value of an error (A.5.2). Where k is 0 and the errors so far lean to the negative, the odd values are those of the
 -- errors from 0 on
-abbrev pub leans : ℕ → ℤ → ℕ → Bool
-leans k b n = k == 0 && int_le (pos 2 *ℤ b) (neg_ℤ (pos n))
+abbrev pub is_inverted : ℕ → ℤ → ℕ → Bool
+is_inverted k b n = k == 0 && int_le (pos 2 *ℤ b) (neg_ℤ (pos n))
 
-abbrev pub mapped : Bool → ℤ → ℕ
-mapped leaning e =
-    if leaning
+abbrev pub mapped_error : Bool → ℤ → ℕ
+mapped_error inverted e =
+    if inverted
     then (if int_le (pos 0) e then 2 * unsigned_abs e + 1 else 2 * unsigned_abs (e +ℤ pos 1))
     else (if int_le (pos 0) e then 2 * unsigned_abs e else 2 * unsigned_abs e - 1)

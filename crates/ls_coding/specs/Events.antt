@@ -6,7 +6,7 @@ use Rattle.ls_coding.specs.declared.neighbours.Neighbours.{Neighbours}
 use Rattle.ls_coding.specs.declared.word.Word.{Word}
 use Rattle.ls_coding.specs.Numbers.{golomb_parameter}
 use Rattle.ls_coding.specs.Contexts.{Context}
-use Rattle.ls_coding.specs.Errors.{predicted, error_of, leans, mapped}
+use Rattle.ls_coding.specs.Errors.{predicted, error_of, is_inverted, mapped_error}
 use Rattle.ls_coding.specs.Stats.{Stats, stats_after}
 use Rattle.ls_coding.specs.Interruptions.{Counts, counts_after, interruption_k, interruption_value}
 use Rattle.ls_coding.specs.Runs.{Run, index_at, order}
@@ -19,10 +19,10 @@ pub data Event : Type 0 where
   interruption : Bool → ℤ → Event
 
 -- the errors that were coded in a context, no other's among them
-abbrev pub regular_error : ℕ → Event → Option ℤ
-regular_error number (regular other e) = if number == other then Some e else None
-regular_error number (run r) = None
-regular_error number (interruption flat e) = None
+abbrev pub error_of_regular_event : ℕ → Event → Option ℤ
+error_of_regular_event number (regular other e) = if number == other then Some e else None
+error_of_regular_event number (run r) = None
+error_of_regular_event number (interruption ri_type e) = None
 
 abbrev pub same : Bool → Bool → Bool
 same true true = true
@@ -30,35 +30,35 @@ same true false = false
 same false true = false
 same false false = true
 
-abbrev pub interruption_error_in : Bool → Event → Option ℤ
-interruption_error_in flat (regular number e) = None
-interruption_error_in flat (run r) = None
-interruption_error_in flat (interruption other e) = if same flat other then Some e else None
+abbrev pub error_of_interruption_event : Bool → Event → Option ℤ
+error_of_interruption_event ri_type (regular number e) = None
+error_of_interruption_event ri_type (run r) = None
+error_of_interruption_event ri_type (interruption other e) = if same ri_type other then Some e else None
 
 -- a context's counters after events
-abbrev pub stats_in : Parameters → ℕ → List Event → Stats
-stats_in p number events = stats_after p (filter_map (regular_error number) events)
+abbrev pub stats_after_events : Parameters → ℕ → List Event → Stats
+stats_after_events p number events = stats_after p (filter_map (error_of_regular_event number) events)
 
-abbrev pub counts_in : Parameters → Bool → List Event → Counts
-counts_in p flat events = counts_after p flat (filter_map (interruption_error_in flat) events)
+abbrev pub counts_after_events : Parameters → Bool → List Event → Counts
+counts_after_events p ri_type events = counts_after p ri_type (filter_map (error_of_interruption_event ri_type) events)
 
 -- RUNindex after events: a run raises it, the sample that interrupts one lowers it (A.7.1.2, A.7.2)
 abbrev pub index_step : ℕ → Event → ℕ
 index_step index (regular number e) = index
 index_step index (run r) = index_at index r
-index_step index (interruption flat e) = index - 1
+index_step index (interruption ri_type e) = index - 1
 
-abbrev pub index_in : List Event → ℕ
-index_in events = fold index_step 0 events
+abbrev pub run_index_after_events : List Event → ℕ
+run_index_after_events events = fold index_step 0 events
 
 -- whether the sample that interrupts a run is to come next
 abbrev pub is_broken : Event → Bool
 is_broken (regular number e) = false
 is_broken (run r) = r.broken
-is_broken (interruption flat e) = false
+is_broken (interruption ri_type e) = false
 
-abbrev pub broken_in : List Event → Bool
-broken_in events = fold (λ broken event. is_broken event) false events
+abbrev pub broken_after_events : List Event → Bool
+broken_after_events events = fold (λ broken event. is_broken event) false events
 
 -- ---- the word and the event of a sample
 
@@ -67,20 +67,20 @@ abbrev pub golomb_bits : Parameters → Word → List Bool
 golomb_bits p w = code_word w.k w.glimit (qbpp_of p.maxval) w.value
 
 -- of a sample of regular mode
-abbrev pub regular_e : Parameters → Context → Stats → Neighbours → ℕ → ℤ
-regular_e p x s n sample = error_of p x.negative (predicted p x.negative s.c n) sample
+abbrev pub regular_error_of : Parameters → Context → Stats → Neighbours → ℕ → ℤ
+regular_error_of p x s n sample = error_of p x.negative (predicted p x.negative s.c n) sample
 
 abbrev pub regular_word : Parameters → Stats → ℤ → Word
 regular_word p s e = let k = golomb_parameter s.n s.a in record {
   k = k;
   glimit = limit_of p.maxval;
-  value = mapped (leans k s.b s.n) e;
+  value = mapped_error (is_inverted k s.b s.n) e;
 }
 
 -- of an interruption sample, behind its run's bits at this RUNindex
 abbrev pub interruption_word : Parameters → ℕ → Bool → Counts → ℤ → Word
-interruption_word p index flat s e = record {
-  k = interruption_k flat s;
+interruption_word p index ri_type s e = record {
+  k = interruption_k ri_type s;
   glimit = limit_of p.maxval - order index - 1;
-  value = interruption_value flat s e;
+  value = interruption_value ri_type s e;
 }

@@ -27,26 +27,26 @@ abbrev pub first_counts : Parameters → Counts
 first_counts p = record { a = first_a p; n = 1; nn = 0 }
 
 -- RItype is 1 where Ra and Rb are equal
-abbrev pub is_flat : Neighbours → Bool
-is_flat n = n.a == n.b
+abbrev pub ri_type_of : Neighbours → Bool
+ri_type_of n = n.a == n.b
 
-abbrev pub ri_type : Bool → ℕ
-ri_type flat = if flat then 1 else 0
+abbrev pub ri_value : Bool → ℕ
+ri_value ri_type = if ri_type then 1 else 0
 
 -- the prediction is Ra where they are equal, else Rb
-abbrev pub foretold : Neighbours → ℕ
-foretold n = if is_flat n then n.a else n.b
+abbrev pub interruption_prediction : Neighbours → ℕ
+interruption_prediction n = if ri_type_of n then n.a else n.b
 
 -- the error changes its sign where RItype is 0 and Ra is over Rb
-abbrev pub is_turned : Neighbours → Bool
-is_turned n = not (is_flat n) && nat_lt n.b n.a
+abbrev pub interruption_negative : Neighbours → Bool
+interruption_negative n = not (ri_type_of n) && nat_lt n.b n.a
 
 abbrev pub interruption_error : Parameters → Neighbours → ℕ → ℤ
-interruption_error p n sample = reduced (range_of p.maxval) (signed (is_turned n) (pos sample -ℤ pos (foretold n)))
+interruption_error p n sample = reduced (range_of p.maxval) (signed (interruption_negative n) (pos sample -ℤ pos (interruption_prediction n)))
 
 -- the Golomb parameter, from TEMP
 abbrev pub interruption_k : Bool → Counts → ℕ
-interruption_k flat s = golomb_parameter s.n (if flat then s.a + s.n / 2 else s.a)
+interruption_k ri_type s = golomb_parameter s.n (if ri_type then s.a + s.n / 2 else s.a)
 
 -- map
 abbrev pub map_of : ℕ → Counts → ℤ → ℕ
@@ -58,12 +58,12 @@ map_of k s e =
 
 -- EMErrval
 abbrev pub interruption_value : Bool → Counts → ℤ → ℕ
-interruption_value flat s e = 2 * unsigned_abs e - ri_type flat - map_of (interruption_k flat s) s e
+interruption_value ri_type s e = 2 * unsigned_abs e - ri_value ri_type - map_of (interruption_k ri_type s) s e
 
 -- the counters with one error more: added, halved where N is RESET, and counted
 abbrev pub counts_added : Bool → Counts → ℤ → Counts
-counts_added flat s e = record {
-  a = s.a + (interruption_value flat s e + 1 - ri_type flat) / 2;
+counts_added ri_type s e = record {
+  a = s.a + (interruption_value ri_type s e + 1 - ri_value ri_type) / 2;
   n = s.n;
   nn = if int_lt e (pos 0) then s.nn + 1 else s.nn;
 }
@@ -75,8 +75,8 @@ counts_counted reset s =
     else record { a = s.a; n = s.n + 1; nn = s.nn }
 
 unfoldable pub counts_step : Bool → ℕ → Counts → ℤ → Counts
-counts_step flat reset s e = counts_counted reset (counts_added flat s e)
+counts_step ri_type reset s e = counts_counted reset (counts_added ri_type s e)
 
 -- a context after the errors that were coded in it
 abbrev pub counts_after : Parameters → Bool → List ℤ → Counts
-counts_after p flat errors = fold (counts_step flat p.reset) (first_counts p) errors
+counts_after p ri_type errors = fold (counts_step ri_type p.reset) (first_counts p) errors

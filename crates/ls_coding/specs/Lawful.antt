@@ -4,37 +4,37 @@ use Rattle.ls_frame.specs.Parameters.{Parameters}
 use Rattle.ls_coding.specs.declared.neighbours.Neighbours.{Neighbours}
 use Rattle.ls_coding.specs.Samples.{AreSamples}
 use Rattle.ls_coding.specs.Contexts.{is_run, context_of}
-use Rattle.ls_coding.specs.Interruptions.{is_flat, interruption_error}
+use Rattle.ls_coding.specs.Interruptions.{ri_type_of, interruption_error}
 use Rattle.ls_coding.specs.Runs.{run_of}
-use Rattle.ls_coding.specs.Events.{Event, regular, run, interruption, stats_in, broken_in, regular_e}
-use Rattle.ls_coding.specs.States.{Coding, state_of, place_of, regular_error_in, after_regular, after_run, after_interruption}
-use Rattle.ls_coding.specs.Plans.{Interrupts}
+use Rattle.ls_coding.specs.Events.{Event, regular, run, interruption, stats_after_events, broken_after_events, regular_error_of}
+use Rattle.ls_coding.specs.View.States.{Coding, state_of, context_in, regular_error_in, regular_after, run_after, interruption_after}
+use Rattle.ls_coding.specs.View.Plans.{Interrupts}
 
 -- an event that may come behind these: that of a sample of regular mode, or of a run, where no run was broken last; that of
 -- a sample that isn't the run's, where one was
-pub data MayFollow (p : Parameters) (events : List Event) (event : Event) : Type 0 where
-  by_sample : (n : Neighbours) (sample : ℕ) → AreSamples p.maxval n → sample ≤ p.maxval → is_run n ≡ false → broken_in events ≡ false
-      → event ≡ regular (context_of p n).number (regular_e p (context_of p n) (stats_in p (context_of p n).number events) n sample)
-      → MayFollow p events event
-  by_run : (count : ℕ) (broken : Bool) → (broken ≡ false → 0 < count) → broken_in events ≡ false
-      → event ≡ run (run_of count broken) → MayFollow p events event
-  by_interruption : (n : Neighbours) (sample : ℕ) → AreSamples p.maxval n → Interrupts p.maxval n.a sample → broken_in events ≡ true
-      → event ≡ interruption (is_flat n) (interruption_error p n sample) → MayFollow p events event
+pub data MayComeNext (p : Parameters) (events : List Event) (event : Event) : Type 0 where
+  by_sample : (n : Neighbours) (sample : ℕ) → AreSamples p.maxval n → sample ≤ p.maxval → is_run n ≡ false → broken_after_events events ≡ false
+      → event ≡ regular (context_of p n).number (regular_error_of p (context_of p n) (stats_after_events p (context_of p n).number events) n sample)
+      → MayComeNext p events event
+  by_run : (count : ℕ) (broken : Bool) → (broken ≡ false → 0 < count) → broken_after_events events ≡ false
+      → event ≡ run (run_of count broken) → MayComeNext p events event
+  by_interruption : (n : Neighbours) (sample : ℕ) → AreSamples p.maxval n → Interrupts p.maxval n.a sample → broken_after_events events ≡ true
+      → event ≡ interruption (ri_type_of n) (interruption_error p n sample) → MayComeNext p events event
 
 -- a list of events, each of which may follow those before it
 pub data IsLawful (p : Parameters) : List Event → Type 0 where
   none : IsLawful p []
-  more : (events : List Event) (event : Event) → IsLawful p events → MayFollow p events event → IsLawful p (events ++ event ∷ [])
+  more : (events : List Event) (event : Event) → IsLawful p events → MayComeNext p events event → IsLawful p (events ++ event ∷ [])
 
 -- one call that codes: what it requires of the state before it, and the state that it leaves
 pub data IsCall (before after : Coding) : Type 0 where
   code_regular : (n : Neighbours) (sample : ℕ) → AreSamples before.parameters.maxval n → sample ≤ before.parameters.maxval
-      → is_run n ≡ false → before.broken ≡ false → after ≡ after_regular before (place_of before n).number (regular_error_in before n sample)
+      → is_run n ≡ false → before.broken ≡ false → after ≡ regular_after before (context_in before n).number (regular_error_in before n sample)
       → IsCall before after
   code_run : (count : ℕ) (broken : Bool) → (broken ≡ false → 0 < count) → before.broken ≡ false
-      → after ≡ after_run before (run_of count broken) → IsCall before after
+      → after ≡ run_after before (run_of count broken) → IsCall before after
   code_interruption : (n : Neighbours) (sample : ℕ) → AreSamples before.parameters.maxval n → Interrupts before.parameters.maxval n.a sample
-      → before.broken ≡ true → after ≡ after_interruption before (is_flat n) (interruption_error before.parameters n sample)
+      → before.broken ≡ true → after ≡ interruption_after before (ri_type_of n) (interruption_error before.parameters n sample)
       → IsCall before after
 
 -- a state that calls come to from a scan's start

@@ -1,13 +1,10 @@
 pub mod Contexts
 pub mod Errors
 pub mod Events
-pub mod Fields
 pub mod Interruptions
 pub mod Lawful
 pub mod Numbers
-pub mod Plans
 pub mod Runs
 pub mod Samples
-pub mod Sizes
-pub mod States
 pub mod Stats
+pub mod View

@@ -7,8 +7,8 @@ halved (pos n) = pos (n / 2)
 halved (negsuc n) = negsuc (n / 2)
 
 -- z, or the bound that it is past
-abbrev pub between : ℤ → ℤ → ℤ → ℤ
-between low high z = if int_lt z low then low else (if int_lt high z then high else z)
+abbrev pub clamped : ℤ → ℤ → ℤ → ℤ
+clamped low high z = if int_lt z low then low else (if int_lt high z then high else z)
 
 -- the first exponent k, of tries of them from k on, with n * 2^k at least a
 abbrev pub first_scaling : ℕ → ℕ → ℕ → ℕ → ℕ

@@ -53,10 +53,10 @@ tail_bits LinePart = true ∷ []
 tail_bits (Broken width rest) = false ∷ bits_of width rest
 
 -- what stands behind the 0 fits into its bits
-abbrev pub Fits : Tail → Type 0
-Fits LineFull = Unit {0}
-Fits LinePart = Unit {0}
-Fits (Broken width rest) = (width ≤ 15) × (rest < 2 ^ width)
+abbrev pub TailFits : Tail → Type 0
+TailFits LineFull = Unit {0}
+TailFits LinePart = Unit {0}
+TailFits (Broken width rest) = (width ≤ 15) × (rest < 2 ^ width)
 
 -- the word of a run that begins at this RUNindex, and its bits
 unfoldable pub run_word : ℕ → Run → RunWord

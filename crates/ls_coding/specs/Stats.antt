@@ -68,12 +68,12 @@ raised s = let b = s.b -ℤ pos s.n in record {
   n = s.n;
 }
 
-abbrev pub balanced : Stats → Stats
-balanced s = if int_le s.b (neg_ℤ (pos s.n)) then lowered s else (if int_lt (pos 0) s.b then raised s else s)
+abbrev pub bias_corrected : Stats → Stats
+bias_corrected s = if int_le s.b (neg_ℤ (pos s.n)) then lowered s else (if int_lt (pos 0) s.b then raised s else s)
 
 -- a context after one error more
 unfoldable pub stats_step : ℕ → Stats → ℤ → Stats
-stats_step reset s e = balanced (counted reset (added s e))
+stats_step reset s e = bias_corrected (counted reset (added s e))
 
 -- a context after the errors that were coded in it
 abbrev pub stats_after : Parameters → List ℤ → Stats

@@ -1,15 +1,15 @@
 //! Contexts of regular mode (T.87 A.3).
 ghost use Rattle.std.specs.Prelude.{◌≡◌, ◌<◌, pos, neg_ℤ, ◌-ℤ◌, ◌≤ℤ◌, int_lt, unsigned_abs};
-ghost use Rattle.ls_coding.specs.Contexts.{region, IsRegion, is_zero, is_run, context_of, number_of, signed_number};
+ghost use Rattle.ls_coding.specs.Contexts.{region, IsRegion, is_zero, is_run, context_of, context_number, signed_context};
 ghost use Rattle.ls_coding.specs.Samples.{AreSamples};
-ghost use Rattle.ls_coding.specs.Sizes.{size_region};
+ghost use Rattle.ls_coding.specs.View.Sizes.{size_region};
 
 use crate::neighbours::Neighbours;
 use ls_frame::Presets;
 
 /// A context: its number, 0 to 364, and whether SIGN is -1.
 #[derive(Clone, Copy, Debug, PartialEq, Eq)]
-pub struct Place {
+pub struct Context {
     pub number: usize,
     pub negative: bool,
 }
@@ -18,7 +18,7 @@ pub struct Place {
 /// where they call for run mode.
 pub fn signed_context(presets: &Presets, neighbours: &Neighbours) -> i16
     requires { AreSamples presets.now.maxval neighbours.now }
-    ensures value { result ≡ signed_number presets.now neighbours.now }
+    ensures value { result ≡ signed_context presets.now neighbours.now }
     ensures run { is_zero result ≡ is_run neighbours.now }
     ensures low { neg_ℤ (pos 364) ≤ℤ result }
     ensures high { result ≤ℤ pos 364 }
@@ -27,39 +27,39 @@ pub fn signed_context(presets: &Presets, neighbours: &Neighbours) -> i16
     let q1 = region_of(presets, neighbours.d, neighbours.b);
     let q2 = region_of(presets, neighbours.b, neighbours.c);
     let q3 = region_of(presets, neighbours.c, neighbours.a);
-    joined(q1, q2, q3)
+    context_number(q1, q2, q3)
 }
 
 /// The context that such a number stands for.
-pub fn place_of(context: i16) -> Place
+pub fn context_of_signed(context: i16) -> Context
     requires low { neg_ℤ (pos 364) ≤ℤ context }
     requires high { context ≤ℤ pos 364 }
     ensures number { result.number ≡ unsigned_abs context }
     ensures negative { result.negative ≡ int_lt context (pos 0) }
     ensures within { result.number < 365 }
 {
-    Place {
+    Context {
         number: usize::from(context.unsigned_abs()),
         negative: context < 0,
     }
 }
 
 /// The context of a sample with these neighbours.
-pub fn context_at(presets: Presets, neighbours: &Neighbours) -> Place
+pub fn context_of(presets: Presets, neighbours: &Neighbours) -> Context
     requires { AreSamples presets.maxval neighbours.now }
     ensures number { result.number ≡ (context_of presets neighbours.now).number }
     ensures negative { result.negative ≡ (context_of presets neighbours.now).negative }
     ensures within { result.number < 365 }
 {
-    place_of(signed_context(&presets, neighbours))
+    context_of_signed(signed_context(&presets, neighbours))
 }
 
 /// Three regions as one number.
-fn joined(q1: i16, q2: i16, q3: i16) -> i16
+fn context_number(q1: i16, q2: i16, q3: i16) -> i16
     requires first { IsRegion q1 }
     requires second { IsRegion q2 }
     requires third { IsRegion q3 }
-    ensures value { result ≡ number_of q1 q2 q3 }
+    ensures value { result ≡ context_number q1 q2 q3 }
     ensures low { neg_ℤ (pos 364) ≤ℤ result }
     ensures high { result ≤ℤ pos 364 }
 {

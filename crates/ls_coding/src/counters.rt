@@ -4,20 +4,21 @@ ghost use Rattle.ls_frame.specs.Parameters.{range_of, qbpp_of, limit_of};
 ghost use Rattle.ls_bits.specs.Golomb.{IsGolomb, most_value};
 ghost use Rattle.ls_coding.specs.Samples.{AreSamples};
 ghost use Rattle.ls_coding.specs.Contexts.{context_of};
-ghost use Rattle.ls_coding.specs.Errors.{IsReduced, error_of, leans, mapped};
-ghost use Rattle.ls_coding.specs.Events.{regular_e, regular_word, interruption_word};
+ghost use Rattle.ls_coding.specs.Errors.{IsReduced, error_of, is_inverted, mapped_error};
+ghost use Rattle.ls_coding.specs.Events.{regular_error_of, regular_word, interruption_word};
 ghost use Rattle.ls_coding.specs.Stats.{first_a, first_stats, stats_step};
-ghost use Rattle.ls_coding.specs.Interruptions.{first_counts, counts_step, ri_type, is_flat, interruption_error, interruption_k, interruption_value};
-ghost use Rattle.ls_coding.specs.Plans.{regular_plan_by, interruption_plan_by, Interrupts, IsTheSample, NoSample};
-ghost use Rattle.ls_coding.specs.Fields.{regular_at, all_regular, interrupting_at, IsSound};
+ghost use Rattle.ls_coding.specs.Interruptions.{first_counts, counts_step, ri_value, ri_type_of, interruption_error, interruption_k, interruption_value};
+ghost use Rattle.ls_coding.specs.View.Plans.{regular_plan_by, interruption_plan_by, Interrupts, IsTheSample, NoSample};
+ghost use Rattle.ls_coding.specs.View.Fields.{regular_at, all_regular, interrupting_at, IsSound};
 
-use crate::context::{Place, context_at};
+use crate::context::{Context, context_of};
 use crate::error::{
-    error_of, golomb_parameter, is_reduced, leans, mapped, predicted, sample_of, unmapped,
+    error_of, golomb_parameter, is_inverted, is_reduced, mapped_error, predicted, sample_of,
+    unmapped_error,
 };
 use crate::interruption::{
-    count_interruption, foretold, interruption_error_of, interruption_k, interruption_value,
-    is_flat, is_turned, kind,
+    count_interruption, interruption_error_of, interruption_k, interruption_negative,
+    interruption_prediction, interruption_value, ri_type_of, ri_value,
 };
 use crate::neighbours::Neighbours;
 use crate::plan::Plan;
@@ -52,8 +53,8 @@ impl Counters {
     /// The counters at a scan's start.
     pub fn new(presets: Presets) -> Counters
         ensures contexts { (number : ℕ) → number < 365 → regular_at result number ≡ first_stats presets }
-        ensures steep { interrupting_at result 0 ≡ first_counts presets }
-        ensures flat { interrupting_at result 1 ≡ first_counts presets }
+        ensures ri_type_0 { interrupting_at result 0 ≡ first_counts presets }
+        ensures ri_type_1 { interrupting_at result 1 ≡ first_counts presets }
         ensures sound { IsSound presets result }
     {
         let first = first_a(presets);
@@ -71,64 +72,64 @@ impl Counters {
         &mut self,
         presets: Presets,
         limit: u32,
-        place: Place,
+        context: Context,
         neighbours: &Neighbours,
         sample: u16,
     ) -> Word
-        requires number { place.number ≡ (context_of presets neighbours.now).number }
-        requires negative { place.negative ≡ (context_of presets neighbours.now).negative }
-        requires within { place.number < 365 }
+        requires number { context.number ≡ (context_of presets neighbours.now).number }
+        requires negative { context.negative ≡ (context_of presets neighbours.now).negative }
+        requires within { context.number < 365 }
         requires samples { AreSamples presets.maxval neighbours.now }
         requires sample { sample ≤ presets.maxval }
         requires limit { limit ≡ limit_of presets.maxval }
         requires sound { IsSound presets self.old }
-        ensures word { let place = context_of presets neighbours.now in
-            let counters = regular_at self.old place.number in
-            result ≡ regular_word presets counters (regular_e presets place counters neighbours.now sample) }
+        ensures word { let context = context_of presets neighbours.now in
+            let counters = regular_at self.old context.number in
+            result ≡ regular_word presets counters (regular_error_of presets context counters neighbours.now sample) }
         ensures golomb { IsGolomb result.k result.glimit (qbpp_of presets.maxval) }
         ensures value { result.value ≤ most_value (qbpp_of presets.maxval) }
-        ensures contexts { let place = context_of presets neighbours.now in
-            let counters = regular_at self.old place.number in
+        ensures contexts { let context = context_of presets neighbours.now in
+            let counters = regular_at self.old context.number in
             all_regular self.new
-            ≡ slice_set (all_regular self.old) place.number
-            (stats_step presets.reset counters (regular_e presets place counters neighbours.now sample)) }
-        ensures steep { interrupting_at self.new 0 ≡ interrupting_at self.old 0 }
-        ensures flat { interrupting_at self.new 1 ≡ interrupting_at self.old 1 }
+            ≡ slice_set (all_regular self.old) context.number
+            (stats_step presets.reset counters (regular_error_of presets context counters neighbours.now sample)) }
+        ensures ri_type_0 { interrupting_at self.new 0 ≡ interrupting_at self.old 0 }
+        ensures ri_type_1 { interrupting_at self.new 1 ≡ interrupting_at self.old 1 }
         ensures sound { IsSound presets self.new }
     {
-        let number = place.number;
-        let prediction = predicted(presets, place.negative, self.c[number], neighbours);
-        let error = error_of(presets, place.negative, prediction, sample);
+        let number = context.number;
+        let prediction = predicted(presets, context.negative, self.c[number], neighbours);
+        let error = error_of(presets, context.negative, prediction, sample);
         let k = golomb_parameter(self.n[number], self.a[number]);
-        let leaning = leans(k, self.b[number], self.n[number]);
+        let inverted = is_inverted(k, self.b[number], self.n[number]);
         self.add(presets, number, error);
         Word {
             k,
             glimit: limit,
-            value: mapped(leaning, error),
+            value: mapped_error(inverted, error),
         }
     }
 
     /// What the word of a sample of regular mode is read by.
-    #[tactic(auto, unfolding(crate::specs::Plans::regular_plan_by))]
+    #[tactic(auto, unfolding(crate::specs::View::Plans::regular_plan_by))]
     pub fn plan(&self, presets: Presets, limit: u32, neighbours: &Neighbours) -> Plan
         requires samples { AreSamples presets.maxval neighbours.now }
         requires limit { limit ≡ limit_of presets.maxval }
         requires sound { IsSound presets self.now }
-        ensures plan { let place = context_of presets neighbours.now in
-            let counters = regular_at self.now place.number in
-            result ≡ regular_plan_by presets place counters neighbours.now }
+        ensures plan { let context = context_of presets neighbours.now in
+            let counters = regular_at self.now context.number in
+            result ≡ regular_plan_by presets context counters neighbours.now }
         ensures golomb { IsGolomb result.k result.glimit (qbpp_of presets.maxval) }
     {
-        let place = context_at(presets, neighbours);
-        let number = place.number;
+        let context = context_of(presets, neighbours);
+        let number = context.number;
         Plan {
             neighbours: *neighbours,
             k: golomb_parameter(self.n[number], self.a[number]),
             glimit: limit,
             number,
-            negative: place.negative,
-            prediction: predicted(presets, place.negative, self.c[number], neighbours),
+            negative: context.negative,
+            prediction: predicted(presets, context.negative, self.c[number], neighbours),
         }
     }
 
@@ -148,23 +149,23 @@ impl Counters {
         requires value { value ≤ 65536 }
         requires sound { IsSound presets self.old }
         ensures ok { let counters = regular_at self.old number in
-            let value_of : ℕ → ℕ = λ sample. mapped (leans k counters.b counters.n) (error_of presets negative (pos prediction) sample) in
+            let value_of : ℕ → ℕ = λ sample. mapped_error (is_inverted k counters.b counters.n) (error_of presets negative (pos prediction) sample) in
             IfOk result (λ sample. IsTheSample (λ one. one ≤ presets.maxval) value_of value sample) }
         ensures contexts { let counters = regular_at self.old number in
             IfOk result (λ sample. all_regular self.new
             ≡ slice_set (all_regular self.old) number
             (stats_step presets.reset counters (error_of presets negative (pos prediction) sample))) }
-        ensures steep { interrupting_at self.new 0 ≡ interrupting_at self.old 0 }
-        ensures flat { interrupting_at self.new 1 ≡ interrupting_at self.old 1 }
+        ensures ri_type_0 { interrupting_at self.new 0 ≡ interrupting_at self.old 0 }
+        ensures ri_type_1 { interrupting_at self.new 1 ≡ interrupting_at self.old 1 }
         ensures sound { IsSound presets self.new }
         ensures fault { IfErr result (λ fault. fault ≡ CodeFault.NotCanonical) }
         ensures unchanged { IfErr result (λ fault. self.new ≡ self.old) }
         ensures none { let counters = regular_at self.old number in
-            let value_of : ℕ → ℕ = λ sample. mapped (leans k counters.b counters.n) (error_of presets negative (pos prediction) sample) in
+            let value_of : ℕ → ℕ = λ sample. mapped_error (is_inverted k counters.b counters.n) (error_of presets negative (pos prediction) sample) in
             IfErr result (λ fault. NoSample (λ one. one ≤ presets.maxval) value_of value) }
     {
-        let leaning = leans(k, self.b[number], self.n[number]);
-        let error = unmapped(leaning, value);
+        let inverted = is_inverted(k, self.b[number], self.n[number]);
+        let error = unmapped_error(inverted, value);
         if !is_reduced(presets.range(), error) {
             return Err(CodeFault::NotCanonical);
         }
@@ -181,8 +182,8 @@ impl Counters {
         ensures contexts { all_regular self.new
             ≡ slice_set (all_regular self.old) number
             (stats_step presets.reset (regular_at self.old number) error) }
-        ensures steep { interrupting_at self.new 0 ≡ interrupting_at self.old 0 }
-        ensures flat { interrupting_at self.new 1 ≡ interrupting_at self.old 1 }
+        ensures ri_type_0 { interrupting_at self.new 0 ≡ interrupting_at self.old 0 }
+        ensures ri_type_1 { interrupting_at self.new 1 ≡ interrupting_at self.old 1 }
         ensures sound { IsSound presets self.new }
     {
         update(
@@ -210,29 +211,34 @@ impl Counters {
         requires limit { limit ≡ limit_of presets.maxval }
         requires index { run_index ≤ 31 }
         requires sound { IsSound presets self.old }
-        ensures word { let flat = is_flat neighbours.now in
-            result ≡ interruption_word presets run_index flat (interrupting_at self.old (ri_type flat))
+        ensures word { let ri_type = ri_type_of neighbours.now in
+            result ≡ interruption_word presets run_index ri_type (interrupting_at self.old (ri_value ri_type))
             (interruption_error presets neighbours.now sample) }
         ensures golomb { IsGolomb result.k result.glimit (qbpp_of presets.maxval) }
         ensures value { result.value ≤ most_value (qbpp_of presets.maxval) }
         ensures contexts { all_regular self.new ≡ all_regular self.old }
-        ensures steep { let flat = is_flat neighbours.now in
+        ensures ri_type_0 { let ri_type = ri_type_of neighbours.now in
             let before = interrupting_at self.old 0 in
-            interrupting_at self.new 0 ≡ (if flat then before
+            interrupting_at self.new 0 ≡ (if ri_type then before
             else counts_step false presets.reset before (interruption_error presets neighbours.now sample)) }
-        ensures flat { let flat = is_flat neighbours.now in
+        ensures ri_type_1 { let ri_type = ri_type_of neighbours.now in
             let before = interrupting_at self.old 1 in
-            interrupting_at self.new 1 ≡ (if flat
+            interrupting_at self.new 1 ≡ (if ri_type
             then counts_step true presets.reset before (interruption_error presets neighbours.now sample) else before) }
         ensures sound { IsSound presets self.new }
     {
-        let flat = is_flat(neighbours);
-        let error = error_of(presets, is_turned(neighbours), foretold(neighbours), sample);
-        let which = kind(flat);
+        let ri_type = ri_type_of(neighbours);
+        let error = error_of(
+            presets,
+            interruption_negative(neighbours),
+            interruption_prediction(neighbours),
+            sample,
+        );
+        let which = ri_value(ri_type);
         let n = self.n[REGULAR + which];
-        let k = interruption_k(flat, self.a[REGULAR + which], n);
-        let value = interruption_value(flat, k, n, self.nn[which], error);
-        self.add_interruption(presets, flat, error, value);
+        let k = interruption_k(ri_type, self.a[REGULAR + which], n);
+        let value = interruption_value(ri_type, k, n, self.nn[which], error);
+        self.add_interruption(presets, ri_type, error, value);
         Word {
             k,
             glimit: limit - order(run_index) - 1,
@@ -241,7 +247,7 @@ impl Counters {
     }
 
     /// What the word of the sample that interrupts a run is read by.
-    #[tactic(auto, unfolding(crate::specs::Plans::interruption_plan_by))]
+    #[tactic(auto, unfolding(crate::specs::View::Plans::interruption_plan_by))]
     pub fn plan_interruption(
         &self,
         presets: Presets,
@@ -253,19 +259,19 @@ impl Counters {
         requires limit { limit ≡ limit_of presets.maxval }
         requires index { run_index ≤ 31 }
         requires sound { IsSound presets self.now }
-        ensures plan { let flat = is_flat neighbours.now in
-            result ≡ interruption_plan_by presets run_index (interrupting_at self.now (ri_type flat)) neighbours.now }
+        ensures plan { let ri_type = ri_type_of neighbours.now in
+            result ≡ interruption_plan_by presets run_index (interrupting_at self.now (ri_value ri_type)) neighbours.now }
         ensures golomb { IsGolomb result.k result.glimit (qbpp_of presets.maxval) }
     {
-        let flat = is_flat(neighbours);
-        let which = kind(flat);
+        let ri_type = ri_type_of(neighbours);
+        let which = ri_value(ri_type);
         Plan {
             neighbours: *neighbours,
-            k: interruption_k(flat, self.a[REGULAR + which], self.n[REGULAR + which]),
+            k: interruption_k(ri_type, self.a[REGULAR + which], self.n[REGULAR + which]),
             glimit: limit - order(run_index) - 1,
             number: which,
-            negative: is_turned(neighbours),
-            prediction: foretold(neighbours),
+            negative: interruption_negative(neighbours),
+            prediction: interruption_prediction(neighbours),
         }
     }
 
@@ -279,63 +285,74 @@ impl Counters {
         value: u32,
     ) -> Result<u16, CodeFault>
         requires samples { AreSamples presets.maxval neighbours.now }
-        requires k { let flat = is_flat neighbours.now in
-            k ≡ interruption_k flat (interrupting_at self.old (ri_type flat)) }
+        requires k { let ri_type = ri_type_of neighbours.now in
+            k ≡ interruption_k ri_type (interrupting_at self.old (ri_value ri_type)) }
         requires value { value ≤ 65536 }
         requires sound { IsSound presets self.old }
-        ensures ok { let flat = is_flat neighbours.now in
-            let counters = interrupting_at self.old (ri_type flat) in
-            let value_of : ℕ → ℕ = λ sample. interruption_value flat counters (interruption_error presets neighbours.now sample) in
+        ensures ok { let ri_type = ri_type_of neighbours.now in
+            let counters = interrupting_at self.old (ri_value ri_type) in
+            let value_of : ℕ → ℕ = λ sample. interruption_value ri_type counters (interruption_error presets neighbours.now sample) in
             IfOk result (λ sample. IsTheSample (Interrupts presets.maxval neighbours.now.a) value_of value sample) }
         ensures contexts { all_regular self.new ≡ all_regular self.old }
-        ensures steep { let flat = is_flat neighbours.now in
+        ensures ri_type_0 { let ri_type = ri_type_of neighbours.now in
             let before = interrupting_at self.old 0 in
-            IfOk result (λ sample. interrupting_at self.new 0 ≡ (if flat then before
+            IfOk result (λ sample. interrupting_at self.new 0 ≡ (if ri_type then before
             else counts_step false presets.reset before (interruption_error presets neighbours.now sample))) }
-        ensures flat { let flat = is_flat neighbours.now in
+        ensures ri_type_1 { let ri_type = ri_type_of neighbours.now in
             let before = interrupting_at self.old 1 in
-            IfOk result (λ sample. interrupting_at self.new 1 ≡ (if flat
+            IfOk result (λ sample. interrupting_at self.new 1 ≡ (if ri_type
             then counts_step true presets.reset before (interruption_error presets neighbours.now sample) else before)) }
         ensures sound { IsSound presets self.new }
         ensures fault { IfErr result (λ fault. fault ≡ CodeFault.NotCanonical) }
         ensures unchanged { IfErr result (λ fault. self.new ≡ self.old) }
-        ensures none { let flat = is_flat neighbours.now in
-            let counters = interrupting_at self.old (ri_type flat) in
-            let value_of : ℕ → ℕ = λ sample. interruption_value flat counters (interruption_error presets neighbours.now sample) in
+        ensures none { let ri_type = ri_type_of neighbours.now in
+            let counters = interrupting_at self.old (ri_value ri_type) in
+            let value_of : ℕ → ℕ = λ sample. interruption_value ri_type counters (interruption_error presets neighbours.now sample) in
             IfErr result (λ fault. NoSample (Interrupts presets.maxval neighbours.now.a) value_of value) }
     {
-        let flat = is_flat(neighbours);
-        let which = kind(flat);
-        let error = interruption_error_of(flat, k, self.n[REGULAR + which], self.nn[which], value);
+        let ri_type = ri_type_of(neighbours);
+        let which = ri_value(ri_type);
+        let error = interruption_error_of(
+            ri_type,
+            k,
+            self.n[REGULAR + which],
+            self.nn[which],
+            value,
+        );
         if !is_reduced(presets.range(), error) {
             return Err(CodeFault::NotCanonical);
         }
-        let sample = sample_of(presets, is_turned(neighbours), foretold(neighbours), error);
+        let sample = sample_of(
+            presets,
+            interruption_negative(neighbours),
+            interruption_prediction(neighbours),
+            error,
+        );
         if sample == neighbours.a {
             return Err(CodeFault::NotCanonical);
         }
-        self.add_interruption(presets, flat, error, value);
+        self.add_interruption(presets, ri_type, error, value);
         Ok(sample)
     }
 
     /// Counts one error more, of a sample that interrupts a run.
-    pub fn add_interruption(&mut self, presets: Presets, flat: bool, error: i32, value: u32)
+    pub fn add_interruption(&mut self, presets: Presets, ri_type: bool, error: i32, value: u32)
         requires sound { IsSound presets self.old }
         requires error { IsReduced (range_of presets.maxval) error }
-        requires value { value ≡ interruption_value flat (interrupting_at self.old (ri_type flat)) error }
+        requires value { value ≡ interruption_value ri_type (interrupting_at self.old (ri_value ri_type)) error }
         ensures contexts { all_regular self.new ≡ all_regular self.old }
-        ensures steep { let before = interrupting_at self.old 0 in
+        ensures ri_type_0 { let before = interrupting_at self.old 0 in
             interrupting_at self.new 0
-            ≡ (if flat then before else counts_step false presets.reset before error) }
-        ensures flat { let before = interrupting_at self.old 1 in
+            ≡ (if ri_type then before else counts_step false presets.reset before error) }
+        ensures ri_type_1 { let before = interrupting_at self.old 1 in
             interrupting_at self.new 1
-            ≡ (if flat then counts_step true presets.reset before error else before) }
+            ≡ (if ri_type then counts_step true presets.reset before error else before) }
         ensures sound { IsSound presets self.new }
     {
-        let which = kind(flat);
+        let which = ri_value(ri_type);
         count_interruption(
             presets,
-            flat,
+            ri_type,
             &mut self.a[REGULAR + which],
             &mut self.n[REGULAR + which],
             &mut self.nn[which],

@@ -1,10 +1,10 @@
 //! Prediction, errors, and the values that stand for them (T.87 A.4, A.5).
 ghost use Rattle.std.specs.Prelude.{◌≡◌, ◌+◌, ◌-◌, ◌*◌, ◌/◌, ◌^◌, ◌<◌, ◌≤◌, ◌↔◌, IsTrue, max, ℕ, ℤ, pos, neg_ℤ, ◌+ℤ◌, ◌-ℤ◌, ◌≤ℤ◌, ◌<ℤ◌, int_le, int_lt, if◌then◌else◌};
 ghost use Rattle.ls_frame.specs.Parameters.{range_of};
-ghost use Rattle.ls_coding.specs.Numbers.{golomb_parameter, between};
+ghost use Rattle.ls_coding.specs.Numbers.{golomb_parameter, clamped};
 ghost use Rattle.ls_coding.specs.Contexts.{signed};
 ghost use Rattle.ls_coding.specs.Samples.{AreSamples};
-ghost use Rattle.ls_coding.specs.Errors.{median, predicted, reduced, error_of, IsReduced, leans, mapped};
+ghost use Rattle.ls_coding.specs.Errors.{median, predicted, reduced, error_of, IsReduced, is_inverted, mapped_error};
 
 use crate::neighbours::Neighbours;
 use ls_frame::Presets;
@@ -41,7 +41,7 @@ fn median(neighbours: &Neighbours) -> u16
 fn clamped(number: i32, greatest: u16) -> u16
     requires low { neg_ℤ (pos 131072) ≤ℤ number }
     requires high { number ≤ℤ pos 131072 }
-    ensures value { pos result ≡ between (pos 0) (pos greatest) number }
+    ensures value { pos result ≡ clamped (pos 0) (pos greatest) number }
     ensures within { result ≤ greatest }
 {
     if number < 0 {
@@ -87,12 +87,12 @@ fn reduced(range: u32, error: i32) -> i32
     ensures reduced { IsReduced range result }
 {
     let size = error.unsigned_abs();
-    let wrapped = if error < 0 { range - size } else { size };
-    centred(range, wrapped)
+    let nonnegative = if error < 0 { range - size } else { size };
+    signed_residue(range, nonnegative)
 }
 
 /// A number below `range`, or so much less where it is in the upper half.
-fn centred(range: u32, number: u32) -> i32
+fn signed_residue(range: u32, number: u32) -> i32
     requires range { range ≤ 65536 }
     requires number { number < range }
     ensures value { result ≡ (if int_le (pos ((range + 1) / 2)) (pos number) then pos number -ℤ pos range else pos number) }
@@ -126,11 +126,11 @@ pub fn sample_of(presets: Presets, negative: bool, prediction: u16, error: i32) 
         → error_of presets negative (pos prediction) sample ≡ error → sample ≡ result }
 {
     let difference = signed(negative, error);
-    brought_back(i32::from(prediction) + difference, presets.range()) as u16
+    modulo_range(i32::from(prediction) + difference, presets.range()) as u16
 }
 
 /// A number that is at most `range` away from 0 to `range - 1`, modulo `range`.
-fn brought_back(number: i32, range: u32) -> u32
+fn modulo_range(number: i32, range: u32) -> u32
     requires range { range ≤ 65536 }
     requires low { neg_ℤ (pos range) ≤ℤ number }
     requires high { number <ℤ (pos range +ℤ pos range) }
@@ -159,23 +159,23 @@ pub fn golomb_parameter(n: u32, a: u32) -> u32
 }
 
 /// Whether the odd values are those of the errors from 0 on (A.5.2).
-pub fn leans(k: u32, b: i32, n: u32) -> bool
+pub fn is_inverted(k: u32, b: i32, n: u32) -> bool
     requires few { n ≤ 65536 }
     requires low { neg_ℤ (pos 131072) ≤ℤ b }
     requires high { b ≤ℤ pos 131072 }
-    ensures { result ≡ leans k b n }
+    ensures { result ≡ is_inverted k b n }
 {
     k == 0 && 2 * b <= -(n as i32)
 }
 
 /// The value that stands for an error (A.5.2).
-pub fn mapped(leaning: bool, error: i32) -> u32
+pub fn mapped_error(inverted: bool, error: i32) -> u32
     requires low { neg_ℤ (pos 32768) ≤ℤ error }
     requires high { error ≤ℤ pos 32767 }
-    ensures { result ≡ mapped leaning error }
+    ensures { result ≡ mapped_error inverted error }
 {
     let twice = 2 * error.unsigned_abs();
-    let odd = u32::from(leaning);
+    let odd = u32::from(inverted);
     if error < 0 {
         twice - 1 - odd
     } else {
@@ -184,14 +184,14 @@ pub fn mapped(leaning: bool, error: i32) -> u32
 }
 
 /// The error that a value stands for (A.5.2).
-pub fn unmapped(leaning: bool, value: u32) -> i32
+pub fn unmapped_error(inverted: bool, value: u32) -> i32
     requires { value ≤ 65536 }
-    ensures value { mapped leaning result ≡ value }
-    ensures only { (e : ℤ) → mapped leaning e ≡ value → e ≡ result }
+    ensures value { mapped_error inverted result ≡ value }
+    ensures only { (e : ℤ) → mapped_error inverted e ≡ value → e ≡ result }
     ensures low { neg_ℤ (pos 32769) ≤ℤ result }
     ensures high { result ≤ℤ pos 32769 }
 {
     let half = (value / 2) as i32;
     let odd = value % 2 == 1;
-    if odd == leaning { half } else { -1 - half }
+    if odd == inverted { half } else { -1 - half }
 }

@@ -6,11 +6,11 @@ ghost use Rattle.ls_coding.specs.declared.neighbours.Neighbours.{Neighbours};
 ghost use Rattle.ls_coding.specs.Samples.{AreSamples};
 ghost use Rattle.ls_coding.specs.Numbers.{golomb_parameter};
 ghost use Rattle.ls_coding.specs.Contexts.{context_of};
-ghost use Rattle.ls_coding.specs.Interruptions.{is_flat, interruption_error};
+ghost use Rattle.ls_coding.specs.Interruptions.{ri_type_of, interruption_error};
 ghost use Rattle.ls_coding.specs.Runs.{order, run_of, run_bits, index_at};
-ghost use Rattle.ls_coding.specs.Events.{Event, run, stats_in, counts_in, index_in, regular_e, regular_word, interruption_word, golomb_bits};
-ghost use Rattle.ls_coding.specs.States.{state_of};
-ghost use Rattle.ls_coding.specs.Plans.{Interrupts};
+ghost use Rattle.ls_coding.specs.Events.{Event, run, stats_after_events, counts_after_events, run_index_after_events, regular_error_of, regular_word, interruption_word, golomb_bits};
+ghost use Rattle.ls_coding.specs.View.States.{state_of};
+ghost use Rattle.ls_coding.specs.View.Plans.{Interrupts};
 ghost use Rattle.ls_coding.specs.Lawful.{IsLawful, IsReached};
 
 /// Every list of events that a scan may have is reached by calls from `State::new`.
@@ -23,15 +23,15 @@ pub fn lawful_events_are_reached()
 pub fn lawful_events_are_short()
     ensures sample { (p : Parameters) (events : List Event) → IsLegal p → IsLawful p events
         → (n : Neighbours) (sample : ℕ) → AreSamples p.maxval n → sample ≤ p.maxval
-        → length (golomb_bits p (regular_word p (stats_in p (context_of p n).number events)
-        (regular_e p (context_of p n) (stats_in p (context_of p n).number events) n sample))) ≤ limit_of p.maxval }
+        → length (golomb_bits p (regular_word p (stats_after_events p (context_of p n).number events)
+        (regular_error_of p (context_of p n) (stats_after_events p (context_of p n).number events) n sample))) ≤ limit_of p.maxval }
     ensures full_run { (p : Parameters) (events : List Event) → IsLegal p → IsLawful p events → (count : ℕ) → 0 < count
-        → length (run_bits (index_in events) (run_of count false)) ≤ limit_of p.maxval * count }
+        → length (run_bits (run_index_after_events events) (run_of count false)) ≤ limit_of p.maxval * count }
     ensures broken_run { (p : Parameters) (events : List Event) → IsLegal p → IsLawful p events
         → (count : ℕ) (n : Neighbours) (sample : ℕ) → AreSamples p.maxval n → Interrupts p.maxval n.a sample
-        → length (run_bits (index_in events) (run_of count true)
-        ++ golomb_bits p (interruption_word p (index_at (index_in events) (run_of count true)) (is_flat n)
-        (counts_in p (is_flat n) events) (interruption_error p n sample))) ≤ limit_of p.maxval * (count + 1) }
+        → length (run_bits (run_index_after_events events) (run_of count true)
+        ++ golomb_bits p (interruption_word p (index_at (run_index_after_events events) (run_of count true)) (ri_type_of n)
+        (counts_after_events p (ri_type_of n) events) (interruption_error p n sample))) ≤ limit_of p.maxval * (count + 1) }
 {}
 
 /// The Golomb parameter is the least exponent that brings N to A.
@@ -55,7 +55,7 @@ pub fn runs_are_read_bit_by_bit()
 
 /// 2^J samples of a run, and then the rest of it, leave the state that the run leaves.
 pub fn runs_join()
-    ensures { (p : Parameters) (events : List Event) (rest : ℕ) (broken : Bool) → let samples = 2 ^ order (index_in events) in
+    ensures { (p : Parameters) (events : List Event) (rest : ℕ) (broken : Bool) → let samples = 2 ^ order (run_index_after_events events) in
         state_of p ((events ++ run (run_of samples false) ∷ []) ++ run (run_of rest broken) ∷ [])
         ≡ state_of p (events ++ run (run_of (samples + rest) broken) ∷ []) }
 {}

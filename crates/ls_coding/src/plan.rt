@@ -23,7 +23,7 @@ pub struct Plan {
 
 impl Model for Plan {
     ghost use Rattle.std.specs.Prelude.{pos};
-    ghost use Rattle.ls_coding.specs.Plans.{Planned};
+    ghost use Rattle.ls_coding.specs.View.Plans.{Planned};
 
     ghost Value = { Planned };
 

@@ -3,14 +3,14 @@ ghost use Rattle.std.specs.Prelude.{◌≡◌, ◌+◌, ◌-◌, ◌*◌, ◌^�
 ghost use Rattle.ls_frame.specs.Parameters.{qbpp_of, limit_of};
 ghost use Rattle.ls_bits.specs.Golomb.{IsGolomb, most_value};
 ghost use Rattle.ls_coding.specs.Samples.{AreSamples};
-ghost use Rattle.ls_coding.specs.Contexts.{is_run, signed_number};
-ghost use Rattle.ls_coding.specs.Runs.{order, run_of, run_word, word_bits, tail_of, Fits};
-ghost use Rattle.ls_coding.specs.Interruptions.{is_flat, interruption_error};
+ghost use Rattle.ls_coding.specs.Contexts.{is_run, signed_context};
+ghost use Rattle.ls_coding.specs.Runs.{order, run_of, run_word, word_bits, tail_of, TailFits};
+ghost use Rattle.ls_coding.specs.Interruptions.{ri_type_of, interruption_error};
 ghost use Rattle.ls_coding.specs.Events.{Event, run, golomb_bits};
-ghost use Rattle.ls_coding.specs.States.{Coding, state_of, place_of, regular_error_in, regular_word_in, interruption_word_in, after_regular, after_run, after_interruption, IsRegularEvent, IsInterruptionEvent};
-ghost use Rattle.ls_coding.specs.Plans.{regular_plan, interruption_plan, IsReadBy, Interrupts, IsTheSample, NoSample};
+ghost use Rattle.ls_coding.specs.View.States.{Coding, state_of, context_in, regular_error_in, regular_word_in, interruption_word_in, regular_after, run_after, interruption_after, IsRegularEvent, IsInterruptionEvent};
+ghost use Rattle.ls_coding.specs.View.Plans.{regular_plan, interruption_plan, IsReadBy, Interrupts, IsTheSample, NoSample};
 
-use crate::context::{place_of, signed_context};
+use crate::context::{context_of_signed, signed_context};
 use crate::counters::Counters;
 use crate::neighbours::Neighbours;
 use crate::plan::Plan;
@@ -35,21 +35,21 @@ pub struct State {
 
 impl Model for State {
     ghost use Rattle.std.specs.Prelude.{◌≡◌, ◌≤◌};
-    ghost use Rattle.ls_coding.specs.States.{Coding};
-    ghost use Rattle.ls_coding.specs.Fields.{all_regular, interrupting_at, AreFields};
+    ghost use Rattle.ls_coding.specs.View.States.{Coding};
+    ghost use Rattle.ls_coding.specs.View.Fields.{all_regular, interrupting_at, IsSoundState};
 
     ghost Value = { Coding };
 
     ghost view = { λ s. record {
       parameters = s.presets;
       contexts = all_regular s.counters;
-      steep = interrupting_at s.counters 0;
-      flat = interrupting_at s.counters 1;
+      ri_type_0 = interrupting_at s.counters 0;
+      ri_type_1 = interrupting_at s.counters 1;
       run_index = s.run_index;
       broken = s.broken;
     } };
 
-    ghost invariant = { λ s. AreFields s.presets s.limit s.run_index s.counters };
+    ghost invariant = { λ s. IsSoundState s.presets s.limit s.run_index s.counters };
 }
 
 impl State {
@@ -77,7 +77,7 @@ impl State {
         ensures golomb { IsGolomb result.k result.glimit (qbpp_of self.old.parameters.maxval) }
         ensures value { result.value ≤ most_value (qbpp_of self.old.parameters.maxval) }
         ensures cost { length (golomb_bits self.old.parameters result) ≤ limit_of self.old.parameters.maxval }
-        ensures state { self.new ≡ after_regular self.old (place_of self.old neighbours.now).number
+        ensures state { self.new ≡ regular_after self.old (context_in self.old neighbours.now).number
             (regular_error_in self.old neighbours.now sample) }
         ensures events { (events : List Event) → self.old ≡ state_of self.old.parameters events
             → IsRegularEvent self.old.parameters events neighbours.now sample result self.new }
@@ -88,7 +88,7 @@ impl State {
 
     /// Codes a sample of regular mode whose context, as `signed_context` has it, is known.
     pub fn code_regular_at(&mut self, context: i16, neighbours: &Neighbours, sample: u16) -> Word
-        requires context { context ≡ signed_number self.old.parameters neighbours.now }
+        requires context { context ≡ signed_context self.old.parameters neighbours.now }
         requires samples { AreSamples self.old.parameters.maxval neighbours.now }
         requires sample { sample ≤ self.old.parameters.maxval }
         requires regular { is_run neighbours.now ≡ false }
@@ -97,14 +97,14 @@ impl State {
         ensures golomb { IsGolomb result.k result.glimit (qbpp_of self.old.parameters.maxval) }
         ensures value { result.value ≤ most_value (qbpp_of self.old.parameters.maxval) }
         ensures cost { length (golomb_bits self.old.parameters result) ≤ limit_of self.old.parameters.maxval }
-        ensures state { self.new ≡ after_regular self.old (place_of self.old neighbours.now).number
+        ensures state { self.new ≡ regular_after self.old (context_in self.old neighbours.now).number
             (regular_error_in self.old neighbours.now sample) }
         ensures events { (events : List Event) → self.old ≡ state_of self.old.parameters events
             → IsRegularEvent self.old.parameters events neighbours.now sample result self.new }
     {
-        let place = place_of(context);
+        let split = context_of_signed(context);
         self.counters
-            .code(self.presets, self.limit, place, neighbours, sample)
+            .code(self.presets, self.limit, split, neighbours, sample)
     }
 
     /// What the word of a sample of regular mode is read by.
@@ -130,7 +130,7 @@ impl State {
         requires whole { self.old.broken ≡ false }
         ensures ok { IfOk result (λ sample. IsTheSample (λ one. one ≤ self.old.parameters.maxval)
             (λ one. (regular_word_in self.old plan.neighbours one).value) value sample) }
-        ensures state { IfOk result (λ sample. self.new ≡ after_regular self.old (place_of self.old plan.neighbours).number
+        ensures state { IfOk result (λ sample. self.new ≡ regular_after self.old (context_in self.old plan.neighbours).number
             (regular_error_in self.old plan.neighbours sample)) }
         ensures events { (events : List Event) → self.old ≡ state_of self.old.parameters events
             → IfOk result (λ sample. IsRegularEvent self.old.parameters events plan.neighbours sample
@@ -157,12 +157,12 @@ impl State {
         requires whole { self.old.broken ≡ false }
         requires some { IsTrue eol → 0 < count }
         ensures word { result ≡ run_word self.old.run_index (run_of count (not eol)) }
-        ensures tail { Fits result.tail }
+        ensures tail { TailFits result.tail }
         ensures full_cost { IsTrue eol → length (word_bits result) ≤ limit_of self.old.parameters.maxval * count }
         ensures broken_cost { IsTrue (not eol)
             → length (word_bits result) + (limit_of self.old.parameters.maxval - order self.new.run_index - 1)
             ≤ limit_of self.old.parameters.maxval * (count + 1) }
-        ensures state { self.new ≡ after_run self.old (run_of count (not eol)) }
+        ensures state { self.new ≡ run_after self.old (run_of count (not eol)) }
         ensures events { (events : List Event) → self.old ≡ state_of self.old.parameters events
             → self.new ≡ state_of self.old.parameters (events ++ run (run_of count (not eol)) ∷ []) }
     {
@@ -185,7 +185,7 @@ impl State {
         ensures value { result.value ≤ most_value (qbpp_of self.old.parameters.maxval) }
         ensures cost { length (golomb_bits self.old.parameters result)
             ≤ limit_of self.old.parameters.maxval - order self.old.run_index - 1 }
-        ensures state { self.new ≡ after_interruption self.old (is_flat neighbours.now)
+        ensures state { self.new ≡ interruption_after self.old (ri_type_of neighbours.now)
             (interruption_error self.old.parameters neighbours.now sample) }
         ensures events { (events : List Event) → self.old ≡ state_of self.old.parameters events
             → IsInterruptionEvent self.old.parameters events neighbours.now sample result self.new }
@@ -208,7 +208,7 @@ impl State {
         requires whole { self.old.broken ≡ false }
         requires some { 0 < left }
         ensures count { result ≡ min (2 ^ order self.old.run_index) left }
-        ensures state { self.new ≡ after_run self.old (run_of result false) }
+        ensures state { self.new ≡ run_after self.old (run_of result false) }
         ensures events { (events : List Event) → self.old ≡ state_of self.old.parameters events
             → self.new ≡ state_of self.old.parameters (events ++ run (run_of result false) ∷ []) }
     {
@@ -234,7 +234,7 @@ impl State {
         requires whole { self.old.broken ≡ false }
         requires rest { rest < 2 ^ order self.old.run_index }
         ensures ok { IfOk result (λ _. rest < left) }
-        ensures state { IfOk result (λ _. self.new ≡ after_run self.old (run_of rest true)) }
+        ensures state { IfOk result (λ _. self.new ≡ run_after self.old (run_of rest true)) }
         ensures events { (events : List Event) → self.old ≡ state_of self.old.parameters events
             → IfOk result (λ _. self.new ≡ state_of self.old.parameters (events ++ run (run_of rest true) ∷ [])) }
         ensures fault { IfErr result (λ fault. (fault ≡ CodeFault.NotCanonical) × (left ≤ rest)) }
@@ -270,7 +270,7 @@ impl State {
         requires broken { self.old.broken ≡ true }
         ensures ok { IfOk result (λ sample. IsTheSample (Interrupts self.old.parameters.maxval plan.neighbours.a)
             (λ one. (interruption_word_in self.old plan.neighbours one).value) value sample) }
-        ensures state { IfOk result (λ sample. self.new ≡ after_interruption self.old (is_flat plan.neighbours)
+        ensures state { IfOk result (λ sample. self.new ≡ interruption_after self.old (ri_type_of plan.neighbours)
             (interruption_error self.old.parameters plan.neighbours sample)) }
         ensures events { (events : List Event) → self.old ≡ state_of self.old.parameters events
             → IfOk result (λ sample. IsInterruptionEvent self.old.parameters events plan.neighbours sample

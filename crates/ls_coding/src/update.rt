@@ -3,7 +3,7 @@ ghost use Rattle.std.specs.Prelude.{◌≡◌, ◌+◌, ◌/◌, ◌==◌, ◌�
 ghost use Rattle.ls_coding.specs.Numbers.{halved};
 ghost use Rattle.ls_frame.specs.Parameters.{range_of};
 ghost use Rattle.ls_coding.specs.Errors.{IsReduced};
-ghost use Rattle.ls_coding.specs.Stats.{stats, balanced, stats_step, error_bound, AreSound};
+ghost use Rattle.ls_coding.specs.Stats.{stats, bias_corrected, stats_step, error_bound, AreSound};
 
 use ls_frame::Presets;
 
@@ -17,12 +17,12 @@ pub fn update(presets: Presets, a: &mut u32, b: &mut i32, c: &mut i32, n: &mut u
     let reset = u32::from(presets.reset());
     *a += error.unsigned_abs();
     *b += error;
-    count(a, b, n, reset);
-    balance(b, c, *n);
+    count_error(a, b, n, reset);
+    correct_bias(b, c, *n);
 }
 
 /// Halves the sums where `reset` errors are in them, and counts one more (A.6.1).
-fn count(a: &mut u32, b: &mut i32, n: &mut u32, reset: u32)
+fn count_error(a: &mut u32, b: &mut i32, n: &mut u32, reset: u32)
     requires { n.old ≤ 65535 }
     ensures a { a.new ≡ (if n.old == reset then a.old / 2 else a.old) }
     ensures b { b.new ≡ (if n.old == reset then halved b.old else b.old) }
@@ -37,14 +37,14 @@ fn count(a: &mut u32, b: &mut i32, n: &mut u32, reset: u32)
 }
 
 /// Lets C follow the mean error, which B then stands for again (A.6.2).
-fn balance(b: &mut i32, c: &mut i32, n: u32)
+fn correct_bias(b: &mut i32, c: &mut i32, n: u32)
     requires n { n ≤ 65536 }
     requires low { neg_ℤ (pos 131072) ≤ℤ b.old }
     requires high { b.old ≤ℤ pos 131072 }
     requires bias_low { neg_ℤ (pos 128) ≤ℤ c.old }
     requires bias_high { c.old ≤ℤ pos 127 }
-    ensures b { b.new ≡ (balanced (stats 0 b.old c.old n)).b }
-    ensures c { c.new ≡ (balanced (stats 0 b.old c.old n)).c }
+    ensures b { b.new ≡ (bias_corrected (stats 0 b.old c.old n)).b }
+    ensures c { c.new ≡ (bias_corrected (stats 0 b.old c.old n)).c }
     ensures low { neg_ℤ (pos 128) ≤ℤ c.new }
     ensures high { c.new ≤ℤ pos 127 }
 {

@@ -7,7 +7,7 @@ use mir.Syntax.{w16}
 use mir.Val.{to_z, of_z}
 use Rattle.ls_frame.specs.Parameters.{Parameters}
 use Rattle.ls_coding.specs.declared.neighbours.Neighbours.{Neighbours}
-use Rattle.ls_coding.specs.Contexts.{is_zero, is_run, signed_number}
+use Rattle.ls_coding.specs.Contexts.{is_zero, is_run, signed_context}
 use Rattle.ls_coding.proofs.SignedLemmas.{through_16}
 use Rattle.ls_coding.proofs.ContextLemmas.{signed_range}
 
@@ -32,8 +32,8 @@ other_bits (negsuc n) h = refl
 pub regular_by : (n : Neighbours) (z : ℤ) → is_zero z ≡ is_run n → (of_z w16 z ≡ 0 → ⊥) → is_run n ≡ false
 regular_by n z mode h = sym mode ∙ other_bits z h
 
-pub run_by : (p : Parameters) (n : Neighbours) (z : ℤ) → z ≡ signed_number p n → is_zero z ≡ is_run n → of_z w16 z ≡ 0 → is_run n ≡ true
+pub run_by : (p : Parameters) (n : Neighbours) (z : ℤ) → z ≡ signed_context p n → is_zero z ≡ is_run n → of_z w16 z ≡ 0 → is_run n ≡ true
 run_by p n z number mode h =
     let range = signed_range p n in
-    let none : signed_number p n ≡ pos 0 = sym (through_16 (signed_number p n) range.0 range.1) ∙ ap (λ x. to_z w16 (of_z w16 x)) (sym number) ∙ ap (to_z w16) h in
+    let none : signed_context p n ≡ pos 0 = sym (through_16 (signed_context p n) range.0 range.1) ∙ ap (λ x. to_z w16 (of_z w16 x)) (sym number) ∙ ap (to_z w16) h in
     sym mode ∙ ap is_zero (number ∙ none)

@@ -6,13 +6,13 @@ use Rattle.ls_frame.specs.Parameters.{Parameters, IsLegal, limit_of}
 use Rattle.ls_coding.specs.Samples.{AreSamples}
 use Rattle.ls_coding.specs.Contexts.{is_run}
 use Rattle.ls_coding.specs.Runs.{run_of}
-use Rattle.ls_coding.specs.Events.{Event, run, broken_in}
+use Rattle.ls_coding.specs.Events.{Event, run, broken_after_events}
 use Rattle.ls_coding.specs.Lawful.{by_sample, by_run, by_interruption, IsLawful, none, more}
-use Rattle.ls_coding.specs.Plans.{Interrupts}
+use Rattle.ls_coding.specs.View.Plans.{Interrupts}
 use Rattle.ls_coding.proofs.CostLemmas.{sample_cost, full_run_cost, broken_run_cost}
 use Rattle.ls_coding.proofs.FieldLemmas.{same_or_not}
 use Rattle.ls_coding.proofs.StatsLemmas.{choose}
-use Rattle.ls_stream.specs.Planes.{Plane, at, around, left, above, above_left, above_right, equal_from, run_length, Segment, sample, stretch, cut, row_segments, rows_from, segments, sample_event, sample_bits, broken_event, broken_bits, segment_events, segment_bits, coded, plane_bits}
+use Rattle.ls_stream.specs.Planes.{Plane, at, around, left, above, above_left, above_right, equal_from, run_length, Span, sample_span, run_span, cut, row_spans, rows_from, spans, sample_event, sample_bits, interrupting_sample_event, interrupting_sample_bits, span_events, span_bits, coded, plane_bits}
 use Rattle.ls_stream.proofs.CodedLemmas.{last_of}
 
 -- ---- the neighbours of a sample are samples
@@ -101,58 +101,58 @@ interrupted maxval plane i most j count small h short = record {
   other = λ same. h.other short (same ∙ left_behind plane i (left plane i j) j count refl h.equal);
 }
 
--- ---- segments
+-- ---- spans
 
 -- behind lawful events no more bits than these
-abbrev Cost : Parameters → Plane → List Segment → ℕ → Type 0
-Cost p plane list most = (events : List Event) → IsLawful p events → broken_in events ≡ false → length (coded p plane list events) ≤ most
+abbrev Cost : Parameters → Plane → List Span → ℕ → Type 0
+Cost p plane list most = (events : List Event) → IsLawful p events → broken_after_events events ≡ false → length (coded p plane list events) ≤ most
 
-one_more : (p : Parameters) (plane : Plane) (segment : Segment) (later : List Segment) (events : List Event) (own rest : ℕ) → length (segment_bits p plane segment events) ≤ own
-    → length (coded p plane later (events ++ segment_events p plane segment events)) ≤ rest → length (coded p plane (segment ∷ later) events) ≤ own + rest
+one_more : (p : Parameters) (plane : Plane) (span : Span) (later : List Span) (events : List Event) (own rest : ℕ) → length (span_bits p plane span events) ≤ own
+    → length (coded p plane later (events ++ span_events p plane span events)) ≤ rest → length (coded p plane (span ∷ later) events) ≤ own + rest
 unfolding coded
-one_more p plane segment later events own rest h k =
-    omega (arith, length-append (segment_bits p plane segment events) (coded p plane later (events ++ segment_events p plane segment events)))
+one_more p plane span later events own rest h k =
+    omega (arith, length-append (span_bits p plane span events) (coded p plane later (events ++ span_events p plane span events)))
 
-cost_of-sample : (p : Parameters) (plane : Plane) (i j : ℕ) (later : List Segment) (rest : ℕ) → IsLegal p → AreSmall p.maxval plane → is_run (around plane i j) ≡ false
-    → Cost p plane later rest → Cost p plane (sample i j ∷ later) (limit_of p.maxval + rest)
+cost_of-sample : (p : Parameters) (plane : Plane) (i j : ℕ) (later : List Span) (rest : ℕ) → IsLegal p → AreSmall p.maxval plane → is_run (around plane i j) ≡ false
+    → Cost p plane later rest → Cost p plane (sample_span i j ∷ later) (limit_of p.maxval + rest)
 unfolding sample_event sample_bits
 cost_of-sample p plane i j later rest legal small regular cost events lawful whole =
     let samples : AreSamples p.maxval (around plane i j) = around_small p.maxval plane i j small in
     let within : at plane i j ≤ p.maxval = small (i * plane.width + j) in
-    one_more p plane (sample i j) later events (limit_of p.maxval) rest
+    one_more p plane (sample_span i j) later events (limit_of p.maxval) rest
     (sample_cost p events legal lawful (around plane i j) (at plane i j) samples within)
     (cost (events ++ sample_event p plane i j events ∷ [])
     (more events (sample_event p plane i j events) lawful (by_sample (around plane i j) (at plane i j) samples within regular whole refl))
     (last_of events (sample_event p plane i j events)))
 
-cost_of-full_run : (p : Parameters) (plane : Plane) (i j count : ℕ) (later : List Segment) (rest : ℕ) → IsLegal p → 0 < count
-    → Cost p plane later rest → Cost p plane (stretch i j count false ∷ later) (limit_of p.maxval * count + rest)
+cost_of-full_run : (p : Parameters) (plane : Plane) (i j count : ℕ) (later : List Span) (rest : ℕ) → IsLegal p → 0 < count
+    → Cost p plane later rest → Cost p plane (run_span i j count false ∷ later) (limit_of p.maxval * count + rest)
 cost_of-full_run p plane i j count later rest legal some cost events lawful whole =
-    one_more p plane (stretch i j count false) later events (limit_of p.maxval * count) rest
+    one_more p plane (run_span i j count false) later events (limit_of p.maxval * count) rest
     (full_run_cost p events legal lawful count some)
     (cost (events ++ run (run_of count false) ∷ [])
     (more events (run (run_of count false)) lawful (by_run count false (λ e. some) whole refl))
     (last_of events (run (run_of count false))))
 
-cost_of-broken_run : (p : Parameters) (plane : Plane) (i j count : ℕ) (later : List Segment) (rest : ℕ) → IsLegal p → AreSmall p.maxval plane
+cost_of-broken_run : (p : Parameters) (plane : Plane) (i j count : ℕ) (later : List Span) (rest : ℕ) → IsLegal p → AreSmall p.maxval plane
     → Interrupts p.maxval (around plane i (j + count)).a (at plane i (j + count))
-    → Cost p plane later rest → Cost p plane (stretch i j count true ∷ later) (limit_of p.maxval * (count + 1) + rest)
-unfolding broken_event broken_bits
+    → Cost p plane later rest → Cost p plane (run_span i j count true ∷ later) (limit_of p.maxval * (count + 1) + rest)
+unfolding interrupting_sample_event interrupting_sample_bits
 cost_of-broken_run p plane i j count later rest legal small other cost events lawful whole =
     let samples : AreSamples p.maxval (around plane i (j + count)) = around_small p.maxval plane i (j + count) small in
     let begun : List Event = events ++ run (run_of count true) ∷ [] in
-    let event : Event = broken_event p plane i (j + count) in
+    let event : Event = interrupting_sample_event p plane i (j + count) in
     let first : IsLawful p begun = more events (run (run_of count true)) lawful (by_run count true (λ e. absurd (false≢true (sym e))) whole refl) in
     let both : IsLawful p (begun ++ event ∷ []) =
     more begun event first (by_interruption (around plane i (j + count)) (at plane i (j + count)) samples other (last_of events (run (run_of count true))) refl) in
     let joined : begun ++ event ∷ [] ≡ events ++ run (run_of count true) ∷ event ∷ [] = append_assoc events (run (run_of count true) ∷ []) (event ∷ []) in
-    one_more p plane (stretch i j count true) later events (limit_of p.maxval * (count + 1)) rest
+    one_more p plane (run_span i j count true) later events (limit_of p.maxval * (count + 1)) rest
     (broken_run_cost p events legal lawful count (around plane i (j + count)) (at plane i (j + count)) samples other)
-    (cost (events ++ run (run_of count true) ∷ event ∷ []) (subst (IsLawful p) joined both) (sym (ap broken_in joined) ∙ last_of begun event))
+    (cost (events ++ run (run_of count true) ∷ event ∷ []) (subst (IsLawful p) joined both) (sym (ap broken_after_events joined) ∙ last_of begun event))
 
 -- ---- rows
 
-less : (p : Parameters) (plane : Plane) (list : List Segment) (a b : ℕ) → a ≤ b → Cost p plane list a → Cost p plane list b
+less : (p : Parameters) (plane : Plane) (list : List Span) (a b : ℕ) → a ≤ b → Cost p plane list a → Cost p plane list b
 less p plane list a b h cost events lawful whole = omega (arith, cost events lawful whole)
 
 -- some samples of a row, and those behind them
@@ -162,40 +162,40 @@ spent limit a b c rest e =
     let whole : limit * (a + b) ≡ limit * c = ap (λ n. limit * n) e in
     omega arith
 
-cost_of-stretch : (p : Parameters) (plane : Plane) (i j count : ℕ) (broken : Bool) (later : List Segment) (rest : ℕ) → IsLegal p → AreSmall p.maxval plane → j < plane.width
+cost_of-run_span : (p : Parameters) (plane : Plane) (i j count : ℕ) (broken : Bool) (later : List Span) (rest : ℕ) → IsLegal p → AreSmall p.maxval plane → j < plane.width
     → IsLongest plane i (left plane i j) (plane.width - j) j count → ltb (j + count) plane.width ≡ broken
     → Cost p plane later (limit_of p.maxval * (plane.width - (j + count + 1)) + rest)
-    → Cost p plane (stretch i j count broken ∷ later) (limit_of p.maxval * (plane.width - j) + rest)
-cost_of-stretch p plane i j count true later rest legal small inside longest e cost =
+    → Cost p plane (run_span i j count broken ∷ later) (limit_of p.maxval * (plane.width - j) + rest)
+cost_of-run_span p plane i j count true later rest legal small inside longest e cost =
     let short : j + count < plane.width = ltb-true (j + count) plane.width e in
-    less p plane (stretch i j count true ∷ later) _ _ (spent (limit_of p.maxval) (count + 1) (plane.width - (j + count + 1)) (plane.width - j) rest (omega arith))
+    less p plane (run_span i j count true ∷ later) _ _ (spent (limit_of p.maxval) (count + 1) (plane.width - (j + count + 1)) (plane.width - j) rest (omega arith))
     (cost_of-broken_run p plane i j count later (limit_of p.maxval * (plane.width - (j + count + 1)) + rest) legal small
     (interrupted p.maxval plane i (plane.width - j) j count small longest (omega arith)) cost)
-cost_of-stretch p plane i j count false later rest legal small inside longest e cost =
+cost_of-run_span p plane i j count false later rest legal small inside longest e cost =
     let far : plane.width ≤ j + count = ltb-false (j + count) plane.width e in
-    less p plane (stretch i j count false ∷ later) _ _ (spent (limit_of p.maxval) count (plane.width - (j + count + 1)) (plane.width - j) rest (omega (arith, longest.few)))
+    less p plane (run_span i j count false ∷ later) _ _ (spent (limit_of p.maxval) count (plane.width - (j + count + 1)) (plane.width - j) rest (omega (arith, longest.few)))
     (cost_of-full_run p plane i j count later (limit_of p.maxval * (plane.width - (j + count + 1)) + rest) legal (omega arith) cost)
 
-cost_of-cut : (p : Parameters) (plane : Plane) (i most j : ℕ) (later : List Segment) (rest : ℕ) → IsLegal p → AreSmall p.maxval plane
+cost_of-cut : (p : Parameters) (plane : Plane) (i most j : ℕ) (later : List Span) (rest : ℕ) → IsLegal p → AreSmall p.maxval plane
     → Cost p plane later rest → Cost p plane (cut plane i most j ++ later) (limit_of p.maxval * (plane.width - j) + rest)
 cost_of-cut p plane i zero j later rest legal small cost = less p plane later rest _ (omega arith) cost
 cost_of-cut p plane i (suc most) j later rest legal small cost =
     let limit : ℕ = limit_of p.maxval in
     let count : ℕ = run_length plane i j in
-    let behind : List Segment = stretch i j count (ltb (j + count) plane.width) ∷ cut plane i most (j + count + 1) in
-    let one : List Segment = sample i j ∷ cut plane i most (j + 1) in
+    let behind : List Span = run_span i j count (ltb (j + count) plane.width) ∷ cut plane i most (j + count + 1) in
+    let one : List Span = sample_span i j ∷ cut plane i most (j + 1) in
     choose (leb plane.width j) [] (cond (is_run (around plane i j)) behind one) (λ list. Cost p plane (list ++ later) (limit * (plane.width - j) + rest))
     (λ e. less p plane later rest _ (omega arith) cost)
     (λ e.
     let inside : j < plane.width = leb-false plane.width j e in
     choose (is_run (around plane i j)) behind one (λ list. Cost p plane (list ++ later) (limit * (plane.width - j) + rest))
-    (λ f. cost_of-stretch p plane i j count (ltb (j + count) plane.width) (cut plane i most (j + count + 1) ++ later) rest legal small inside
+    (λ f. cost_of-run_span p plane i j count (ltb (j + count) plane.width) (cut plane i most (j + count + 1) ++ later) rest legal small inside
     (longest plane i (left plane i j) (plane.width - j) j) refl (cost_of-cut p plane i most (j + count + 1) later rest legal small cost))
     (λ f. less p plane (one ++ later) _ _ (let sum = spent limit 1 (plane.width - (j + 1)) (plane.width - j) rest (omega arith) in omega arith)
     (cost_of-sample p plane i j (cut plane i most (j + 1) ++ later) (limit * (plane.width - (j + 1)) + rest) legal small f (cost_of-cut p plane i most (j + 1) later rest legal small cost))))
 
 cost_of-rows : (p : Parameters) (plane : Plane) (count i : ℕ) → IsLegal p → AreSmall p.maxval plane → Cost p plane (rows_from plane count i) (limit_of p.maxval * (plane.width * count))
-unfolding coded row_segments
+unfolding coded row_spans
 cost_of-rows p plane zero i legal small = λ events lawful whole. omega arith
 cost_of-rows p plane (suc count) i legal small =
     let limit : ℕ = limit_of p.maxval in
@@ -208,7 +208,7 @@ cost_of-rows p plane (suc count) i legal small =
 
 pub plane_bits_short : (p : Parameters) (plane : Plane) → IsLegal p → 1 ≤ plane.width → ((k : ℕ) → get_or plane.samples k 0 ≤ p.maxval)
     → length (plane_bits p plane) ≤ limit_of p.maxval * length plane.samples
-unfolding plane_bits segments
+unfolding plane_bits spans
 plane_bits_short p plane legal some small =
     let rows : ℕ = length plane.samples / plane.width in
     let fit : plane.width * rows ≤ length plane.samples = omega arith in

@@ -9,12 +9,12 @@ use Rattle.ls_frame.specs.declared.frame.Kind.TheVariants.{Gray, Color}
 use Rattle.ls_frame.specs.Picture.{Picture, IsFrame, components}
 use Rattle.ls_frame.specs.Parameters.{Parameters, limit_of}
 use Rattle.ls_bits.specs.Room.{Fits}
-use Rattle.ls_coding.specs.States.{Coding, state_of}
-use Rattle.ls_stream.specs.Planes.{Plane, rows_from, segments, plane_bits}
-use Rattle.ls_stream.specs.Coded.{bits_from, all_from}
+use Rattle.ls_coding.specs.View.States.{Coding, state_of}
+use Rattle.ls_stream.specs.Planes.{Plane, rows_from, spans, plane_bits}
+use Rattle.ls_stream.specs.View.Coded.{bits_from, all_from}
 use Rattle.ls_stream.specs.declared.shape.Shape.{Shape}
-use Rattle.ls_stream.specs.Components.{component_of, component_plane, IsShapeOf}
-use Rattle.ls_stream.specs.Grammar.{plane_of}
+use Rattle.ls_stream.specs.Components.{component_of, component_plane, plane_of}
+use Rattle.ls_stream.specs.View.Shapes.{IsShapeOf}
 use Rattle.ls_stream.proofs.CodedLemmas.{plane_from, parameters_of}
 
 -- each sample is at most maxval, and what isn't there is 0
@@ -41,8 +41,8 @@ plane_length f frame component =
     length-map-range_with_len _ 0 (length f.samples / components f.kind)
     ∙ ap (λ n. n / components f.kind) frame.count ∙ mul-div_cancel (f.width * f.height) some
 
-pub plane_rows : (f : Picture) → IsFrame f → (component : ℕ) → segments (plane_of f component) ≡ rows_from (plane_of f component) f.height 0
-unfolding segments
+pub plane_rows : (f : Picture) → IsFrame f → (component : ℕ) → spans (plane_of f component) ≡ rows_from (plane_of f component) f.height 0
+unfolding spans
 plane_rows f frame component =
     let some : 0 < f.width = frame.some_width in
     let turned : f.width * f.height ≡ f.height * f.width = omega arith in
@@ -61,7 +61,7 @@ all_rows p f frame component bits s e =
 
 -- ---- the same, of a frame's shape and its samples
 
-pub length_of : (f : Picture) (shape : Shape) (samples : List ℕ) → IsShapeOf f shape → samples ≡ f.samples → length samples ≡ shape.height * (shape.width * shape.count)
+pub length_of : (f : Picture) (shape : Shape) (samples : List ℕ) → IsShapeOf f shape → samples ≡ f.samples → length samples ≡ shape.height * (shape.width * shape.components)
 length_of f shape samples is same =
     let turned : f.width * f.height * components f.kind ≡ f.height * (f.width * components f.kind) = omega arith in
     ap length same ∙ is.frame.count ∙ turned
@@ -96,13 +96,13 @@ cost_of f shape p s bits new is e none cost = omega (arith, most_of f shape p s 
 
 pub bits_of : (f : Picture) (shape : Shape) (samples : List ℕ) (p : Parameters) (s after : Coding) (component : ℕ) (bits new : List Bool) → IsShapeOf f shape → samples ≡ f.samples
     → s ≡ state_of p [] → bits ≡ []
-    → all_from (component_plane shape.width shape.count component samples) new after []
-    ≡ all_from (component_plane shape.width shape.count component samples) bits s (rows_from (component_plane shape.width shape.count component samples) shape.height 0 ++ [])
+    → all_from (component_plane shape.width shape.components component samples) new after []
+    ≡ all_from (component_plane shape.width shape.components component samples) bits s (rows_from (component_plane shape.width shape.components component samples) shape.height 0 ++ [])
     → new ≡ plane_bits p (plane_of f component)
 bits_of f shape samples p s after component bits new is samples_are e none rows =
-    let plane : Plane = component_plane shape.width shape.count component samples in
+    let plane : Plane = component_plane shape.width shape.components component samples in
     let same : plane ≡ plane_of f component =
-    ap (λ w. component_plane w shape.count component samples) is.width ∙ ap (λ n. component_plane f.width n component samples) is.count
+    ap (λ w. component_plane w shape.components component samples) is.width ∙ ap (λ n. component_plane f.width n component samples) is.count
     ∙ ap (component_plane f.width (components f.kind) component) samples_are in
     all_rows p f is.frame component new after
     (subst (λ (q : Plane). all_from q new after [] ≡ all_from q [] (state_of p []) (rows_from q f.height 0 ++ [])) same

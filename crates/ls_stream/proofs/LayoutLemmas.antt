@@ -7,11 +7,13 @@ use Rattle.ls_frame.specs.Picture.{Picture, components}
 use Rattle.ls_frame.specs.Parameters.{Parameters}
 use Rattle.ls_bits.specs.Stuffing.{stuff}
 use Rattle.ls_bits.proofs.StuffingLemmas.{length-groups}
-use Rattle.ls_stream.specs.Markers.{marker, segment, Component, component_bytes, header_contents, scan_contents}
-use Rattle.ls_stream.specs.declared.marker.Marker.TheVariants.{StartOfImage, EndOfImage}
+use Rattle.ls_stream.specs.Markers.{marker}
+use Rattle.ls_stream.specs.Segments.{segment, Component, component_bytes, header_contents, scan_contents}
+use Rattle.ls_stream.specs.declared.marker.Marker.TheVariants.{StartOfImage, EndOfImage, StartOfScan, StartOfFrame}
 use Rattle.ls_stream.specs.Planes.{plane_bits}
-use Rattle.ls_stream.specs.Grammar.{asides_bytes, scans_bytes, codestream_bytes, plane_of}
-use Rattle.ls_stream.specs.Layout.{written_component, written_header, told, told_length, written_scan, codestream, scan_of, scans_up_to, headers_length, scan_bound, bound}
+use Rattle.ls_stream.specs.Components.{plane_of}
+use Rattle.ls_stream.specs.Grammar.{miscellaneous_bytes, scan_bytes, scans_bytes, codestream_bytes}
+use Rattle.ls_stream.specs.Layout.{written_component, written_header, written_presets, presets_length, written_scan, codestream, scan_of, scans_up_to, headers_length, scan_bound, bound}
 use Rattle.ls_stream.proofs.FrameLemmas.{some_components}
 
 range_push : (a count : ℕ) → range_with_len a (count + 1) ≡ range_with_len a count ++ (a + count) ∷ []
@@ -35,7 +37,7 @@ component_more bytes start one two three component e f g h =
     ∙ ap (λ x. x ++ put) e ∙ flat_map_more component_bytes bytes so_far (written_component component)
     ∙ ap (λ (xs : List Component). bytes ++ flat_map component_bytes xs) (sym (map-range_with_len_more written_component 0 component component (omega arith)))
 
--- stuffed bits behind bytes
+-- stuffed bits after bytes
 pub stuffed_short : (bytes all : List ℕ) (bits : List Bool) (most : ℕ) → all ≡ bytes ++ stuff bits → length bits ≤ most → length all ≤ length bytes + (most / 7 + 1)
 stuffed_short bytes all bits most e h =
     let short : length (stuff bits) ≤ length bits / 7 + 1 = length-groups (suc (length bits)) 8 bits (inr refl) in
@@ -43,12 +45,12 @@ stuffed_short bytes all bits most e h =
 
 -- one scan more
 pub scan_more : (f : Picture) (p : Parameters) (bytes start header all : List ℕ) (component : ℕ) → start ≡ bytes ++ scans_up_to f p component
-    → header ≡ start ++ segment 218 (scan_contents (component + 1)) → all ≡ header ++ stuff (plane_bits p (plane_of f component)) → all ≡ bytes ++ scans_up_to f p (component + 1)
+    → header ≡ start ++ segment StartOfScan (scan_contents (component + 1)) → all ≡ header ++ stuff (plane_bits p (plane_of f component)) → all ≡ bytes ++ scans_up_to f p (component + 1)
 unfolding scans_up_to
 scan_more f p bytes start header all component e g h =
     let last : 0 + component ≡ component = omega arith in
     h ∙ ap (λ x. x ++ stuff (plane_bits p (plane_of f component))) g
-    ∙ append_assoc start (segment 218 (scan_contents (component + 1))) (stuff (plane_bits p (plane_of f component)))
+    ∙ append_assoc start (segment StartOfScan (scan_contents (component + 1))) (stuff (plane_bits p (plane_of f component)))
     ∙ ap (λ x. x ++ scan_of f p component) e
     ∙ flat_map_more (scan_of f p) bytes (range_with_len 0 component) component
     ∙ ap (λ ns. bytes ++ flat_map (scan_of f p) ns) (sym (range_push 0 component ∙ ap (λ n. range_with_len 0 component ++ n ∷ []) last))
@@ -62,51 +64,39 @@ room_left count component size h =
 
 -- ---- all of it
 
-later_are : (f : Picture) (p : Parameters) (from count : ℕ)
-    → scans_bytes (map written_component (range_with_len from count)) (map (written_scan f p []) (range_with_len from count)) ≡ flat_map (scan_of f p) (range_with_len from count)
-later_are f p from zero = refl
-later_are f p from (suc count) = ap (λ x. scan_of f p from ++ x) (later_are f p (from + 1) count)
+scan_is : (f : Picture) (p : Parameters) (component : ℕ) → scan_bytes (written_component component) (written_scan f p component) ≡ scan_of f p component
+scan_is f p component = append-nil (scan_of f p component)
 
-scans_are : (f : Picture) (p : Parameters) (count : ℕ) → 1 ≤ count
-    → scans_bytes (map written_component (range_with_len 0 count)) (written_scan f p (told p) 0 ∷ map (written_scan f p []) (range_with_len 1 (count - 1)))
-    ≡ asides_bytes (told p) ++ flat_map (scan_of f p) (range_with_len 0 count)
-scans_are f p zero some = absurd (omega arith)
-scans_are f p (suc count) some =
-    let less : suc count - 1 ≡ count = omega arith in
-    let asides = asides_bytes (told p) in
-    let header = segment 218 (scan_contents 1) in
-    let stuffed = stuff (plane_bits p (plane_of f 0)) in
-    ap (λ n. scans_bytes (map written_component (range_with_len 0 (suc count))) (written_scan f p (told p) 0 ∷ map (written_scan f p []) (range_with_len 1 n))) less
-    ∙ ap (λ x. ((asides ++ header) ++ stuffed) ++ x) (later_are f p 1 count)
-    ∙ ap (λ x. x ++ flat_map (scan_of f p) (range_with_len 1 count)) (append_assoc asides header stuffed)
-    ∙ append_assoc asides (header ++ stuffed) (flat_map (scan_of f p) (range_with_len 1 count))
+scans_are : (f : Picture) (p : Parameters) (from count : ℕ)
+    → scans_bytes (map written_component (range_with_len from count)) (map (written_scan f p) (range_with_len from count)) ≡ flat_map (scan_of f p) (range_with_len from count)
+scans_are f p from zero = refl
+scans_are f p from (suc count) =
+    let later = scans_bytes (map written_component (range_with_len (from + 1) count)) (map (written_scan f p) (range_with_len (from + 1) count)) in
+    ap (λ x. x ++ later) (scan_is f p from) ∙ ap (λ x. scan_of f p from ++ x) (scans_are f p (from + 1) count)
 
 pub codestream_is : (f : Picture) (p : Parameters)
-    → codestream f p ≡ (((marker StartOfImage ++ segment 247 (header_contents (written_header f))) ++ asides_bytes (told p)) ++ scans_up_to f p (components f.kind)) ++ marker EndOfImage
+    → codestream f p ≡ (((marker StartOfImage ++ segment StartOfFrame (header_contents (written_header f))) ++ miscellaneous_bytes (written_presets p)) ++ scans_up_to f p (components f.kind)) ++ marker EndOfImage
 unfolding codestream codestream_bytes scans_up_to
 codestream_is f p =
-    let front = marker StartOfImage ++ segment 247 (header_contents (written_header f)) in
-    let asides = asides_bytes (told p) in
-    let scans = flat_map (scan_of f p) (range_with_len 0 (components f.kind)) in
-    ap (λ x. ((front ++ x) ++ []) ++ marker EndOfImage) (scans_are f p (components f.kind) (some_components f.kind))
-    ∙ ap (λ x. x ++ marker EndOfImage) (append-nil (front ++ (asides ++ scans)) ∙ sym (append_assoc front asides scans))
+    let front = (marker StartOfImage ++ segment StartOfFrame (header_contents (written_header f))) ++ miscellaneous_bytes (written_presets p) in
+    ap (λ x. (front ++ x) ++ marker EndOfImage) (scans_are f p 0 (components f.kind))
 
--- put one behind the other
-pub all_put : (f : Picture) (p : Parameters) (bytes one two three four five : List ℕ) → one ≡ bytes ++ marker StartOfImage → two ≡ one ++ segment 247 (header_contents (written_header f))
-    → three ≡ two ++ asides_bytes (told p) → four ≡ three ++ scans_up_to f p (components f.kind) → five ≡ four ++ marker EndOfImage → five ≡ bytes ++ codestream f p
+-- written one after the other
+pub all_put : (f : Picture) (p : Parameters) (bytes one two three four five : List ℕ) → one ≡ bytes ++ marker StartOfImage → two ≡ one ++ segment StartOfFrame (header_contents (written_header f))
+    → three ≡ two ++ miscellaneous_bytes (written_presets p) → four ≡ three ++ scans_up_to f p (components f.kind) → five ≡ four ++ marker EndOfImage → five ≡ bytes ++ codestream f p
 all_put f p bytes one two three four five e1 e2 e3 e4 e5 =
     let start = marker StartOfImage in
-    let header = segment 247 (header_contents (written_header f)) in
-    let asides = asides_bytes (told p) in
+    let header = segment StartOfFrame (header_contents (written_header f)) in
+    let tables = miscellaneous_bytes (written_presets p) in
     let scans = scans_up_to f p (components f.kind) in
     let two_is : two ≡ bytes ++ (start ++ header) = e2 ∙ ap (λ x. x ++ header) e1 ∙ append_assoc bytes start header in
-    let three_is : three ≡ bytes ++ ((start ++ header) ++ asides) = e3 ∙ ap (λ x. x ++ asides) two_is ∙ append_assoc bytes (start ++ header) asides in
-    let four_is : four ≡ bytes ++ (((start ++ header) ++ asides) ++ scans) = e4 ∙ ap (λ x. x ++ scans) three_is ∙ append_assoc bytes ((start ++ header) ++ asides) scans in
-    e5 ∙ ap (λ x. x ++ marker EndOfImage) four_is ∙ append_assoc bytes (((start ++ header) ++ asides) ++ scans) (marker EndOfImage)
+    let three_is : three ≡ bytes ++ ((start ++ header) ++ tables) = e3 ∙ ap (λ x. x ++ tables) two_is ∙ append_assoc bytes (start ++ header) tables in
+    let four_is : four ≡ bytes ++ (((start ++ header) ++ tables) ++ scans) = e4 ∙ ap (λ x. x ++ scans) three_is ∙ append_assoc bytes ((start ++ header) ++ tables) scans in
+    e5 ∙ ap (λ x. x ++ marker EndOfImage) four_is ∙ append_assoc bytes (((start ++ header) ++ tables) ++ scans) (marker EndOfImage)
     ∙ ap (λ x. bytes ++ x) (sym (codestream_is f p))
 
 -- the room for all of it
-pub room_is : (f : Picture) (p : Parameters) → bound f p ≡ 2 + (10 + 3 * components f.kind) + told_length p + (components f.kind * (10 + scan_bound f p) + 2)
+pub room_is : (f : Picture) (p : Parameters) → bound f p ≡ 2 + (10 + 3 * components f.kind) + presets_length p + (components f.kind * (10 + scan_bound f p) + 2)
 unfolding bound headers_length
 room_is f p =
     let split : components f.kind * (10 + scan_bound f p) ≡ 10 * components f.kind + components f.kind * scan_bound f p = omega arith in

@@ -6,11 +6,13 @@ use Rattle.ls_frame.specs.Picture.{Picture, IsFrame, components}
 use Rattle.ls_frame.specs.Parameters.{Parameters, IsLegal, qbpp_of, limit_of}
 use Rattle.ls_coding.proofs.WordLemmas.{qbpp_are, limit_small}
 use Rattle.ls_bits.specs.Stuffing.{stuff}
-use Rattle.ls_stream.specs.declared.marker.Marker.TheVariants.{StartOfImage, EndOfImage}
-use Rattle.ls_stream.specs.Markers.{marker, segment, header_contents, scan_contents, presets_contents, component_bytes}
+use Rattle.ls_stream.specs.declared.marker.Marker.TheVariants.{StartOfImage, EndOfImage, StartOfFrame}
+use Rattle.ls_stream.specs.Markers.{marker}
+use Rattle.ls_stream.specs.Segments.{segment, header_contents, scan_contents, presets_contents, component_bytes}
 use Rattle.ls_stream.specs.Planes.{plane_bits}
-use Rattle.ls_stream.specs.Grammar.{presets, asides_bytes, plane_of}
-use Rattle.ls_stream.specs.Layout.{written_component, written_header, are_told, told, told_length, codestream, scan_of, scans_up_to, scan_bound, bound}
+use Rattle.ls_stream.specs.Components.{plane_of}
+use Rattle.ls_stream.specs.Grammar.{presets, miscellaneous_bytes}
+use Rattle.ls_stream.specs.Layout.{written_component, written_header, needs_presets, written_presets, presets_length, codestream, scan_of, scans_up_to, scan_bound, bound}
 use Rattle.ls_stream.proofs.CostLemmas.{plane_bits_short}
 use Rattle.ls_stream.proofs.FrameLemmas.{plane_length, plane_small, few_components}
 use Rattle.ls_stream.proofs.LayoutLemmas.{stuffed_short, codestream_is, room_is}
@@ -23,20 +25,20 @@ components_length : (from count : ℕ) → length (flat_map component_bytes (map
 components_length from zero = refl
 components_length from (suc count) = let more : suc (suc (suc (3 * count))) ≡ 3 * suc count = omega arith in ap (λ n. suc (suc (suc n))) (components_length (from + 1) count) ∙ more
 
-header_length : (f : Picture) → length (segment 247 (header_contents (written_header f))) ≡ 10 + 3 * components f.kind
+header_length : (f : Picture) → length (segment StartOfFrame (header_contents (written_header f))) ≡ 10 + 3 * components f.kind
 unfolding header_contents
 header_length f = omega (arith, components_length 0 (components f.kind))
 
-told_by : (p : Parameters) (test : Bool) → length (asides_bytes (cond test (presets 0 p ∷ []) [])) ≡ cond test 15 0
+presets_by : (p : Parameters) (test : Bool) → length (miscellaneous_bytes (cond test (presets 0 p ∷ []) [])) ≡ cond test 15 0
 unfolding presets_contents
-told_by p true = refl
-told_by p false = refl
+presets_by p true = refl
+presets_by p false = refl
 
-told_is : (p : Parameters) → length (asides_bytes (told p)) ≡ told_length p
-told_is p = told_by p (are_told p)
+presets_is : (p : Parameters) → length (miscellaneous_bytes (written_presets p)) ≡ presets_length p
+presets_is p = presets_by p (needs_presets p)
 
-told_most : (p : Parameters) → told_length p ≤ 15
-told_most p = most_by (are_told p)
+presets_most : (p : Parameters) → presets_length p ≤ 15
+presets_most p = most_by (needs_presets p)
 
 scan_length : (f : Picture) (p : Parameters) (component : ℕ) → IsFrame f → IsLegal p → p.maxval ≡ f.maxval → length (scan_of f p component) ≤ 10 + scan_bound f p
 unfolding scan_contents
@@ -58,20 +60,20 @@ limit_most p legal = limit_small p.maxval (qbpp_of p.maxval) refl (qbpp_are p.ma
 pub within_bound : (f : Picture) (p : Parameters) → IsFrame f → IsLegal p → p.maxval ≡ f.maxval → length (codestream f p) ≤ bound f p
 unfolding scans_up_to
 within_bound f p frame legal same =
-    let header = segment 247 (header_contents (written_header f)) in
-    let asides = asides_bytes (told p) in
+    let header = segment StartOfFrame (header_contents (written_header f)) in
+    let tables = miscellaneous_bytes (written_presets p) in
     let scans = scans_up_to f p (components f.kind) in
     let start = marker StartOfImage in
     omega (
       arith,
       room_is f p,
       ap length (codestream_is f p),
-      length-append (((start ++ header) ++ asides) ++ scans) (marker EndOfImage),
-      length-append ((start ++ header) ++ asides) scans,
-      length-append (start ++ header) asides,
+      length-append (((start ++ header) ++ tables) ++ scans) (marker EndOfImage),
+      length-append ((start ++ header) ++ tables) scans,
+      length-append (start ++ header) tables,
       length-append start header,
       header_length f,
-      told_is p,
+      presets_is p,
       scans_length f p 0 (components f.kind) frame legal same,
     )
 
@@ -87,4 +89,4 @@ bound_small f p frame legal =
     let sevenths : count * (bits / 7 * 7) ≤ count * bits = mul-le count (bits / 7 * 7) count bits (omega arith) (div-mul-le_self bits 7) in
     let split : count * (10 + (bits / 7 + 1)) ≡ 11 * count + count * (bits / 7) = omega arith in
     let turned : count * (bits / 7 * 7) ≡ 7 * (count * (bits / 7)) = omega arith in
-    omega (arith, room_is f p, told_most p, few_components f.kind)
+    omega (arith, room_is f p, presets_most p, few_components f.kind)

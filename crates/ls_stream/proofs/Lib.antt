@@ -1,3 +1,4 @@
+pub mod ByteLemmas
 pub mod CodedLemmas
 pub mod ComponentLemmas
 pub mod ContextLemmas
@@ -6,12 +7,6 @@ pub mod FrameLemmas
 pub mod LayoutLemmas
 pub mod LengthLemmas
 pub mod LineLemmas
-pub mod PlainCounters
-pub mod PlainHistories
-pub mod PlainNumbers
-pub mod PlainSamples
-pub mod PlainSegments
-pub mod PlainWords
 pub mod RowLemmas
-pub mod SegmentLemmas
+pub mod SpanLemmas
 pub mod SpellingLemmas

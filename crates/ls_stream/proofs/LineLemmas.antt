@@ -5,7 +5,7 @@ use Rattle.std.proofs.lemmas.Nat.{mul-le}
 use Rattle.std.proofs.lemmas.List.{get_or-replicate, get_or-take, get_or-drop, get_or_append_left, get_or-append_right, get_or_past, length-take-le}
 use Rattle.ls_coding.specs.declared.neighbours.Neighbours.{Neighbours}
 use Rattle.ls_stream.specs.Planes.{Plane, at, around, left, above, above_left, above_right}
-use Rattle.ls_stream.specs.LineBuffers.{row_of, line_of, near, AreLines, ArePadded, Holds}
+use Rattle.ls_stream.specs.View.LineBuffers.{row_of, line_of, neighbours_in, AreLines, ArePadded, HoldsLine}
 
 -- the plane has a whole row i
 abbrev pub HasRow : Plane → ℕ → Type 0
@@ -78,7 +78,7 @@ over_right plane (suc i) j h k = over_right_by plane i j (ltb (j + 1) plane.widt
 neighbours : ℕ → ℕ → ℕ → ℕ → Neighbours
 neighbours a b c d = record { a = a; b = b; c = c; d = d }
 
-near_is : (plane : Plane) (i j : ℕ) → HasRow plane i → j < plane.width → near (line_of plane i) (line_of plane (suc i)) j ≡ around plane i j
+near_is : (plane : Plane) (i j : ℕ) → HasRow plane i → j < plane.width → neighbours_in (line_of plane i) (line_of plane (suc i)) j ≡ around plane i j
 unfolding neighbours around
 near_is plane i j h k =
     ap (λ n. neighbours n (get_or (line_of plane i) (j + 1) 0) (get_or (line_of plane i) j 0) (get_or (line_of plane i) (j + 2) 0)) (to_left plane i j h k)
@@ -87,14 +87,14 @@ near_is plane i j h k =
     ∙ ap (λ n. neighbours (left plane i j) (above plane i j) (above_left plane i j) n) (over_right plane i j h k)
 
 pub are_lines : (plane : Plane) (i : ℕ) → HasRow plane i → AreLines plane i (line_of plane i) (line_of plane (suc i))
-are_lines plane i h = record { nearby = λ j k. near_is plane i j h k; samples = λ j k. line_sample plane i j h k }
+are_lines plane i h = record { neighbours = λ j k. near_is plane i j h k; samples = λ j k. line_sample plane i j h k }
 
 -- ---- in buffers
 
-pub held_lines : (plane : Plane) (i : ℕ) (above_buffer line_buffer : List ℕ) → HasRow plane i → Holds plane i above_buffer → Holds plane (suc i) line_buffer → AreLines plane i above_buffer line_buffer
+pub held_lines : (plane : Plane) (i : ℕ) (above_buffer line_buffer : List ℕ) → HasRow plane i → HoldsLine plane i above_buffer → HoldsLine plane (suc i) line_buffer → AreLines plane i above_buffer line_buffer
 unfolding neighbours
 held_lines plane i above_buffer line_buffer h over_is line_is = record {
-  nearby = λ j k.
+  neighbours = λ j k.
       ap (λ n. neighbours n (get_or above_buffer (j + 1) 0) (get_or above_buffer j 0) (get_or above_buffer (j + 2) 0)) (line_is j (omega arith))
       ∙ ap (λ n. neighbours (get_or (line_of plane (suc i)) j 0) n (get_or above_buffer j 0) (get_or above_buffer (j + 2) 0)) (over_is (j + 1) (omega arith))
       ∙ ap (λ n. neighbours (get_or (line_of plane (suc i)) j 0) (get_or (line_of plane i) (j + 1) 0) n (get_or above_buffer (j + 2) 0)) (over_is j (omega arith))
@@ -104,10 +104,10 @@ held_lines plane i above_buffer line_buffer h over_is line_is = record {
 }
 
 -- the line above the first row
-pub none_above : (plane : Plane) (buffer : List ℕ) → ((k : ℕ) → k < plane.width + 2 → get_or buffer k 0 ≡ 0) → Holds plane 0 buffer
+pub none_above : (plane : Plane) (buffer : List ℕ) → ((k : ℕ) → k < plane.width + 2 → get_or buffer k 0 ≡ 0) → HoldsLine plane 0 buffer
 none_above plane buffer zeros k h = zeros k h ∙ sym (no_sample plane k h)
 
-filled_at : (plane : Plane) (i : ℕ) (above_buffer buffer : List ℕ) → 1 ≤ plane.width → HasRow plane i → Holds plane i above_buffer → get_or buffer 0 0 ≡ get_or above_buffer 1 0
+filled_at : (plane : Plane) (i : ℕ) (above_buffer buffer : List ℕ) → 1 ≤ plane.width → HasRow plane i → HoldsLine plane i above_buffer → get_or buffer 0 0 ≡ get_or above_buffer 1 0
     → ((k : ℕ) → k < plane.width → get_or buffer (k + 1) 0 ≡ at plane i k) → get_or buffer (plane.width + 1) 0 ≡ get_or buffer plane.width 0
     → (k : ℕ) → k < plane.width + 2 → get_or buffer k 0 ≡ get_or (line_of plane (suc i)) k 0
 filled_at plane i above_buffer buffer some h over_is first middle last zero k =
@@ -125,9 +125,9 @@ filled_at plane i above_buffer buffer some h over_is first middle last (suc k) l
     ]
     ∙ ap (λ n. get_or (line_of plane (suc i)) n 0) (sym next)
 
-pub filled : (plane : Plane) (i : ℕ) (above_buffer buffer : List ℕ) → 1 ≤ plane.width → HasRow plane i → Holds plane i above_buffer → get_or buffer 0 0 ≡ get_or above_buffer 1 0
+pub filled : (plane : Plane) (i : ℕ) (above_buffer buffer : List ℕ) → 1 ≤ plane.width → HasRow plane i → HoldsLine plane i above_buffer → get_or buffer 0 0 ≡ get_or above_buffer 1 0
     → ((k : ℕ) → k < plane.width → get_or buffer (k + 1) 0 ≡ at plane i k) → get_or buffer (plane.width + 1) 0 ≡ get_or buffer plane.width 0
-    → Holds plane (suc i) buffer
+    → HoldsLine plane (suc i) buffer
 filled = filled_at
 
 -- a line is of samples where what it was made of is
@@ -142,7 +142,7 @@ filled_small maxval width count component above_buffer buffer row some whole abo
       | inl inside ↦ omega (arith, middle k inside, row_small (k * count + component))
       | inr far ↦ elim (cases_lt width k) [
         | inl past ↦ let none : get_or buffer (k + 1) 0 ≡ 0 = get_or_past buffer (k + 1) 0 (omega arith) in omega arith
-        | inr near ↦
+        | inr neighbours_in ↦
             let same : k ≡ width = omega arith in
             let before : width ≡ width - 1 + 1 = omega arith in
             let at_last : get_or buffer width 0 ≡ get_or row ((width - 1) * count + component) 0 = ap (λ n. get_or buffer n 0) before ∙ middle (width - 1) (omega arith) in

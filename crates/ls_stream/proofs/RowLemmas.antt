@@ -4,61 +4,61 @@ use Rattle.std.proofs.lemmas.Bool.{lt-ltb, le-ltb, cases_lt, cond-true, cond-fal
 use Rattle.ls_coding.specs.declared.neighbours.Neighbours.{Neighbours}
 use Rattle.ls_coding.specs.declared.word.Word.{Word}
 use Rattle.ls_coding.specs.Contexts.{is_run}
-use Rattle.ls_coding.specs.Interruptions.{is_flat, interruption_error}
+use Rattle.ls_coding.specs.Interruptions.{ri_type_of, interruption_error}
 use Rattle.ls_coding.specs.Runs.{run_of, run_bits}
 use Rattle.ls_coding.specs.Events.{golomb_bits}
-use Rattle.ls_coding.specs.States.{Coding, place_of, regular_error_in, regular_word_in, after_regular, after_run, interruption_word_in, after_interruption}
-use Rattle.ls_stream.specs.Planes.{Plane, at, around, left, equal_from, run_length, Segment, sample, stretch, row_from}
-use Rattle.ls_stream.specs.LineBuffers.{near, AreLines, IsRunEnd}
-use Rattle.ls_stream.specs.Coded.{segment_bits_in, segment_after, bits_from, all_from}
-use Rattle.ls_stream.proofs.SegmentLemmas.{row_from-sample, row_from-run}
+use Rattle.ls_coding.specs.View.States.{Coding, context_in, regular_error_in, regular_word_in, regular_after, run_after, interruption_word_in, interruption_after}
+use Rattle.ls_stream.specs.Planes.{Plane, at, around, left, equal_from, run_length, Span, sample_span, run_span, row_from}
+use Rattle.ls_stream.specs.View.LineBuffers.{neighbours_in, AreLines, IsRunEnd}
+use Rattle.ls_stream.specs.View.Coded.{span_bits_in, span_after, bits_from, all_from}
+use Rattle.ls_stream.proofs.SpanLemmas.{row_from-sample, row_from-run}
 
 -- a segment's bits move from those to come to those so far
-moved : (plane : Plane) (segment : Segment) (rest more segments : List Segment) (bits new : List Bool) (s after : Coding) → segments ≡ segment ∷ rest
-    → new ≡ bits ++ segment_bits_in plane segment s → after ≡ segment_after plane segment s
-    → all_from plane new after (rest ++ more) ≡ all_from plane bits s (segments ++ more)
+moved : (plane : Plane) (span : Span) (rest more spans : List Span) (bits new : List Bool) (s after : Coding) → spans ≡ span ∷ rest
+    → new ≡ bits ++ span_bits_in plane span s → after ≡ span_after plane span s
+    → all_from plane new after (rest ++ more) ≡ all_from plane bits s (spans ++ more)
 unfolding bits_from
-moved plane segment rest more segments bits new s after e f g =
+moved plane span rest more spans bits new s after e f g =
     ap (λ x. x ++ bits_from plane (rest ++ more) after) f
-    ∙ ap (λ (t : Coding). (bits ++ segment_bits_in plane segment s) ++ bits_from plane (rest ++ more) t) g
-    ∙ append_assoc bits (segment_bits_in plane segment s) (bits_from plane (rest ++ more) (segment_after plane segment s))
+    ∙ ap (λ (t : Coding). (bits ++ span_bits_in plane span s) ++ bits_from plane (rest ++ more) t) g
+    ∙ append_assoc bits (span_bits_in plane span s) (bits_from plane (rest ++ more) (span_after plane span s))
     ∙ ap (λ xs. bits ++ bits_from plane (xs ++ more) s) (sym e)
 
 -- a sample of regular mode
 pub sample-moved : (plane : Plane) (i j : ℕ) (bits new : List Bool) (s after : Coding) (n : Neighbours) (x : ℕ) → j < plane.width
     → n ≡ around plane i j → x ≡ at plane i j → is_run n ≡ false
-    → new ≡ bits ++ golomb_bits s.parameters (regular_word_in s n x) → after ≡ after_regular s (place_of s n).number (regular_error_in s n x)
-    → (more : List Segment) → all_from plane new after (row_from plane i (j + 1) ++ more) ≡ all_from plane bits s (row_from plane i j ++ more)
+    → new ≡ bits ++ golomb_bits s.parameters (regular_word_in s n x) → after ≡ regular_after s (context_in s n).number (regular_error_in s n x)
+    → (more : List Span) → all_from plane new after (row_from plane i (j + 1) ++ more) ≡ all_from plane bits s (row_from plane i j ++ more)
 sample-moved plane i j bits new s after n x inside e f regular h k more =
-    moved plane (sample i j) (row_from plane i (j + 1)) more (row_from plane i j) bits new s after
+    moved plane (sample_span i j) (row_from plane i (j + 1)) more (row_from plane i j) bits new s after
     (row_from-sample plane i j inside (sym (ap is_run e) ∙ regular))
     (h ∙ ap (λ (w : Word). bits ++ golomb_bits s.parameters w) (ap (λ (m : Neighbours). regular_word_in s m x) e ∙ ap (regular_word_in s (around plane i j)) f))
-    (k ∙ ap (λ (m : Neighbours). after_regular s (place_of s m).number (regular_error_in s m x)) e ∙ ap (λ v. after_regular s (place_of s (around plane i j)).number (regular_error_in s (around plane i j) v)) f)
+    (k ∙ ap (λ (m : Neighbours). regular_after s (context_in s m).number (regular_error_in s m x)) e ∙ ap (λ v. regular_after s (context_in s (around plane i j)).number (regular_error_in s (around plane i j) v)) f)
 
 -- a run up to the line's end
 pub run-moved : (plane : Plane) (i j count : ℕ) (bits new : List Bool) (s after : Coding) (n : Neighbours) → j < plane.width → plane.width ≤ j + count
     → n ≡ around plane i j → is_run n ≡ true → count ≡ run_length plane i j
-    → new ≡ bits ++ run_bits s.run_index (run_of count false) → after ≡ after_run s (run_of count false)
-    → (more : List Segment) → all_from plane new after (row_from plane i (j + count + 1) ++ more) ≡ all_from plane bits s (row_from plane i j ++ more)
+    → new ≡ bits ++ run_bits s.run_index (run_of count false) → after ≡ run_after s (run_of count false)
+    → (more : List Span) → all_from plane new after (row_from plane i (j + count + 1) ++ more) ≡ all_from plane bits s (row_from plane i j ++ more)
 run-moved plane i j count bits new s after n inside far e is f h k more =
-    moved plane (stretch i j count false) (row_from plane i (j + count + 1)) more (row_from plane i j) bits new s after
+    moved plane (run_span i j count false) (row_from plane i (j + count + 1)) more (row_from plane i j) bits new s after
     (row_from-run plane i j count false inside (sym (ap is_run e) ∙ is) f (le-ltb (j + count) plane.width far)) h k
 
 -- a run, and the sample that interrupts it
 pub broken-moved : (plane : Plane) (i j count : ℕ) (bits new : List Bool) (s after : Coding) (n m : Neighbours) (x : ℕ)
     → j < plane.width → j + count < plane.width → n ≡ around plane i j → is_run n ≡ true → count ≡ run_length plane i j
     → m ≡ around plane i (j + count) → x ≡ at plane i (j + count)
-    → new ≡ bits ++ (run_bits s.run_index (run_of count true) ++ golomb_bits s.parameters (interruption_word_in (after_run s (run_of count true)) m x))
-    → after ≡ after_interruption (after_run s (run_of count true)) (is_flat m) (interruption_error s.parameters m x)
-    → (more : List Segment) → all_from plane new after (row_from plane i (j + count + 1) ++ more) ≡ all_from plane bits s (row_from plane i j ++ more)
-broken-moved plane i j count bits new s after n m x inside near e is f a b d l more =
-    let r : Coding = after_run s (run_of count true) in
-    moved plane (stretch i j count true) (row_from plane i (j + count + 1)) more (row_from plane i j) bits new s after
-    (row_from-run plane i j count true inside (sym (ap is_run e) ∙ is) f (lt-ltb (j + count) plane.width near))
+    → new ≡ bits ++ (run_bits s.run_index (run_of count true) ++ golomb_bits s.parameters (interruption_word_in (run_after s (run_of count true)) m x))
+    → after ≡ interruption_after (run_after s (run_of count true)) (ri_type_of m) (interruption_error s.parameters m x)
+    → (more : List Span) → all_from plane new after (row_from plane i (j + count + 1) ++ more) ≡ all_from plane bits s (row_from plane i j ++ more)
+broken-moved plane i j count bits new s after n m x inside neighbours_in e is f a b d l more =
+    let r : Coding = run_after s (run_of count true) in
+    moved plane (run_span i j count true) (row_from plane i (j + count + 1)) more (row_from plane i j) bits new s after
+    (row_from-run plane i j count true inside (sym (ap is_run e) ∙ is) f (lt-ltb (j + count) plane.width neighbours_in))
     (d ∙ ap (λ (w : Word). bits ++ (run_bits s.run_index (run_of count true) ++ golomb_bits s.parameters w))
     (ap (λ (y : Neighbours). interruption_word_in r y x) a ∙ ap (interruption_word_in r (around plane i (j + count))) b))
-    (l ∙ ap (λ (y : Neighbours). after_interruption r (is_flat y) (interruption_error s.parameters y x)) a
-    ∙ ap (λ v. after_interruption r (is_flat (around plane i (j + count))) (interruption_error s.parameters (around plane i (j + count)) v)) b)
+    (l ∙ ap (λ (y : Neighbours). interruption_after r (ri_type_of y) (interruption_error s.parameters y x)) a
+    ∙ ap (λ v. interruption_after r (ri_type_of (around plane i (j + count))) (interruption_error s.parameters (around plane i (j + count)) v)) b)
 
 -- ---- how long a run is
 
@@ -83,10 +83,10 @@ equal_is plane i v (suc most) j end e low high equal other =
 
 pub run_is : (plane : Plane) (i j end : ℕ) (above line : List ℕ) → AreLines plane i above line → j < plane.width → IsRunEnd line plane.width j end → end - j ≡ run_length plane i j
 run_is plane i j end above line lines inside h =
-    let value : get_or line j 0 ≡ left plane i j = ap (λ (n : Neighbours). n.a) (lines.nearby j inside) ∙ left_around plane i j in
+    let value : get_or line j 0 ≡ left plane i j = ap (λ (n : Neighbours). n.a) (lines.neighbours j inside) ∙ left_around plane i j in
     sym (equal_is plane i (left plane i j) (plane.width - j) j end refl h.low h.high
     (λ k l m. sym (lines.samples k (omega (arith, h.high))) ∙ h.equal k l m ∙ value)
-    (λ near e. h.other near (lines.samples end near ∙ e ∙ sym value)))
+    (λ neighbours_in e. h.other neighbours_in (lines.samples end neighbours_in ∙ e ∙ sym value)))
 
 -- ---- as the code has them, by the column behind the run
 
@@ -104,29 +104,29 @@ of_plane : (line : List ℕ) (width j end : ℕ) (plane : Plane) → plane.width
 of_plane line width j end plane e h = subst (λ w. IsRunEnd line w j end) (sym e) h
 
 pub row_to_end : (plane : Plane) (i j end : ℕ) (above line : List ℕ) (bits new : List Bool) (s after : Coding) (n : Neighbours) (width : ℕ) → plane.width ≡ width → AreLines plane i above line
-    → j < width → IsRunEnd line width j end → end ≡ width → n ≡ near above line j → is_run n ≡ true
-    → new ≡ bits ++ run_bits s.run_index (run_of (end - j) false) → after ≡ after_run s (run_of (end - j) false)
-    → (more : List Segment) → all_from plane new after (row_from plane i (end + 1) ++ more) ≡ all_from plane bits s (row_from plane i j ++ more)
+    → j < width → IsRunEnd line width j end → end ≡ width → n ≡ neighbours_in above line j → is_run n ≡ true
+    → new ≡ bits ++ run_bits s.run_index (run_of (end - j) false) → after ≡ run_after s (run_of (end - j) false)
+    → (more : List Span) → all_from plane new after (row_from plane i (end + 1) ++ more) ≡ all_from plane bits s (row_from plane i j ++ more)
 row_to_end plane i j end above line bits new s after n width same lines inside h whole e is f g more =
     let back : end ≡ j + (end - j) = omega (arith, h.low) in
     let within : j < plane.width = omega arith in
     ap (λ m. all_from plane new after (row_from plane i (m + 1) ++ more)) back
-    ∙ run-moved plane i j (end - j) bits new s after n within (omega (arith, h.low)) (e ∙ lines.nearby j within) is
+    ∙ run-moved plane i j (end - j) bits new s after n within (omega (arith, h.low)) (e ∙ lines.neighbours j within) is
     (run_is plane i j end above line lines within (of_plane line width j end plane same h)) f g more
 
 pub row_to_break : (plane : Plane) (i j end : ℕ) (above line : List ℕ) (bits new : List Bool) (s after : Coding) (n m : Neighbours) (width : ℕ) → plane.width ≡ width → AreLines plane i above line
-    → j < width → IsRunEnd line width j end → end < width → n ≡ near above line j → is_run n ≡ true → m ≡ near above line end
-    → new ≡ bits ++ (run_bits s.run_index (run_of (end - j) true) ++ golomb_bits s.parameters (interruption_word_in (after_run s (run_of (end - j) true)) m (get_or line (end + 1) 0)))
-    → after ≡ after_interruption (after_run s (run_of (end - j) true)) (is_flat m) (interruption_error s.parameters m (get_or line (end + 1) 0))
-    → (more : List Segment) → all_from plane new after (row_from plane i (end + 1) ++ more) ≡ all_from plane bits s (row_from plane i j ++ more)
+    → j < width → IsRunEnd line width j end → end < width → n ≡ neighbours_in above line j → is_run n ≡ true → m ≡ neighbours_in above line end
+    → new ≡ bits ++ (run_bits s.run_index (run_of (end - j) true) ++ golomb_bits s.parameters (interruption_word_in (run_after s (run_of (end - j) true)) m (get_or line (end + 1) 0)))
+    → after ≡ interruption_after (run_after s (run_of (end - j) true)) (ri_type_of m) (interruption_error s.parameters m (get_or line (end + 1) 0))
+    → (more : List Span) → all_from plane new after (row_from plane i (end + 1) ++ more) ≡ all_from plane bits s (row_from plane i j ++ more)
 row_to_break plane i j end above line bits new s after n m width same lines inside h short e is d f g more =
     let back : end ≡ j + (end - j) = omega (arith, h.low) in
     let within : j < plane.width = omega arith in
     let near_end : end < plane.width = omega arith in
     ap (λ k. all_from plane new after (row_from plane i (k + 1) ++ more)) back
-    ∙ broken-moved plane i j (end - j) bits new s after n m (get_or line (end + 1) 0) within (omega (arith, h.low)) (e ∙ lines.nearby j within) is
+    ∙ broken-moved plane i j (end - j) bits new s after n m (get_or line (end + 1) 0) within (omega (arith, h.low)) (e ∙ lines.neighbours j within) is
     (run_is plane i j end above line lines within (of_plane line width j end plane same h))
-    (d ∙ lines.nearby end near_end ∙ ap (around plane i) back) (lines.samples end near_end ∙ ap (at plane i) back) f g more
+    (d ∙ lines.neighbours end near_end ∙ ap (around plane i) back) (lines.samples end near_end ∙ ap (at plane i) back) f g more
 
 pub spent : (limit a b c : ℕ) → a + b ≡ c → limit * a + limit * b ≡ limit * c
 spent limit a b c e = let sum : limit * a + limit * b ≡ limit * (a + b) = omega arith in sum ∙ ap (λ n. limit * n) e

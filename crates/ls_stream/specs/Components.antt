@@ -1,8 +1,7 @@
 -- The planes of a picture: one for each component.
-use Rattle.std.specs.Prelude.{◌≡◌, ℕ, ◌+◌, ◌*◌, ◌/◌, List, map, length, slice_index}
+use Rattle.std.specs.Prelude.{ℕ, ◌+◌, ◌*◌, ◌/◌, List, map, length, slice_index}
 use Rattle.std.specs.List.{range_with_len}
-use Rattle.ls_frame.specs.Picture.{Picture, IsFrame, components}
-use Rattle.ls_stream.specs.declared.shape.Shape.{Shape}
+use Rattle.ls_frame.specs.Picture.{Picture, components}
 use Rattle.ls_stream.specs.Planes.{Plane}
 
 -- the samples of a component: those whose places leave its number when divided by how many components there are
@@ -12,9 +11,6 @@ component_of count component samples = map (λ k. slice_index samples (k * count
 abbrev pub component_plane : ℕ → ℕ → ℕ → List ℕ → Plane
 component_plane width count component samples = record { width = width; samples = component_of count component samples }
 
--- the shape of a frame
-pub record IsShapeOf (f : Picture) (shape : Shape) : Type 0 where
-  pub frame : IsFrame f
-  pub width : shape.width ≡ f.width
-  pub height : shape.height ≡ f.height
-  pub count : shape.count ≡ components f.kind
+-- the plane of a component of a picture
+abbrev pub plane_of : Picture → ℕ → Plane
+plane_of f component = component_plane f.width (components f.kind) component f.samples

@@ -1,9 +1,8 @@
-pub mod Coded
 pub mod Components
 pub mod Examples
 pub mod Grammar
-pub mod Histories
 pub mod Layout
-pub mod LineBuffers
 pub mod Markers
 pub mod Planes
+pub mod Segments
+pub mod View

@@ -1,52 +1,34 @@
--- Markers and marker segments (T.87 Annex C, Table C.1; T.81 B.1).
-use Rattle.std.specs.Prelude.{ℕ, ◌+◌, List, [], ◌∷◌, ◌++◌, length, flat_map}
-use Rattle.ls_frame.specs.Parameters.{Parameters}
-use Rattle.ls_bits.specs.Bits.{two_bytes}
+-- Markers (T.87 Table C.1; T.81 Table B.1), as far as a reader of codestreams meets them.
+use Rattle.std.specs.Prelude.{ℕ, ◌&&◌, ◌==◌, nat_le, Bool, if◌then◌else◌, List, [], ◌∷◌}
 use Rattle.ls_stream.specs.declared.marker.Marker.{Marker}
-use Rattle.ls_stream.specs.declared.marker.Marker.TheVariants.{StartOfImage, EndOfImage, StartOfScan, StartOfFrame, PresetParameters}
+use Rattle.ls_stream.specs.declared.marker.Marker.TheVariants.{StartOfImage, EndOfImage, StartOfScan, StartOfFrame, PresetParameters, Application, Comment, Other}
 
--- the byte behind FF that tells which marker it is
+-- the byte after FF that says which marker it is
 abbrev pub code_of : Marker → ℕ
 code_of StartOfImage = 216
 code_of EndOfImage = 217
 code_of StartOfScan = 218
 code_of StartOfFrame = 247
 code_of PresetParameters = 248
+code_of (Application code) = code
+code_of Comment = 254
+code_of (Other code) = code
+
+-- APP0 to APP15: E0 to EF
+abbrev pub is_application : ℕ → Bool
+is_application code = nat_le 224 code && nat_le code 239
+
+-- the marker of a code
+abbrev pub marker_of : ℕ → Marker
+marker_of code =
+    if code == 216 then StartOfImage
+    else (if code == 217 then EndOfImage
+    else (if code == 218 then StartOfScan
+    else (if code == 247 then StartOfFrame
+    else (if code == 248 then PresetParameters
+    else (if is_application code then Application code
+    else (if code == 254 then Comment
+    else Other code))))))
 
 abbrev pub marker : Marker → List ℕ
 marker m = 255 ∷ code_of m ∷ []
-
--- a segment: the marker of this code, the length of what stands behind it, its own two bytes among them, and the contents
-abbrev pub segment : ℕ → List ℕ → List ℕ
-segment code contents = 255 ∷ code ∷ (two_bytes (2 + length contents) ++ contents)
-
--- ---- the frame header (SOF55; T.87 C.2.2)
-
--- a component: its identifier, and the number of a quantization table, which T.87 makes no use of
-pub record Component : Type 0 where
-  pub id : ℕ
-  pub table : ℕ
-
--- bits a sample (P), lines (Y), samples a line (X), and the components
-pub record Header : Type 0 where
-  pub precision : ℕ
-  pub height : ℕ
-  pub width : ℕ
-  pub components : List Component
-
--- a component with its sampling factors, both 1, in one byte
-abbrev pub component_bytes : Component → List ℕ
-component_bytes c = c.id ∷ 17 ∷ c.table ∷ []
-
-unfoldable pub header_contents : Header → List ℕ
-header_contents h = h.precision ∷ (two_bytes h.height ++ two_bytes h.width ++ length h.components ∷ flat_map component_bytes h.components)
-
--- ---- preset coding parameters (LSE with ID 1; T.87 C.2.4.1.1)
-
-unfoldable pub presets_contents : Parameters → List ℕ
-presets_contents p = 1 ∷ (two_bytes p.maxval ++ two_bytes p.t1 ++ two_bytes p.t2 ++ two_bytes p.t3 ++ two_bytes p.reset)
-
--- ---- the header of a scan of one component (SOS; T.87 C.2.3): no mapping table, NEAR 0, not interleaved, no point transform
-
-unfoldable pub scan_contents : ℕ → List ℕ
-scan_contents id = 1 ∷ id ∷ 0 ∷ 0 ∷ 0 ∷ 0 ∷ []

@@ -1,13 +1,13 @@
--- A plane, the segments that its rows are cut into, and the bits that they are coded in (T.87 Annex A). With NEAR 0.
+-- A plane, the spans that its rows are cut into, and the bits that they are coded in (T.87 Annex A). With NEAR 0.
 -- A plane is a width and a list of samples, rows from the top; rows and columns count from 0.
 use Rattle.std.specs.Prelude.{ℕ, zero, suc, ◌+◌, ◌-◌, ◌*◌, ◌/◌, ◌==◌, nat_lt, nat_le, Bool, true, false, if◌then◌else◌, List, [], ◌∷◌, ◌++◌, length, slice_index}
 use Rattle.ls_frame.specs.Parameters.{Parameters}
 use Rattle.ls_coding.specs.declared.neighbours.Neighbours.{Neighbours}
 use Rattle.ls_coding.specs.Contexts.{Context, is_run, context_of}
 use Rattle.ls_coding.specs.Stats.{Stats}
-use Rattle.ls_coding.specs.Interruptions.{Counts, is_flat, interruption_error}
+use Rattle.ls_coding.specs.Interruptions.{Counts, ri_type_of, interruption_error}
 use Rattle.ls_coding.specs.Runs.{run_of, run_bits, index_at}
-use Rattle.ls_coding.specs.Events.{Event, regular, run, interruption, stats_in, counts_in, index_in, regular_e, regular_word, interruption_word, golomb_bits}
+use Rattle.ls_coding.specs.Events.{Event, regular, run, interruption, stats_after_events, counts_after_events, run_index_after_events, regular_error_of, regular_word, interruption_word, golomb_bits}
 
 pub record Plane : Type 0 where
   pub width : ℕ
@@ -42,13 +42,13 @@ above_right plane i j = if nat_lt (j + 1) plane.width then above plane i (j + 1)
 unfoldable pub around : Plane → ℕ → ℕ → Neighbours
 around plane i j = record { a = left plane i j; b = above plane i j; c = above_left plane i j; d = above_right plane i j }
 
--- ---- segments (A.3.2, A.7)
+-- ---- spans (A.3.2, A.7)
 
 -- What a row is cut into from the left: a sample of regular mode; or, from a column of run mode on, a run of samples that
 -- equal their Ra, as long as can be, with the sample that interrupts it where the row has one.
-pub data Segment : Type 0 where
-  sample : (row column : ℕ) → Segment
-  stretch : (row column count : ℕ) → (broken : Bool) → Segment
+pub data Span : Type 0 where
+  sample_span : (row column : ℕ) → Span
+  run_span : (row column count : ℕ) → (broken : Bool) → Span
 
 -- how many samples from a column on equal a value, of `most` that there are
 abbrev pub equal_from : Plane → ℕ → ℕ → ℕ → ℕ → ℕ
@@ -58,79 +58,79 @@ equal_from plane i value (suc most) j = if at plane i j == value then suc (equal
 abbrev pub run_length : Plane → ℕ → ℕ → ℕ
 run_length plane i j = equal_from plane i (left plane i j) (plane.width - j) j
 
--- the segments of a row from a column on, no more than `most` of them
-abbrev pub cut : Plane → ℕ → ℕ → ℕ → List Segment
+-- the spans of a row from a column on, no more than `most` of them
+abbrev pub cut : Plane → ℕ → ℕ → ℕ → List Span
 cut plane i zero j = []
 cut plane i (suc most) j =
     if nat_le plane.width j then []
     else (if is_run (around plane i j)
-    then stretch i j (run_length plane i j) (nat_lt (j + run_length plane i j) plane.width) ∷ cut plane i most (j + run_length plane i j + 1)
-    else sample i j ∷ cut plane i most (j + 1))
+    then run_span i j (run_length plane i j) (nat_lt (j + run_length plane i j) plane.width) ∷ cut plane i most (j + run_length plane i j + 1)
+    else sample_span i j ∷ cut plane i most (j + 1))
 
-unfoldable pub row_segments : Plane → ℕ → List Segment
-row_segments plane i = cut plane i plane.width 0
+unfoldable pub row_spans : Plane → ℕ → List Span
+row_spans plane i = cut plane i plane.width 0
 
 -- those from a column on, of a row that is coded so far
-unfoldable pub row_from : Plane → ℕ → ℕ → List Segment
+unfoldable pub row_from : Plane → ℕ → ℕ → List Span
 row_from plane i j = cut plane i (plane.width - j) j
 
 -- those of so many rows from a row on
-abbrev pub rows_from : Plane → ℕ → ℕ → List Segment
+abbrev pub rows_from : Plane → ℕ → ℕ → List Span
 rows_from plane zero i = []
-rows_from plane (suc count) i = row_segments plane i ++ rows_from plane count (suc i)
+rows_from plane (suc count) i = row_spans plane i ++ rows_from plane count (suc i)
 
-unfoldable pub segments : Plane → List Segment
-segments plane = rows_from plane (length plane.samples / plane.width) 0
+unfoldable pub spans : Plane → List Span
+spans plane = rows_from plane (length plane.samples / plane.width) 0
 
--- ---- the bits of segments
+-- ---- the bits of spans
 
 -- a sample of regular mode, after these events
 abbrev pub sample_context : Parameters → Plane → ℕ → ℕ → Context
 sample_context p plane i j = context_of p (around plane i j)
 
 abbrev pub sample_stats : Parameters → Plane → ℕ → ℕ → List Event → Stats
-sample_stats p plane i j events = stats_in p (sample_context p plane i j).number events
+sample_stats p plane i j events = stats_after_events p (sample_context p plane i j).number events
 
 unfoldable pub sample_event : Parameters → Plane → ℕ → ℕ → List Event → Event
 sample_event p plane i j events =
     regular (sample_context p plane i j).number
-    (regular_e p (sample_context p plane i j) (sample_stats p plane i j events) (around plane i j) (at plane i j))
+    (regular_error_of p (sample_context p plane i j) (sample_stats p plane i j events) (around plane i j) (at plane i j))
 
 unfoldable pub sample_bits : Parameters → Plane → ℕ → ℕ → List Event → List Bool
 sample_bits p plane i j events =
     golomb_bits p (regular_word p (sample_stats p plane i j events)
-    (regular_e p (sample_context p plane i j) (sample_stats p plane i j events) (around plane i j) (at plane i j)))
+    (regular_error_of p (sample_context p plane i j) (sample_stats p plane i j events) (around plane i j) (at plane i j)))
 
 -- the sample that interrupts a run, behind it: by the counters before the run, and RUNindex behind its bits
-abbrev pub broken_counts : Parameters → Plane → ℕ → ℕ → List Event → Counts
-broken_counts p plane i j events = counts_in p (is_flat (around plane i j)) events
+abbrev pub interrupting_sample_counts : Parameters → Plane → ℕ → ℕ → List Event → Counts
+interrupting_sample_counts p plane i j events = counts_after_events p (ri_type_of (around plane i j)) events
 
-unfoldable pub broken_event : Parameters → Plane → ℕ → ℕ → Event
-broken_event p plane i j = interruption (is_flat (around plane i j)) (interruption_error p (around plane i j) (at plane i j))
+unfoldable pub interrupting_sample_event : Parameters → Plane → ℕ → ℕ → Event
+interrupting_sample_event p plane i j = interruption (ri_type_of (around plane i j)) (interruption_error p (around plane i j) (at plane i j))
 
-unfoldable pub broken_bits : Parameters → Plane → ℕ → ℕ → ℕ → List Event → List Bool
-broken_bits p plane i j index events =
-    golomb_bits p (interruption_word p index (is_flat (around plane i j)) (broken_counts p plane i j events)
+unfoldable pub interrupting_sample_bits : Parameters → Plane → ℕ → ℕ → ℕ → List Event → List Bool
+interrupting_sample_bits p plane i j index events =
+    golomb_bits p (interruption_word p index (ri_type_of (around plane i j)) (interrupting_sample_counts p plane i j events)
     (interruption_error p (around plane i j) (at plane i j)))
 
--- the events of a segment, and its bits, after these events
-abbrev pub segment_events : Parameters → Plane → Segment → List Event → List Event
-segment_events p plane (sample i j) events = sample_event p plane i j events ∷ []
-segment_events p plane (stretch i j count true) events = run (run_of count true) ∷ broken_event p plane i (j + count) ∷ []
-segment_events p plane (stretch i j count false) events = run (run_of count false) ∷ []
+-- the events of a span, and its bits, after these events
+abbrev pub span_events : Parameters → Plane → Span → List Event → List Event
+span_events p plane (sample_span i j) events = sample_event p plane i j events ∷ []
+span_events p plane (run_span i j count true) events = run (run_of count true) ∷ interrupting_sample_event p plane i (j + count) ∷ []
+span_events p plane (run_span i j count false) events = run (run_of count false) ∷ []
 
-abbrev pub segment_bits : Parameters → Plane → Segment → List Event → List Bool
-segment_bits p plane (sample i j) events = sample_bits p plane i j events
-segment_bits p plane (stretch i j count true) events =
-    run_bits (index_in events) (run_of count true) ++ broken_bits p plane i (j + count) (index_at (index_in events) (run_of count true)) events
-segment_bits p plane (stretch i j count false) events = run_bits (index_in events) (run_of count false)
+abbrev pub span_bits : Parameters → Plane → Span → List Event → List Bool
+span_bits p plane (sample_span i j) events = sample_bits p plane i j events
+span_bits p plane (run_span i j count true) events =
+    run_bits (run_index_after_events events) (run_of count true) ++ interrupting_sample_bits p plane i (j + count) (index_at (run_index_after_events events) (run_of count true)) events
+span_bits p plane (run_span i j count false) events = run_bits (run_index_after_events events) (run_of count false)
 
--- the bits of segments, after these events
-unfoldable pub coded : Parameters → Plane → List Segment → List Event → List Bool
+-- the bits of spans, after these events
+unfoldable pub coded : Parameters → Plane → List Span → List Event → List Bool
 coded p plane [] events = []
-coded p plane (segment ∷ more) events =
-    segment_bits p plane segment events ++ coded p plane more (events ++ segment_events p plane segment events)
+coded p plane (span ∷ more) events =
+    span_bits p plane span events ++ coded p plane more (events ++ span_events p plane span events)
 
 -- the bits of a plane
 unfoldable pub plane_bits : Parameters → Plane → List Bool
-plane_bits p plane = coded p plane (segments plane) []
+plane_bits p plane = coded p plane (spans plane) []

@@ -47,7 +47,7 @@ pub fn small_frames_have_these_codestreams()
     ensures colour { lone_codestream Color 255 (0 ∷ 0 ∷ 0 ∷ [])
         ≡ (255 ∷ 216 ∷ 255 ∷ 247 ∷ 0 ∷ 17 ∷ 8 ∷ 0 ∷ 1 ∷ 0 ∷ 1 ∷ 3 ∷ 1 ∷ 17 ∷ 0 ∷ 2 ∷ 17 ∷ 0 ∷ 3 ∷ 17 ∷ 0 ∷ [])
         ++ lone_scan 1 128 ++ lone_scan 2 128 ++ lone_scan 3 128 ++ last_marker }
-    ensures told { let p : Parameters = record { maxval = 255; t1 = 3; t2 = 7; t3 = 21; reset = 32 } in codestream (lone Gray 255 (0 ∷ [])) p
+    ensures written { let p : Parameters = record { maxval = 255; t1 = 3; t2 = 7; t3 = 21; reset = 32 } in codestream (lone Gray 255 (0 ∷ [])) p
         ≡ lone_head ++ (255 ∷ 248 ∷ 0 ∷ 13 ∷ 1 ∷ 0 ∷ 255 ∷ 0 ∷ 3 ∷ 0 ∷ 7 ∷ 0 ∷ 21 ∷ 0 ∷ 32 ∷ []) ++ lone_scan 1 128 ++ last_marker }
 {}
 

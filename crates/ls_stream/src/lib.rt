@@ -15,20 +15,13 @@
 //! computes a plane's bits plainly.
 #![tactic(auto)]
 
-mod coder;
-pub mod encoder;
+pub mod encode;
 pub mod laws;
-pub mod lines;
+mod lines;
 mod marker;
-#[cfg(test)]
-mod plain;
-mod plane;
-mod row;
-mod rows;
 mod segments;
 mod shape;
 #[cfg(test)]
 mod testing;
 
-pub use encoder::{code_bound, encode_frame, encode_with, encode_within};
-pub use lines::Lines;
+pub use encode::{Lines, code_bound, encode_frame, encode_with, encode_within};

@@ -1,59 +1,27 @@
-//! The lines of a plane as they are coded, each with one place more on the left and on the right.
-ghost use Rattle.std.specs.Prelude.{◌≡◌, ◌+◌, ◌*◌, ◌<◌, ◌≤◌, ℕ, length, slice_index, IfOk};
+//! Lines of a plane as a coder keeps them: each with one place more on the left and on the right, so that every sample has its
+//! neighbours (T.87 A.2.1) in its own line and in the line above.
+ghost use Rattle.std.specs.Prelude.{◌≡◌, ◌+◌, ◌*◌, ◌<◌, ◌≤◌, ℕ, length, slice_index};
+ghost use Rattle.ls_stream.specs.View.LineBuffers.{neighbours_in};
 
-use std::alloc::{AllocError, Global};
-use std::marker::Model;
+use ls_coding::Neighbours;
 
-/// Room for two lines of a plane, the one that is coded and the one above it, and for the contexts of its samples.
-///
-/// It is seen as the width of the lines that it has room for, in samples.
-#[derive(Drop)]
-pub struct Lines {
-    width: u16,
-    pub(crate) above: Vec<u16>,
-    pub(crate) line: Vec<u16>,
-    /// The contexts of a line's samples.
-    pub(crate) contexts: Vec<i16>,
-}
-
-impl Model for Lines {
-    ghost use Rattle.std.specs.Prelude.{◌≡◌, ◌+◌, ℕ, vec_len};
-
-    ghost Value = { ℕ };
-
-    ghost view = { λ l. l.width };
-
-    ghost invariant = { λ l. (vec_len l.above ≡ l.width + 2) × (vec_len l.line ≡ l.width + 2) × (vec_len l.contexts ≡ l.width) };
-}
-
-impl Lines {
-    /// Room for lines of so many samples. Refused only where memory is.
-    pub fn new(alloc: Global, width: u16) -> Result<Lines, AllocError>
-        ensures { IfOk result (λ lines. lines ≡ width) }
-    {
-        let places = usize::from(width) + 2;
-        let above = vec![in alloc; 0u16; places]?;
-        let line = vec![in alloc; 0u16; places]?;
-        let contexts = vec![in alloc; 0i16; usize::from(width)]?;
-        Ok(Lines {
-            width,
-            above,
-            line,
-            contexts,
-        })
-    }
-
-    /// How many samples a line may have.
-    pub fn width(&self) -> u16
-        ensures { result ≡ self.now }
-    {
-        self.width
+/// The samples around the one of a column.
+pub fn neighbours_in(above: &[u16], line: &[u16], column: usize) -> Neighbours
+    requires above { column + 2 < length above.now }
+    requires line { column < length line.now }
+    ensures { result ≡ neighbours_in above.now line.now column }
+{
+    Neighbours {
+        a: line[column],
+        b: above[column + 1],
+        c: above[column],
+        d: above[column + 2],
     }
 }
 
 /// Makes the next line, below `above`: to the left what is above its first sample, then a row's samples of one of
 /// `count` components, and the last of them once more.
-pub(crate) fn fill_line(
+pub fn fill_line(
     line: &mut [u16],
     above: &[u16],
     row: &[u16],
@@ -88,5 +56,14 @@ fn copy_component(line: &mut [u16], row: &[u16], width: usize, count: usize, com
     }
     for column in 0..width {
         line[column + 1] = row[column * count + component];
+    }
+}
+
+/// Writes 0 into each place.
+pub fn clear(line: &mut [u16])
+    ensures { (k : ℕ) → k < length line.new → slice_index line.new k ≡ 0 }
+{
+    for place in line.iter_mut() {
+        *place = 0;
     }
 }

@@ -1,24 +1,30 @@
 //! Markers (T.87 Table C.1; T.81 Table B.1).
 ghost use Rattle.std.specs.Prelude.{◌≡◌};
-ghost use Rattle.ls_stream.specs.Markers.{code_of};
+ghost use Rattle.ls_stream.specs.Markers.{code_of, is_application, marker_of};
 
-/// The markers of a codestream that is written.
+/// The markers that a reader of codestreams meets. Each is FF and a code.
 #[derive(Clone, Copy, Debug, PartialEq, Eq)]
 pub enum Marker {
-    /// SOI.
+    /// SOI, D8.
     StartOfImage,
-    /// EOI.
+    /// EOI, D9.
     EndOfImage,
-    /// SOS.
+    /// SOS, DA.
     StartOfScan,
-    /// SOF55, the frame header of JPEG-LS.
+    /// SOF55, F7: the frame header of JPEG-LS.
     StartOfFrame,
-    /// LSE.
+    /// LSE, F8.
     PresetParameters,
+    /// APP0 to APP15, by their codes E0 to EF.
+    Application(u8),
+    /// COM, FE.
+    Comment,
+    /// Any other, by its code.
+    Other(u8),
 }
 
 impl Marker {
-    /// The byte behind FF.
+    /// The byte after FF.
     pub fn code(self) -> u8
         ensures { result ≡ code_of self }
     {
@@ -28,6 +34,36 @@ impl Marker {
             Marker::StartOfScan => 0xDA,
             Marker::StartOfFrame => 0xF7,
             Marker::PresetParameters => 0xF8,
+            Marker::Application(code) => code,
+            Marker::Comment => 0xFE,
+            Marker::Other(code) => code,
+        }
+    }
+
+    /// The marker of a code: of the byte after FF.
+    pub fn of_code(code: u8) -> Marker
+        ensures marker { result ≡ marker_of code }
+        ensures code { code_of result ≡ code }
+    {
+        match code {
+            0xD8 => Marker::StartOfImage,
+            0xD9 => Marker::EndOfImage,
+            0xDA => Marker::StartOfScan,
+            0xF7 => Marker::StartOfFrame,
+            0xF8 => Marker::PresetParameters,
+            0xFE => Marker::Comment,
+            code if is_application(code) => Marker::Application(code),
+            code => Marker::Other(code),
         }
     }
 }
+
+/// APP0 to APP15.
+fn is_application(code: u8) -> bool
+    ensures { result ≡ is_application code }
+{
+    0xE0 <= code && code <= 0xEF
+}
+
+#[cfg(test)]
+mod tests;

@@ -1,6 +1,6 @@
 //! Where a frame's samples stand: rows from the top, and in a row pixel by pixel.
 ghost use Rattle.std.specs.Prelude.{◌≡◌};
-ghost use Rattle.ls_stream.specs.Components.{IsShapeOf};
+ghost use Rattle.ls_stream.specs.View.Shapes.{IsShapeOf};
 
 use ls_frame::Frame;
 
@@ -9,7 +9,7 @@ use ls_frame::Frame;
 pub struct Shape {
     pub width: usize,
     pub height: usize,
-    pub count: usize,
+    pub components: usize,
 }
 
 /// The shape of a frame.
@@ -19,6 +19,6 @@ pub fn shape_of(frame: &Frame) -> Shape
     Shape {
         width: usize::from(frame.width()),
         height: usize::from(frame.height()),
-        count: usize::from(frame.kind().components()),
+        components: usize::from(frame.kind().components()),
     }
 }

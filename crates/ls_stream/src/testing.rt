@@ -1,14 +1,22 @@
-//! What the tests share: frames, planes with their scans, and a plane's scan by the plain program.
-use crate::plain::plane_bits;
-use ls_bits::BitSink;
-use ls_frame::{Frame, Kind, Presets};
+//! What the tests share: frames, pictures that look like chance, and the checks.
+use ls_frame::{Frame, Kind};
 use std::alloc::{AllocError, Global};
 use std::process::Abort;
+
+/// That these are the bytes.
+pub fn check_bytes(rt: &impl Abort, name: &str, got: &[u8], want: &[u8]) {
+    assert_eq!(rt; got, want, "{name}");
+}
+
+/// That this is the number.
+pub fn check_number(rt: &impl Abort, name: &str, got: u64, want: u64) {
+    assert_eq!(rt; got, want, "{name}");
+}
 
 /// Kind, width, height, maxval, samples.
 pub type Parts = (Kind, u16, u16, u16, &'static [u16]);
 
-/// A frame of these parts. Refused only where memory is.
+/// A frame of these parts.
 pub fn frame_of(
     rt: &impl Abort,
     alloc: Global,
@@ -23,67 +31,6 @@ pub fn frame_of(
         made.map_err(|refused| refused.0)
             .expect(rt, "these parts make a frame"),
     )
-}
-
-/// The bits of a plane by the plain program, stuffed.
-pub fn plain_scan(
-    rt: &impl Abort,
-    alloc: Global,
-    presets: Presets,
-    width: usize,
-    samples: &[u16],
-) -> Result<Vec<u8>, AllocError> {
-    assert!(rt; width >= 1 && width <= 65535 && samples.len() <= 65535);
-    let mut sink = BitSink::new(alloc);
-    for bit in &plane_bits(alloc, presets, width, samples)? {
-        sink.put(u32::from(*bit), 1)?;
-    }
-    sink.finish()
-}
-
-/// The codestream of a frame, with its planes coded by the plain program.
-pub fn plain_codestream(
-    rt: &impl Abort,
-    alloc: Global,
-    frame: &Frame,
-    presets: Presets,
-) -> Result<Vec<u8>, AllocError> {
-    let count = frame.kind().components();
-    let precision = presets.bpp() as u8;
-    let mut bytes = vec![in alloc; 0xff, 0xd8, 0xff, 0xf7, 0x00, 8 + 3 * count, precision]?;
-    bytes.extend_from_slice(&frame.height().to_be_bytes())?;
-    bytes.extend_from_slice(&frame.width().to_be_bytes())?;
-    bytes.push(count)?;
-    for component in 0..count {
-        bytes.extend_from_slice(&[component + 1, 0x11, 0x00])?;
-    }
-    if frame.maxval().count_ones() != presets.bpp() || !presets.is_default() {
-        bytes.extend_from_slice(&[0xff, 0xf8, 0x00, 0x0d, 0x01])?;
-        let told = [
-            presets.maxval(),
-            presets.t1(),
-            presets.t2(),
-            presets.t3(),
-            presets.reset(),
-        ];
-        for field in told {
-            bytes.extend_from_slice(&field.to_be_bytes())?;
-        }
-    }
-    for component in 0..count {
-        bytes.extend_from_slice(&[0xff, 0xda, 0x00, 0x08, 0x01, component + 1, 0, 0, 0, 0])?;
-        let plane: Vec<u16> = frame
-            .samples()
-            .iter()
-            .skip(usize::from(component))
-            .step_by(usize::from(count))
-            .copied()
-            .collect(alloc)?;
-        let scan = plain_scan(rt, alloc, presets, usize::from(frame.width()), &plane)?;
-        bytes.extend_from_slice(&scan)?;
-    }
-    bytes.extend_from_slice(&[0xff, 0xd9])?;
-    Ok(bytes)
 }
 
 /// Numbers that look like chance, the same in each run (splitmix64).
@@ -107,7 +54,7 @@ impl Chance {
     }
 }
 
-/// What a plane shows.
+/// What a picture shows.
 #[derive(Clone, Copy, Debug)]
 pub enum Picture {
     /// Any samples.
@@ -151,48 +98,32 @@ pub fn samples_of(
     Ok(samples)
 }
 
-/// What a plane shows, its maxval, its width, its samples, and its scan with the default parameters.
-pub const PLANES: [(&str, u16, u16, &[u16], &[u8]); 12] = [
-    (
-        "the picture of T.87's Annex H.3",
-        255,
-        4,
-        &[
-            0, 0, 90, 74, 68, 50, 43, 205, 64, 145, 145, 145, 100, 145, 145, 145,
-        ],
-        &[
-            0xc0, 0x00, 0x00, 0x6c, 0x80, 0x20, 0x8e, 0x01, 0xc0, 0x00, 0x00, 0x57, 0x40, 0x00,
-            0x00, 0x6e, 0xe6, 0x00, 0x00, 0x01, 0xbc, 0x18, 0x00, 0x00, 0x05, 0xd8, 0x00, 0x00,
-            0x91, 0x60,
-        ],
-    ),
-    ("a lone zero", 255, 1, &[0], &[0x80]),
-    ("a lone greatest sample", 255, 1, &[255], &[0x40]),
-    ("a run of twelve", 255, 12, &[0; 12], &[0xff, 0x00]),
-    ("a run of thirteen", 255, 13, &[0; 13], &[0xff, 0x40]),
-    ("a run of sixteen", 255, 16, &[0; 16], &[0xff, 0x40]),
-    ("samples of two values", 1, 1, &[1], &[0x40]),
-    ("samples of sixteen bits", 65535, 1, &[65535], &[0x40, 0x00]),
-    (
-        "runs of two lines",
-        255,
-        4,
-        &[0, 0, 0, 9, 0, 0, 0, 9],
-        &[0xe0, 0xbb, 0x00],
-    ),
-    (
-        "an escape word behind a run",
-        255,
-        5,
-        &[0, 0, 0, 0, 100],
-        &[0xf0, 0x00, 0x00, 0x1c, 0x60],
-    ),
-    (
-        "a second sample in regular mode",
-        255,
-        2,
-        &[5, 5],
-        &[0x16, 0x00],
-    ),
-    ("one column", 255, 1, &[5, 5, 6], &[0x16, 0x24]),
-];
+/// How many bytes there were, and their FNV-1a (64 bits).
+#[derive(Clone, Copy, Debug, PartialEq, Eq)]
+pub struct Sum {
+    pub bytes: u64,
+    pub fnv: u64,
+}
+
+impl Sum {
+    /// Of no bytes.
+    pub fn new() -> Sum {
+        Sum {
+            bytes: 0,
+            fnv: 0xcbf2_9ce4_8422_2325,
+        }
+    }
+
+    /// Of these bytes more.
+    pub fn add(&mut self, more: &[u8]) {
+        self.bytes = self.bytes.wrapping_add(more.len() as u64);
+        for byte in more {
+            self.fnv = (self.fnv ^ u64::from(*byte)).wrapping_mul(0x100_0000_01b3);
+        }
+    }
+}
+
+/// That this is the sum.
+pub fn check_sum(rt: &impl Abort, name: &str, got: Sum, want: (u64, u64)) {
+    assert_eq!(rt; (got.bytes, got.fnv), want, "{name}");
+}

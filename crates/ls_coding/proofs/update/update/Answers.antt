@@ -3,26 +3,26 @@ use Rattle.std.specs.Prelude.{unsigned_abs}
 use Rattle.ls_coding.proofs.StatsLemmas.{step_is, sound_is, error_through, error_size, error_low, error_high, sum_through}
 use Rattle.ls_coding.proofs.update.update.Goals as goal
 
-low : (c : goal.After-balance) → neg_ℤ (pos 32768) ≤ℤ c.args.error
+low : (c : goal.After-correct_bias) → neg_ℤ (pos 32768) ≤ℤ c.args.error
 low c = error_low _ c.args.error c.reset.ensures.legal.maxval c.requires.error
 
-high : (c : goal.After-balance) → c.args.error ≤ℤ pos 32767
+high : (c : goal.After-correct_bias) → c.args.error ≤ℤ pos 32767
 high c = error_high _ c.args.error c.reset.ensures.legal.maxval c.requires.error
 
-size : (c : goal.After-balance) → c.unsigned_abs.result ≡ unsigned_abs c.args.error
+size : (c : goal.After-correct_bias) → c.unsigned_abs.result ≡ unsigned_abs c.args.error
 size c = c.unsigned_abs.ensures.value ∙ ap unsigned_abs (error_through c.args.error (low c) (high c))
 
-same : (c : goal.After-balance) → c.from-reset.result ≡ c.args.presets.reset
+same : (c : goal.After-correct_bias) → c.from-reset.result ≡ c.args.presets.reset
 same c = c.from-reset.ensures ∙ c.reset.ensures.value
 
 pub returns-clause-step : goal.returns-clause-step
 returns-clause-step c =
     step_is c.args.presets.reset c.args.a.now c.args.n.now c.unsigned_abs.result c.args.b.now c.args.c.now c.args.error
-    c.count.new.a c.count.new.n c.count.new.b _ c.balance.new.b c.balance.new.c
+    c.count_error.new.a c.count_error.new.n c.count_error.new.b _ c.correct_bias.new.b c.correct_bias.new.c
     (size c) (sum_through c.args.presets.reset _ c.args.a.now c.args.n.now c.args.b.now c.args.c.now c.args.error c.requires.sound (omega arith) (low c) (high c))
-    (rw (same c) at c.count.ensures.a) (rw (same c) at c.count.ensures.b) (rw (same c) at c.count.ensures.n) c.balance.ensures.b c.balance.ensures.c
+    (rw (same c) at c.count_error.ensures.a) (rw (same c) at c.count_error.ensures.b) (rw (same c) at c.count_error.ensures.n) c.correct_bias.ensures.b c.correct_bias.ensures.c
 
 pub returns-clause-sound : goal.returns-clause-sound
 returns-clause-sound c =
-    sound_is c.args.presets.reset _ c.args.a.now c.args.n.now c.unsigned_abs.result c.count.new.a c.count.new.n c.args.b.now c.args.c.now c.count.new.b c.balance.new.b c.balance.new.c
-    (omega arith) c.requires.sound (omega (arith, size c, error_size _ c.args.error c.requires.error)) (rw (same c) at c.count.ensures.a) (rw (same c) at c.count.ensures.n) c.balance.ensures.b c.balance.ensures.low c.balance.ensures.high
+    sound_is c.args.presets.reset _ c.args.a.now c.args.n.now c.unsigned_abs.result c.count_error.new.a c.count_error.new.n c.args.b.now c.args.c.now c.count_error.new.b c.correct_bias.new.b c.correct_bias.new.c
+    (omega arith) c.requires.sound (omega (arith, size c, error_size _ c.args.error c.requires.error)) (rw (same c) at c.count_error.ensures.a) (rw (same c) at c.count_error.ensures.n) c.correct_bias.ensures.b c.correct_bias.ensures.low c.correct_bias.ensures.high

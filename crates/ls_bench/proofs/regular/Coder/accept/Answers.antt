@@ -3,7 +3,7 @@ use Rattle.ls_bits.specs.Golomb.{most_value}
 use Rattle.ls_frame.specs.Parameters.{qbpp_of, ceil_log2}
 use Rattle.ls_coding.specs.declared.neighbours.Neighbours.{Neighbours}
 use Rattle.ls_coding.specs.Samples.{AreSamples}
-use Rattle.ls_coding.specs.Plans.{Planned, regular_plan, regular_plan_by}
+use Rattle.ls_coding.specs.View.Plans.{Planned, regular_plan, regular_plan_by}
 use Rattle.ls_bench.proofs.regular.Coder.accept.Goals as goal
 
 pub accept_regular-requires-clause-plan : goal.accept_regular-requires-clause-plan

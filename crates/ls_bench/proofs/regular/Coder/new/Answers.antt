@@ -1,5 +1,5 @@
 use Rattle.std.proofs.Common.{ap, ◌∙◌}
-use Rattle.ls_coding.specs.States.{Coding, state_of}
+use Rattle.ls_coding.specs.View.States.{Coding, state_of}
 use Rattle.ls_bench.proofs.regular.Coder.new.Goals as goal
 
 pub invariant_of-result : goal.invariant_of-result

@@ -3,8 +3,8 @@ use Rattle.std.proofs.lemmas.Bool.{false≢true}
 use mir.Syntax.{w32}
 use mir.Val.{to_z, of_z}
 use Rattle.ls_frame.specs.Parameters.{range_of}
-use Rattle.ls_coding.specs.Errors.{IsReduced, leans, mapped, error_of}
-use Rattle.ls_coding.specs.Fields.{stats_at}
+use Rattle.ls_coding.specs.Errors.{IsReduced, is_inverted, mapped_error, error_of}
+use Rattle.ls_coding.specs.View.Fields.{stats_at}
 use Rattle.ls_coding.proofs.SignedLemmas.{through}
 use Rattle.ls_coding.proofs.StatsLemmas.{mean_is}
 use Rattle.ls_coding.proofs.ErrorLemmas.{error_of-reduced}
@@ -14,12 +14,12 @@ pub returns-then-not-is_reduced-clause-none : goal.returns-then-not-is_reduced-c
 returns-then-not-is_reduced-clause-none c sample within same =
     let s = stats_at c.args.self.now.a c.args.self.now.b c.args.self.now.c c.args.self.now.n c.args.number in
     let e : ℤ = error_of c.args.presets c.args.negative (pos c.args.prediction) sample in
-    let lean : c.leans-leaning.result ≡ leans c.args.k s.b s.n =
-    c.leans-leaning.ensures ∙ ap (λ z. leans c.args.k z s.n) (mean_is c.args.presets.reset _ s (c.requires.sound.regular c.args.number c.requires.number) (omega arith)) in
-    let found : e ≡ c.unmapped-error.result = c.unmapped-error.ensures.only e (ap (λ l. mapped l e) lean ∙ same) in
+    let lean : c.is_inverted-inverted.result ≡ is_inverted c.args.k s.b s.n =
+    c.is_inverted-inverted.ensures ∙ ap (λ z. is_inverted c.args.k z s.n) (mean_is c.args.presets.reset _ s (c.requires.sound.regular c.args.number c.requires.number) (omega arith)) in
+    let found : e ≡ c.unmapped_error-error.result = c.unmapped_error-error.ensures.only e (ap (λ l. mapped_error l e) lean ∙ same) in
     let reduced : IsReduced (range_of c.args.presets.maxval) e = error_of-reduced c.args.presets c.args.prediction sample c.args.negative c.requires.prediction within in
-    let passed : IsReduced (range_of c.args.presets.maxval) (to_z w32 (of_z w32 c.unmapped-error.result)) =
-    subst (IsReduced (range_of c.args.presets.maxval)) (found ∙ sym (through c.unmapped-error.result c.unmapped-error.type_inv)) reduced in
+    let passed : IsReduced (range_of c.args.presets.maxval) (to_z w32 (of_z w32 c.unmapped_error-error.result)) =
+    subst (IsReduced (range_of c.args.presets.maxval)) (found ∙ sym (through c.unmapped_error-error.result c.unmapped_error-error.type_inv)) reduced in
     absurd (false≢true (sym c.if-not-is_reduced.true ∙ c.is_reduced.ensures.1 (rw c.range.ensures passed)))
 
 pub sample_of-sample-requires-clause-reduced : goal.sample_of-sample-requires-clause-reduced
@@ -31,13 +31,13 @@ add-requires-clause-error c = rw c.range.ensures at (c.is_reduced.ensures.0 c.if
 pub returns-clause-ok : goal.returns-clause-ok
 returns-clause-ok c =
     let s = stats_at c.args.self.now.a c.args.self.now.b c.args.self.now.c c.args.self.now.n c.args.number in
-    let lean : c.leans-leaning.result ≡ leans c.args.k s.b s.n =
-    c.leans-leaning.ensures ∙ ap (λ z. leans c.args.k z s.n) (mean_is c.args.presets.reset _ s (c.requires.sound.regular c.args.number c.requires.number) (omega arith)) in
-    let passed : to_z w32 (of_z w32 c.unmapped-error.result) ≡ c.unmapped-error.result = through c.unmapped-error.result c.unmapped-error.type_inv in
+    let lean : c.is_inverted-inverted.result ≡ is_inverted c.args.k s.b s.n =
+    c.is_inverted-inverted.ensures ∙ ap (λ z. is_inverted c.args.k z s.n) (mean_is c.args.presets.reset _ s (c.requires.sound.regular c.args.number c.requires.number) (omega arith)) in
+    let passed : to_z w32 (of_z w32 c.unmapped_error-error.result) ≡ c.unmapped_error-error.result = through c.unmapped_error-error.result c.unmapped_error-error.type_inv in
     record {
       is_sample = c.sample_of-sample.ensures.within;
-      has_value = ap (λ l. mapped l (error_of c.args.presets c.args.negative (pos c.args.prediction) c.sample_of-sample.result)) (sym lean)
-          ∙ ap (mapped c.leans-leaning.result) (c.sample_of-sample.ensures.error ∙ passed) ∙ c.unmapped-error.ensures.value;
+      has_value = ap (λ l. mapped_error l (error_of c.args.presets c.args.negative (pos c.args.prediction) c.sample_of-sample.result)) (sym lean)
+          ∙ ap (mapped_error c.is_inverted-inverted.result) (c.sample_of-sample.ensures.error ∙ passed) ∙ c.unmapped_error-error.ensures.value;
       only = λ other within same. c.sample_of-sample.ensures.only other within
-          (c.unmapped-error.ensures.only (error_of c.args.presets c.args.negative (pos c.args.prediction) other) (ap (λ l. mapped l (error_of c.args.presets c.args.negative (pos c.args.prediction) other)) lean ∙ same) ∙ sym passed);
+          (c.unmapped_error-error.ensures.only (error_of c.args.presets c.args.negative (pos c.args.prediction) other) (ap (λ l. mapped_error l (error_of c.args.presets c.args.negative (pos c.args.prediction) other)) lean ∙ same) ∙ sym passed);
     }

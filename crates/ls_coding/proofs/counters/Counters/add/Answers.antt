@@ -1,6 +1,6 @@
 use Rattle.std.proofs.Common.{ap, ◌∙◌, rules}
 use Rattle.ls_coding.specs.Stats.{stats_step}
-use Rattle.ls_coding.specs.Fields.{stats_at}
+use Rattle.ls_coding.specs.View.Fields.{stats_at}
 use Rattle.ls_coding.proofs.SignedLemmas.{through}
 use Rattle.ls_coding.proofs.FieldLemmas.{AreWhole, contexts_set, regular_sound}
 use Rattle.ls_coding.proofs.counters.Counters.add.Goals as goal

@@ -6,9 +6,9 @@ whole : (c : goal.After-count_interruption) → AreWholeCounts c.args.self.now.a
 whole c = record { every_a = search rules; every_n = search rules; every_nn = search rules }
 
 pub returns-clause-contexts : goal.returns-clause-contexts
-returns-clause-contexts c = contexts_kept _ _ _ _ c.kind-which.result _ _
+returns-clause-contexts c = contexts_kept _ _ _ _ c.ri_value-which.result _ _
 
 pub returns-clause-sound : goal.returns-clause-sound
 returns-clause-sound c =
-    rw c.kind-which.ensures.value
-    (interruption_sound c.args.flat _ _ _ _ _ _ _ _ _ _ (whole c) c.requires.sound c.count_interruption.ensures.sound)
+    rw c.ri_value-which.ensures.value
+    (interruption_sound c.args.ri_type _ _ _ _ _ _ _ _ _ _ (whole c) c.requires.sound c.count_interruption.ensures.sound)

@@ -40,7 +40,7 @@ pub returns : goal.returns
 unfolding sums ones none two
 returns c = record {
   contexts = first_at (sums c) ones none none c.args.presets (all_sums c) all_none all_none all_ones;
-  steep = first_counts_at (sums c) ones two c.args.presets 0 (all_sums c) all_ones all_two (omega arith);
-  flat = first_counts_at (sums c) ones two c.args.presets 1 (all_sums c) all_ones all_two (omega arith);
+  ri_type_0 = first_counts_at (sums c) ones two c.args.presets 0 (all_sums c) all_ones all_two (omega arith);
+  ri_type_1 = first_counts_at (sums c) ones two c.args.presets 1 (all_sums c) all_ones all_two (omega arith);
   sound = first_sound (sums c) ones two none none c.args.presets (legal c) (all_sums c) all_none all_none all_ones all_two;
 }

@@ -1,10 +1,10 @@
 use Rattle.std.proofs.Common.{rules, ◌≡◌, ◌≤◌, ◌^◌, ℕ, sym, ap, subst, ◌∙◌, arith}
 use Rattle.ls_frame.specs.Parameters.{Parameters, qbpp_of}
 use Rattle.ls_coding.specs.declared.neighbours.Neighbours.{Neighbours}
-use Rattle.ls_coding.specs.Interruptions.{is_flat, ri_type, interruption_value, interruption_error}
-use Rattle.ls_coding.specs.States.{Coding, interruption_word_in}
-use Rattle.ls_coding.specs.Fields.{contexts_of, counts_at}
-use Rattle.ls_coding.specs.Plans.{Planned, interruption_plan, Interrupts, IsTheSample, NoSample}
+use Rattle.ls_coding.specs.Interruptions.{ri_type_of, ri_value, interruption_value, interruption_error}
+use Rattle.ls_coding.specs.View.States.{Coding, interruption_word_in}
+use Rattle.ls_coding.specs.View.Fields.{contexts_of, counts_at}
+use Rattle.ls_coding.specs.View.Plans.{Planned, interruption_plan, Interrupts, IsTheSample, NoSample}
 use Rattle.ls_coding.specs.contracts.state.State as state
 use Rattle.ls_coding.specs.contracts.plan.Plan as plan
 use Rattle.ls_coding.proofs.EventLemmas.{word_of_interruption, state_after_interruption}
@@ -40,7 +40,7 @@ returns-in_err-sample-clause-none c =
     c.in_err-sample.ensures.none)))
 
 same_value : (c : goal.After-self-2-1) (one : ℕ)
-    → interruption_value (is_flat c.plan.inside.neighbours) (counts_at c.self.inside.counters.a c.self.inside.counters.n c.self.inside.counters.nn (ri_type (is_flat c.plan.inside.neighbours))) (interruption_error c.self.inside.presets c.plan.inside.neighbours one)
+    → interruption_value (ri_type_of c.plan.inside.neighbours) (counts_at c.self.inside.counters.a c.self.inside.counters.n c.self.inside.counters.nn (ri_value (ri_type_of c.plan.inside.neighbours))) (interruption_error c.self.inside.presets c.plan.inside.neighbours one)
     ≡ (interruption_word_in (state.the_view c.self.inside) c.plan.inside.neighbours one).value
 same_value c one =
     let s = c.self.inside in
@@ -59,5 +59,5 @@ returns-clause-state c = search rules
 pub returns-clause-events : goal.returns-clause-events
 returns-clause-events c events same = record {
   word_is = word_of_interruption c.args.self.now c.args.plan.neighbours c.in_ok-sample.sample events same;
-  after_is = state_after_interruption c.args.self.now _ (is_flat c.args.plan.neighbours) (interruption_error c.args.self.now.parameters c.args.plan.neighbours c.in_ok-sample.sample) (returns-clause-state c) events same;
+  after_is = state_after_interruption c.args.self.now _ (ri_type_of c.args.plan.neighbours) (interruption_error c.args.self.now.parameters c.args.plan.neighbours c.in_ok-sample.sample) (returns-clause-state c) events same;
 }

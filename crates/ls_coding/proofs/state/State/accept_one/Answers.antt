@@ -1,6 +1,6 @@
 use Rattle.std.proofs.Common.{◌^◌, ◌<◌, false, ap, subst, ◌∙◌, arith}
 use Rattle.ls_coding.specs.Runs.{order, run_of}
-use Rattle.ls_coding.specs.States.{Coding, after_run}
+use Rattle.ls_coding.specs.View.States.{Coding, run_after}
 use Rattle.ls_coding.specs.contracts.state.State as state
 use Rattle.ls_coding.proofs.StateLemmas.{part_after, one_after, state_after_run}
 use Rattle.ls_coding.proofs.state.State.accept_one.Goals as goal
@@ -17,7 +17,7 @@ pub returns-clause-state : goal.returns-clause-state
 returns-clause-state c =
     one_after (state.the_view c.self.inside) c.min-self-inside.result c.samples_of_one-samples.result c.min-self-inside.ensures c.samples_of_one-samples.ensures
     (ap (λ (t : Coding). t.broken) c.self.view_is ∙ c.requires.whole)
-    ∙ ap (λ (t : Coding). after_run t (run_of c.samples_of_one-samples.result false)) c.self.view_is
+    ∙ ap (λ (t : Coding). run_after t (run_of c.samples_of_one-samples.result false)) c.self.view_is
 
 pub returns-clause-events : goal.returns-clause-events
 returns-clause-events c events same = state_after_run c.args.self.now _ _ (returns-clause-state c) events same

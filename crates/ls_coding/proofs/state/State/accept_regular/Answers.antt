@@ -1,10 +1,10 @@
 use Rattle.std.proofs.Common.{◌≡◌, ◌≤◌, ◌<◌, ◌^◌, ℕ, pos, sym, ap, subst, refl, ◌∙◌, arith}
 use Rattle.ls_frame.specs.Parameters.{Parameters, qbpp_of}
 use Rattle.std.specs.Prelude.{IfOk, IfErr}
-use Rattle.ls_coding.specs.Errors.{mapped, leans, error_of}
-use Rattle.ls_coding.specs.States.{Coding, place_of, regular_word_in, regular_error_in, after_regular}
-use Rattle.ls_coding.specs.Fields.{stats_at, counts_at}
-use Rattle.ls_coding.specs.Plans.{regular_plan, IsTheSample, NoSample}
+use Rattle.ls_coding.specs.Errors.{mapped_error, is_inverted, error_of}
+use Rattle.ls_coding.specs.View.States.{Coding, context_in, regular_word_in, regular_error_in, regular_after}
+use Rattle.ls_coding.specs.View.Fields.{stats_at, counts_at}
+use Rattle.ls_coding.specs.View.Plans.{regular_plan, IsTheSample, NoSample}
 use Rattle.ls_coding.specs.contracts.state.State as state
 use Rattle.ls_coding.specs.contracts.plan.Plan as plan
 use Rattle.ls_coding.proofs.EventLemmas.{state_after_regular, word_of_regular}
@@ -18,7 +18,7 @@ made_by c = c.plan.view_is ∙ c.requires.plan ∙ ap (λ (t : Coding). regular_
 
 pub accept-requires-clause-number : goal.accept-requires-clause-number
 accept-requires-clause-number c =
-    let small : (place_of (state.the_view c.self.inside) c.args.plan.neighbours).number < 365 = place_small c.self.inside.presets c.args.plan.neighbours in
+    let small : (context_in (state.the_view c.self.inside) c.args.plan.neighbours).number < 365 = place_small c.self.inside.presets c.args.plan.neighbours in
     subst (λ number. number < 365) (sym (number_same (state.the_view c.self.inside) c.args.plan.neighbours (plan.the_view c.plan.inside) (made_by c))) small
 
 pub accept-requires-clause-prediction : goal.accept-requires-clause-prediction
@@ -35,7 +35,7 @@ made_here : (c : goal.After-accept) → plan.the_view c.plan.inside ≡ regular_
 made_here c = c.plan.view_is ∙ c.requires.plan ∙ ap (λ (t : Coding). regular_plan t c.args.plan.neighbours) (sym c.self.view_is)
 
 same_value : (c : goal.After-accept) (one : ℕ)
-    → mapped (leans c.plan.inside.k (stats_at c.self.inside.counters.a c.self.inside.counters.b c.self.inside.counters.c c.self.inside.counters.n c.plan.inside.number).b (stats_at c.self.inside.counters.a c.self.inside.counters.b c.self.inside.counters.c c.self.inside.counters.n c.plan.inside.number).n)
+    → mapped_error (is_inverted c.plan.inside.k (stats_at c.self.inside.counters.a c.self.inside.counters.b c.self.inside.counters.c c.self.inside.counters.n c.plan.inside.number).b (stats_at c.self.inside.counters.a c.self.inside.counters.b c.self.inside.counters.c c.self.inside.counters.n c.plan.inside.number).n)
     (error_of c.self.inside.presets c.plan.inside.negative (pos c.plan.inside.prediction) one)
     ≡ (regular_word_in (state.the_view c.self.inside) c.args.plan.neighbours one).value
 same_value c one =
@@ -61,8 +61,8 @@ returns-clause-state c =
     alike s.presets _ _ _ _ _ _ _ _ _ _
     (h ∙ stepped_same s.presets s.counters.a s.counters.n s.counters.b s.counters.c (counts_at s.counters.a s.counters.n s.counters.nn 0) (counts_at s.counters.a s.counters.n s.counters.nn 1) s.run_index s.broken
     c.args.plan.neighbours (plan.the_view c.plan.inside) (made_here c) sample)
-    c.accept.ensures.steep c.accept.ensures.flat refl refl
-    ∙ ap (λ (t : Coding). after_regular t (place_of t c.args.plan.neighbours).number (regular_error_in t c.args.plan.neighbours sample)) c.self.view_is)
+    c.accept.ensures.ri_type_0 c.accept.ensures.ri_type_1 refl refl
+    ∙ ap (λ (t : Coding). regular_after t (context_in t c.args.plan.neighbours).number (regular_error_in t c.args.plan.neighbours sample)) c.self.view_is)
     c.accept.ensures.contexts
 
 pub returns-clause-events : goal.returns-clause-events

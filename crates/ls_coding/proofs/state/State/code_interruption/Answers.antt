@@ -2,11 +2,11 @@ use Rattle.std.proofs.Common.{rules, ◌≡◌, ◌≤◌, ◌-◌, length, ap, 
 use Rattle.ls_frame.specs.Parameters.{qbpp_of, limit_of}
 use Rattle.ls_bits.proofs.GolombLemmas.{length-code_word}
 use Rattle.ls_coding.specs.declared.word.Word.{Word}
-use Rattle.ls_coding.specs.Interruptions.{is_flat, interruption_error}
+use Rattle.ls_coding.specs.Interruptions.{ri_type_of, interruption_error}
 use Rattle.ls_coding.specs.Runs.{order}
 use Rattle.ls_coding.specs.Events.{golomb_bits}
-use Rattle.ls_coding.specs.States.{Coding, interruption_word_in}
-use Rattle.ls_coding.specs.Fields.{contexts_of}
+use Rattle.ls_coding.specs.View.States.{Coding, interruption_word_in}
+use Rattle.ls_coding.specs.View.Fields.{contexts_of}
 use Rattle.ls_coding.proofs.EventLemmas.{word_of_interruption, state_after_interruption}
 use Rattle.ls_coding.proofs.InterruptionViews.{word_in_view}
 use Rattle.ls_coding.proofs.state.State.code_interruption.Goals as goal
@@ -32,5 +32,5 @@ returns-clause-state c = search rules
 pub returns-clause-events : goal.returns-clause-events
 returns-clause-events c events same = record {
   word_is = returns-clause-word c ∙ word_of_interruption c.args.self.now c.args.neighbours.now c.args.sample events same;
-  after_is = state_after_interruption c.args.self.now _ (is_flat c.args.neighbours.now) (interruption_error c.args.self.now.parameters c.args.neighbours.now c.args.sample) (returns-clause-state c) events same;
+  after_is = state_after_interruption c.args.self.now _ (ri_type_of c.args.neighbours.now) (interruption_error c.args.self.now.parameters c.args.neighbours.now c.args.sample) (returns-clause-state c) events same;
 }

@@ -5,8 +5,8 @@ use Rattle.ls_frame.specs.Parameters.{Parameters, qbpp_of, limit_of}
 use Rattle.ls_bits.proofs.GolombLemmas.{length-code_word}
 use Rattle.ls_coding.specs.declared.word.Word.{Word}
 use Rattle.ls_coding.specs.Contexts.{context_of}
-use Rattle.ls_coding.specs.States.{Coding, place_of, regular_error_in, regular_word_in, after_regular}
-use Rattle.ls_coding.specs.Fields.{contexts_of}
+use Rattle.ls_coding.specs.View.States.{Coding, context_in, regular_error_in, regular_word_in, regular_after}
+use Rattle.ls_coding.specs.View.Fields.{contexts_of}
 use Rattle.ls_coding.specs.Events.{golomb_bits}
 use Rattle.ls_coding.proofs.ContextLemmas.{signed_range, signed_place, context_through}
 use Rattle.ls_coding.proofs.EventLemmas.{word_of_regular, state_after_regular}
@@ -28,8 +28,8 @@ returns-clause-state c =
     (c.code.ensures.contexts
     ∙ ap (set (contexts_of s.counters.a s.counters.b s.counters.c s.counters.n) (context_of s.presets c.args.neighbours.now).number)
     (step_in_view s.presets s.counters.a s.counters.n s.counters.b s.counters.c _ _ s.run_index s.broken c.args.neighbours.now c.args.sample))
-    c.code.ensures.steep c.code.ensures.flat refl refl
-    ∙ ap (λ (t : Coding). after_regular t (place_of t c.args.neighbours.now).number (regular_error_in t c.args.neighbours.now c.args.sample)) c.self.view_is
+    c.code.ensures.ri_type_0 c.code.ensures.ri_type_1 refl refl
+    ∙ ap (λ (t : Coding). regular_after t (context_in t c.args.neighbours.now).number (regular_error_in t c.args.neighbours.now c.args.sample)) c.self.view_is
 
 pub returns-clause-cost : goal.returns-clause-cost
 returns-clause-cost c =
@@ -45,22 +45,22 @@ returns-clause-events c events same = record {
   after_is = state_after_regular c.args.self.now _ c.args.neighbours.now c.args.sample c.requires.whole (returns-clause-state c) events same;
 }
 
-pub place_of-place-requires-clause-low : goal.place_of-place-requires-clause-low
-place_of-place-requires-clause-low c =
+pub context_of_signed-split-requires-clause-low : goal.context_of_signed-split-requires-clause-low
+context_of_signed-split-requires-clause-low c =
     let range = signed_range c.args.self.now.parameters c.args.neighbours.now in
     subst (λ z. neg_ℤ (pos 364) ≤ℤ z) (sym (context_through _ _ c.args.context c.requires.context)) range.0
 
-pub place_of-place-requires-clause-high : goal.place_of-place-requires-clause-high
-place_of-place-requires-clause-high c =
+pub context_of_signed-split-requires-clause-high : goal.context_of_signed-split-requires-clause-high
+context_of_signed-split-requires-clause-high c =
     let range = signed_range c.args.self.now.parameters c.args.neighbours.now in
     subst (λ z. z ≤ℤ pos 364) (sym (context_through _ _ c.args.context c.requires.context)) range.1
 
 pub code-requires-clause-number : goal.code-requires-clause-number
 code-requires-clause-number c =
-    c.place_of-place.ensures.number ∙ ap unsigned_abs (context_through _ _ c.args.context c.requires.context) ∙ sym (signed_place c.args.self.now.parameters c.args.neighbours.now).0
+    c.context_of_signed-split.ensures.number ∙ ap unsigned_abs (context_through _ _ c.args.context c.requires.context) ∙ sym (signed_place c.args.self.now.parameters c.args.neighbours.now).0
     ∙ ap (λ (t : Coding). (context_of t.parameters c.args.neighbours.now).number) (sym c.self.view_is)
 
 pub code-requires-clause-negative : goal.code-requires-clause-negative
 code-requires-clause-negative c =
-    c.place_of-place.ensures.negative ∙ ap (λ z. int_lt z (pos 0)) (context_through _ _ c.args.context c.requires.context) ∙ sym (signed_place c.args.self.now.parameters c.args.neighbours.now).1
+    c.context_of_signed-split.ensures.negative ∙ ap (λ z. int_lt z (pos 0)) (context_through _ _ c.args.context c.requires.context) ∙ sym (signed_place c.args.self.now.parameters c.args.neighbours.now).1
     ∙ ap (λ (t : Coding). (context_of t.parameters c.args.neighbours.now).negative) (sym c.self.view_is)

@@ -2,8 +2,8 @@ use Rattle.std.proofs.Common.{rules, ◌≡◌, ◌≤◌, ◌+◌, ◌-◌, ◌
 use Rattle.std.specs.Prelude.{not}
 use Rattle.ls_frame.specs.Parameters.{qbpp_of, limit_of}
 use Rattle.ls_coding.specs.declared.run.RunWord.{RunWord}
-use Rattle.ls_coding.specs.Runs.{Fits, order, run_of, run_word, word_bits, walked}
-use Rattle.ls_coding.specs.States.{Coding}
+use Rattle.ls_coding.specs.Runs.{TailFits, order, run_of, run_word, word_bits, walked}
+use Rattle.ls_coding.specs.View.States.{Coding}
 use Rattle.ls_coding.proofs.RunLemmas.{full_cost, broken_cost, tail_fits}
 use Rattle.ls_coding.proofs.StateLemmas.{word_is, state_after_run}
 use Rattle.ls_coding.proofs.WordLemmas.{limit_large}
@@ -42,4 +42,4 @@ returns-clause-events c events same = state_after_run c.args.self.now _ _ (retur
 
 pub returns-clause-tail : goal.returns-clause-tail
 returns-clause-tail c =
-    subst (λ (w : RunWord). Fits w.tail) (sym (returns-clause-word c)) (tail_fits c.args.self.now.run_index c.args.count (not c.args.eol))
+    subst (λ (w : RunWord). TailFits w.tail) (sym (returns-clause-word c)) (tail_fits c.args.self.now.run_index c.args.count (not c.args.eol))

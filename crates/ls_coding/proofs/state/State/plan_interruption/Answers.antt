@@ -1,7 +1,7 @@
 use Rattle.std.proofs.Common.{rules, ap, sym, subst, ◌∙◌}
 use Rattle.ls_coding.specs.declared.neighbours.Neighbours.{Neighbours}
-use Rattle.ls_coding.specs.States.{interruption_word_in}
-use Rattle.ls_coding.specs.Plans.{Planned, interruption_plan, IsReadBy}
+use Rattle.ls_coding.specs.View.States.{interruption_word_in}
+use Rattle.ls_coding.specs.View.Plans.{Planned, interruption_plan, IsReadBy}
 use Rattle.ls_coding.proofs.InterruptionViews.{neighbours_of_interruption, read_interruption}
 use Rattle.ls_coding.proofs.state.State.plan_interruption.Goals as goal
 

@@ -1,8 +1,8 @@
 use Rattle.std.proofs.Common.{sym, ap, subst, ◌∙◌}
 use Rattle.ls_coding.specs.declared.neighbours.Neighbours.{Neighbours}
-use Rattle.ls_coding.specs.States.{Coding, regular_word_in}
-use Rattle.ls_coding.specs.Fields.{counts_at}
-use Rattle.ls_coding.specs.Plans.{Planned, regular_plan, IsReadBy}
+use Rattle.ls_coding.specs.View.States.{Coding, regular_word_in}
+use Rattle.ls_coding.specs.View.Fields.{counts_at}
+use Rattle.ls_coding.specs.View.Plans.{Planned, regular_plan, IsReadBy}
 use Rattle.ls_coding.proofs.RegularLemmas.{neighbours_of_regular, plan_in_view, read_regular}
 use Rattle.ls_coding.proofs.state.State.plan_regular.Goals as goal
 

@@ -1,0 +1,4 @@
+pub mod Fields
+pub mod Plans
+pub mod Sizes
+pub mod States

@@ -1,0 +1,51 @@
+-- How a state's arrays are read as counters.
+use Rattle.std.specs.Prelude.{◌≡◌, ℕ, ◌+◌, ◌<◌, ◌≤◌, ℤ, pos, List, map, slice_index, slice_index_or}
+use Rattle.std.specs.List.{range_with_len}
+use Rattle.ls_frame.specs.Parameters.{Parameters, limit_of}
+use Rattle.ls_coding.specs.declared.counters.Counters.{Counters}
+use Rattle.ls_coding.specs.Stats.{Stats, AreSound, error_bound}
+use Rattle.ls_coding.specs.Interruptions.{Counts, AreSoundCounts}
+
+abbrev pub stats_at : List ℕ → List ℤ → List ℤ → List ℕ → ℕ → Stats
+stats_at a b c n number = record {
+  a = slice_index a number;
+  b = slice_index_or b number (pos 0);
+  c = slice_index_or c number (pos 0);
+  n = slice_index n number;
+}
+
+unfoldable pub contexts_of : List ℕ → List ℤ → List ℤ → List ℕ → List Stats
+contexts_of a b c n = map (stats_at a b c n) (range_with_len 0 365)
+
+abbrev pub counts_at : List ℕ → List ℕ → List ℕ → ℕ → Counts
+counts_at a n nn which = record {
+  a = slice_index a (365 + which);
+  n = slice_index n (365 + which);
+  nn = slice_index nn which;
+}
+
+-- what the arrays keep to, for a RESET and a bound on errors
+pub record AreAllSound (reset bound : ℕ) (a : List ℕ) (b c : List ℤ) (n nn : List ℕ) : Type 0 where
+  pub regular : (number : ℕ) → number < 365 → AreSound reset bound (stats_at a b c n number)
+  pub ri_type_0 : AreSoundCounts reset bound (counts_at a n nn 0)
+  pub ri_type_1 : AreSoundCounts reset bound (counts_at a n nn 1)
+
+-- ---- the same, of the arrays together
+
+abbrev pub regular_at : Counters → ℕ → Stats
+regular_at s number = stats_at s.a s.b s.c s.n number
+
+abbrev pub all_regular : Counters → List Stats
+all_regular s = contexts_of s.a s.b s.c s.n
+
+abbrev pub interrupting_at : Counters → ℕ → Counts
+interrupting_at s which = counts_at s.a s.n s.nn which
+
+abbrev pub IsSound : Parameters → Counters → Type 0
+IsSound p s = AreAllSound p.reset (error_bound p.maxval) s.a s.b s.c s.n s.nn
+
+-- what a state keeps to
+pub record IsSoundState (p : Parameters) (limit run_index : ℕ) (s : Counters) : Type 0 where
+  pub limit_is : limit ≡ limit_of p.maxval
+  pub index : run_index ≤ 31
+  pub sound : IsSound p s

@@ -1,0 +1,69 @@
+-- What a sample's word is read by, and which sample a value stands for.
+use Rattle.std.specs.Prelude.{◌≡◌, ◌≢◌, ℕ, ◌-◌, ◌≤◌, Bool, ℤ, pos}
+use Rattle.ls_frame.specs.Parameters.{Parameters, limit_of}
+use Rattle.ls_coding.specs.declared.neighbours.Neighbours.{Neighbours}
+use Rattle.ls_coding.specs.declared.word.Word.{Word}
+use Rattle.ls_coding.specs.Numbers.{golomb_parameter}
+use Rattle.ls_coding.specs.Contexts.{Context}
+use Rattle.ls_coding.specs.Errors.{predicted}
+use Rattle.ls_coding.specs.Stats.{Stats}
+use Rattle.ls_coding.specs.Interruptions.{Counts, ri_type_of, interruption_negative, interruption_prediction, ri_value, interruption_k}
+use Rattle.ls_coding.specs.Runs.{order}
+use Rattle.ls_coding.specs.View.States.{Coding, stats_in, counts_in, context_in}
+
+-- a sample's neighbours, its word's k and limit, its context, whether its error has its sign changed, and its prediction
+pub record Planned : Type 0 where
+  pub neighbours : Neighbours
+  pub k : ℕ
+  pub glimit : ℕ
+  pub number : ℕ
+  pub negative : Bool
+  pub prediction : ℤ
+
+-- of a sample of regular mode, by its context and the context's counters
+unfoldable pub regular_plan_by : Parameters → Context → Stats → Neighbours → Planned
+regular_plan_by p x t n = record {
+  neighbours = n;
+  k = golomb_parameter t.n t.a;
+  glimit = limit_of p.maxval;
+  number = x.number;
+  negative = x.negative;
+  prediction = predicted p x.negative t.c n;
+}
+
+abbrev pub regular_plan : Coding → Neighbours → Planned
+regular_plan s n = regular_plan_by s.parameters (context_in s n) (stats_in s (context_in s n).number) n
+
+-- of the sample that interrupts a run, by RUNindex and its context's counters; its context is 0 or 1
+unfoldable pub interruption_plan_by : Parameters → ℕ → Counts → Neighbours → Planned
+interruption_plan_by p index t n = record {
+  neighbours = n;
+  k = interruption_k (ri_type_of n) t;
+  glimit = limit_of p.maxval - order index - 1;
+  number = ri_value (ri_type_of n);
+  negative = interruption_negative n;
+  prediction = pos (interruption_prediction n);
+}
+
+abbrev pub interruption_plan : Coding → Neighbours → Planned
+interruption_plan s n = interruption_plan_by s.parameters s.run_index (counts_in s (ri_type_of n)) n
+
+-- the word is one of the plan's code
+pub record IsReadBy (plan : Planned) (word : Word) : Type 0 where
+  pub same_k : word.k ≡ plan.k
+  pub same_limit : word.glimit ≡ plan.glimit
+
+-- a sample that may interrupt a run of the value that is to its left
+pub record Interrupts (maxval left sample : ℕ) : Type 0 where
+  pub within : sample ≤ maxval
+  pub other : sample ≢ left
+
+-- the one sample that has this value
+pub record IsTheSample (IsSample : ℕ → Type 0) (value_of : ℕ → ℕ) (value sample : ℕ) : Type 0 where
+  pub is_sample : IsSample sample
+  pub has_value : value_of sample ≡ value
+  pub only : (other : ℕ) → IsSample other → value_of other ≡ value → other ≡ sample
+
+-- no sample has it
+abbrev pub NoSample : (ℕ → Type 0) → (ℕ → ℕ) → ℕ → Type 0
+NoSample IsSample value_of value = (sample : ℕ) → IsSample sample → value_of sample ≡ value → ⊥

@@ -1,0 +1,111 @@
+-- What a coder's state is seen as, and what it is after events (T.87 A.2.1).
+use Rattle.std.specs.Prelude.{◌≡◌, ℕ, ◌-◌, Bool, true, false, if◌then◌else◌, ℤ, pos, List, [], ◌∷◌, ◌++◌, map, slice_set, slice_index_or}
+use Rattle.std.specs.List.{range_with_len}
+use Rattle.ls_frame.specs.Parameters.{Parameters}
+use Rattle.ls_coding.specs.declared.neighbours.Neighbours.{Neighbours}
+use Rattle.ls_coding.specs.declared.word.Word.{Word}
+use Rattle.ls_coding.specs.Contexts.{Context, context_of}
+use Rattle.ls_coding.specs.Stats.{Stats, stats, stats_step}
+use Rattle.ls_coding.specs.Interruptions.{Counts, counts_step, ri_type_of, interruption_error}
+use Rattle.ls_coding.specs.Runs.{Run, index_at}
+use Rattle.ls_coding.specs.Events.{Event, regular, interruption, stats_after_events, counts_after_events, run_index_after_events, broken_after_events, regular_error_of, regular_word, interruption_word}
+
+pub record Coding : Type 0 where
+  pub parameters : Parameters
+  -- the counters of the regular contexts, by their numbers
+  pub contexts : List Stats
+  -- those of the samples that interrupt a run, where Ra and Rb differ (365 in T.87) and where they are equal (366)
+  pub ri_type_0 : Counts
+  pub ri_type_1 : Counts
+  pub run_index : ℕ
+  -- whether the sample that interrupts a run is to come next
+  pub broken : Bool
+
+-- how many regular contexts there are
+abbrev pub context_count : ℕ
+context_count = 365
+
+-- the state after events
+unfoldable pub state_of : Parameters → List Event → Coding
+state_of p events = record {
+  parameters = p;
+  contexts = map (λ number. stats_after_events p number events) (range_with_len 0 context_count);
+  ri_type_0 = counts_after_events p false events;
+  ri_type_1 = counts_after_events p true events;
+  run_index = run_index_after_events events;
+  broken = broken_after_events events;
+}
+
+-- ---- a sample of regular mode
+
+abbrev pub stats_in : Coding → ℕ → Stats
+stats_in s number = slice_index_or s.contexts number (stats 0 (pos 0) (pos 0) 0)
+
+abbrev pub context_in : Coding → Neighbours → Context
+context_in s n = context_of s.parameters n
+
+-- its error, its word and its event
+unfoldable pub regular_error_in : Coding → Neighbours → ℕ → ℤ
+regular_error_in s n sample = regular_error_of s.parameters (context_in s n) (stats_in s (context_in s n).number) n sample
+
+unfoldable pub regular_word_in : Coding → Neighbours → ℕ → Word
+regular_word_in s n sample = regular_word s.parameters (stats_in s (context_in s n).number) (regular_error_in s n sample)
+
+abbrev pub regular_event_in : Coding → Neighbours → ℕ → Event
+regular_event_in s n sample = regular (context_in s n).number (regular_error_in s n sample)
+
+-- the state with it coded
+abbrev pub regular_after : Coding → ℕ → ℤ → Coding
+regular_after s number e = record {
+  parameters = s.parameters;
+  contexts = slice_set s.contexts number (stats_step s.parameters.reset (stats_in s number) e);
+  ri_type_0 = s.ri_type_0;
+  ri_type_1 = s.ri_type_1;
+  run_index = s.run_index;
+  broken = s.broken;
+}
+
+-- a sample of regular mode that comes behind these events, its word, and the state behind it
+pub record IsRegularEvent (p : Parameters) (events : List Event) (n : Neighbours) (sample : ℕ) (word : Word) (after : Coding) : Type 0 where
+  pub word_is : word ≡ regular_word p (stats_after_events p (context_of p n).number events)
+      (regular_error_of p (context_of p n) (stats_after_events p (context_of p n).number events) n sample)
+  pub after_is : after ≡ state_of p (events ++ regular (context_of p n).number
+      (regular_error_of p (context_of p n) (stats_after_events p (context_of p n).number events) n sample) ∷ [])
+
+-- ---- a run
+
+abbrev pub run_after : Coding → Run → Coding
+run_after s r = record {
+  parameters = s.parameters;
+  contexts = s.contexts;
+  ri_type_0 = s.ri_type_0;
+  ri_type_1 = s.ri_type_1;
+  run_index = index_at s.run_index r;
+  broken = r.broken;
+}
+
+-- ---- the sample that interrupts a run
+
+abbrev pub counts_in : Coding → Bool → Counts
+counts_in s ri_type = if ri_type then s.ri_type_1 else s.ri_type_0
+
+unfoldable pub interruption_word_in : Coding → Neighbours → ℕ → Word
+interruption_word_in s n sample = interruption_word s.parameters s.run_index (ri_type_of n) (counts_in s (ri_type_of n)) (interruption_error s.parameters n sample)
+
+abbrev pub interruption_event_in : Coding → Neighbours → ℕ → Event
+interruption_event_in s n sample = interruption (ri_type_of n) (interruption_error s.parameters n sample)
+
+abbrev pub interruption_after : Coding → Bool → ℤ → Coding
+interruption_after s ri_type e = record {
+  parameters = s.parameters;
+  contexts = s.contexts;
+  ri_type_0 = if ri_type then s.ri_type_0 else counts_step false s.parameters.reset s.ri_type_0 e;
+  ri_type_1 = if ri_type then counts_step true s.parameters.reset s.ri_type_1 e else s.ri_type_1;
+  run_index = s.run_index - 1;
+  broken = false;
+}
+
+-- the sample that interrupts a run behind these events, its word, and the state behind it
+pub record IsInterruptionEvent (p : Parameters) (events : List Event) (n : Neighbours) (sample : ℕ) (word : Word) (after : Coding) : Type 0 where
+  pub word_is : word ≡ interruption_word p (run_index_after_events events) (ri_type_of n) (counts_after_events p (ri_type_of n) events) (interruption_error p n sample)
+  pub after_is : after ≡ state_of p (events ++ interruption (ri_type_of n) (interruption_error p n sample) ∷ [])

@@ -1,0 +1,21 @@
+use Rattle.std.proofs.Common.{◌≡◌, ◌+◌, ◌-◌, ◌*◌, ◌≤◌, ◌++◌, ℕ, false, List, length}
+use Rattle.ls_frame.specs.Parameters.{limit_of}
+use Rattle.ls_stream.specs.Planes.{Plane, Span, row_from}
+use Rattle.ls_stream.specs.View.Coded.{all_from}
+use Rattle.ls_stream.specs.View.LineBuffers.{AreLines}
+use Rattle.ls_stream.proofs.encode.row.code_row.Given as goal
+
+abbrev pub invariant-columns : goal.invariant-columns
+invariant-columns l = record {
+  row : (plane : Plane) (i : ℕ) → plane.width ≡ l.width → AreLines plane i l.above l.line → (more : List Span)
+      → all_from plane l.coder.bits l.coder.state (row_from plane i l.column ++ more) ≡ all_from plane l.fn.coder.bits l.fn.coder.state (row_from plane i 0 ++ more);
+  cost : length l.coder.bits + limit_of l.fn.coder.state.parameters.maxval * (l.width - l.column) ≤ length l.fn.coder.bits + limit_of l.fn.coder.state.parameters.maxval * l.width;
+  contexts : length l.contexts ≡ l.width;
+  whole : l.coder.state.broken ≡ false;
+  parameters : l.coder.state.parameters ≡ l.fn.coder.state.parameters;
+  front : l.coder.front ≡ l.fn.coder.front;
+  room : l.coder.room ≡ l.fn.coder.room;
+}
+
+abbrev pub decreases-columns : goal.decreases-columns
+decreases-columns l = l.width - l.column

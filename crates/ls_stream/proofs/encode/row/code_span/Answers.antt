@@ -1,0 +1,42 @@
+use Rattle.std.proofs.Common.{◌≡◌, ◌+◌, ◌-◌, ◌<◌, get_or, refl, ap, ◌∙◌, arith}
+use Rattle.ls_frame.specs.Parameters.{limit_of}
+use Rattle.ls_coding.specs.declared.neighbours.Neighbours.{Neighbours}
+use Rattle.ls_coding.specs.Contexts.{is_run}
+use Rattle.ls_stream.specs.View.LineBuffers.{neighbours_in}
+use Rattle.ls_stream.proofs.ContextLemmas.{regular_by, run_by}
+use Rattle.ls_stream.proofs.RowLemmas.{sample-moved, run_value, row_to_end, row_to_break, spent}
+use Rattle.ls_stream.proofs.encode.row.code_span.Goals as goal
+
+pub returns-then-context-ne0-clause-span : goal.returns-then-context-ne0-clause-span
+returns-then-context-ne0-clause-span c plane i same lines more =
+    let inside : c.args.column < plane.width = omega arith in
+    sample-moved plane i c.args.column _ _ c.args.coder.now.state _ c.neighbours_in-neighbours.result (get_or c.args.line.now (c.args.column + 1) 0) inside
+    (c.neighbours_in-neighbours.ensures ∙ lines.neighbours c.args.column inside) (lines.samples c.args.column inside)
+    (ap is_run c.neighbours_in-neighbours.ensures ∙ regular_by (neighbours_in c.args.above.now c.args.line.now c.args.column) c.args.context c.requires.mode c.if-context-ne0.true) c.code_sample.ensures.bits c.code_sample.ensures.state more
+
+pub returns-then-end-width-clause-span : goal.returns-then-end-width-clause-span
+returns-then-end-width-clause-span c plane i same lines more =
+    row_to_end plane i c.args.column c.run_end-end.result c.args.above.now c.args.line.now _ _ c.args.coder.now.state _ (neighbours_in c.args.above.now c.args.line.now c.args.column) c.args.width same lines
+    c.requires.inside c.run_end-end.ensures c.if-end-width.true refl (run_by c.args.coder.now.state.parameters (neighbours_in c.args.above.now c.args.line.now c.args.column) c.args.context c.requires.context c.requires.mode c.if-context-ne0.false) c.code_run_to_end.ensures.bits c.code_run_to_end.ensures.state more
+
+pub code_broken_run-requires-clause-sample : goal.code_broken_run-requires-clause-sample
+code_broken_run-requires-clause-sample c =
+    let neighbours_in : c.run_end-end.result < c.args.width = omega (arith, c.run_end-end.ensures.high) in
+    let left : c.neighbours_in-around.result.a ≡ get_or c.args.line.now c.run_end-end.result 0 = ap (λ (n : Neighbours). n.a) c.neighbours_in-around.ensures in
+    record {
+      within = c.requires.lines.line_small (c.run_end-end.result + 1);
+      other = λ e. c.run_end-end.ensures.other neighbours_in (e ∙ left ∙ run_value c.args.line.now c.args.width c.args.column c.run_end-end.result c.run_end-end.ensures);
+    }
+
+pub returns-clause-span : goal.returns-clause-span
+returns-clause-span c plane i same lines more =
+    row_to_break plane i c.args.column c.run_end-end.result c.args.above.now c.args.line.now _ _ c.args.coder.now.state _ (neighbours_in c.args.above.now c.args.line.now c.args.column) c.neighbours_in-around.result c.args.width same lines
+    c.requires.inside c.run_end-end.ensures (omega (arith, c.run_end-end.ensures.high)) refl (run_by c.args.coder.now.state.parameters (neighbours_in c.args.above.now c.args.line.now c.args.column) c.args.context c.requires.context c.requires.mode c.if-context-ne0.false) c.neighbours_in-around.ensures c.code_broken_run.ensures.bits c.code_broken_run.ensures.state more
+
+pub returns-clause-cost : goal.returns-clause-cost
+returns-clause-cost c =
+    let limit = limit_of c.args.coder.now.state.parameters.maxval in
+    let column = c.args.column in
+    let end = c.run_end-end.result in
+    let neighbours_in : end < c.args.width = omega (arith, c.run_end-end.ensures.high) in
+    omega (arith, c.code_broken_run.ensures.cost, spent limit (end - column + 1) (c.args.width - (end + 1)) (c.args.width - column) (omega (arith, c.run_end-end.ensures.low)))

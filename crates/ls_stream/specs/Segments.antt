@@ -1,0 +1,49 @@
+-- Marker segments (T.87 Annex C; T.81 B.1.1.4): a marker, the length of what follows it, and contents.
+use Rattle.std.specs.Prelude.{ℕ, ◌+◌, ◌<◌, ◌^◌, List, [], ◌∷◌, ◌++◌, length, flat_map}
+use Rattle.ls_frame.specs.Parameters.{Parameters}
+use Rattle.ls_bits.specs.Bits.{two_bytes}
+use Rattle.ls_stream.specs.declared.marker.Marker.{Marker}
+use Rattle.ls_stream.specs.Markers.{marker}
+
+-- the length counts its own two bytes and the contents
+abbrev pub segment : Marker → List ℕ → List ℕ
+segment m contents = marker m ++ two_bytes (2 + length contents) ++ contents
+
+-- ---- the frame header (SOF55; T.87 C.2.2)
+
+-- a component: its identifier (Ci), and the number of a quantization table (Tqi), of which T.87 makes no use
+pub record Component : Type 0 where
+  pub id : ℕ
+  pub table : ℕ
+
+-- bits a sample (P), lines (Y), samples a line (X), and the components
+pub record Header : Type 0 where
+  pub precision : ℕ
+  pub height : ℕ
+  pub width : ℕ
+  pub components : List Component
+
+-- a component with its sampling factors, both 1, in one byte
+abbrev pub component_bytes : Component → List ℕ
+component_bytes c = c.id ∷ 17 ∷ c.table ∷ []
+
+unfoldable pub header_contents : Header → List ℕ
+header_contents h = h.precision ∷ (two_bytes h.height ++ two_bytes h.width ++ length h.components ∷ flat_map component_bytes h.components)
+
+-- ---- preset coding parameters (LSE with ID 1; T.87 C.2.4.1.1)
+
+unfoldable pub presets_contents : Parameters → List ℕ
+presets_contents p = 1 ∷ (two_bytes p.maxval ++ two_bytes p.t1 ++ two_bytes p.t2 ++ two_bytes p.t3 ++ two_bytes p.reset)
+
+-- numbers that two bytes hold
+pub record AreTwoByteFields (p : Parameters) : Type 0 where
+  pub maxval : p.maxval < 2 ^ 16
+  pub t1 : p.t1 < 2 ^ 16
+  pub t2 : p.t2 < 2 ^ 16
+  pub t3 : p.t3 < 2 ^ 16
+  pub reset : p.reset < 2 ^ 16
+
+-- ---- the header of a scan of one component (SOS; T.87 C.2.3): no mapping table, NEAR 0, not interleaved, no point transform
+
+unfoldable pub scan_contents : ℕ → List ℕ
+scan_contents id = 1 ∷ id ∷ 0 ∷ 0 ∷ 0 ∷ 0 ∷ []

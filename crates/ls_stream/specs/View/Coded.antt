@@ -1,0 +1,48 @@
+-- The bits of spans from a coder's state on, and the state behind them.
+use Rattle.std.specs.Prelude.{ℕ, ◌+◌, Bool, true, false, List, [], ◌∷◌, ◌++◌}
+use Rattle.ls_coding.specs.Interruptions.{ri_type_of, interruption_error}
+use Rattle.ls_coding.specs.Runs.{run_of, run_bits}
+use Rattle.ls_coding.specs.Events.{golomb_bits}
+use Rattle.ls_coding.specs.View.States.{Coding, context_in, regular_error_in, regular_word_in, regular_after, run_after, interruption_word_in, interruption_after}
+use Rattle.ls_stream.specs.Planes.{Plane, at, around, Span, sample_span, run_span}
+
+-- a sample of regular mode, and the sample that interrupts a run, of a row and a column
+abbrev pub sample_bits_in : Plane → ℕ → ℕ → Coding → List Bool
+sample_bits_in plane i j s = golomb_bits s.parameters (regular_word_in s (around plane i j) (at plane i j))
+
+abbrev pub sample_after : Plane → ℕ → ℕ → Coding → Coding
+sample_after plane i j s = regular_after s (context_in s (around plane i j)).number (regular_error_in s (around plane i j) (at plane i j))
+
+abbrev pub interrupting_sample_bits_in : Plane → ℕ → ℕ → Coding → List Bool
+interrupting_sample_bits_in plane i j s = golomb_bits s.parameters (interruption_word_in s (around plane i j) (at plane i j))
+
+abbrev pub interrupting_sample_after : Plane → ℕ → ℕ → Coding → Coding
+interrupting_sample_after plane i j s = interruption_after s (ri_type_of (around plane i j)) (interruption_error s.parameters (around plane i j) (at plane i j))
+
+-- a span
+abbrev pub span_bits_in : Plane → Span → Coding → List Bool
+span_bits_in plane (sample_span i j) s = sample_bits_in plane i j s
+span_bits_in plane (run_span i j count true) s = run_bits s.run_index (run_of count true) ++ interrupting_sample_bits_in plane i (j + count) (run_after s (run_of count true))
+span_bits_in plane (run_span i j count false) s = run_bits s.run_index (run_of count false)
+
+abbrev pub span_after : Plane → Span → Coding → Coding
+span_after plane (sample_span i j) s = sample_after plane i j s
+span_after plane (run_span i j count true) s = interrupting_sample_after plane i (j + count) (run_after s (run_of count true))
+span_after plane (run_span i j count false) s = run_after s (run_of count false)
+
+-- spans
+unfoldable pub bits_from : Plane → List Span → Coding → List Bool
+bits_from plane [] s = []
+bits_from plane (span ∷ more) s = span_bits_in plane span s ++ bits_from plane more (span_after plane span s)
+
+-- the bits so far, and those of the spans to come
+abbrev pub all_from : Plane → List Bool → Coding → List Span → List Bool
+all_from plane bits s more = bits ++ bits_from plane more s
+
+-- a scan that is being written: the state of its coding, the bytes in front of it, how many more there was room for, and its bits
+-- so far
+pub record Written : Type 0 where
+  pub state : Coding
+  pub front : List ℕ
+  pub room : ℕ
+  pub bits : List Bool

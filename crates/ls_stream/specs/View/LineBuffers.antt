@@ -1,0 +1,53 @@
+-- Two lines of a plane as a coder keeps them: with one place more on the left and on the right.
+use Rattle.std.specs.Prelude.{◌≡◌, ◌≢◌, ℕ, zero, suc, ◌+◌, ◌-◌, ◌*◌, ◌<◌, ◌≤◌, List, [], ◌∷◌, ◌++◌, replicate, length, take, drop, slice_index, slice_index_or, ℤ, pos}
+use Rattle.ls_frame.specs.Parameters.{Parameters}
+use Rattle.ls_coding.specs.declared.neighbours.Neighbours.{Neighbours}
+use Rattle.ls_coding.specs.Contexts.{is_zero, is_run, signed_context}
+use Rattle.ls_stream.specs.Planes.{Plane, at, around, left}
+
+-- the samples of a row
+abbrev pub row_of : Plane → ℕ → List ℕ
+row_of plane i = take plane.width (drop (i * plane.width) plane.samples)
+
+-- Line 0 stands above the first row, and line i + 1 is row i: Ra of its first column, its samples, and its last one again.
+abbrev pub line_of : Plane → ℕ → List ℕ
+line_of plane zero = replicate (plane.width + 2) 0
+line_of plane (suc i) = left plane i 0 ∷ (row_of plane i ++ at plane i (plane.width - 1) ∷ [])
+
+-- the samples around the one of a column, by the line above and its own
+abbrev pub neighbours_in : List ℕ → List ℕ → ℕ → Neighbours
+neighbours_in above line j = record {
+  a = slice_index line j;
+  b = slice_index above (j + 1);
+  c = slice_index above j;
+  d = slice_index above (j + 2);
+}
+
+-- these two lines are what a row's coding looks at
+pub record AreLines (plane : Plane) (i : ℕ) (above line : List ℕ) : Type 0 where
+  pub neighbours : (j : ℕ) → j < plane.width → neighbours_in above line j ≡ around plane i j
+  pub samples : (j : ℕ) → j < plane.width → slice_index line (j + 1) ≡ at plane i j
+
+-- a buffer has a line in its places
+abbrev pub HoldsLine : Plane → ℕ → List ℕ → Type 0
+HoldsLine plane i buffer = (k : ℕ) → k < plane.width + 2 → slice_index buffer k ≡ slice_index (line_of plane i) k
+
+-- two lines of a row of this width, all of samples
+pub record ArePadded (maxval width : ℕ) (above line : List ℕ) : Type 0 where
+  pub above_length : length above ≡ width + 2
+  pub line_length : length line ≡ width + 2
+  pub above_small : (k : ℕ) → slice_index above k ≤ maxval
+  pub line_small : (k : ℕ) → slice_index line k ≤ maxval
+
+-- the samples behind column j up to `end` equal what is left of j, and the one of `end` doesn't, if there is one
+pub record IsRunEnd (line : List ℕ) (width j end : ℕ) : Type 0 where
+  pub low : j ≤ end
+  pub high : end ≤ width
+  pub equal : (k : ℕ) → j ≤ k → k < end → slice_index line (k + 1) ≡ slice_index line j
+  pub other : end < width → slice_index line (end + 1) ≢ slice_index line j
+
+-- the contexts of samples from a column up to another, by the row's two lines, each 0 exactly where its sample calls for run
+-- mode
+pub record AreContexts (p : Parameters) (start end : ℕ) (above line : List ℕ) (contexts : List ℤ) : Type 0 where
+  pub numbers : (j : ℕ) → start ≤ j → j < end → slice_index_or contexts j (pos 0) ≡ signed_context p (neighbours_in above line j)
+  pub modes : (j : ℕ) → start ≤ j → j < end → is_zero (slice_index_or contexts j (pos 0)) ≡ is_run (neighbours_in above line j)

@@ -1,0 +1,115 @@
+//! Encoding frames as codestreams (T.87 Annex C).
+mod buffers;
+mod coder;
+mod row;
+mod scan;
+
+ghost use Rattle.std.specs.Prelude.{◌≡◌, ◌+◌, ◌-◌, ◌*◌, ◌/◌, ◌^◌, ◌<◌, ◌≤◌, ◌++◌, List, length, map, flat_map, IfOk, vec_len, vec_capacity, if◌then◌else◌};
+ghost use Rattle.std.specs.List.{range_with_len};
+ghost use Rattle.ls_frame.specs.Picture.{components};
+ghost use Rattle.ls_frame.specs.Parameters.{limit_of, default_parameters};
+ghost use Rattle.ls_stream.specs.Layout.{codestream, scans_up_to, headers_length, scan_bound, bound};
+
+use crate::marker::Marker;
+use crate::segments::write::{
+    presets_length, put_frame_header, put_marker, put_presets_if_needed, put_scan_header,
+};
+pub use buffers::Lines;
+use ls_frame::{Frame, Presets};
+use scan::put_scan;
+use std::alloc::{AllocError, Global};
+
+/// A frame's codestream with the default parameters of its maxval. Refused only where memory is.
+pub fn encode_frame(alloc: Global, frame: &Frame) -> Result<Vec<u8>, AllocError>
+    ensures bytes { let f = frame.now in IfOk result (λ bytes. bytes.items ≡ codestream f (default_parameters f.maxval)) }
+    ensures short { IfOk result (λ bytes. length bytes.items < 2 ^ 32) }
+{
+    encode_with(alloc, frame, &Presets::default_of(frame.maxval()))
+}
+
+/// A frame's codestream with these parameters. Refused only where memory is.
+pub fn encode_with(alloc: Global, frame: &Frame, presets: &Presets) -> Result<Vec<u8>, AllocError>
+    requires maxval { presets.now.maxval ≡ frame.now.maxval }
+    ensures bytes { IfOk result (λ bytes. bytes.items ≡ codestream frame.now presets.now) }
+    ensures short { IfOk result (λ bytes. length bytes.items < 2 ^ 32) }
+{
+    let room = code_bound(frame, presets) as usize;
+    let bytes = Vec::with_capacity(alloc, room)?;
+    let mut lines = Lines::new(alloc, frame.width())?;
+    Ok(encode_within(frame, presets, &mut lines, bytes))
+}
+
+/// The codestream of a frame, behind the bytes that are there, into room that is there: at least `code_bound`.
+///
+/// It takes no memory and can't be refused.
+pub fn encode_within(frame: &Frame, presets: &Presets, lines: &mut Lines, bytes: Vec<u8>) -> Vec<u8>
+    requires maxval { presets.now.maxval ≡ frame.now.maxval }
+    requires width { frame.now.width ≤ lines.old }
+    requires room { vec_len bytes + bound frame.now presets.now ≤ vec_capacity bytes }
+    ensures bytes { result.items ≡ bytes.items ++ codestream frame.now presets.now }
+    ensures capacity { vec_capacity bytes ≤ vec_capacity result }
+    ensures lines { lines.new ≡ lines.old }
+{
+    let mut bytes = bytes;
+    put_marker(&mut bytes, Marker::StartOfImage);
+    put_frame_header(&mut bytes, frame);
+    put_presets_if_needed(&mut bytes, presets);
+    let mut bytes = put_scans(frame, presets, lines, bytes);
+    put_marker(&mut bytes, Marker::EndOfImage);
+    bytes
+}
+
+/// The most bytes that a frame's codestream may have: all headers, and for each component LIMIT bits a sample, seven to a
+/// byte, and one byte more.
+pub fn code_bound(frame: &Frame, presets: &Presets) -> u64
+    requires maxval { presets.now.maxval ≡ frame.now.maxval }
+    ensures value { result ≡ bound frame.now presets.now }
+    ensures enough { length (codestream frame.now presets.now) ≤ result }
+    ensures small { result < 2 ^ 32 }
+{
+    prove!(presets.maxval() == frame.maxval());
+    let count = u64::from(frame.kind().components());
+    headers_length(frame, presets) + count * scan_bound(frame, presets)
+}
+
+/// The bytes of a codestream that are no data: SOI, the frame header, preset parameters where they are written, a scan header
+/// for each component, EOI.
+#[tactic(auto, unfolding(crate::specs::Layout::headers_length))]
+fn headers_length(frame: &Frame, presets: &Presets) -> u64
+    ensures value { result ≡ headers_length frame.now presets.now }
+    ensures small { result ≤ 68 }
+{
+    let count = u64::from(frame.kind().components());
+    2 + (10 + 3 * count) + presets_length(presets) + 10 * count + 2
+}
+
+/// The most bytes of a scan's data.
+fn scan_bound(frame: &Frame, presets: &Presets) -> u64
+    requires maxval { presets.now.maxval ≡ frame.now.maxval }
+    ensures value { result ≡ scan_bound frame.now presets.now }
+    ensures small { result ≤ 2 ^ 42 }
+{
+    let samples = u64::from(frame.width()) * u64::from(frame.height());
+    u64::from(presets.limit()) * samples / 7 + 1
+}
+
+/// A scan header and its data for each component.
+fn put_scans(frame: &Frame, presets: &Presets, lines: &mut Lines, bytes: Vec<u8>) -> Vec<u8>
+    requires maxval { presets.now.maxval ≡ frame.now.maxval }
+    requires width { frame.now.width ≤ lines.old }
+    requires room { vec_len bytes + components frame.now.kind * (10 + scan_bound frame.now presets.now) + 2 ≤ vec_capacity bytes }
+    ensures bytes { result.items ≡ bytes.items ++ scans_up_to frame.now presets.now (components frame.now.kind) }
+    ensures room { vec_len result + 2 ≤ vec_capacity result }
+    ensures capacity { vec_capacity bytes ≤ vec_capacity result }
+    ensures lines { lines.new ≡ lines.old }
+{
+    let mut bytes = bytes;
+    for component in 0..frame.kind().components() {
+        put_scan_header(&mut bytes, component + 1);
+        bytes = put_scan(frame, presets, lines, bytes, usize::from(component));
+    }
+    bytes
+}
+
+#[cfg(test)]
+mod tests;

@@ -1,0 +1,183 @@
+//! A scan that is being written: the events of its rows, as bits (T.87 Annex A).
+ghost use Rattle.std.specs.Prelude.{◌≡◌, ◌+◌, ◌-◌, ◌*◌, ◌<◌, ◌≤◌, ◌++◌, [], true, false, length, replicate, vec_len, vec_capacity};
+ghost use Rattle.ls_frame.specs.Parameters.{qbpp_of, limit_of};
+ghost use Rattle.ls_bits.specs.Stuffing.{stuff};
+ghost use Rattle.ls_bits.specs.Golomb.{IsGolomb, code_word, most_value};
+ghost use Rattle.ls_bits.specs.Room.{Fits};
+ghost use Rattle.ls_coding.specs.Samples.{AreSamples};
+ghost use Rattle.ls_coding.specs.Contexts.{is_run, signed_context};
+ghost use Rattle.ls_coding.specs.Interruptions.{ri_type_of, interruption_error};
+ghost use Rattle.ls_coding.specs.View.Plans.{Interrupts};
+ghost use Rattle.ls_coding.specs.Runs.{TailFits, run_of, run_bits, word_bits, tail_bits};
+ghost use Rattle.ls_coding.specs.Events.{golomb_bits};
+ghost use Rattle.ls_coding.specs.View.States.{state_of, context_in, regular_error_in, regular_word_in, interruption_word_in, regular_after, run_after, interruption_after};
+
+use ls_bits::RoomSink;
+use ls_coding::{Neighbours, RunWord, State, Tail, Word};
+use ls_frame::Presets;
+use std::marker::Model;
+
+/// The state of a scan's coding, and the sink of its bits.
+#[derive(Drop)]
+pub struct Coder {
+    presets: Presets,
+    /// The bits of an error (qbpp).
+    qbpp: u32,
+    state: State,
+    sink: RoomSink,
+}
+
+impl Model for Coder {
+    ghost use Rattle.std.specs.Prelude.{◌≡◌};
+    ghost use Rattle.ls_frame.specs.Parameters.{qbpp_of};
+    ghost use Rattle.ls_stream.specs.View.Coded.{Written};
+
+    ghost Value = { Written };
+
+    ghost view = { λ c. record { state = c.state; front = c.sink.front; room = c.sink.room; bits = c.sink.bits } };
+
+    ghost invariant = { λ c. (c.state.parameters ≡ c.presets) × (c.qbpp ≡ qbpp_of c.presets.maxval) };
+}
+
+impl Coder {
+    /// A scan's start, behind the bytes that are there, into the room that is there.
+    pub fn new(presets: &Presets, bytes: Vec<u8>) -> Coder
+        ensures parameters { result.state.parameters ≡ presets.now }
+        ensures state { result.state ≡ state_of presets.now [] }
+        ensures front { result.front ≡ bytes.items }
+        ensures room { result.room ≡ vec_capacity bytes - vec_len bytes }
+        ensures bits { result.bits ≡ [] }
+    {
+        Coder {
+            presets: *presets,
+            qbpp: presets.qbpp(),
+            state: State::new(presets),
+            sink: RoomSink::new(bytes),
+        }
+    }
+
+    /// The parameters that the scan is coded with.
+    pub fn presets(&self) -> &Presets
+        ensures { result.now ≡ self.now.state.parameters }
+    {
+        &self.presets
+    }
+
+    /// Codes a sample of regular mode, whose context is known.
+    pub fn code_sample(&mut self, context: i16, neighbours: &Neighbours, sample: u16)
+        requires context { context ≡ signed_context self.old.state.parameters neighbours.now }
+        requires samples { AreSamples self.old.state.parameters.maxval neighbours.now }
+        requires sample { sample ≤ self.old.state.parameters.maxval }
+        requires regular { is_run neighbours.now ≡ false }
+        requires whole { self.old.state.broken ≡ false }
+        requires room { Fits (length self.old.bits + limit_of self.old.state.parameters.maxval) self.old.room }
+        ensures bits { self.new.bits
+            ≡ self.old.bits ++ golomb_bits self.old.state.parameters (regular_word_in self.old.state neighbours.now sample) }
+        ensures cost { length self.new.bits ≤ length self.old.bits + limit_of self.old.state.parameters.maxval }
+        ensures state { self.new.state ≡ regular_after self.old.state (context_in self.old.state neighbours.now).number
+            (regular_error_in self.old.state neighbours.now sample) }
+        ensures front { self.new.front ≡ self.old.front }
+        ensures room { self.new.room ≡ self.old.room }
+    {
+        let word = self.state.code_regular_at(context, neighbours, sample);
+        put_word(&mut self.sink, self.qbpp, word);
+    }
+
+    /// Codes a run up to the line's end.
+    pub fn code_run_to_end(&mut self, count: u32)
+        requires some { 0 < count }
+        requires whole { self.old.state.broken ≡ false }
+        requires room { Fits (length self.old.bits + limit_of self.old.state.parameters.maxval * count) self.old.room }
+        ensures bits { self.new.bits ≡ self.old.bits ++ run_bits self.old.state.run_index (run_of count false) }
+        ensures cost { length self.new.bits ≤ length self.old.bits + limit_of self.old.state.parameters.maxval * count }
+        ensures state { self.new.state ≡ run_after self.old.state (run_of count false) }
+        ensures front { self.new.front ≡ self.old.front }
+        ensures room { self.new.room ≡ self.old.room }
+    {
+        let word = self.state.code_run(count, true);
+        put_run(&mut self.sink, word);
+    }
+
+    /// Codes a run and the sample that interrupts it.
+    pub fn code_broken_run(&mut self, count: u32, neighbours: &Neighbours, sample: u16)
+        requires samples { AreSamples self.old.state.parameters.maxval neighbours.now }
+        requires sample { Interrupts self.old.state.parameters.maxval neighbours.now.a sample }
+        requires whole { self.old.state.broken ≡ false }
+        requires room { Fits (length self.old.bits + limit_of self.old.state.parameters.maxval * (count + 1)) self.old.room }
+        ensures bits { self.new.bits ≡ self.old.bits ++ (run_bits self.old.state.run_index (run_of count true)
+            ++ golomb_bits self.old.state.parameters
+            (interruption_word_in (run_after self.old.state (run_of count true)) neighbours.now sample)) }
+        ensures cost { length self.new.bits ≤ length self.old.bits + limit_of self.old.state.parameters.maxval * (count + 1) }
+        ensures state { self.new.state ≡ interruption_after (run_after self.old.state (run_of count true)) (ri_type_of neighbours.now)
+            (interruption_error self.old.state.parameters neighbours.now sample) }
+        ensures front { self.new.front ≡ self.old.front }
+        ensures room { self.new.room ≡ self.old.room }
+    {
+        let run = self.state.code_run(count, false);
+        put_run(&mut self.sink, run);
+        let word = self.state.code_interruption(neighbours, sample);
+        put_word(&mut self.sink, self.qbpp, word);
+    }
+
+    /// The vector: the bytes that it had, and behind them the scan's bits, stuffed. It has its room still.
+    pub fn finish(self) -> Vec<u8>
+        ensures bytes { result.items ≡ self.front ++ stuff self.bits }
+        ensures capacity { length self.front + self.room ≤ vec_capacity result }
+    {
+        self.sink.finish()
+    }
+}
+
+/// A code word, behind the bits that are there.
+fn put_word(sink: &mut RoomSink, qbpp: u32, word: Word)
+    requires golomb { IsGolomb word.k word.glimit qbpp }
+    requires value { word.value ≤ most_value qbpp }
+    requires room { Fits (length sink.old.bits + length (code_word word.k word.glimit qbpp word.value)) sink.old.room }
+    ensures bits { sink.new.bits ≡ sink.old.bits ++ code_word word.k word.glimit qbpp word.value }
+    ensures front { sink.new.front ≡ sink.old.front }
+    ensures room { sink.new.room ≡ sink.old.room }
+{
+    sink.put_golomb(word.k, word.glimit, qbpp, word.value);
+}
+
+/// The bits of a run, behind those that are there.
+fn put_run(sink: &mut RoomSink, word: RunWord)
+    requires tail { TailFits word.tail }
+    requires room { Fits (length sink.old.bits + length (word_bits word)) sink.old.room }
+    ensures bits { sink.new.bits ≡ sink.old.bits ++ word_bits word }
+    ensures front { sink.new.front ≡ sink.old.front }
+    ensures room { sink.new.room ≡ sink.old.room }
+{
+    put_ones(sink, word.ones);
+    put_tail(sink, word.tail);
+}
+
+/// So many bits 1.
+fn put_ones(sink: &mut RoomSink, count: u32)
+    requires { Fits (length sink.old.bits + count) sink.old.room }
+    ensures bits { sink.new.bits ≡ sink.old.bits ++ replicate count true }
+    ensures front { sink.new.front ≡ sink.old.front }
+    ensures room { sink.new.room ≡ sink.old.room }
+{
+    for done in 0..count {
+        sink.put(1, 1);
+    }
+}
+
+/// How a run ends.
+fn put_tail(sink: &mut RoomSink, tail: Tail)
+    requires tail { TailFits tail }
+    requires room { Fits (length sink.old.bits + length (tail_bits tail)) sink.old.room }
+    ensures bits { sink.new.bits ≡ sink.old.bits ++ tail_bits tail }
+    ensures front { sink.new.front ≡ sink.old.front }
+    ensures room { sink.new.room ≡ sink.old.room }
+{
+    match tail {
+        Tail::LineFull => {}
+        Tail::LinePart => sink.put(1, 1),
+        Tail::Broken { width, rest } => {
+            sink.put(0, 1);
+            sink.put(rest, width);
+        }
+    }
+}

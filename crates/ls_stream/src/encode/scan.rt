@@ -1,0 +1,139 @@
+//! The scan of one component: the rows of its plane, coded and stuffed (T.87 Annex A).
+ghost use Rattle.std.specs.Prelude.{◌≡◌, ◌+◌, ◌*◌, ◌/◌, ◌^◌, ◌<◌, ◌≤◌, ◌++◌, ℕ, false, [], List, length, slice_index, vec_len, vec_capacity};
+ghost use Rattle.ls_frame.specs.Picture.{components};
+ghost use Rattle.ls_frame.specs.Parameters.{limit_of};
+ghost use Rattle.ls_bits.specs.Room.{Fits};
+ghost use Rattle.ls_bits.specs.Stuffing.{stuff};
+ghost use Rattle.ls_coding.specs.View.States.{state_of};
+ghost use Rattle.ls_stream.specs.Planes.{Span, rows_from, plane_bits};
+ghost use Rattle.ls_stream.specs.Components.{component_plane, plane_of};
+ghost use Rattle.ls_stream.specs.View.Coded.{all_from};
+ghost use Rattle.ls_stream.specs.Layout.{scan_bound};
+
+use crate::encode::buffers::Lines;
+use crate::encode::coder::Coder;
+use crate::encode::row::code_row;
+use crate::lines::{clear, fill_line};
+use crate::shape::{Shape, shape_of};
+use ls_frame::{Frame, Presets};
+
+/// Codes the scan of a component, behind the bytes that are there, into room that is there.
+pub fn put_scan(
+    frame: &Frame,
+    presets: &Presets,
+    lines: &mut Lines,
+    bytes: Vec<u8>,
+    component: usize,
+) -> Vec<u8>
+    requires maxval { presets.now.maxval ≡ frame.now.maxval }
+    requires width { frame.now.width ≤ lines.old }
+    requires component { component < components frame.now.kind }
+    requires room { vec_len bytes + scan_bound frame.now presets.now ≤ vec_capacity bytes }
+    ensures bytes { result.items ≡ bytes.items ++ stuff (plane_bits presets.now (plane_of frame.now component)) }
+    ensures short { vec_len result ≤ vec_len bytes + scan_bound frame.now presets.now }
+    ensures capacity { vec_capacity bytes ≤ vec_capacity result }
+    ensures lines { lines.new ≡ lines.old }
+{
+    let mut coder = Coder::new(presets, bytes);
+    code_plane(
+        &mut coder,
+        frame,
+        &mut lines.above,
+        &mut lines.line,
+        &mut lines.contexts,
+        component,
+    );
+    coder.finish()
+}
+
+/// Codes a component's plane, at a scan's start; `above`, `line` and `contexts` are room for what a row is coded by.
+fn code_plane(
+    coder: &mut Coder,
+    frame: &Frame,
+    above: &mut Vec<u16>,
+    line: &mut Vec<u16>,
+    contexts: &mut Vec<i16>,
+    component: usize,
+)
+    requires maxval { coder.old.state.parameters.maxval ≡ frame.now.maxval }
+    requires above { frame.now.width + 2 ≤ vec_len above.old }
+    requires line { frame.now.width + 2 ≤ vec_len line.old }
+    requires contexts { frame.now.width ≤ vec_len contexts.old }
+    requires component { component < components frame.now.kind }
+    requires state { coder.old.state ≡ state_of coder.old.state.parameters [] }
+    requires empty { coder.old.bits ≡ [] }
+    requires room { Fits (limit_of coder.old.state.parameters.maxval * (frame.now.width * frame.now.height)) coder.old.room }
+    ensures bits { coder.new.bits ≡ plane_bits coder.old.state.parameters (plane_of frame.now component) }
+    ensures cost { length coder.new.bits ≤ limit_of coder.old.state.parameters.maxval * (frame.now.width * frame.now.height) }
+    ensures front { coder.new.front ≡ coder.old.front }
+    ensures room { coder.new.room ≡ coder.old.room }
+    ensures above { vec_len above.new ≡ vec_len above.old }
+    ensures line { vec_len line.new ≡ vec_len line.old }
+    ensures contexts { vec_len contexts.new ≡ vec_len contexts.old }
+{
+    let shape = shape_of(frame);
+    let places = shape.width + 2;
+    code_rows(
+        coder,
+        &mut above[..places],
+        &mut line[..places],
+        &mut contexts[..shape.width],
+        frame.samples(),
+        shape,
+        component,
+    );
+}
+
+/// Codes the rows of one component; `above`, `line` and `contexts` are room for what a row is coded by.
+fn code_rows(
+    coder: &mut Coder,
+    above: &mut [u16],
+    line: &mut [u16],
+    contexts: &mut [i16],
+    samples: &[u16],
+    shape: Shape,
+    component: usize,
+)
+    requires above { length above.old ≡ shape.width + 2 }
+    requires line { length line.old ≡ shape.width + 2 }
+    requires some { 1 ≤ shape.width }
+    requires narrow { shape.width ≤ 65535 }
+    requires samples { length samples.now ≡ shape.height * (shape.width * shape.components) }
+    requires small { (k : ℕ) → slice_index samples.now k ≤ coder.old.state.parameters.maxval }
+    requires component { component < shape.components }
+    requires few { shape.width * shape.components < 2 ^ 32 }
+    requires whole { coder.old.state.broken ≡ false }
+    requires contexts { length contexts.old ≡ shape.width }
+    requires room { Fits (length coder.old.bits + limit_of coder.old.state.parameters.maxval * (shape.width * shape.height)) coder.old.room }
+    ensures rows { let plane = component_plane shape.width shape.components component samples.now in (more : List Span)
+        → all_from plane coder.new.bits coder.new.state more
+        ≡ all_from plane coder.old.bits coder.old.state (rows_from plane shape.height 0 ++ more) }
+    ensures cost { length coder.new.bits ≤ length coder.old.bits + limit_of coder.old.state.parameters.maxval * (shape.width * shape.height) }
+    ensures front { coder.new.front ≡ coder.old.front }
+    ensures room { coder.new.room ≡ coder.old.room }
+{
+    clear(above);
+    for row in 0..shape.height {
+        let pixels = row_of(samples, row, shape.height, shape.width * shape.components);
+        fill_line(
+            line,
+            above,
+            pixels,
+            shape.width,
+            shape.components,
+            component,
+        );
+        code_row(coder, above, line, contexts, shape.width);
+        above.copy_from_slice(line);
+    }
+}
+
+/// A row of samples, of `height` rows of `stride` samples each.
+fn row_of(samples: &[u16], row: usize, height: usize, stride: usize) -> &[u16]
+    requires samples { length samples.now ≡ height * stride }
+    requires row { row < height }
+    ensures len { length result.now ≡ stride }
+    ensures samples { (k : ℕ) → k < stride → slice_index result.now k ≡ slice_index samples.now (row * stride + k) }
+{
+    &samples[row * stride..row * stride + stride]
+}

@@ -1,0 +1,165 @@
+//! Writing marker segments (T.87 Annex C; T.81 B.1), after the bytes that a vector has, into room that it has.
+ghost use Rattle.std.specs.Prelude.{◌≡◌, ◌+◌, ◌-◌, ◌*◌, ◌<◌, ◌≤◌, ◌++◌, map, flat_map, vec_len, vec_capacity};
+ghost use Rattle.std.specs.List.{range_with_len};
+ghost use Rattle.ls_frame.specs.Picture.{components};
+ghost use Rattle.ls_frame.specs.Parameters.{bpp_of};
+ghost use Rattle.ls_bits.specs.Bits.{two_bytes};
+ghost use Rattle.ls_stream.specs.Markers.{marker as marker_bytes};
+ghost use Rattle.ls_stream.specs.Segments.{segment, component_bytes, header_contents, presets_contents, scan_contents};
+ghost use Rattle.ls_stream.specs.Grammar.{greatest_maxval, miscellaneous_bytes};
+ghost use Rattle.ls_stream.specs.Layout.{written_component, written_header, needs_presets, written_presets, presets_length};
+
+use crate::marker::Marker;
+use byteorder::{BigEndian, ByteOrder};
+use ls_frame::{Frame, Presets};
+
+/// The sampling factors of a component, both 1, in one byte.
+const SAMPLED_ONE_BY_ONE: u8 = 0x11;
+
+/// A marker.
+pub fn put_marker(bytes: &mut Vec<u8>, marker: Marker)
+    requires room { vec_len bytes.old + 2 ≤ vec_capacity bytes.old }
+    ensures bytes { bytes.new.items ≡ bytes.old.items ++ marker_bytes marker }
+    ensures len { vec_len bytes.new ≡ vec_len bytes.old + 2 }
+    ensures capacity { vec_capacity bytes.new ≡ vec_capacity bytes.old }
+{
+    bytes.push_reserved(0xFF);
+    bytes.push_reserved(marker.code());
+}
+
+/// A field of two bytes.
+fn put_field(bytes: &mut Vec<u8>, field: u16)
+    requires room { vec_len bytes.old + 2 ≤ vec_capacity bytes.old }
+    ensures bytes { bytes.new.items ≡ bytes.old.items ++ two_bytes field }
+    ensures len { vec_len bytes.new ≡ vec_len bytes.old + 2 }
+    ensures capacity { vec_capacity bytes.new ≡ vec_capacity bytes.old }
+{
+    let mut two = [0u8; 2];
+    BigEndian::write_u16(&mut two, field);
+    bytes.push_reserved(two[0]);
+    bytes.push_reserved(two[1]);
+}
+
+/// The frame header: the bits of a sample (P), the lines, the samples of a line, and the components, numbered from 1
+/// (SOF55; T.87 C.2.2).
+#[tactic(auto, unfolding(crate::specs::Segments::header_contents))]
+pub fn put_frame_header(bytes: &mut Vec<u8>, frame: &Frame)
+    requires room { vec_len bytes.old + (10 + 3 * components frame.now.kind) ≤ vec_capacity bytes.old }
+    ensures bytes { bytes.new.items
+        ≡ bytes.old.items ++ segment Marker.StartOfFrame (header_contents (written_header frame.now)) }
+    ensures len { vec_len bytes.new ≡ vec_len bytes.old + (10 + 3 * components frame.now.kind) }
+    ensures capacity { vec_capacity bytes.new ≡ vec_capacity bytes.old }
+{
+    let count = frame.kind().components();
+    put_marker(bytes, Marker::StartOfFrame);
+    put_field(bytes, 8 + 3 * u16::from(count));
+    bytes.push_reserved(precision(frame));
+    put_field(bytes, frame.height());
+    put_field(bytes, frame.width());
+    bytes.push_reserved(count);
+    put_components(bytes, count);
+}
+
+/// P: the bits of a frame's samples.
+fn precision(frame: &Frame) -> u8
+    ensures { result ≡ bpp_of frame.now.maxval }
+{
+    Presets::default_of(frame.maxval()).bpp() as u8
+}
+
+/// Components, numbered from 1, with their sampling factors.
+fn put_components(bytes: &mut Vec<u8>, count: u8)
+    requires few { count ≤ 3 }
+    requires room { vec_len bytes.old + 3 * count ≤ vec_capacity bytes.old }
+    ensures bytes { bytes.new.items ≡ bytes.old.items ++ flat_map component_bytes (map written_component (range_with_len 0 count)) }
+    ensures len { vec_len bytes.new ≡ vec_len bytes.old + 3 * count }
+    ensures capacity { vec_capacity bytes.new ≡ vec_capacity bytes.old }
+{
+    for component in 0..count {
+        bytes.push_reserved(component + 1);
+        bytes.push_reserved(SAMPLED_ONE_BY_ONE);
+        bytes.push_reserved(0);
+    }
+}
+
+/// Preset parameters (LSE with ID 1; T.87 C.2.4.1.1).
+#[tactic(auto, unfolding(crate::specs::Segments::presets_contents))]
+pub fn put_presets(bytes: &mut Vec<u8>, presets: &Presets)
+    requires room { vec_len bytes.old + 15 ≤ vec_capacity bytes.old }
+    ensures bytes { bytes.new.items ≡ bytes.old.items ++ segment Marker.PresetParameters (presets_contents presets.now) }
+    ensures len { vec_len bytes.new ≡ vec_len bytes.old + 15 }
+    ensures capacity { vec_capacity bytes.new ≡ vec_capacity bytes.old }
+{
+    put_marker(bytes, Marker::PresetParameters);
+    put_field(bytes, 13);
+    bytes.push_reserved(1);
+    put_parameters(bytes, presets);
+}
+
+/// MAXVAL, the thresholds and RESET.
+fn put_parameters(bytes: &mut Vec<u8>, presets: &Presets)
+    requires room { vec_len bytes.old + 10 ≤ vec_capacity bytes.old }
+    ensures bytes { let p = presets.now in bytes.new.items ≡ bytes.old.items
+        ++ (two_bytes p.maxval ++ two_bytes p.t1 ++ two_bytes p.t2 ++ two_bytes p.t3 ++ two_bytes p.reset) }
+    ensures len { vec_len bytes.new ≡ vec_len bytes.old + 10 }
+    ensures capacity { vec_capacity bytes.new ≡ vec_capacity bytes.old }
+{
+    put_field(bytes, presets.maxval());
+    put_field(bytes, presets.t1());
+    put_field(bytes, presets.t2());
+    put_field(bytes, presets.t3());
+    put_field(bytes, presets.reset());
+}
+
+/// The header of a scan of one component, of this identifier (SOS; T.87 C.2.3).
+#[tactic(auto, unfolding(crate::specs::Segments::scan_contents))]
+pub fn put_scan_header(bytes: &mut Vec<u8>, id: u8)
+    requires room { vec_len bytes.old + 10 ≤ vec_capacity bytes.old }
+    ensures bytes { bytes.new.items ≡ bytes.old.items ++ segment Marker.StartOfScan (scan_contents id) }
+    ensures len { vec_len bytes.new ≡ vec_len bytes.old + 10 }
+    ensures capacity { vec_capacity bytes.new ≡ vec_capacity bytes.old }
+{
+    put_marker(bytes, Marker::StartOfScan);
+    put_field(bytes, 8);
+    bytes.push_reserved(1);
+    bytes.push_reserved(id);
+    put_field(bytes, 0);
+    put_field(bytes, 0);
+}
+
+/// Preset parameters, only where they have to be written (`needs_presets`).
+pub fn put_presets_if_needed(bytes: &mut Vec<u8>, presets: &Presets)
+    requires room { vec_len bytes.old + presets_length presets.now ≤ vec_capacity bytes.old }
+    ensures bytes { bytes.new.items ≡ bytes.old.items ++ miscellaneous_bytes (written_presets presets.now) }
+    ensures len { vec_len bytes.new ≡ vec_len bytes.old + presets_length presets.now }
+    ensures capacity { vec_capacity bytes.new ≡ vec_capacity bytes.old }
+{
+    if needs_presets(presets) {
+        put_presets(bytes, presets);
+    }
+}
+
+/// How many bytes that takes.
+pub fn presets_length(presets: &Presets) -> u64
+    ensures value { result ≡ presets_length presets.now }
+    ensures small { result ≤ 15 }
+{
+    if needs_presets(presets) { 15 } else { 0 }
+}
+
+/// Whether a codestream has to write its parameters: they aren't the defaults of the greatest MAXVAL of their precision.
+fn needs_presets(presets: &Presets) -> bool
+    ensures { result ≡ needs_presets presets.now }
+{
+    *presets != Presets::default_of(greatest_maxval(presets.bpp()))
+}
+
+/// The greatest MAXVAL of a precision of 2 to 16 bits.
+fn greatest_maxval(precision: u32) -> u16
+    requires low { 2 ≤ precision }
+    requires high { precision ≤ 16 }
+    ensures value { result ≡ greatest_maxval precision }
+    ensures some { 0 < result }
+{
+    ((1u32 << precision) - 1) as u16
+}
