@@ -29,17 +29,20 @@ pub fn measure<R: Files + Clock + Print + Eprint + AllocGlobal>(
     times: u32,
     name: &str,
 ) -> Result<()> {
-    let alloc = rt.alloc();
-    let opened = File::open(rt, name).context(format_args!("{name} can't be opened"))?;
-    let mut reader = Counted::new(BufReader::new(alloc, opened)?);
-    let frames = frames_of(alloc, &mut reader).context(format_args!("{name} is no film"))?;
+    let frames = read_film(rt, name)?;
     let encoding = encode_all(rt, times, &frames)?;
-
     let bytes = encoding.bytes;
     println!(rt; "{name} {bytes}")?;
     let samples = u64::from(times).saturating_mul(samples_of(&frames));
     tell(rt, name, &encoding.took, samples, "a sample")?;
     Ok(())
+}
+
+/// The frames of a file.
+fn read_film<R: Files + AllocGlobal>(rt: &R, name: &str) -> Result<Vec<Frame>> {
+    let opened = File::open(rt, name).context(format_args!("{name} can't be opened"))?;
+    let mut reader = Counted::new(BufReader::new(rt.alloc(), opened)?);
+    frames_of(rt.alloc(), &mut reader).context(format_args!("{name} is no film"))
 }
 
 /// All frames of a film, from the first to the last.

@@ -24,37 +24,41 @@ fn main(rt: HostRuntime) -> Result<()> {
     run(&rt)
 }
 
-/// Measures what the words behind the program's name ask for.
+/// Measures what the words after the program's name ask for.
 fn run<R: Env + Files + Clock + Print + Eprint + AllocGlobal>(rt: &R) -> Result<()> {
-    let mut asked = env::args(rt)?.skip(1);
-    let Some(what) = asked.next() else {
-        bail!("what is to be measured?");
-    };
-    match what.as_str() {
-        "words" => {
-            let times = number(asked.next(), 1)?;
-            let count = number(asked.next(), events::USUAL_COUNT)?;
-            words::measure(rt, times, count)
-        }
-        "events" => {
-            let times = number(asked.next(), 1)?;
-            let side = number(asked.next(), picture::USUAL_SIDE)?;
-            regular::measure(rt, times, side)
-        }
-        "frames" => {
-            let times = number(asked.next(), 1)?;
-            for name in asked {
-                frames::measure(rt, times, &name)?;
-            }
-            Ok(())
-        }
-        other => bail!("{other} can't be measured"),
+    let words: Vec<String> = env::args(rt)?.skip(1).collect(rt.alloc())?;
+    match words.first().map(String::as_str) {
+        Some("words") => words::measure(
+            rt,
+            number(&words, 1, 1)?,
+            number(&words, 2, events::USUAL_COUNT)?,
+        ),
+        Some("events") => regular::measure(
+            rt,
+            number(&words, 1, 1)?,
+            number(&words, 2, picture::USUAL_SIDE)?,
+        ),
+        Some("frames") => measure_films(rt, &words),
+        Some(other) => bail!("{other} can't be measured"),
+        None => bail!("what is to be measured?"),
     }
 }
 
+/// Encodes each film that the words name from the third on.
+fn measure_films<R: Files + Clock + Print + Eprint + AllocGlobal>(
+    rt: &R,
+    words: &[String],
+) -> Result<()> {
+    let times = number(words, 1, 1)?;
+    for name in words.iter().skip(2) {
+        frames::measure(rt, times, name)?;
+    }
+    Ok(())
+}
+
 /// The number that a word says, or the usual one where the word is left out.
-fn number(word: Option<String>, usual: u32) -> Result<u32> {
-    match word {
+fn number(words: &[String], place: usize, usual: u32) -> Result<u32> {
+    match words.get(place) {
         Some(word) => Ok(
             word.parse::<u32>()
                 .context(format_args!("{word} is no count"))?,

@@ -69,41 +69,64 @@ struct Coding {
     bits: u64,
 }
 
+/// How long coding and accepting took.
+#[derive(Drop)]
+struct Took {
+    coding: Duration,
+    accepting: Duration,
+}
+
 /// Codes a picture of so many lines so many times, and accepts it back; prints what came of it, and the times.
 pub fn measure<R: Clock + Print + Eprint + AllocGlobal>(
     rt: &R,
     times: u32,
     side: u32,
 ) -> Result<()> {
-    let alloc = rt.alloc();
-    let samples = regular_samples(alloc, side)?;
-    let coded = coding_of(alloc, &samples)?;
-    let mut coding = Duration::ZERO;
-    let mut accepting = Duration::ZERO;
+    let samples = regular_samples(rt.alloc(), side)?;
+    let coded = coding_of(rt.alloc(), &samples)?;
+    let mut took = Took {
+        coding: Duration::ZERO,
+        accepting: Duration::ZERO,
+    };
+    let sum = code_and_accept(rt, times, &samples, &coded.samples, &mut took)?;
+    print_sums(rt, side, &coded, sum)?;
+    let events = u64::from(times).wrapping_mul(samples.len() as u64);
+    tell(rt, "code", &took.coding, events, "an event")?;
+    tell(rt, "accept", &took.accepting, events, "an event")?;
+    Ok(())
+}
+
+/// What all words come to in one number, each time the same.
+fn code_and_accept<R: Clock>(
+    rt: &R,
+    times: u32,
+    samples: &[Sample],
+    coded: &[Coded],
+    took: &mut Took,
+) -> Result<u64> {
     let mut sum = 0;
     for _ in 0..times {
         let start = Instant::now(rt)?;
-        sum = code_all(&samples);
-        coding = coding.saturating_add(start.elapsed(rt)?);
-
+        sum = code_all(samples);
+        took.coding = took.coding.saturating_add(start.elapsed(rt)?);
         let start = Instant::now(rt)?;
-        let same = all_come_back(&coded.samples)?;
-        accepting = accepting.saturating_add(start.elapsed(rt)?);
+        let same = all_come_back(coded)?;
+        took.accepting = took.accepting.saturating_add(start.elapsed(rt)?);
         if !same {
             bail!("the samples don't come back");
         }
     }
+    Ok(sum)
+}
 
+fn print_sums<R: Print>(rt: &R, side: u32, coding: &Coding, sum: u64) -> Result<()> {
     let all = u64::from(side).wrapping_mul(u64::from(side));
-    let count = samples.len();
-    let greatest = coded.greatest_k;
-    let bits = coded.bits;
+    let count = coding.samples.len();
+    let greatest = coding.greatest_k;
+    let bits = coding.bits;
     println!(rt;
         "samples {all}\nevents {count}\ngreatest k {greatest}\nbits {bits}\nsum {sum:016x}"
     )?;
-    let events = u64::from(times).wrapping_mul(count as u64);
-    tell(rt, "code", &coding, events, "an event")?;
-    tell(rt, "accept", &accepting, events, "an event")?;
     Ok(())
 }
 

@@ -30,44 +30,63 @@ pub fn measure<R: Clock + Print + Eprint + AllocGlobal>(
     times: u32,
     count: u32,
 ) -> Result<()> {
-    let alloc = rt.alloc();
-    let events = table(alloc, count as usize)?;
+    let events = table(rt.alloc(), count as usize)?;
     let mut took = Took {
         growing: Duration::ZERO,
         room: Duration::ZERO,
         take: Duration::ZERO,
     };
-    let mut bytes = Vec::new(alloc);
-    let mut room = Vec::new(alloc);
-    for _ in 0..times {
-        let start = Instant::now(rt)?;
-        bytes = put_growing(alloc, &events)?;
-        took.growing = took.growing.saturating_add(start.elapsed(rt)?);
-
-        let start = Instant::now(rt)?;
-        room = put_into_room(&events, room)?;
-        took.room = took.room.saturating_add(start.elapsed(rt)?);
-
-        let data = &bytes[..data_of(&bytes).len];
-        let start = Instant::now(rt)?;
-        let same = comes_back(&events, data)?;
-        took.take = took.take.saturating_add(start.elapsed(rt)?);
-        if !same {
-            bail!("the values don't come back");
-        }
-    }
-    if bytes != room {
-        bail!("the bytes differ");
-    }
-
-    let greatest = events.iter().map(|event| event.k).max().unwrap_or(0);
-    let size = bytes.len();
-    let sum = fnv1a(&bytes);
-    println!(rt; "words {count}\ngreatest k {greatest}\nbytes {size}\nFNV-1a {sum:016x}")?;
+    let bytes = put_and_take(rt, times, &events, &mut took)?;
+    print_sums(rt, &events, &bytes)?;
     let words = u64::from(times) * u64::from(count);
     tell(rt, "put, growing", &took.growing, words, "a word")?;
     tell(rt, "put, room there", &took.room, words, "a word")?;
     tell(rt, "take", &took.take, words, "a word")?;
+    Ok(())
+}
+
+/// The bytes of all code words, which each part makes or reads so many times.
+fn put_and_take<R: Clock + AllocGlobal>(
+    rt: &R,
+    times: u32,
+    events: &[Event],
+    took: &mut Took,
+) -> Result<Vec<u8>> {
+    let mut bytes = Vec::new(rt.alloc());
+    let mut room = Vec::new(rt.alloc());
+    for _ in 0..times {
+        let start = Instant::now(rt)?;
+        bytes = put_growing(rt.alloc(), events)?;
+        took.growing = took.growing.saturating_add(start.elapsed(rt)?);
+        let start = Instant::now(rt)?;
+        room = put_into_room(events, room)?;
+        took.room = took.room.saturating_add(start.elapsed(rt)?);
+        take_back(rt, events, &bytes, took)?;
+    }
+    if bytes != room {
+        bail!("the bytes differ");
+    }
+    Ok(bytes)
+}
+
+/// Takes all values back from the bytes. Where the data ends is found before the clock starts.
+fn take_back<R: Clock>(rt: &R, events: &[Event], bytes: &[u8], took: &mut Took) -> Result<()> {
+    let data = &bytes[..data_of(bytes).len];
+    let start = Instant::now(rt)?;
+    let same = comes_back(events, data)?;
+    took.take = took.take.saturating_add(start.elapsed(rt)?);
+    if !same {
+        bail!("the values don't come back");
+    }
+    Ok(())
+}
+
+fn print_sums<R: Print>(rt: &R, events: &[Event], bytes: &[u8]) -> Result<()> {
+    let count = events.len();
+    let greatest = events.iter().map(|event| event.k).max().unwrap_or(0);
+    let size = bytes.len();
+    let sum = fnv1a(bytes);
+    println!(rt; "words {count}\ngreatest k {greatest}\nbytes {size}\nFNV-1a {sum:016x}")?;
     Ok(())
 }
 

@@ -12,7 +12,7 @@ use Rattle.ls_coding.specs.View.Plans.{Interrupts}
 use Rattle.ls_coding.proofs.CostLemmas.{sample_cost, full_run_cost, broken_run_cost}
 use Rattle.ls_coding.proofs.FieldLemmas.{same_or_not}
 use Rattle.ls_coding.proofs.StatsLemmas.{choose}
-use Rattle.ls_stream.specs.Planes.{Plane, at, around, left, above, above_left, above_right, equal_from, run_length, Span, sample_span, run_span, cut, row_spans, rows_from, spans, sample_event, sample_bits, interrupting_sample_event, interrupting_sample_bits, span_events, span_bits, coded, plane_bits}
+use Rattle.ls_stream.specs.Planes.{Plane, at, around, left, above, above_left, above_right, equal_from, run_length, IsLongest, Span, sample_span, run_span, cut, row_spans, rows_from, spans, sample_event, sample_bits, interrupting_sample_event, interrupting_sample_bits, span_events, span_bits, coded, plane_bits}
 use Rattle.ls_stream.proofs.CodedLemmas.{last_of}
 
 -- ---- the neighbours of a sample are samples
@@ -49,12 +49,6 @@ around_small maxval plane i j small = record {
 
 -- ---- a run, and the sample that interrupts it
 
--- so many samples from a column on equal a value, of `most` that there are, and the next one doesn't
-record IsLongest (plane : Plane) (i value most j count : ℕ) : Type 0 where
-  few : count ≤ most
-  equal : (k : ℕ) → k < count → at plane i (j + k) ≡ value
-  other : count < most → at plane i (j + count) ≢ value
-
 equal_more : (plane : Plane) (i value j count k : ℕ) → at plane i j ≡ value → ((l : ℕ) → l < count → at plane i (suc j + l) ≡ value) → k < suc count → at plane i (j + k) ≡ value
 equal_more plane i value j count zero e equal h = let same : j + 0 ≡ j = omega arith in ap (at plane i) same ∙ e
 equal_more plane i value j count (suc k) e equal h = let next : j + suc k ≡ suc j + k = omega arith in ap (at plane i) next ∙ equal k (omega arith)
@@ -77,7 +71,7 @@ shortest plane i value most j h =
       other = λ l same. h (ap (at plane i) here ∙ same);
     }
 
-longest : (plane : Plane) (i value most j : ℕ) → IsLongest plane i value most j (equal_from plane i value most j)
+pub longest : (plane : Plane) (i value most j : ℕ) → IsLongest plane i value most j (equal_from plane i value most j)
 longest plane i value zero j = record { few = omega arith; equal = λ k l. absurd (omega arith); other = λ l. absurd (omega arith) }
 longest plane i value (suc most) j =
     elim (same_or_not (at plane i j) value) [
@@ -88,22 +82,22 @@ longest plane i value (suc most) j =
           subst (IsLongest plane i value (suc most) j) (sym (cond-false _ _ _ (ne_eqb (at plane i j) value other))) (shortest plane i value (suc most) j other)
     ]
 
--- Ra behind a run is the run's value
-left_behind : (plane : Plane) (i value j count : ℕ) → left plane i j ≡ value → ((k : ℕ) → k < count → at plane i (j + k) ≡ value) → left plane i (j + count) ≡ value
-left_behind plane i value j zero e equal = let same : j + 0 ≡ j = omega arith in ap (left plane i) same ∙ e
-left_behind plane i value j (suc count) e equal = let next : j + suc count ≡ suc (j + count) = omega arith in ap (left plane i) next ∙ equal count (omega arith)
+-- Ra after a run is the run's value
+left_after : (plane : Plane) (i value j count : ℕ) → left plane i j ≡ value → ((k : ℕ) → k < count → at plane i (j + k) ≡ value) → left plane i (j + count) ≡ value
+left_after plane i value j zero e equal = let same : j + 0 ≡ j = omega arith in ap (left plane i) same ∙ e
+left_after plane i value j (suc count) e equal = let next : j + suc count ≡ suc (j + count) = omega arith in ap (left plane i) next ∙ equal count (omega arith)
 
 interrupted : (maxval : ℕ) (plane : Plane) (i most j count : ℕ) → AreSmall maxval plane → IsLongest plane i (left plane i j) most j count → count < most
     → Interrupts maxval (around plane i (j + count)).a (at plane i (j + count))
 unfolding around
 interrupted maxval plane i most j count small h short = record {
   within = small (i * plane.width + (j + count));
-  other = λ same. h.other short (same ∙ left_behind plane i (left plane i j) j count refl h.equal);
+  other = λ same. h.other short (same ∙ left_after plane i (left plane i j) j count refl h.equal);
 }
 
 -- ---- spans
 
--- behind lawful events no more bits than these
+-- after lawful events no more bits than these
 abbrev Cost : Parameters → Plane → List Span → ℕ → Type 0
 Cost p plane list most = (events : List Event) → IsLawful p events → broken_after_events events ≡ false → length (coded p plane list events) ≤ most
 

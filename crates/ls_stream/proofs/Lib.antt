@@ -3,6 +3,7 @@ pub mod CodedLemmas
 pub mod ComponentLemmas
 pub mod ContextLemmas
 pub mod CostLemmas
+pub mod CoverLemmas
 pub mod FrameLemmas
 pub mod LayoutLemmas
 pub mod LengthLemmas

@@ -13,7 +13,7 @@ use Rattle.ls_stream.specs.View.LineBuffers.{neighbours_in, AreLines, IsRunEnd}
 use Rattle.ls_stream.specs.View.Coded.{span_bits_in, span_after, bits_from, all_from}
 use Rattle.ls_stream.proofs.SpanLemmas.{row_from-sample, row_from-run}
 
--- a segment's bits move from those to come to those so far
+-- a span's bits move from those to come to those so far
 moved : (plane : Plane) (span : Span) (rest more spans : List Span) (bits new : List Bool) (s after : Coding) → spans ≡ span ∷ rest
     → new ≡ bits ++ span_bits_in plane span s → after ≡ span_after plane span s
     → all_from plane new after (rest ++ more) ≡ all_from plane bits s (spans ++ more)
@@ -51,10 +51,10 @@ pub broken-moved : (plane : Plane) (i j count : ℕ) (bits new : List Bool) (s a
     → new ≡ bits ++ (run_bits s.run_index (run_of count true) ++ golomb_bits s.parameters (interruption_word_in (run_after s (run_of count true)) m x))
     → after ≡ interruption_after (run_after s (run_of count true)) (ri_type_of m) (interruption_error s.parameters m x)
     → (more : List Span) → all_from plane new after (row_from plane i (j + count + 1) ++ more) ≡ all_from plane bits s (row_from plane i j ++ more)
-broken-moved plane i j count bits new s after n m x inside neighbours_in e is f a b d l more =
+broken-moved plane i j count bits new s after n m x inside before_end e is f a b d l more =
     let r : Coding = run_after s (run_of count true) in
     moved plane (run_span i j count true) (row_from plane i (j + count + 1)) more (row_from plane i j) bits new s after
-    (row_from-run plane i j count true inside (sym (ap is_run e) ∙ is) f (lt-ltb (j + count) plane.width neighbours_in))
+    (row_from-run plane i j count true inside (sym (ap is_run e) ∙ is) f (lt-ltb (j + count) plane.width before_end))
     (d ∙ ap (λ (w : Word). bits ++ (run_bits s.run_index (run_of count true) ++ golomb_bits s.parameters w))
     (ap (λ (y : Neighbours). interruption_word_in r y x) a ∙ ap (interruption_word_in r (around plane i (j + count))) b))
     (l ∙ ap (λ (y : Neighbours). interruption_after r (ri_type_of y) (interruption_error s.parameters y x)) a

@@ -1,6 +1,7 @@
 -- A plane, the spans that its rows are cut into, and the bits that they are coded in (T.87 Annex A). With NEAR 0.
 -- A plane is a width and a list of samples, rows from the top; rows and columns count from 0.
-use Rattle.std.specs.Prelude.{ℕ, zero, suc, ◌+◌, ◌-◌, ◌*◌, ◌/◌, ◌==◌, nat_lt, nat_le, Bool, true, false, if◌then◌else◌, List, [], ◌∷◌, ◌++◌, length, slice_index}
+use Rattle.std.specs.Prelude.{◌≡◌, ◌≢◌, ◌<◌, ◌≤◌, ℕ, zero, suc, ◌+◌, ◌-◌, ◌*◌, ◌/◌, ◌==◌, nat_lt, nat_le, Bool, true, false, if◌then◌else◌, List, [], ◌∷◌, ◌++◌, length, slice_index}
+use Rattle.std.specs.List.{range_with_len}
 use Rattle.ls_frame.specs.Parameters.{Parameters}
 use Rattle.ls_coding.specs.declared.neighbours.Neighbours.{Neighbours}
 use Rattle.ls_coding.specs.Contexts.{Context, is_run, context_of}
@@ -58,6 +59,12 @@ equal_from plane i value (suc most) j = if at plane i j == value then suc (equal
 abbrev pub run_length : Plane → ℕ → ℕ → ℕ
 run_length plane i j = equal_from plane i (left plane i j) (plane.width - j) j
 
+-- so many samples from a column on equal a value, of `most` that there are, and the next one, if there is one, doesn't
+pub record IsLongest (plane : Plane) (i value most j count : ℕ) : Type 0 where
+  pub few : count ≤ most
+  pub equal : (k : ℕ) → k < count → at plane i (j + k) ≡ value
+  pub other : count < most → at plane i (j + count) ≢ value
+
 -- the spans of a row from a column on, no more than `most` of them
 abbrev pub cut : Plane → ℕ → ℕ → ℕ → List Span
 cut plane i zero j = []
@@ -81,6 +88,12 @@ rows_from plane (suc count) i = row_spans plane i ++ rows_from plane count (suc 
 
 unfoldable pub spans : Plane → List Span
 spans plane = rows_from plane (length plane.samples / plane.width) 0
+
+-- the columns of a span: those of its run, and that of the sample that interrupts it
+abbrev pub span_columns : Span → List ℕ
+span_columns (sample_span i j) = j ∷ []
+span_columns (run_span i j count true) = range_with_len j (count + 1)
+span_columns (run_span i j count false) = range_with_len j count
 
 -- ---- the bits of spans
 

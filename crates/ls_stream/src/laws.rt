@@ -1,8 +1,10 @@
 //! Laws over the definitions alone. Each is the contract of a function with nothing to do.
-ghost use Rattle.std.specs.Prelude.{◌≡◌, ◌^◌, ◌<◌, ◌≤◌, ◌++◌, [], ◌∷◌, length};
+ghost use Rattle.std.specs.Prelude.{◌≡◌, ◌-◌, ◌^◌, ◌<◌, ◌≤◌, ◌++◌, ℕ, [], ◌∷◌, length, flat_map};
+ghost use Rattle.std.specs.List.{range_with_len};
 ghost use Rattle.ls_frame.specs.Picture.{Picture, IsFrame};
 ghost use Rattle.ls_frame.specs.declared.frame.Kind.TheVariants.{Gray, Color};
 ghost use Rattle.ls_frame.specs.Parameters.{Parameters, IsLegal};
+ghost use Rattle.ls_stream.specs.Planes.{Plane, left, run_length, IsLongest, row_spans, span_columns};
 ghost use Rattle.ls_stream.specs.Grammar.{Spells};
 ghost use Rattle.ls_stream.specs.Layout.{codestream, bound};
 ghost use Rattle.ls_stream.specs.Examples.{scan, default_scan, annex_h_picture, annex_h_scan, lone, lone_codestream, lone_head, lone_scan, last_marker};
@@ -12,6 +14,16 @@ use ls_frame::laws::parameters_are_legal_or_at_fault;
 /// The picture of T.87's Annex H.3 has the scan that stands there.
 pub fn annex_h_has_its_scan()
     ensures { default_scan 255 4 annex_h_picture ≡ annex_h_scan }
+{}
+
+/// The spans that a row is cut into are the row: they have each of its columns once, from left to right.
+pub fn spans_are_their_row()
+    ensures { (plane : Plane) (i : ℕ) → flat_map span_columns (row_spans plane i) ≡ range_with_len 0 plane.width }
+{}
+
+/// A run has all samples that equal its Ra, up to the first that doesn't or the end of the line (A.7.1).
+pub fn runs_are_longest()
+    ensures { (plane : Plane) (i j : ℕ) → IsLongest plane i (left plane i j) (plane.width - j) j (run_length plane i j) }
 {}
 
 /// Small planes with the default parameters, and what they are coded in.
