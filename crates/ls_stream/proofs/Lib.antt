@@ -4,6 +4,7 @@ pub mod ComponentLemmas
 pub mod ContextLemmas
 pub mod CostLemmas
 pub mod CoverLemmas
+pub mod ExampleLemmas
 pub mod FrameLemmas
 pub mod LayoutLemmas
 pub mod LengthLemmas

@@ -19,7 +19,9 @@ use ls_frame::{Frame, Presets};
 use scan::put_scan;
 use std::alloc::{AllocError, Global};
 
-/// A frame's codestream with the default parameters of its maxval. Refused only where memory is.
+/// The codestream of a frame, coded with the default parameters of its maxval (T.87 C.2.4.1.1). It has fewer than 2^32 bytes.
+///
+/// Fails only if an allocation fails: it asks for `code_bound` bytes and for two lines before it codes.
 pub fn encode_frame(alloc: Global, frame: &Frame) -> Result<Vec<u8>, AllocError>
     ensures bytes { let f = frame.now in IfOk result (λ bytes. bytes.items ≡ codestream f (default_parameters f.maxval)) }
     ensures short { IfOk result (λ bytes. length bytes.items < 2 ^ 32) }
@@ -27,7 +29,10 @@ pub fn encode_frame(alloc: Global, frame: &Frame) -> Result<Vec<u8>, AllocError>
     encode_with(alloc, frame, &Presets::default_of(frame.maxval()))
 }
 
-/// A frame's codestream with these parameters. Refused only where memory is.
+/// The codestream of a frame, coded with these parameters, whose maxval has to be the frame's. It has fewer than 2^32 bytes, and
+/// an LSE segment only where the parameters aren't the defaults of the greatest MAXVAL of the precision.
+///
+/// Fails only if an allocation fails: it asks for `code_bound` bytes and for two lines before it codes.
 pub fn encode_with(alloc: Global, frame: &Frame, presets: &Presets) -> Result<Vec<u8>, AllocError>
     requires maxval { presets.now.maxval ≡ frame.now.maxval }
     ensures bytes { IfOk result (λ bytes. bytes.items ≡ codestream frame.now presets.now) }
@@ -39,9 +44,11 @@ pub fn encode_with(alloc: Global, frame: &Frame, presets: &Presets) -> Result<Ve
     Ok(encode_within(frame, presets, &mut lines, bytes))
 }
 
-/// The codestream of a frame, behind the bytes that are there, into room that is there: at least `code_bound`.
+/// The codestream of a frame, written after the bytes that the vector has. The vector comes back with at least the capacity that
+/// it had.
 ///
-/// It takes no memory and can't be refused.
+/// It requires parameters of the frame's maxval, lines at least as wide as the frame, and room in the vector for `code_bound`
+/// more bytes. It allocates nothing and cannot fail.
 pub fn encode_within(frame: &Frame, presets: &Presets, lines: &mut Lines, bytes: Vec<u8>) -> Vec<u8>
     requires maxval { presets.now.maxval ≡ frame.now.maxval }
     requires width { frame.now.width ≤ lines.old }
@@ -59,8 +66,10 @@ pub fn encode_within(frame: &Frame, presets: &Presets, lines: &mut Lines, bytes:
     bytes
 }
 
-/// The most bytes that a frame's codestream may have: all headers, and for each component LIMIT bits a sample, seven to a
-/// byte, and one byte more.
+/// The most bytes that the codestream of a frame may have, fewer than 2^32: those of all headers and, for each component, LIMIT
+/// bits a sample, seven to a byte, and one byte more.
+///
+/// It requires parameters of the frame's maxval.
 pub fn code_bound(frame: &Frame, presets: &Presets) -> u64
     requires maxval { presets.now.maxval ≡ frame.now.maxval }
     ensures value { result ≡ bound frame.now presets.now }
@@ -72,8 +81,8 @@ pub fn code_bound(frame: &Frame, presets: &Presets) -> u64
     headers_length(frame, presets) + count * scan_bound(frame, presets)
 }
 
-/// The bytes of a codestream that are no data: SOI, the frame header, preset parameters where they are written, a scan header
-/// for each component, EOI.
+/// The bytes of a codestream that aren't data: SOI, the frame header, preset parameters where they are written, a scan header for
+/// each component, EOI.
 #[tactic(auto, unfolding(crate::specs::Layout::headers_length))]
 fn headers_length(frame: &Frame, presets: &Presets) -> u64
     ensures value { result ≡ headers_length frame.now presets.now }

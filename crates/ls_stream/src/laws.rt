@@ -1,14 +1,16 @@
 //! Laws over the definitions alone. Each is the contract of a function with nothing to do.
-ghost use Rattle.std.specs.Prelude.{◌≡◌, ◌-◌, ◌^◌, ◌<◌, ◌≤◌, ◌++◌, ℕ, [], ◌∷◌, length, flat_map};
+ghost use Rattle.std.specs.Prelude.{◌≡◌, ◌-◌, ◌^◌, ◌<◌, ◌≤◌, ◌+◌, ◌++◌, ℕ, List, [], ◌∷◌, length, flat_map};
 ghost use Rattle.std.specs.List.{range_with_len};
 ghost use Rattle.ls_frame.specs.Picture.{Picture, IsFrame};
 ghost use Rattle.ls_frame.specs.declared.frame.Kind.TheVariants.{Gray, Color};
 ghost use Rattle.ls_frame.specs.Parameters.{Parameters, IsLegal};
-ghost use Rattle.ls_stream.specs.Planes.{Plane, left, run_length, IsLongest, row_spans, span_columns};
-ghost use Rattle.ls_stream.specs.Grammar.{Spells};
+ghost use Rattle.ls_stream.specs.Planes.{Plane, left, run_length, IsLongest, row_spans, span_columns, plane_bits};
+ghost use Rattle.ls_stream.specs.Grammar.{Spells, Says, IsCoded, IsHeaderOf, presets, skipped};
+ghost use Rattle.ls_bits.specs.Stuffing.{unstuff};
 ghost use Rattle.ls_stream.specs.Layout.{codestream, bound};
-ghost use Rattle.ls_stream.specs.Examples.{scan, default_scan, annex_h_picture, annex_h_scan, lone, lone_codestream, lone_head, lone_scan, last_marker};
+ghost use Rattle.ls_stream.specs.Examples.{scan, default_scan, annex_h_picture, annex_h_scan, lone, lone_codestream, lone_head, lone_scan, last_marker, lone_zero, soi, comment_a, empty_app8, lone_header, lone_reset, lone_grammar, lone_data, three_header};
 
+use crate::marker::Marker;
 use ls_frame::laws::parameters_are_legal_or_at_fault;
 
 /// The picture of T.87's Annex H.3 has the scan that stands there.
@@ -76,3 +78,24 @@ pub fn codestreams_spell_their_frames()
 {
     parameters_are_legal_or_at_fault();
 }
+
+/// Codestreams as other programs may write them: skipped segments before the frame header; two LSE segments, of which the last
+/// counts, with 0 for a default; 15 bits after those of the plane; fill bytes; another identifier and quantization table.
+pub fn others_spell_frames_too()
+    ensures skipped { Spells (soi ++ comment_a ++ empty_app8 ++ lone_header 1 0 ++ lone_scan 1 128 ++ last_marker) lone_zero }
+    ensures tables { Spells (soi ++ lone_reset 32 ++ lone_header 1 0 ++ lone_reset 0 ++ lone_scan 1 128 ++ last_marker) lone_zero }
+    ensures more_bits { Spells (soi ++ lone_header 1 0 ++ lone_scan 1 128 ++ (0 ∷ []) ++ last_marker) lone_zero }
+    ensures fill { Spells (soi ++ lone_header 1 0 ++ lone_scan 1 128 ++ (255 ∷ []) ++ last_marker) lone_zero }
+    ensures identifier { Spells (soi ++ lone_header 7 5 ++ lone_scan 7 128 ++ last_marker) lone_zero }
+{}
+
+/// What no codestream of the grammar has: 16 bits or more after those of a plane; an LSE segment after a scan; two components
+/// with one identifier; a skipped segment that is neither APPn nor COM, as DRI (DD).
+pub fn these_say_no_frame()
+    ensures more_bits { (p : Parameters) (plane : Plane) (bytes : List ℕ)
+        → length (plane_bits p plane) + 16 ≤ length (unstuff bytes) → IsCoded p plane bytes → ⊥ }
+    ensures late_tables { (p q : Parameters) (f : Picture) → Says (lone_grammar [] 1 0 [] (lone_data (128 ∷ []) (presets 0 q ∷ [])) 0) p f → ⊥ }
+    ensures identifiers { (f : Picture) (one two : ℕ) → IsHeaderOf f (three_header one two one) → ⊥ }
+    ensures restarts { (p : Parameters) (f : Picture) (contents : List ℕ)
+        → Says (lone_grammar (skipped 0 (Marker.Other 221) contents ∷ []) 1 0 [] (lone_data (128 ∷ []) []) 0) p f → ⊥ }
+{}

@@ -1,7 +1,7 @@
-//! Scans and markers of T.87: frames, encoded as codestreams.
+//! Codestreams of JPEG-LS (T.87 Annex C): markers, segments, and scans of one component, without loss (NEAR 0).
 //!
-//! What it hands on: encoding answers exactly the codestream of T.87 (`specs/Layout.antt`, of planes in
-//! `specs/Planes.antt`), which spells its frame by the grammar that a decoder is held to (`specs/Grammar.antt`).
+//! What it hands on: encoding answers exactly the codestream of a frame (`specs/Layout.antt`), which spells the frame by the
+//! grammar that a decoder is held to (`specs/Grammar.antt`). The bits of a scan are those of its plane (`specs/Planes.antt`).
 //!
 //! ```
 //! let bytes = encode_frame(alloc, &frame)?;
@@ -9,10 +9,10 @@
 //! let other = encode_with(alloc, &frame, &presets)?;
 //! ```
 //!
-//! In reading order: `encoder` (frames), `segments` and `marker` (all that isn't data), `plane` (a scan's data), `shape`
-//! (where a frame's samples stand), `rows` (the rows of a plane), `lines` (what a row is coded by), `row` (a row, from left
-//! to right), `coder` (one event, as bits), `laws` (what follows from the definitions alone). For the tests `plain`
-//! computes a plane's bits plainly.
+//! In reading order: `encode` (frames to codestreams), and in it `scan` (the rows of a component), `row` (a row, from left to
+//! right), `coder` (one event, as bits), `buffers` (what an encoder needs beside a frame). What reading and writing share:
+//! `marker`, `segments`, `shape` (where a frame's samples stand), `lines` (a line with the places around it). `laws` has what
+//! follows from the definitions alone. Decoding is to stand beside `encode`, as its mirror image.
 #![tactic(auto)]
 
 pub mod encode;

@@ -43,7 +43,7 @@ pub fn fill_line(
     line[width + 1] = line[width];
 }
 
-/// Copies the samples of one of `count` components, which stand pixel by pixel, behind the first place of a line.
+/// Copies the samples of one of `count` components, which stand pixel by pixel, after the first place of a line.
 fn copy_component(line: &mut [u16], row: &[u16], width: usize, count: usize, component: usize)
     requires line { length line.old ≡ width + 2 }
     requires row { length row.now ≡ width * count }

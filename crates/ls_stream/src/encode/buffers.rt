@@ -4,15 +4,18 @@ ghost use Rattle.std.specs.Prelude.{◌≡◌, IfOk};
 use std::alloc::{AllocError, Global};
 use std::marker::Model;
 
-/// Room for two lines of a plane, the one that is coded and the one above it, and for the contexts of its samples.
+/// Room for two lines of a plane, the one that is coded and the one above it, and for the contexts of a line's samples. One value
+/// serves any number of frames up to its width.
 ///
-/// It is seen as the width of the lines that it has room for, in samples.
+/// In contracts it is its width, in samples.
 #[derive(Drop)]
 pub struct Lines {
     width: u16,
+    /// The line above the one that is coded, with a place more on each side.
     pub(super) above: Vec<u16>,
+    /// The line that is coded, likewise.
     pub(super) line: Vec<u16>,
-    /// The contexts of a line's samples.
+    /// The contexts of a line's samples, each as one signed number.
     pub(super) contexts: Vec<i16>,
 }
 
@@ -27,7 +30,7 @@ impl Model for Lines {
 }
 
 impl Lines {
-    /// Room for lines of so many samples. Refused only where memory is.
+    /// Room for lines of up to `width` samples, 0 to 65535. Fails only if an allocation fails.
     pub fn new(alloc: Global, width: u16) -> Result<Lines, AllocError>
         ensures { IfOk result (λ lines. lines ≡ width) }
     {

@@ -40,7 +40,7 @@ impl Model for Coder {
 }
 
 impl Coder {
-    /// A scan's start, behind the bytes that are there, into the room that is there.
+    /// The start of a scan, after the bytes that a vector has, into the room that it has.
     pub fn new(presets: &Presets, bytes: Vec<u8>) -> Coder
         ensures parameters { result.state.parameters ≡ presets.now }
         ensures state { result.state ≡ state_of presets.now [] }
@@ -119,7 +119,7 @@ impl Coder {
         put_word(&mut self.sink, self.qbpp, word);
     }
 
-    /// The vector: the bytes that it had, and behind them the scan's bits, stuffed. It has its room still.
+    /// The vector: the bytes that it had, and after them the bits of the scan, stuffed. Its capacity is at least what it was.
     pub fn finish(self) -> Vec<u8>
         ensures bytes { result.items ≡ self.front ++ stuff self.bits }
         ensures capacity { length self.front + self.room ≤ vec_capacity result }
@@ -128,7 +128,7 @@ impl Coder {
     }
 }
 
-/// A code word, behind the bits that are there.
+/// A code word, after the bits that are there.
 fn put_word(sink: &mut RoomSink, qbpp: u32, word: Word)
     requires golomb { IsGolomb word.k word.glimit qbpp }
     requires value { word.value ≤ most_value qbpp }
@@ -140,7 +140,7 @@ fn put_word(sink: &mut RoomSink, qbpp: u32, word: Word)
     sink.put_golomb(word.k, word.glimit, qbpp, word.value);
 }
 
-/// The bits of a run, behind those that are there.
+/// The bits of a run, after those that are there.
 fn put_run(sink: &mut RoomSink, word: RunWord)
     requires tail { TailFits word.tail }
     requires room { Fits (length sink.old.bits + length (word_bits word)) sink.old.room }

@@ -12,7 +12,7 @@ use crate::lines::neighbours_in;
 use ls_coding::signed_context;
 use ls_frame::Presets;
 
-/// How many contexts are found at once. Those behind a long run aren't wanted.
+/// How many contexts are found at once. Those after a long run would be found in vain.
 const BLOCK: usize = 64;
 
 /// Codes the row whose line, and the line above, are these, each with one place more on the left and on the right;
@@ -41,7 +41,7 @@ pub fn code_row(coder: &mut Coder, above: &[u16], line: &[u16], contexts: &mut [
 }
 
 /// Codes the segments that begin at the columns from `start` up to `end`, whose contexts are known, and answers the column
-/// behind them.
+/// after them.
 fn code_block(
     coder: &mut Coder,
     above: &[u16],
@@ -77,7 +77,7 @@ fn code_block(
     column
 }
 
-/// Codes a sample of regular mode, or a run with the sample that interrupts it, and answers the column behind it.
+/// Codes a sample of regular mode, or a run with the sample that interrupts it, and answers the column after it.
 fn code_span(
     coder: &mut Coder,
     context: i16,

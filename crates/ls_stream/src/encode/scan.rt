@@ -17,7 +17,7 @@ use crate::lines::{clear, fill_line};
 use crate::shape::{Shape, shape_of};
 use ls_frame::{Frame, Presets};
 
-/// Codes the scan of a component, behind the bytes that are there, into room that is there.
+/// Codes the scan of a component, after the bytes that a vector has, into room that it has.
 pub fn put_scan(
     frame: &Frame,
     presets: &Presets,
