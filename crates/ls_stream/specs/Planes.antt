@@ -114,7 +114,7 @@ sample_bits p plane i j events =
     golomb_bits p (regular_word p (sample_stats p plane i j events)
     (regular_error_of p (sample_context p plane i j) (sample_stats p plane i j events) (around plane i j) (at plane i j)))
 
--- the sample that interrupts a run, behind it: by the counters before the run, and RUNindex behind its bits
+-- the sample that interrupts a run, after it: by the counters before the run, and RUNindex after its bits
 abbrev pub interrupting_sample_counts : Parameters → Plane → ℕ → ℕ → List Event → Counts
 interrupting_sample_counts p plane i j events = counts_after_events p (ri_type_of (around plane i j)) events
 

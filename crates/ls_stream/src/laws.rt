@@ -38,7 +38,7 @@ pub fn small_planes_have_these_scans()
     ensures two_values { default_scan 1 1 (1 ∷ []) ≡ 64 ∷ [] }
     ensures sixteen_bits { default_scan 65535 1 (65535 ∷ []) ≡ 64 ∷ 0 ∷ [] }
     ensures runs_of_two_lines { default_scan 255 4 (0 ∷ 0 ∷ 0 ∷ 9 ∷ 0 ∷ 0 ∷ 0 ∷ 9 ∷ []) ≡ 224 ∷ 187 ∷ 0 ∷ [] }
-    ensures escape_behind_a_run { default_scan 255 5 (0 ∷ 0 ∷ 0 ∷ 0 ∷ 100 ∷ []) ≡ 240 ∷ 0 ∷ 0 ∷ 28 ∷ 96 ∷ [] }
+    ensures escape_after_a_run { default_scan 255 5 (0 ∷ 0 ∷ 0 ∷ 0 ∷ 100 ∷ []) ≡ 240 ∷ 0 ∷ 0 ∷ 28 ∷ 96 ∷ [] }
     ensures second_sample_regular { default_scan 255 2 (5 ∷ 5 ∷ []) ≡ 22 ∷ 0 ∷ [] }
     ensures one_column { default_scan 255 1 (5 ∷ 5 ∷ 6 ∷ []) ≡ 22 ∷ 36 ∷ [] }
 {}

@@ -1,4 +1,4 @@
--- The bits of spans from a coder's state on, and the state behind them.
+-- The bits of spans from a coder's state on, and the state after them.
 use Rattle.std.specs.Prelude.{ℕ, ◌+◌, Bool, true, false, List, [], ◌∷◌, ◌++◌}
 use Rattle.ls_coding.specs.Interruptions.{ri_type_of, interruption_error}
 use Rattle.ls_coding.specs.Runs.{run_of, run_bits}

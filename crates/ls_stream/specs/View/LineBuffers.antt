@@ -39,7 +39,7 @@ pub record ArePadded (maxval width : ℕ) (above line : List ℕ) : Type 0 where
   pub above_small : (k : ℕ) → slice_index above k ≤ maxval
   pub line_small : (k : ℕ) → slice_index line k ≤ maxval
 
--- the samples behind column j up to `end` equal what is left of j, and the one of `end` doesn't, if there is one
+-- the samples from column j up to `end` equal what is left of j, and the one of `end` doesn't, if there is one
 pub record IsRunEnd (line : List ℕ) (width j end : ℕ) : Type 0 where
   pub low : j ≤ end
   pub high : end ≤ width

@@ -52,7 +52,7 @@ const PLANES: [(&str, u16, u16, &[u16], &[u8]); 12] = [
         &[0xe0, 0xbb, 0x00],
     ),
     (
-        "an escape word behind a run",
+        "an escape word after a run",
         255,
         5,
         &[0, 0, 0, 0, 100],
@@ -177,7 +177,7 @@ fn frames_have_these_codestreams_and_bounds_with_ample_memory(rt: HostRuntime) -
 
 /// Once its room and its lines are there, encoding asks for no memory: this passes whichever allocation fails.
 #[test]
-fn codestreams_go_behind_bytes_without_memory(rt: HostRuntime) {
+fn codestreams_go_after_bytes_without_memory(rt: HostRuntime) {
     for (parts, want, bound) in CODESTREAMS {
         if let Ok(frame) = frame_of_parts(&rt, rt.alloc(), parts) {
             let _refused = encode_after_a_byte(&rt, rt.alloc(), &frame, want, bound);
