@@ -43,7 +43,7 @@ pub returns-clause-runs_of_two_lines : goal.returns-clause-runs_of_two_lines
 unfolding scan default_scan default_parameters groups code_word ceil_log2 golomb_parameter context_of stats_step counts_step walked run_word around row_spans spans sample_event sample_bits interrupting_sample_event interrupting_sample_bits coded plane_bits
 returns-clause-runs_of_two_lines c = refl
 
-pub returns-clause-escape_after_a_run : goal.returns-clause-escape_behind_a_run
+pub returns-clause-escape_after_a_run : goal.returns-clause-escape_after_a_run
 unfolding scan default_scan default_parameters groups code_word ceil_log2 golomb_parameter context_of stats_step counts_step walked run_word around row_spans spans sample_event sample_bits interrupting_sample_event interrupting_sample_bits coded plane_bits
 returns-clause-escape_after_a_run c = refl
 
