@@ -19,8 +19,6 @@
 pub mod data;
 pub mod laws;
 mod packer;
-#[cfg(test)]
-mod plain;
 pub mod room_sink;
 pub mod sink;
 pub mod source;
