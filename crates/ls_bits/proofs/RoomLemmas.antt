@@ -1,7 +1,7 @@
 -- The room that a sink has left in a vector of the caller's.
 use Rattle.std.proofs.Common.{◌≡◌, ℕ, ◌+◌, ◌-◌, ◌*◌, ◌<◌, ◌≤◌, List, length, arith}
 use Rattle.ls_bits.specs.Room.{Fits}
-use Rattle.ls_bits.specs.Packing.{packed_bits}
+use Rattle.ls_bits.specs.View.Packing.{packed_bits}
 use Rattle.ls_bits.proofs.PackingLemmas.{length-packed_bits}
 
 -- what is put fits: `len` bytes of `capacity` are there, `count` bits are put

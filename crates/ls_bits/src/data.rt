@@ -5,7 +5,7 @@ ghost use Rattle.ls_bits.specs.Data.{DataAtFront, stop_at};
 /// Why data ends.
 #[derive(Clone, Copy, Debug, Drop, PartialEq, Eq)]
 pub enum Stop {
-    /// A marker stands behind it: FF and a byte of 80 or more.
+    /// A marker stands after it: FF and a byte of 80 or more.
     Marker,
     /// The bytes end, or their last one is a lone FF.
     End,

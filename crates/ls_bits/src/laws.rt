@@ -5,7 +5,7 @@ ghost use Rattle.ls_bits.specs.Stuffing.{stuff, unstuff};
 ghost use Rattle.ls_bits.specs.Data.{IsData};
 ghost use Rattle.ls_bits.specs.Golomb.{IsGolomb, code_word, most_value, TakesWord, IsUncanonical};
 
-/// Un-stuffing what was stuffed gives the bits, and at most seven zeros behind them.
+/// Un-stuffing what was stuffed gives the bits, and at most seven zeros after them.
 pub fn unstuffing_gives_the_bits()
     ensures { (bits : List Bool) → (count : ℕ) × (count ≤ 7) × (unstuff (stuff bits) ≡ bits ++ zeros count) }
 {}
@@ -22,7 +22,7 @@ pub fn stuffed_bits_are_data()
     ensures bytes { (bits : List Bool) → AreBytes (stuff bits) }
 {}
 
-/// No code word begins another of the same code: the same bits have one value, and one rest behind it.
+/// No code word begins another of the same code: the same bits have one value, and one rest after it.
 pub fn no_word_begins_another()
     ensures { (k glimit qbpp : ℕ) (bits rest others : List Bool) (v w : ℕ) → IsGolomb k glimit qbpp
         → TakesWord k glimit qbpp bits v rest → TakesWord k glimit qbpp bits w others → (v ≡ w) × (rest ≡ others) }

@@ -1,27 +1,27 @@
-//! Packing bits into stuffed bytes, behind the bytes that a vector already has.
+//! Packing bits into stuffed bytes, after the bytes that a vector already has.
 ghost use Rattle.std.specs.Prelude.{◌≡◌, ◌+◌, ◌-◌, ◌*◌, ◌/◌, ◌%◌, ◌^◌, ◌<◌, ◌≤◌, [], ◌∷◌, ◌++◌, true, false, length, take, drop, vec_len, vec_capacity};
 ghost use Rattle.ls_bits.specs.Bits.{bits_of, zeros as zero_bits};
 ghost use Rattle.ls_bits.specs.Stuffing.{stuff};
 ghost use Rattle.ls_bits.specs.Golomb.{IsGolomb, code_word, most_value};
-ghost use Rattle.ls_bits.specs.Packing.{room_for, packed_bits, IsPacked, HasNoFf};
+ghost use Rattle.ls_bits.specs.View.Packing.{byte_bits, packed_bits, IsPacked, HasNoFf};
 
-/// Stuffed bytes, and the bits behind them that aren't a whole byte yet.
+/// Stuffed bytes, and the bits after them that aren't a whole byte yet.
 #[derive(Drop)]
 pub struct Packer {
     /// The vector that the bytes go into.
     pub bytes: Vec<u8>,
     /// Where in it the stuffed bytes begin.
     pub start: usize,
-    /// Its lowest `held` bits are behind the stuffed bytes. Those above them mean nothing.
+    /// Its lowest `held` bits are after the stuffed bytes. Those above them mean nothing.
     pub word: u64,
     pub held: u32,
     /// Whether the last stuffed byte is FF.
-    pub behind_ff: bool,
+    pub after_ff: bool,
 }
 
 impl Packer {
     pub fn new(bytes: Vec<u8>) -> Packer
-        ensures packed { IsPacked result.start result.bytes.items result.held result.behind_ff }
+        ensures packed { IsPacked result.start result.bytes.items result.held result.after_ff }
         ensures bits { packed_bits result.start result.bytes.items result.word result.held ≡ [] }
         ensures bytes { result.bytes ≡ bytes }
         ensures start { result.start ≡ vec_len bytes }
@@ -32,18 +32,18 @@ impl Packer {
             start,
             word: 0,
             held: 0,
-            behind_ff: false,
+            after_ff: false,
         }
     }
 
-    /// `value` in `count` bits, behind those that are there.
+    /// `value` in `count` bits, after those that are there.
     #[inline(always)]
     pub fn put(&mut self, value: u32, count: u32)
-        requires packed { IsPacked self.old.start self.old.bytes.items self.old.held self.old.behind_ff }
+        requires packed { IsPacked self.old.start self.old.bytes.items self.old.held self.old.after_ff }
         requires room { self.old.held + count < 7 * (vec_capacity self.old.bytes - vec_len self.old.bytes) + 7 }
         requires count { count ≤ 64 }
         requires value { value < 2 ^ count }
-        ensures packed { IsPacked self.new.start self.new.bytes.items self.new.held self.new.behind_ff }
+        ensures packed { IsPacked self.new.start self.new.bytes.items self.new.held self.new.after_ff }
         ensures bits { packed_bits self.new.start self.new.bytes.items self.new.word self.new.held
             ≡ packed_bits self.old.start self.old.bytes.items self.old.word self.old.held ++ bits_of count value }
         ensures start { self.new.start ≡ self.old.start }
@@ -57,7 +57,7 @@ impl Packer {
         }
         let waiting = total - 64;
         let full = ((self.word << (63 - self.held)) << 1) | (u64::from(value) >> waiting);
-        if self.behind_ff || has_ff(full) {
+        if self.after_ff || has_ff(full) {
             self.put_by_bytes(value, count);
             return;
         }
@@ -69,12 +69,12 @@ impl Packer {
     /// The code word of `v`.
     #[inline(always)]
     pub fn put_golomb(&mut self, k: u32, glimit: u32, qbpp: u32, v: u32)
-        requires packed { IsPacked self.old.start self.old.bytes.items self.old.held self.old.behind_ff }
+        requires packed { IsPacked self.old.start self.old.bytes.items self.old.held self.old.after_ff }
         requires room { self.old.held + length (code_word k glimit qbpp v)
             < 7 * (vec_capacity self.old.bytes - vec_len self.old.bytes) + 7 }
         requires code { IsGolomb k glimit qbpp }
         requires value { v ≤ most_value qbpp }
-        ensures packed { IsPacked self.new.start self.new.bytes.items self.new.held self.new.behind_ff }
+        ensures packed { IsPacked self.new.start self.new.bytes.items self.new.held self.new.after_ff }
         ensures bits { packed_bits self.new.start self.new.bytes.items self.new.word self.new.held
             ≡ packed_bits self.old.start self.old.bytes.items self.old.word self.old.held ++ code_word k glimit qbpp v }
         ensures start { self.new.start ≡ self.old.start }
@@ -84,7 +84,7 @@ impl Packer {
         let escape = glimit - qbpp - 1;
         let small = v >> k;
         if small < escape {
-            self.put_word(small, low_bits(v, k), k);
+            self.put_unary(small, low_bits(v, k), k);
         } else {
             self.put_escape(escape, v - 1, qbpp);
         }
@@ -92,13 +92,13 @@ impl Packer {
 
     /// So many zeros, a one, and `rest` in `count` bits.
     #[inline(always)]
-    fn put_word(&mut self, zeros: u32, rest: u32, count: u32)
-        requires packed { IsPacked self.old.start self.old.bytes.items self.old.held self.old.behind_ff }
+    fn put_unary(&mut self, zeros: u32, rest: u32, count: u32)
+        requires packed { IsPacked self.old.start self.old.bytes.items self.old.held self.old.after_ff }
         requires room { self.old.held + (zeros + 1 + count) < 7 * (vec_capacity self.old.bytes - vec_len self.old.bytes) + 7 }
         requires count { count ≤ 17 }
         requires total { zeros + 1 + count ≤ 64 }
         requires rest { rest < 2 ^ count }
-        ensures packed { IsPacked self.new.start self.new.bytes.items self.new.held self.new.behind_ff }
+        ensures packed { IsPacked self.new.start self.new.bytes.items self.new.held self.new.after_ff }
         ensures bits { packed_bits self.new.start self.new.bytes.items self.new.word self.new.held
             ≡ packed_bits self.old.start self.old.bytes.items self.old.word self.old.held ++ (zero_bits zeros ++ true ∷ bits_of count rest) }
         ensures start { self.new.start ≡ self.old.start }
@@ -108,28 +108,28 @@ impl Packer {
         self.put(led_by_one(rest, count), zeros + 1 + count);
     }
 
-    /// As `put_word`, out of the way of the words that are common.
+    /// As `put_unary`, out of the way of the words that are common.
     #[cold]
     #[inline(never)]
     fn put_escape(&mut self, zeros: u32, rest: u32, count: u32)
-        requires packed { IsPacked self.old.start self.old.bytes.items self.old.held self.old.behind_ff }
+        requires packed { IsPacked self.old.start self.old.bytes.items self.old.held self.old.after_ff }
         requires room { self.old.held + (zeros + 1 + count) < 7 * (vec_capacity self.old.bytes - vec_len self.old.bytes) + 7 }
         requires count { count ≤ 17 }
         requires total { zeros + 1 + count ≤ 64 }
         requires rest { rest < 2 ^ count }
-        ensures packed { IsPacked self.new.start self.new.bytes.items self.new.held self.new.behind_ff }
+        ensures packed { IsPacked self.new.start self.new.bytes.items self.new.held self.new.after_ff }
         ensures bits { packed_bits self.new.start self.new.bytes.items self.new.word self.new.held
             ≡ packed_bits self.old.start self.old.bytes.items self.old.word self.old.held ++ (zero_bits zeros ++ true ∷ bits_of count rest) }
         ensures start { self.new.start ≡ self.old.start }
         ensures front { take self.old.start self.new.bytes.items ≡ take self.old.start self.old.bytes.items }
         ensures capacity { vec_capacity self.old.bytes ≤ vec_capacity self.new.bytes }
     {
-        self.put_word(zeros, rest, count);
+        self.put_unary(zeros, rest, count);
     }
 
-    /// The bits stuffed, behind the bytes that the vector had.
+    /// The bits stuffed, after the bytes that the vector had.
     pub fn finish(mut self) -> Vec<u8>
-        requires packed { IsPacked self.start self.bytes.items self.held self.behind_ff }
+        requires packed { IsPacked self.start self.bytes.items self.held self.after_ff }
         requires room { 0 < length (packed_bits self.start self.bytes.items self.word self.held)
             → self.held < 7 * (vec_capacity self.bytes - vec_len self.bytes) }
         ensures bytes { result.items ≡ take self.start self.bytes.items
@@ -137,20 +137,20 @@ impl Packer {
         ensures capacity { vec_capacity self.bytes ≤ vec_capacity result }
     {
         self.put_out_bytes();
-        if self.held > 0 || self.behind_ff {
+        if self.held > 0 || self.after_ff {
             self.bytes
-                .push_reserved(last_group(self.word, self.held, self.behind_ff));
+                .push_reserved(last_group(self.word, self.held, self.after_ff));
         }
         self.bytes
     }
 
-    /// `value` in `count` bits, where the word has room for them.
+    /// `value` in `count` bits, if the word can hold them.
     #[inline(always)]
     fn append(&mut self, value: u32, count: u32)
-        requires packed { IsPacked self.old.start self.old.bytes.items self.old.held self.old.behind_ff }
+        requires packed { IsPacked self.old.start self.old.bytes.items self.old.held self.old.after_ff }
         requires room { self.old.held + count < 64 }
         requires value { value < 2 ^ count }
-        ensures packed { IsPacked self.new.start self.new.bytes.items self.new.held self.new.behind_ff }
+        ensures packed { IsPacked self.new.start self.new.bytes.items self.new.held self.new.after_ff }
         ensures bits { packed_bits self.new.start self.new.bytes.items self.new.word self.new.held
             ≡ packed_bits self.old.start self.old.bytes.items self.old.word self.old.held ++ bits_of count value }
         ensures start { self.new.start ≡ self.old.start }
@@ -167,11 +167,11 @@ impl Packer {
     #[cold]
     #[inline(never)]
     fn put_by_bytes(&mut self, value: u32, count: u32)
-        requires packed { IsPacked self.old.start self.old.bytes.items self.old.held self.old.behind_ff }
+        requires packed { IsPacked self.old.start self.old.bytes.items self.old.held self.old.after_ff }
         requires room { self.old.held + count < 7 * (vec_capacity self.old.bytes - vec_len self.old.bytes) + 7 }
         requires count { count ≤ 64 }
         requires value { value < 2 ^ count }
-        ensures packed { IsPacked self.new.start self.new.bytes.items self.new.held self.new.behind_ff }
+        ensures packed { IsPacked self.new.start self.new.bytes.items self.new.held self.new.after_ff }
         ensures bits { packed_bits self.new.start self.new.bytes.items self.new.word self.new.held
             ≡ packed_bits self.old.start self.old.bytes.items self.old.word self.old.held ++ bits_of count value }
         ensures start { self.new.start ≡ self.old.start }
@@ -190,9 +190,9 @@ impl Packer {
 
     /// Puts out whole bytes until fewer than eight bits wait.
     fn put_out_bytes(&mut self)
-        requires packed { IsPacked self.old.start self.old.bytes.items self.old.held self.old.behind_ff }
+        requires packed { IsPacked self.old.start self.old.bytes.items self.old.held self.old.after_ff }
         requires room { self.old.held < 7 * (vec_capacity self.old.bytes - vec_len self.old.bytes) + 7 }
-        ensures packed { IsPacked self.new.start self.new.bytes.items self.new.held self.new.behind_ff }
+        ensures packed { IsPacked self.new.start self.new.bytes.items self.new.held self.new.after_ff }
         ensures bits { packed_bits self.new.start self.new.bytes.items self.new.word self.new.held
             ≡ packed_bits self.old.start self.old.bytes.items self.old.word self.old.held }
         ensures start { self.new.start ≡ self.old.start }
@@ -209,11 +209,11 @@ impl Packer {
     /// Puts out the eight bytes of a word of which none is FF, in place of the bits that wait.
     #[inline(always)]
     fn put_out_word(&mut self, full: u64)
-        requires packed { IsPacked self.old.start self.old.bytes.items self.old.held self.old.behind_ff }
+        requires packed { IsPacked self.old.start self.old.bytes.items self.old.held self.old.after_ff }
         requires room { vec_len self.old.bytes + 8 ≤ vec_capacity self.old.bytes }
-        requires first { self.old.behind_ff ≡ false }
+        requires first { self.old.after_ff ≡ false }
         requires others { HasNoFf full }
-        ensures packed { IsPacked self.new.start self.new.bytes.items 0 self.new.behind_ff }
+        ensures packed { IsPacked self.new.start self.new.bytes.items 0 self.new.after_ff }
         ensures bits { packed_bits self.new.start self.new.bytes.items full 0 ≡ packed_bits self.old.start self.old.bytes.items full 64 }
         ensures start { self.new.start ≡ self.old.start }
         ensures front { take self.old.start self.new.bytes.items ≡ take self.old.start self.old.bytes.items }
@@ -231,23 +231,23 @@ impl Packer {
 
     /// Puts out one whole byte.
     fn put_out_byte(&mut self)
-        requires packed { IsPacked self.old.start self.old.bytes.items self.old.held self.old.behind_ff }
+        requires packed { IsPacked self.old.start self.old.bytes.items self.old.held self.old.after_ff }
         requires room { vec_len self.old.bytes < vec_capacity self.old.bytes }
-        requires held { room_for self.old.behind_ff ≤ self.old.held }
-        ensures packed { IsPacked self.new.start self.new.bytes.items self.new.held self.new.behind_ff }
+        requires held { byte_bits self.old.after_ff ≤ self.old.held }
+        ensures packed { IsPacked self.new.start self.new.bytes.items self.new.held self.new.after_ff }
         ensures bits { packed_bits self.new.start self.new.bytes.items self.new.word self.new.held
             ≡ packed_bits self.old.start self.old.bytes.items self.old.word self.old.held }
-        ensures held { self.new.held + room_for self.old.behind_ff ≡ self.old.held }
+        ensures held { self.new.held + byte_bits self.old.after_ff ≡ self.old.held }
         ensures start { self.new.start ≡ self.old.start }
         ensures front { take self.old.start self.new.bytes.items ≡ take self.old.start self.old.bytes.items }
         ensures len { vec_len self.new.bytes ≡ vec_len self.old.bytes + 1 }
         ensures capacity { vec_capacity self.new.bytes ≡ vec_capacity self.old.bytes }
     {
-        let waiting = self.held - room(self.behind_ff);
-        let byte = group(self.word >> waiting, self.behind_ff);
+        let waiting = self.held - byte_bits(self.after_ff);
+        let byte = group(self.word >> waiting, self.after_ff);
         self.bytes.push_reserved(byte);
         self.held = waiting;
-        self.behind_ff = byte == 0xff;
+        self.after_ff = byte == 0xff;
     }
 }
 
@@ -268,18 +268,18 @@ fn led_by_one(rest: u32, count: u32) -> u32
     (1 << count) | rest
 }
 
-/// How many bits the next byte holds: seven behind FF, else eight.
-pub fn room(behind_ff: bool) -> u32
-    ensures { result ≡ room_for behind_ff }
+/// How many bits the next byte holds: seven after FF, else eight.
+pub fn byte_bits(after_ff: bool) -> u32
+    ensures { result ≡ byte_bits after_ff }
 {
-    if behind_ff { 7 } else { 8 }
+    if after_ff { 7 } else { 8 }
 }
 
 /// The byte of the lowest bits of `word`.
-fn group(word: u64, behind_ff: bool) -> u8
-    ensures { result ≡ word % 2 ^ room_for behind_ff }
+fn group(word: u64, after_ff: bool) -> u8
+    ensures { result ≡ word % 2 ^ byte_bits after_ff }
 {
-    if behind_ff {
+    if after_ff {
         (word & 0x7f) as u8
     } else {
         (word & 0xff) as u8
@@ -287,12 +287,12 @@ fn group(word: u64, behind_ff: bool) -> u8
 }
 
 /// The byte of the lowest `held` bits of `word`, filled with zeros.
-fn last_group(word: u64, held: u32, behind_ff: bool) -> u8
+fn last_group(word: u64, held: u32, after_ff: bool) -> u8
     requires { held ≤ 7 }
-    ensures { result ≡ (word % 2 ^ held) * 2 ^ (room_for behind_ff - held) }
+    ensures { result ≡ (word % 2 ^ held) * 2 ^ (byte_bits after_ff - held) }
 {
     let bits = word & ((1 << held) - 1);
-    (bits << (room(behind_ff) - held)) as u8
+    (bits << (byte_bits(after_ff) - held)) as u8
 }
 
 /// Whether one of the eight bytes of `word` is FF: where a byte is, the eight ones of it leave one at its lowest bit.

@@ -8,18 +8,18 @@ ghost use Rattle.ls_bits.specs.Room.{Fits};
 use crate::packer::Packer;
 use std::marker::Model;
 
-/// The bytes that a vector had, the room that it had behind them, and the bits put since, which `finish` stuffs into
+/// The bytes that a vector had, the room that it had after them, and the bits put since, which `finish` stuffs into
 /// that room (T.87 C.1).
 #[derive(Drop)]
 pub struct RoomSink {
     packer: Packer,
-    /// How many bytes the vector had room for behind those that it had.
+    /// How many bytes the vector had room for after those that it had.
     room: usize,
 }
 
 impl Model for RoomSink {
     ghost use Rattle.std.specs.Prelude.{ℕ, ◌≡◌, ◌+◌, ◌≤◌, ◌<◌, List, length, take, vec_capacity};
-    ghost use Rattle.ls_bits.specs.Packing.{packed_bits, IsPacked};
+    ghost use Rattle.ls_bits.specs.View.Packing.{packed_bits, IsPacked};
     ghost use Rattle.ls_bits.specs.Room.{Filled, Fits};
 
     ghost Value = { Filled };
@@ -31,14 +31,14 @@ impl Model for RoomSink {
     } };
 
     ghost invariant = { λ s.
-        IsPacked s.packer.start s.packer.bytes.items s.packer.held s.packer.behind_ff
+        IsPacked s.packer.start s.packer.bytes.items s.packer.held s.packer.after_ff
         × (s.packer.start + s.room ≤ vec_capacity s.packer.bytes)
         × (0 < length (packed_bits s.packer.start s.packer.bytes.items s.packer.word s.packer.held)
         → Fits (length (packed_bits s.packer.start s.packer.bytes.items s.packer.word s.packer.held)) s.room) };
 }
 
 impl RoomSink {
-    /// No bits yet, behind the bytes of the vector.
+    /// No bits yet, after the bytes of the vector.
     pub fn new(bytes: Vec<u8>) -> RoomSink
         ensures front { result.front ≡ bytes.items }
         ensures room { result.room ≡ vec_capacity bytes - vec_len bytes }
@@ -75,7 +75,7 @@ impl RoomSink {
         self.packer.put_golomb(k, glimit, qbpp, v);
     }
 
-    /// The vector: the bytes that it had, and behind them the bits, stuffed. It has its room still.
+    /// The vector: the bytes that it had, and after them the bits, stuffed. It has its room still.
     pub fn finish(self) -> Vec<u8>
         ensures bytes { result.items ≡ self.front ++ stuff self.bits }
         ensures capacity { length self.front + self.room ≤ vec_capacity result }

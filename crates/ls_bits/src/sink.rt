@@ -19,13 +19,13 @@ pub struct BitSink {
 
 impl Model for BitSink {
     ghost use Rattle.std.specs.Prelude.{◌≡◌, Bool, List};
-    ghost use Rattle.ls_bits.specs.Packing.{packed_bits, IsPacked};
+    ghost use Rattle.ls_bits.specs.View.Packing.{packed_bits, IsPacked};
 
     ghost Value = { List Bool };
 
     ghost view = { λ s. packed_bits s.packer.start s.packer.bytes.items s.packer.word s.packer.held };
 
-    ghost invariant = { λ s. IsPacked s.packer.start s.packer.bytes.items s.packer.held s.packer.behind_ff × (s.packer.start ≡ 0) };
+    ghost invariant = { λ s. IsPacked s.packer.start s.packer.bytes.items s.packer.held s.packer.after_ff × (s.packer.start ≡ 0) };
 }
 
 impl BitSink {

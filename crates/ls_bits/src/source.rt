@@ -28,13 +28,13 @@ pub struct BitSource<'a> {
 
 impl<'a> Model for BitSource<'a> {
     ghost use Rattle.std.specs.Prelude.{Bool, List};
-    ghost use Rattle.ls_bits.specs.Packing.{bits_left, IsWindow};
+    ghost use Rattle.ls_bits.specs.View.Packing.{bits_left, IsWindow};
 
     ghost Value = { List Bool };
 
-    ghost view = { λ s. bits_left s.window.word s.window.held s.window.behind_ff s.window.rest.now };
+    ghost view = { λ s. bits_left s.window.word s.window.held s.window.after_ff s.window.rest.now };
 
-    ghost invariant = { λ s. IsWindow s.window.held s.window.behind_ff s.window.rest.now };
+    ghost invariant = { λ s. IsWindow s.window.held s.window.after_ff s.window.rest.now };
 }
 
 impl<'a> BitSource<'a> {
@@ -47,7 +47,7 @@ impl<'a> BitSource<'a> {
             window: Window {
                 word: 0,
                 held: 0,
-                behind_ff: false,
+                after_ff: false,
                 rest: bytes,
             },
         }
@@ -117,7 +117,7 @@ impl<'a> BitSource<'a> {
     }
 }
 
-/// A number of `high` and the `count` bits of `low` behind it.
+/// A number of `high` and the `count` bits of `low` after it.
 fn joined(high: u32, low: u32, count: u32) -> u32
     requires high { high < 64 }
     requires count { count ≤ 17 }

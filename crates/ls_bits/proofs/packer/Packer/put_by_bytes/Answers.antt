@@ -1,6 +1,6 @@
 use Rattle.std.proofs.Common.{◌≡◌, ◌+◌, ◌-◌, ◌^◌, ◌<◌, ◌++◌, ap, ◌∙◌, arith}
 use Rattle.ls_bits.specs.Bits.{bits_of}
-use Rattle.ls_bits.specs.Packing.{packed_bits}
+use Rattle.ls_bits.specs.View.Packing.{packed_bits}
 use Rattle.ls_bits.proofs.PackingLemmas.{bits_of-wide}
 use Rattle.ls_bits.proofs.packer.Packer.put_by_bytes.Goals as goal
 

@@ -1,5 +1,5 @@
 use Rattle.std.proofs.Common.{◌++◌, ◌∷◌, [], List, ℕ, false, subst, sym, ap, ◌∙◌}
-use Rattle.ls_bits.specs.Packing.{IsPacked}
+use Rattle.ls_bits.specs.View.Packing.{IsPacked}
 use Rattle.ls_bits.proofs.PackingLemmas.{StillPacked, byte_of, eight_out}
 use Rattle.ls_bits.proofs.packer.Packer.put_out_word.Goals as goal
 

@@ -1,6 +1,6 @@
 use Rattle.std.proofs.Common.{◌≡◌, ◌+◌, length, ap, sym, ◌∙◌, arith, length-append}
 use Rattle.ls_bits.specs.Bits.{bits_of}
-use Rattle.ls_bits.specs.Packing.{packed_bits}
+use Rattle.ls_bits.specs.View.Packing.{packed_bits}
 use Rattle.ls_bits.specs.Room.{Filled}
 use Rattle.ls_bits.proofs.BitLemmas.{length-bits_of}
 use Rattle.ls_bits.proofs.RoomLemmas.{fits_more}

@@ -1,6 +1,6 @@
 use Rattle.std.proofs.Common.{◌≡◌, length, ap, sym, arith}
 use Rattle.ls_bits.specs.Golomb.{code_word}
-use Rattle.ls_bits.specs.Packing.{packed_bits}
+use Rattle.ls_bits.specs.View.Packing.{packed_bits}
 use Rattle.ls_bits.specs.Room.{Filled}
 use Rattle.ls_bits.proofs.RoomLemmas.{fits_more}
 use Rattle.ls_bits.proofs.room_sink.RoomSink.put_golomb.Goals as goal

@@ -1,8 +1,8 @@
 use Rattle.std.proofs.Common.{◌+◌, ◌^◌, ◌<◌, ◌++◌, ℕ, ap, sym, subst, ◌∙◌}
 use Rattle.ls_bits.specs.Bits.{bits_of}
-use Rattle.ls_bits.specs.Packing.{packed_bits}
+use Rattle.ls_bits.specs.View.Packing.{packed_bits}
 use Rattle.ls_bits.proofs.PackingLemmas.{word_at_once, tail-lt}
-use Rattle.ls_bits.proofs.packer.Packer.put_word.Goals as goal
+use Rattle.ls_bits.proofs.packer.Packer.put_unary.Goals as goal
 
 pub put-requires-clause-value : goal.put-requires-clause-value
 put-requires-clause-value c =
