@@ -6,7 +6,7 @@ use lib.Bits.{bit_or}
 use Rattle.ls_bits.specs.Bits.{bits_of, zeros, BeginsWith, AreBytes}
 use Rattle.ls_bits.specs.Stuffing.{bits_after, unstuff_from}
 use Rattle.ls_bits.specs.Data.{IsData}
-use Rattle.ls_bits.specs.View.Packing.{byte_bits, KeepsStuffing, bits_left, IsWindow}
+use Rattle.ls_bits.specs.View.Packing.{byte_bits, KeepsStuffing, bits_left, BitsLeft, IsWindow}
 use Rattle.ls_bits.specs.View.Taking.{LeadingZeros, found, none}
 use Rattle.ls_bits.proofs.BitLemmas.{shifted_in, bits_of-cat, bits_of-split, bits_of-mod, length-bits_of}
 use Rattle.ls_bits.proofs.StuffingLemmas.{size_range, bits_after-other, data-keeps}
@@ -110,6 +110,11 @@ four_in word held value (first ∷ second ∷ third ∷ fourth ∷ bytes) some w
 
 -- ---- bits taken
 
+-- what was left before a refill is what the refilled word and the other bytes hold
+pub refilled : (word held : ℕ) (after_ff : Bool) (rest : List ℕ) (before after : BitsLeft) → after.bits ≡ before.bits
+    → ◌≡◌ {A = BitsLeft} (record { bits = bits_left word held after_ff rest; held = held }) after → before.bits ≡ bits_left word held after_ff rest
+refilled word held after_ff rest before after same seen = sym same ∙ sym (ap (λ (w : BitsLeft). w.bits) seen)
+
 pub bits_left-take : (word held count value : ℕ) (after_ff : Bool) (rest : List ℕ) → count ≤ held → value ≡ word / 2 ^ (held - count) % 2 ^ count
     → bits_left word held after_ff rest ≡ bits_of count value ++ bits_left word (held - count) after_ff rest
 bits_left-take word held count value after_ff rest h e =
@@ -121,15 +126,14 @@ bits_left-take word held count value after_ff rest h e =
     ∙ ap (λ bits. bits ++ more) (bits_of-split count (held - count) word ∙ ap (λ bits. bits ++ bits_of (held - count) word) same)
     ∙ append_assoc (bits_of count value) (bits_of (held - count) word) more
 
--- where no bytes are left, what is held is all
-pub length-bits_left : (word held : ℕ) (after_ff : Bool) (rest : List ℕ) → rest ≡ [] → length (bits_left word held after_ff rest) ≡ held
+-- if no bytes are left, what is held is all
+length-bits_left : (word held : ℕ) (after_ff : Bool) (rest : List ℕ) → rest ≡ [] → length (bits_left word held after_ff rest) ≡ held
 length-bits_left word held after_ff rest e =
     ap (λ bytes. length (bits_left word held after_ff bytes)) e ∙ ap length (append-nil (bits_of held word)) ∙ length-bits_of held word
 
-pub few_left : (word held wanted count : ℕ) (after_ff : Bool) (rest : List ℕ) → (wanted ≤ held) ⊎ (rest ≡ []) → held < count → count ≤ wanted
-    → length (bits_left word held after_ff rest) < count
-few_left word held wanted count after_ff rest (inl enough) less most = absurd (omega arith)
-few_left word held wanted count after_ff rest (inr all) less most = omega (arith, length-bits_left word held after_ff rest all)
+pub all_held : (word held : ℕ) (after_ff : Bool) (rest : List ℕ) → length rest < 1 → length (bits_left word held after_ff rest) ≤ held
+all_held word held after_ff [] h = omega (arith, length-bits_left word held after_ff [] refl)
+all_held word held after_ff (byte ∷ rest) h = absurd (omega arith)
 
 -- ---- how many are left
 

@@ -28,13 +28,9 @@ pub struct BitSource<'a> {
 
 impl<'a> Model for BitSource<'a> {
     ghost use Rattle.std.specs.Prelude.{Bool, List};
-    ghost use Rattle.ls_bits.specs.View.Packing.{bits_left, IsWindow};
-
     ghost Value = { List Bool };
 
-    ghost view = { λ s. bits_left s.window.word s.window.held s.window.after_ff s.window.rest.now };
-
-    ghost invariant = { λ s. IsWindow s.window.held s.window.after_ff s.window.rest.now };
+    ghost view = { λ s. s.window.bits };
 }
 
 impl<'a> BitSource<'a> {
@@ -44,12 +40,7 @@ impl<'a> BitSource<'a> {
         ensures { result ≡ unstuff bytes.now }
     {
         BitSource {
-            window: Window {
-                word: 0,
-                held: 0,
-                after_ff: false,
-                rest: bytes,
-            },
+            window: Window::new(bytes),
         }
     }
 

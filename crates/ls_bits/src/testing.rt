@@ -149,7 +149,7 @@ impl Filling {
         })
     }
 
-    pub fn put(&mut self, rt: &impl Abort, (value, count): Put) {
+    pub fn put(&mut self, rt: &impl Abort, value: u32, count: u32) {
         assert!(rt; count <= 32);
         assert!(rt; u64::from(value) < 1 << count);
         assert!(rt; count as usize <= self.total - self.used);

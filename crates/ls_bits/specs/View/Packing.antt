@@ -43,6 +43,13 @@ pub record HasNoFf (word : ℕ) : Type 0 where
 abbrev pub bits_left : ℕ → ℕ → Bool → List ℕ → List Bool
 bits_left word held after_ff rest = bits_of held word ++ unstuff_from (byte_bits after_ff) rest
 
+-- what a source's window is seen as
+pub record BitsLeft : Type 0 where
+  -- the bits that are left
+  pub bits : List Bool
+  -- how many of them are in the word
+  pub held : ℕ
+
 pub record IsWindow (held : ℕ) (after_ff : Bool) (rest : List ℕ) : Type 0 where
   pub few : held ≤ 63
   pub keeps : KeepsStuffing (byte_bits after_ff) rest

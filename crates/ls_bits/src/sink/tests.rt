@@ -20,9 +20,9 @@ const ROOM: usize = 192;
 fn check_puts(rt: &impl Abort, alloc: Global, puts: &[Put], want: &[u8]) -> Result<(), AllocError> {
     let mut sink = BitSink::new(alloc);
     let mut filling = Filling::new(alloc, ROOM)?;
-    for bits in puts {
-        put(rt, &mut sink, *bits)?;
-        filling.put(rt, *bits);
+    for (value, count) in puts {
+        put(rt, &mut sink, (*value, *count))?;
+        filling.put(rt, *value, *count);
     }
     check_bytes(rt, &sink.finish()?, want);
     check_bytes(rt, &filling.finish(), want);
@@ -152,8 +152,8 @@ fn mixture(rt: &impl Abort, alloc: Global) -> Result<Vec<u8>, AllocError> {
 fn mixture_with_room(rt: &impl Abort, alloc: Global) -> Result<Vec<u8>, AllocError> {
     let mut filling = Filling::new(alloc, 2000)?;
     for _ in 0..8 {
-        for bits in MIXED {
-            filling.put(rt, bits);
+        for (value, count) in MIXED {
+            filling.put(rt, value, count);
         }
         for (k, glimit, qbpp, v) in MIXED_WORDS {
             filling.put_word(rt, Code::new(rt, k, glimit, qbpp), v);
