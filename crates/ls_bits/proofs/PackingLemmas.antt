@@ -1,14 +1,14 @@
 -- What a sink's steps do to its bits.
 use Rattle.std.proofs.Common.{◌≡◌, ℕ, zero, suc, ◌+◌, ◌-◌, ◌*◌, ◌/◌, ◌%◌, ◌^◌, ◌<◌, ◌≤◌, ◌⊎◌, inl, inr, Bool, true, false, eqb, List, [], ◌∷◌, ◌++◌, length, take, drop, refl, sym, ◌∙◌, ap, subst, arith, append_assoc, length-append}
 use Rattle.std.proofs.lemmas.List.{append-nil, drop-append-le, take-append-drop, length-drop}
-use Rattle.std.proofs.lemmas.Bool.{ne_eqb}
+use Rattle.std.proofs.lemmas.Bool.{ne_eqb, true≢false}
 use Rattle.std.proofs.lemmas.Nat.{mul-mod_first, shr_below}
 use Rattle.std.proofs.Math.Nat.{mod-one, pow-suc}
 use Rattle.std.proofs.Math.Pow.{pow_mono}
 use lib.Bits.{bit_or}
 use Rattle.ls_bits.specs.Bits.{bits_of, zeros}
 use Rattle.ls_bits.specs.Stuffing.{stuff_into, stuff, unstuff}
-use Rattle.ls_bits.specs.View.Packing.{byte_bits, KeepsStuffing, next_byte_bits, packed_bits, IsPacked, HasNoFf}
+use Rattle.ls_bits.specs.View.Packing.{byte_bits, KeepsStuffing, next_byte_bits, packed_bits, IsPacked, HasNoFf, with_word}
 use Rattle.ls_bits.proofs.BitLemmas.{bits_of-cat, bits_of-split, bits_of-mod, bits_of-word, shifted_in, length-bits_of}
 use Rattle.ls_bits.proofs.StuffingLemmas.{IsSize, unstuff_from-append, next_byte_bits-append, KeepsStuffing-append, length-unstuff_from, stuff_into-front, stuff_into-last, stuff_into-none, stuff_into-after_ff}
 
@@ -75,14 +75,8 @@ one_out start word held other waiting bytes packed sum few not_ff =
       bits = packed_bits-byte start word held other waiting byte bytes false packed sum next;
     }
 
--- a byte of a word
-abbrev pub byte_of : ℕ → ℕ → ℕ
-byte_of word shift = word / 2 ^ shift % 256
-
 pub eight_out : (start word other : ℕ) (bytes : List ℕ) → IsPacked start bytes other false → HasNoFf word
-    → StillPacked start word bytes
-    ((((((((bytes ++ byte_of word 56 ∷ []) ++ byte_of word 48 ∷ []) ++ byte_of word 40 ∷ []) ++ byte_of word 32 ∷ []) ++ byte_of word 24 ∷ [])
-    ++ byte_of word 16 ∷ []) ++ byte_of word 8 ∷ []) ++ byte_of word 0 ∷ []) 64 0
+    → StillPacked start word bytes (with_word bytes word) 64 0
 eight_out start word other bytes packed none =
     let one = one_out start word 64 other 56 bytes packed refl (omega arith) none.at_56 in
     let two = one_out start word 56 56 48 _ one.packed refl (omega arith) none.at_48 in
@@ -93,6 +87,17 @@ eight_out start word other bytes packed none =
     let seven = one_out start word 16 16 8 _ six.packed refl (omega arith) none.at_8 in
     let eight = one_out start word 8 8 0 _ seven.packed refl (omega arith) none.at_0 in
     record { packed = eight.packed; bits = eight.bits ∙ seven.bits ∙ six.bits ∙ five.bits ∙ four.bits ∙ three.bits ∙ two.bits ∙ one.bits }
+
+-- what a whole word out leaves, after a byte that isn't FF
+pub word_out : (start word other : ℕ) (after_ff : Bool) (before after : List ℕ) → IsPacked start before other after_ff → after_ff ≡ false → HasNoFf word
+    → after ≡ with_word before word → StillPacked start word before after 64 0
+word_out start word other true before after packed e none out = absurd (true≢false e)
+word_out start word other false before after packed e none out =
+    subst (λ (list : List ℕ). StillPacked start word before list 64 0) (sym out) (eight_out start word other before packed none)
+
+pub packed-held : (start other held : ℕ) (after_ff : Bool) (bytes : List ℕ) → IsPacked start bytes other false → after_ff ≡ false → held ≤ 63 → IsPacked start bytes held after_ff
+packed-held start other held true bytes packed e few = absurd (true≢false e)
+packed-held start other held false bytes packed e few = record { within = packed.within; keeps = packed.keeps; next = packed.next; few = few }
 
 -- ---- bits put
 
@@ -137,17 +142,16 @@ packed_bits-full start held count waiting word value before after few sum most s
     ∙ sym (append_assoc (unstuff (drop start before)) (bits_of held word) (bits_of count value))
 
 -- the same, as the code has it: the value's copies are given by equations
-pub packed_bits-word_out : (start start_after held count waiting word value copied stored : ℕ) (before after : List ℕ) → held ≤ 63 → held + count ≡ 64 + waiting → count ≤ 64
-    → value < 2 ^ count → copied ≡ value → stored ≡ value → start_after ≡ start
-    → packed_bits start_after after (bit_or (word * 2 ^ (63 - held) % 2 ^ 64 * 2 ^ 1 % 2 ^ 64) (copied / 2 ^ waiting)) 0
+pub packed_bits-word_out : (start held count waiting word value copied stored : ℕ) (before after : List ℕ) → held ≤ 63 → held + count ≡ 64 + waiting → count ≤ 64
+    → value < 2 ^ count → copied ≡ value → stored ≡ value
+    → packed_bits start after (bit_or (word * 2 ^ (63 - held) % 2 ^ 64 * 2 ^ 1 % 2 ^ 64) (copied / 2 ^ waiting)) 0
     ≡ packed_bits start before (bit_or (word * 2 ^ (63 - held) % 2 ^ 64 * 2 ^ 1 % 2 ^ 64) (copied / 2 ^ waiting)) 64
-    → packed_bits start_after after stored waiting ≡ packed_bits start before word held ++ bits_of count value
-packed_bits-word_out start start_after held count waiting word value copied stored before after few sum most small copy store same out =
+    → packed_bits start after stored waiting ≡ packed_bits start before word held ++ bits_of count value
+packed_bits-word_out start held count waiting word value copied stored before after few sum most small copy store out =
     let full : ℕ → ℕ = λ n. bit_or (word * 2 ^ (63 - held) % 2 ^ 64 * 2 ^ 1 % 2 ^ 64) (n / 2 ^ waiting) in
     let out_value : packed_bits start after (full value) 0 ≡ packed_bits start before (full value) 64 =
-    sym (ap (λ n. packed_bits start after (full n) 0) copy) ∙ sym (ap (λ n. packed_bits n after (full copied) 0) same) ∙ out
-    ∙ ap (λ n. packed_bits start before (full n) 64) copy in
-    ap (λ n. packed_bits n after stored waiting) same ∙ ap (λ n. packed_bits start after n waiting) store
+    sym (ap (λ n. packed_bits start after (full n) 0) copy) ∙ out ∙ ap (λ n. packed_bits start before (full n) 64) copy in
+    ap (λ n. packed_bits start after n waiting) store
     ∙ packed_bits-full start held count waiting word value before after few sum most small out_value
 
 -- a number in more bits than it needs
@@ -239,8 +243,3 @@ tail-lt count low rest h =
     let doubled : 2 ^ suc low ≡ 2 ^ low * 2 = pow-suc 2 low in
     let grown : 2 ^ suc low ≤ 2 ^ (count + 1 + low) = pow_mono size in
     omega arith
-
--- room for the last byte is room for the others
-pub room_for_whole : (count held room : ℕ) → held ≤ count → (0 < count → held < room) → held < room + 7
-room_for_whole zero held room few h = omega arith
-room_for_whole (suc count) held room few h = omega (arith, h (omega arith))

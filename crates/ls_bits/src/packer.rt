@@ -1,30 +1,55 @@
-//! Packing bits into stuffed bytes, after the bytes that a vector already has.
-ghost use Rattle.std.specs.Prelude.{◌≡◌, ◌+◌, ◌-◌, ◌*◌, ◌/◌, ◌%◌, ◌^◌, ◌<◌, ◌≤◌, [], ◌∷◌, ◌++◌, true, false, length, take, drop, vec_len, vec_capacity};
+//! Packing bits into stuffed bytes, after the bytes that a vector already has (T.87 C.1).
+ghost use Rattle.std.specs.Prelude.{◌≡◌, ◌+◌, ◌-◌, ◌*◌, ◌/◌, ◌%◌, ◌^◌, ◌<◌, ◌≤◌, [], ◌∷◌, ◌++◌, true, false, length, take, drop, vec_len, vec_capacity, OnOk};
 ghost use Rattle.ls_bits.specs.Bits.{bits_of, zeros as zero_bits};
 ghost use Rattle.ls_bits.specs.Stuffing.{stuff};
 ghost use Rattle.ls_bits.specs.Golomb.{IsGolomb, code_word, most_value};
-ghost use Rattle.ls_bits.specs.View.Packing.{byte_bits, packed_bits, IsPacked, HasNoFf};
+ghost use Rattle.ls_bits.specs.View.Packing.{byte_bits, HasRoom, KeepsRest, HasNoFf, with_word};
+
+use std::alloc::AllocError;
+use std::marker::Model;
+
+/// The most bytes that the bits in the word and those of one put make.
+const MOST_BYTES: usize = 20;
 
 /// Stuffed bytes, and the bits after them that aren't a whole byte yet.
 #[derive(Drop)]
 pub struct Packer {
     /// The vector that the bytes go into.
-    pub bytes: Vec<u8>,
+    bytes: Vec<u8>,
     /// Where in it the stuffed bytes begin.
-    pub start: usize,
-    /// Its lowest `held` bits are after the stuffed bytes. Those above them mean nothing.
-    pub word: u64,
-    pub held: u32,
+    start: usize,
+    /// Its lowest `held` bits come after the stuffed bytes. Those above them mean nothing.
+    word: u64,
+    held: u32,
     /// Whether the last stuffed byte is FF.
-    pub after_ff: bool,
+    after_ff: bool,
+}
+
+impl Model for Packer {
+    ghost use Rattle.std.specs.Prelude.{◌-◌, take, vec_len, vec_capacity};
+    ghost use Rattle.ls_bits.specs.View.Packing.{Packed, packed_bits, IsPacked};
+
+    ghost Value = { Packed };
+
+    ghost view = { λ p. record {
+      front = take p.start p.bytes.items;
+      bits = packed_bits p.start p.bytes.items p.word p.held;
+      held = p.held;
+      room = vec_capacity p.bytes - vec_len p.bytes;
+      capacity = vec_capacity p.bytes;
+    } };
+
+    ghost invariant = { λ p. IsPacked p.start p.bytes.items p.held p.after_ff };
 }
 
 impl Packer {
+    /// No bits yet, after the bytes of the vector.
     pub fn new(bytes: Vec<u8>) -> Packer
-        ensures packed { IsPacked result.start result.bytes.items result.held result.after_ff }
-        ensures bits { packed_bits result.start result.bytes.items result.word result.held ≡ [] }
-        ensures bytes { result.bytes ≡ bytes }
-        ensures start { result.start ≡ vec_len bytes }
+        ensures front { result.front ≡ bytes.items }
+        ensures bits { result.bits ≡ [] }
+        ensures held { result.held ≡ 0 }
+        ensures room { result.room ≡ vec_capacity bytes - vec_len bytes }
+        ensures capacity { result.capacity ≡ vec_capacity bytes }
     {
         let start = bytes.len();
         Packer {
@@ -36,19 +61,24 @@ impl Packer {
         }
     }
 
-    /// `value` in `count` bits, after those that are there.
+    /// Takes room for any one put, or for the last byte. Fails only if an allocation fails.
+    #[inline(always)]
+    pub fn reserve(&mut self) -> Result<(), AllocError>
+        ensures room { OnOk result (HasRoom self.new 64) }
+        ensures bits { self.new.bits ≡ self.old.bits }
+        ensures front { self.new.front ≡ self.old.front }
+    {
+        self.bytes.reserve(MOST_BYTES)
+    }
+
+    /// Appends `value` in `count` bits.
     #[inline(always)]
     pub fn put(&mut self, value: u32, count: u32)
-        requires packed { IsPacked self.old.start self.old.bytes.items self.old.held self.old.after_ff }
-        requires room { self.old.held + count < 7 * (vec_capacity self.old.bytes - vec_len self.old.bytes) + 7 }
+        requires room { HasRoom self.old count }
         requires count { count ≤ 64 }
         requires value { value < 2 ^ count }
-        ensures packed { IsPacked self.new.start self.new.bytes.items self.new.held self.new.after_ff }
-        ensures bits { packed_bits self.new.start self.new.bytes.items self.new.word self.new.held
-            ≡ packed_bits self.old.start self.old.bytes.items self.old.word self.old.held ++ bits_of count value }
-        ensures start { self.new.start ≡ self.old.start }
-        ensures front { take self.old.start self.new.bytes.items ≡ take self.old.start self.old.bytes.items }
-        ensures capacity { vec_capacity self.old.bytes ≤ vec_capacity self.new.bytes }
+        ensures bits { self.new.bits ≡ self.old.bits ++ bits_of count value }
+        ensures rest { KeepsRest self.old self.new count }
     {
         let total = self.held + count;
         if total < 64 {
@@ -61,25 +91,19 @@ impl Packer {
             self.put_by_bytes(value, count);
             return;
         }
-        self.put_out_word(full);
+        push_word(&mut self.bytes, full);
         self.word = u64::from(value);
         self.held = waiting;
     }
 
-    /// The code word of `v`.
+    /// Appends the code word of `v` (T.87 A.5.3).
     #[inline(always)]
     pub fn put_golomb(&mut self, k: u32, glimit: u32, qbpp: u32, v: u32)
-        requires packed { IsPacked self.old.start self.old.bytes.items self.old.held self.old.after_ff }
-        requires room { self.old.held + length (code_word k glimit qbpp v)
-            < 7 * (vec_capacity self.old.bytes - vec_len self.old.bytes) + 7 }
+        requires room { HasRoom self.old (length (code_word k glimit qbpp v)) }
         requires code { IsGolomb k glimit qbpp }
         requires value { v ≤ most_value qbpp }
-        ensures packed { IsPacked self.new.start self.new.bytes.items self.new.held self.new.after_ff }
-        ensures bits { packed_bits self.new.start self.new.bytes.items self.new.word self.new.held
-            ≡ packed_bits self.old.start self.old.bytes.items self.old.word self.old.held ++ code_word k glimit qbpp v }
-        ensures start { self.new.start ≡ self.old.start }
-        ensures front { take self.old.start self.new.bytes.items ≡ take self.old.start self.old.bytes.items }
-        ensures capacity { vec_capacity self.old.bytes ≤ vec_capacity self.new.bytes }
+        ensures bits { self.new.bits ≡ self.old.bits ++ code_word k glimit qbpp v }
+        ensures rest { KeepsRest self.old self.new (length (code_word k glimit qbpp v)) }
     {
         let escape = glimit - qbpp - 1;
         let small = v >> k;
@@ -90,51 +114,11 @@ impl Packer {
         }
     }
 
-    /// So many zeros, a one, and `rest` in `count` bits.
-    #[inline(always)]
-    fn put_unary(&mut self, zeros: u32, rest: u32, count: u32)
-        requires packed { IsPacked self.old.start self.old.bytes.items self.old.held self.old.after_ff }
-        requires room { self.old.held + (zeros + 1 + count) < 7 * (vec_capacity self.old.bytes - vec_len self.old.bytes) + 7 }
-        requires count { count ≤ 17 }
-        requires total { zeros + 1 + count ≤ 64 }
-        requires rest { rest < 2 ^ count }
-        ensures packed { IsPacked self.new.start self.new.bytes.items self.new.held self.new.after_ff }
-        ensures bits { packed_bits self.new.start self.new.bytes.items self.new.word self.new.held
-            ≡ packed_bits self.old.start self.old.bytes.items self.old.word self.old.held ++ (zero_bits zeros ++ true ∷ bits_of count rest) }
-        ensures start { self.new.start ≡ self.old.start }
-        ensures front { take self.old.start self.new.bytes.items ≡ take self.old.start self.old.bytes.items }
-        ensures capacity { vec_capacity self.old.bytes ≤ vec_capacity self.new.bytes }
-    {
-        self.put(led_by_one(rest, count), zeros + 1 + count);
-    }
-
-    /// As `put_unary`, out of the way of the words that are common.
-    #[cold]
-    #[inline(never)]
-    fn put_escape(&mut self, zeros: u32, rest: u32, count: u32)
-        requires packed { IsPacked self.old.start self.old.bytes.items self.old.held self.old.after_ff }
-        requires room { self.old.held + (zeros + 1 + count) < 7 * (vec_capacity self.old.bytes - vec_len self.old.bytes) + 7 }
-        requires count { count ≤ 17 }
-        requires total { zeros + 1 + count ≤ 64 }
-        requires rest { rest < 2 ^ count }
-        ensures packed { IsPacked self.new.start self.new.bytes.items self.new.held self.new.after_ff }
-        ensures bits { packed_bits self.new.start self.new.bytes.items self.new.word self.new.held
-            ≡ packed_bits self.old.start self.old.bytes.items self.old.word self.old.held ++ (zero_bits zeros ++ true ∷ bits_of count rest) }
-        ensures start { self.new.start ≡ self.old.start }
-        ensures front { take self.old.start self.new.bytes.items ≡ take self.old.start self.old.bytes.items }
-        ensures capacity { vec_capacity self.old.bytes ≤ vec_capacity self.new.bytes }
-    {
-        self.put_unary(zeros, rest, count);
-    }
-
-    /// The bits stuffed, after the bytes that the vector had.
+    /// The vector: the bytes that it had, and after them the bits, stuffed.
     pub fn finish(mut self) -> Vec<u8>
-        requires packed { IsPacked self.start self.bytes.items self.held self.after_ff }
-        requires room { 0 < length (packed_bits self.start self.bytes.items self.word self.held)
-            → self.held < 7 * (vec_capacity self.bytes - vec_len self.bytes) }
-        ensures bytes { result.items ≡ take self.start self.bytes.items
-            ++ stuff (packed_bits self.start self.bytes.items self.word self.held) }
-        ensures capacity { vec_capacity self.bytes ≤ vec_capacity result }
+        requires room { 0 < length self.bits → HasRoom self 7 }
+        ensures bytes { result.items ≡ self.front ++ stuff self.bits }
+        ensures capacity { vec_capacity result ≡ self.capacity }
     {
         self.put_out_bytes();
         if self.held > 0 || self.after_ff {
@@ -144,20 +128,40 @@ impl Packer {
         self.bytes
     }
 
-    /// `value` in `count` bits, if the word can hold them.
+    /// So many zeros, a one, and `rest` in `count` bits.
+    #[inline(always)]
+    fn put_unary(&mut self, zeros: u32, rest: u32, count: u32)
+        requires room { HasRoom self.old (zeros + 1 + count) }
+        requires count { count ≤ 17 }
+        requires total { zeros + 1 + count ≤ 64 }
+        requires rest { rest < 2 ^ count }
+        ensures bits { self.new.bits ≡ self.old.bits ++ (zero_bits zeros ++ true ∷ bits_of count rest) }
+        ensures rest { KeepsRest self.old self.new (zeros + 1 + count) }
+    {
+        self.put(led_by_one(rest, count), zeros + 1 + count);
+    }
+
+    /// As `put_unary`, out of the way of the words that are common.
+    #[cold]
+    #[inline(never)]
+    fn put_escape(&mut self, zeros: u32, rest: u32, count: u32)
+        requires room { HasRoom self.old (zeros + 1 + count) }
+        requires count { count ≤ 17 }
+        requires total { zeros + 1 + count ≤ 64 }
+        requires rest { rest < 2 ^ count }
+        ensures bits { self.new.bits ≡ self.old.bits ++ (zero_bits zeros ++ true ∷ bits_of count rest) }
+        ensures rest { KeepsRest self.old self.new (zeros + 1 + count) }
+    {
+        self.put_unary(zeros, rest, count);
+    }
+
+    /// Appends `value` in `count` bits, which the word can hold.
     #[inline(always)]
     fn append(&mut self, value: u32, count: u32)
-        requires packed { IsPacked self.old.start self.old.bytes.items self.old.held self.old.after_ff }
-        requires room { self.old.held + count < 64 }
+        requires held { self.old.held + count < 64 }
         requires value { value < 2 ^ count }
-        ensures packed { IsPacked self.new.start self.new.bytes.items self.new.held self.new.after_ff }
-        ensures bits { packed_bits self.new.start self.new.bytes.items self.new.word self.new.held
-            ≡ packed_bits self.old.start self.old.bytes.items self.old.word self.old.held ++ bits_of count value }
-        ensures start { self.new.start ≡ self.old.start }
-        ensures front { take self.old.start self.new.bytes.items ≡ take self.old.start self.old.bytes.items }
-        ensures held { self.new.held ≡ self.old.held + count }
-        ensures bytes { self.new.bytes ≡ self.old.bytes }
-        ensures capacity { vec_capacity self.old.bytes ≤ vec_capacity self.new.bytes }
+        ensures bits { self.new.bits ≡ self.old.bits ++ bits_of count value }
+        ensures rest { KeepsRest self.old self.new count }
     {
         self.word = (self.word << count) | u64::from(value);
         self.held += count;
@@ -167,16 +171,11 @@ impl Packer {
     #[cold]
     #[inline(never)]
     fn put_by_bytes(&mut self, value: u32, count: u32)
-        requires packed { IsPacked self.old.start self.old.bytes.items self.old.held self.old.after_ff }
-        requires room { self.old.held + count < 7 * (vec_capacity self.old.bytes - vec_len self.old.bytes) + 7 }
+        requires room { HasRoom self.old count }
         requires count { count ≤ 64 }
         requires value { value < 2 ^ count }
-        ensures packed { IsPacked self.new.start self.new.bytes.items self.new.held self.new.after_ff }
-        ensures bits { packed_bits self.new.start self.new.bytes.items self.new.word self.new.held
-            ≡ packed_bits self.old.start self.old.bytes.items self.old.word self.old.held ++ bits_of count value }
-        ensures start { self.new.start ≡ self.old.start }
-        ensures front { take self.old.start self.new.bytes.items ≡ take self.old.start self.old.bytes.items }
-        ensures capacity { vec_capacity self.old.bytes ≤ vec_capacity self.new.bytes }
+        ensures bits { self.new.bits ≡ self.old.bits ++ bits_of count value }
+        ensures rest { KeepsRest self.old self.new count }
     {
         self.put_out_bytes();
         if count > 32 {
@@ -190,58 +189,23 @@ impl Packer {
 
     /// Puts out whole bytes until fewer than eight bits wait.
     fn put_out_bytes(&mut self)
-        requires packed { IsPacked self.old.start self.old.bytes.items self.old.held self.old.after_ff }
-        requires room { self.old.held < 7 * (vec_capacity self.old.bytes - vec_len self.old.bytes) + 7 }
-        ensures packed { IsPacked self.new.start self.new.bytes.items self.new.held self.new.after_ff }
-        ensures bits { packed_bits self.new.start self.new.bytes.items self.new.word self.new.held
-            ≡ packed_bits self.old.start self.old.bytes.items self.old.word self.old.held }
-        ensures start { self.new.start ≡ self.old.start }
-        ensures front { take self.old.start self.new.bytes.items ≡ take self.old.start self.old.bytes.items }
+        requires room { HasRoom self.old 0 }
+        ensures bits { self.new.bits ≡ self.old.bits }
         ensures held { self.new.held < 8 }
-        ensures size { 7 * vec_len self.new.bytes + self.new.held ≤ 7 * vec_len self.old.bytes + self.old.held }
-        ensures capacity { vec_capacity self.old.bytes ≤ vec_capacity self.new.bytes }
+        ensures rest { KeepsRest self.old self.new 0 }
     {
         while self.held >= 8 {
             self.put_out_byte();
         }
     }
 
-    /// Puts out the eight bytes of a word of which none is FF, in place of the bits that wait.
-    #[inline(always)]
-    fn put_out_word(&mut self, full: u64)
-        requires packed { IsPacked self.old.start self.old.bytes.items self.old.held self.old.after_ff }
-        requires room { vec_len self.old.bytes + 8 ≤ vec_capacity self.old.bytes }
-        requires first { self.old.after_ff ≡ false }
-        requires others { HasNoFf full }
-        ensures packed { IsPacked self.new.start self.new.bytes.items 0 self.new.after_ff }
-        ensures bits { packed_bits self.new.start self.new.bytes.items full 0 ≡ packed_bits self.old.start self.old.bytes.items full 64 }
-        ensures start { self.new.start ≡ self.old.start }
-        ensures front { take self.old.start self.new.bytes.items ≡ take self.old.start self.old.bytes.items }
-        ensures capacity { vec_capacity self.old.bytes ≤ vec_capacity self.new.bytes }
-    {
-        self.bytes.push_reserved(byte_at(full, 56));
-        self.bytes.push_reserved(byte_at(full, 48));
-        self.bytes.push_reserved(byte_at(full, 40));
-        self.bytes.push_reserved(byte_at(full, 32));
-        self.bytes.push_reserved(byte_at(full, 24));
-        self.bytes.push_reserved(byte_at(full, 16));
-        self.bytes.push_reserved(byte_at(full, 8));
-        self.bytes.push_reserved(byte_at(full, 0));
-    }
-
     /// Puts out one whole byte.
     fn put_out_byte(&mut self)
-        requires packed { IsPacked self.old.start self.old.bytes.items self.old.held self.old.after_ff }
-        requires room { vec_len self.old.bytes < vec_capacity self.old.bytes }
-        requires held { byte_bits self.old.after_ff ≤ self.old.held }
-        ensures packed { IsPacked self.new.start self.new.bytes.items self.new.held self.new.after_ff }
-        ensures bits { packed_bits self.new.start self.new.bytes.items self.new.word self.new.held
-            ≡ packed_bits self.old.start self.old.bytes.items self.old.word self.old.held }
-        ensures held { self.new.held + byte_bits self.old.after_ff ≡ self.old.held }
-        ensures start { self.new.start ≡ self.old.start }
-        ensures front { take self.old.start self.new.bytes.items ≡ take self.old.start self.old.bytes.items }
-        ensures len { vec_len self.new.bytes ≡ vec_len self.old.bytes + 1 }
-        ensures capacity { vec_capacity self.new.bytes ≡ vec_capacity self.old.bytes }
+        requires room { 0 < self.old.room }
+        requires held { 8 ≤ self.old.held }
+        ensures bits { self.new.bits ≡ self.old.bits }
+        ensures held { self.new.held < self.old.held }
+        ensures rest { KeepsRest self.old self.new 0 }
     {
         let waiting = self.held - byte_bits(self.after_ff);
         let byte = group(self.word >> waiting, self.after_ff);
@@ -249,6 +213,24 @@ impl Packer {
         self.held = waiting;
         self.after_ff = byte == 0xff;
     }
+}
+
+/// Appends the eight bytes of a word.
+#[inline(always)]
+fn push_word(bytes: &mut Vec<u8>, word: u64)
+    requires { vec_len bytes.old + 8 ≤ vec_capacity bytes.old }
+    ensures bytes { bytes.new.items ≡ with_word bytes.old.items word }
+    ensures len { vec_len bytes.new ≡ vec_len bytes.old + 8 }
+    ensures capacity { vec_capacity bytes.new ≡ vec_capacity bytes.old }
+{
+    bytes.push_reserved(byte_at(word, 56));
+    bytes.push_reserved(byte_at(word, 48));
+    bytes.push_reserved(byte_at(word, 40));
+    bytes.push_reserved(byte_at(word, 32));
+    bytes.push_reserved(byte_at(word, 24));
+    bytes.push_reserved(byte_at(word, 16));
+    bytes.push_reserved(byte_at(word, 8));
+    bytes.push_reserved(byte_at(word, 0));
 }
 
 /// The lowest `count` bits of `value`.

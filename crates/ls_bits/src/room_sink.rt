@@ -13,28 +13,24 @@ use std::marker::Model;
 #[derive(Drop)]
 pub struct RoomSink {
     packer: Packer,
-    /// How many bytes the vector had room for after those that it had.
-    room: usize,
 }
 
 impl Model for RoomSink {
-    ghost use Rattle.std.specs.Prelude.{ℕ, ◌≡◌, ◌+◌, ◌≤◌, ◌<◌, List, length, take, vec_capacity};
-    ghost use Rattle.ls_bits.specs.View.Packing.{packed_bits, IsPacked};
+    ghost use Rattle.std.specs.Prelude.{ℕ, ◌+◌, ◌-◌, ◌*◌, ◌≤◌, ◌<◌, length};
     ghost use Rattle.ls_bits.specs.Room.{Filled, Fits};
 
     ghost Value = { Filled };
 
     ghost view = { λ s. record {
-      front = take s.packer.start s.packer.bytes.items;
-      room = s.room;
-      bits = packed_bits s.packer.start s.packer.bytes.items s.packer.word s.packer.held;
+      front = s.packer.front;
+      room = s.packer.capacity - length s.packer.front;
+      bits = s.packer.bits;
     } };
 
     ghost invariant = { λ s.
-        IsPacked s.packer.start s.packer.bytes.items s.packer.held s.packer.after_ff
-        × (s.packer.start + s.room ≤ vec_capacity s.packer.bytes)
-        × (0 < length (packed_bits s.packer.start s.packer.bytes.items s.packer.word s.packer.held)
-        → Fits (length (packed_bits s.packer.start s.packer.bytes.items s.packer.word s.packer.held)) s.room) };
+        (length s.packer.front ≤ s.packer.capacity)
+        × (7 * (s.packer.capacity - length s.packer.front) + s.packer.held ≤ 7 * s.packer.room + length s.packer.bits)
+        × (0 < length s.packer.bits → Fits (length s.packer.bits) (s.packer.capacity - length s.packer.front)) };
 }
 
 impl RoomSink {
@@ -44,10 +40,8 @@ impl RoomSink {
         ensures room { result.room ≡ vec_capacity bytes - vec_len bytes }
         ensures bits { result.bits ≡ [] }
     {
-        let room = bytes.capacity() - bytes.len();
         RoomSink {
             packer: Packer::new(bytes),
-            room,
         }
     }
 

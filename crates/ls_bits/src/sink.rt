@@ -8,9 +8,6 @@ use crate::packer::Packer;
 use std::alloc::{AllocError, Global};
 use std::marker::Model;
 
-/// The most bytes that the bits in the word and those of one put make.
-const MOST_BYTES: usize = 20;
-
 /// The bits put so far, which `finish` stuffs into bytes (T.87 C.1).
 #[derive(Drop)]
 pub struct BitSink {
@@ -18,14 +15,13 @@ pub struct BitSink {
 }
 
 impl Model for BitSink {
-    ghost use Rattle.std.specs.Prelude.{◌≡◌, Bool, List};
-    ghost use Rattle.ls_bits.specs.View.Packing.{packed_bits, IsPacked};
+    ghost use Rattle.std.specs.Prelude.{◌≡◌, [], Bool, List};
 
     ghost Value = { List Bool };
 
-    ghost view = { λ s. packed_bits s.packer.start s.packer.bytes.items s.packer.word s.packer.held };
+    ghost view = { λ s. s.packer.bits };
 
-    ghost invariant = { λ s. IsPacked s.packer.start s.packer.bytes.items s.packer.held s.packer.after_ff × (s.packer.start ≡ 0) };
+    ghost invariant = { λ s. s.packer.front ≡ [] };
 }
 
 impl BitSink {
@@ -45,7 +41,7 @@ impl BitSink {
         ensures ok { OnOk result (self.new ≡ self.old ++ bits_of count value) }
         ensures refused { OnErr result (self.new ≡ self.old) }
     {
-        self.packer.bytes.reserve(MOST_BYTES)?;
+        self.packer.reserve()?;
         self.packer.put(value, count);
         Ok(())
     }
@@ -57,7 +53,7 @@ impl BitSink {
         ensures ok { OnOk result (self.new ≡ self.old ++ code_word k glimit qbpp v) }
         ensures refused { OnErr result (self.new ≡ self.old) }
     {
-        self.packer.bytes.reserve(MOST_BYTES)?;
+        self.packer.reserve()?;
         self.packer.put_golomb(k, glimit, qbpp, v);
         Ok(())
     }
@@ -66,7 +62,7 @@ impl BitSink {
     pub fn finish(mut self) -> Result<Vec<u8>, AllocError>
         ensures { IfOk result (λ bytes. bytes.items ≡ stuff self) }
     {
-        self.packer.bytes.reserve(MOST_BYTES)?;
+        self.packer.reserve()?;
         Ok(self.packer.finish())
     }
 }

@@ -28,6 +28,7 @@ pub struct BitSource<'a> {
 
 impl<'a> Model for BitSource<'a> {
     ghost use Rattle.std.specs.Prelude.{Bool, List};
+
     ghost Value = { List Bool };
 
     ghost view = { λ s. s.window.bits };

@@ -1,6 +1,6 @@
 -- How a sink and a source hold bits: whole bytes, and a word of 64 bits whose lowest `held` bits are after them (in a
 -- sink) or in front of them (in a source).
-use Rattle.std.specs.Prelude.{◌≡◌, ℕ, ◌/◌, ◌%◌, ◌^◌, ◌<◌, ◌≤◌, Bool, if◌then◌else◌, List, [], ◌∷◌, ◌++◌, length, drop}
+use Rattle.std.specs.Prelude.{◌≡◌, ℕ, ◌+◌, ◌*◌, ◌/◌, ◌%◌, ◌^◌, ◌<◌, ◌≤◌, Bool, if◌then◌else◌, List, [], ◌∷◌, ◌++◌, length, drop}
 use Rattle.ls_bits.specs.Bits.{bits_of}
 use Rattle.ls_bits.specs.Stuffing.{bits_after, unstuff_from, unstuff}
 
@@ -27,6 +27,35 @@ pub record IsPacked (start : ℕ) (bytes : List ℕ) (held : ℕ) (after_ff : Bo
   pub keeps : KeepsStuffing 8 (drop start bytes)
   pub next : next_byte_bits 8 (drop start bytes) ≡ byte_bits after_ff
   pub few : held ≤ 63
+
+-- what a packer is seen as
+pub record Packed : Type 0 where
+  -- the bytes that the vector had
+  pub front : List ℕ
+  -- the bits put since
+  pub bits : List Bool
+  -- how many of them aren't in a byte yet
+  pub held : ℕ
+  -- how many bytes more the vector has room for
+  pub room : ℕ
+  -- how many bytes it can have in all
+  pub capacity : ℕ
+
+-- so many bits more fit into the room, however they are stuffed
+abbrev pub HasRoom : Packed → ℕ → Type 0
+HasRoom packed count = packed.held + count < 7 * packed.room + 7
+
+-- what isn't bits is as it was, and `count` bits more have taken no more room than they need
+pub record KeepsRest (old new : Packed) (count : ℕ) : Type 0 where
+  pub front : new.front ≡ old.front
+  pub capacity : new.capacity ≡ old.capacity
+  pub room : 7 * old.room + new.held ≤ 7 * new.room + old.held + count
+
+-- bytes and the eight of a word after them
+abbrev pub with_word : List ℕ → ℕ → List ℕ
+with_word bytes word =
+    (((((((bytes ++ word / 2 ^ 56 % 256 ∷ []) ++ word / 2 ^ 48 % 256 ∷ []) ++ word / 2 ^ 40 % 256 ∷ []) ++ word / 2 ^ 32 % 256 ∷ [])
+    ++ word / 2 ^ 24 % 256 ∷ []) ++ word / 2 ^ 16 % 256 ∷ []) ++ word / 2 ^ 8 % 256 ∷ []) ++ word / 2 ^ 0 % 256 ∷ []
 
 -- none of the eight bytes of a word is FF
 pub record HasNoFf (word : ℕ) : Type 0 where

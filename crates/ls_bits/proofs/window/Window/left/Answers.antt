@@ -1,4 +1,4 @@
-use Rattle.std.proofs.Common.{◌≡◌, ap, sym, length, arith, drop, []}
+use Rattle.std.proofs.Common.{◌≡◌, ap, length, arith, drop, []}
 use Rattle.std.proofs.lemmas.List.{drop_all}
 use Rattle.ls_bits.specs.Stuffing.{unstuff_from}
 use Rattle.ls_bits.specs.View.Packing.{BitsLeft, byte_bits, bits_left}

@@ -31,7 +31,7 @@ pub words-preserved : goal.words-preserved
 words-preserved c = (
   zeros-more c.words.count c.self.inside.held _ _ _ c.words.invariant.0
       (refilled c.self.inside.word c.self.inside.held c.self.inside.after_ff c.self.inside.rest.now c.words.self c.refill.new.self c.refill.ensures.bits c.self.view_is
-    ∙ all-taken c.self.inside.word c.self.inside.held c.leading_zeros-zeros.result c.self.inside.after_ff c.self.inside.rest.now
+      ∙ all-taken c.self.inside.word c.self.inside.held c.leading_zeros-zeros.result c.self.inside.after_ff c.self.inside.rest.now
       c.leading_zeros-zeros.ensures c.if-zeros-self.false),
   c.if-count-most-2.false,
 )
