@@ -65,7 +65,7 @@ shifted_left count keep width word e =
     let whole : word * 2 ^ count % 2 ^ width ≡ word * 2 ^ count % 2 ^ (keep + count) = ap (λ n. word * 2 ^ count % 2 ^ n) (sym e) in
     omega (arith, whole, parts, high, none)
 
--- what a word of 64 bits becomes where a value is shifted in from below
+-- what a word of 64 bits becomes if a value is shifted in from below
 pub shifted_in : (held count word value : ℕ) → held + count ≤ 64 → value < 2 ^ count
     → bits_of (held + count) (bit_or (word * 2 ^ count % 2 ^ 64) value) ≡ bits_of held word ++ bits_of count value
 shifted_in held count word value fits small =

@@ -91,10 +91,10 @@ data-longest bytes len h so_far ff stop = record {
   longest = λ more within is_data. no_more bytes len more h ff stop is_data;
 }
 
--- where the bytes end
+-- the bytes end
 pub data-stop_end : (bytes : List ℕ) (len : ℕ) → len + 1 ≡ length bytes → goes_on (drop (len + 1) bytes) ≡ false
 data-stop_end bytes len e = ap goes_on (drop_all (len + 1) bytes (omega arith))
 
--- where a marker stands
+-- a marker stands there
 pub data-stop_marker : (bytes : List ℕ) (len : ℕ) → len + 1 < length bytes → 128 ≤ get_or bytes (len + 1) 0 → goes_on (drop (len + 1) bytes) ≡ false
 data-stop_marker bytes len h high = ap goes_on (drop_more bytes (len + 1) 0 h) ∙ le-ltb (get_or bytes (len + 1) 0) 128 high

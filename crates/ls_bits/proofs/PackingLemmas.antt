@@ -60,7 +60,7 @@ packed_bits-byte start word held other waiting byte bytes after_ff packed sum ne
     ∙ append_assoc (unstuff stuffed) (bits_of (byte_bits after_ff) byte) (bits_of waiting word)
     ∙ ap (λ bits. unstuff stuffed ++ bits) (sym whole)
 
--- what one byte out leaves, where it isn't FF
+-- what one byte out leaves if it isn't FF
 pub record StillPacked (start word : ℕ) (before after : List ℕ) (held waiting : ℕ) : Type 0 where
   pub packed : IsPacked start after waiting false
   pub bits : packed_bits start after word waiting ≡ packed_bits start before word held
@@ -107,7 +107,7 @@ packed_bits-put start word held count value bytes fits small =
     ap (λ bits. unstuff (drop start bytes) ++ bits) (shifted_in held count word value fits small)
     ∙ sym (append_assoc (unstuff (drop start bytes)) (bits_of held word) (bits_of count value))
 
--- the first 64 of the bits that wait and those that are put, where they are so many, and those after them
+-- the first 64 of the bits that wait and those that are put, if they are so many, and those after them
 pub full_bits : (held count waiting word value : ℕ) → held ≤ 63 → held + count ≡ 64 + waiting → count ≤ 64 → value < 2 ^ count
     → bits_of 64 (bit_or (word * 2 ^ (63 - held) % 2 ^ 64 * 2 ^ 1 % 2 ^ 64) (value / 2 ^ waiting)) ++ bits_of waiting value ≡ bits_of held word ++ bits_of count value
 full_bits held count waiting word value few sum most small =
@@ -220,7 +220,7 @@ some_byte : (bytes : List ℕ) → next_byte_bits 8 bytes ≡ 7 → 1 ≤ length
 some_byte [] e = absurd (omega arith)
 some_byte (byte ∷ bytes) e = omega arith
 
--- there are some where any wait, or FF is the last byte
+-- there are some if any wait, or if FF is the last byte
 pub some_bits : (start word held : ℕ) (bytes : List ℕ) (after_ff : Bool) → IsPacked start bytes held after_ff → (1 ≤ held) ⊎ (after_ff ≡ true)
     → 0 < length (packed_bits start bytes word held)
 some_bits start word held bytes after_ff packed (inl some) = omega (arith, length-packed_bits start word held bytes packed.within)

@@ -152,7 +152,7 @@ stuff_into-last size held word r some few =
     let rest : drop size bits ≡ [] = drop_all size bits (omega (arith, range.0)) in
     stuff_into-step size bits (omega (arith, range.0)) (omega arith) ∙ rw (next, rest, stuff_into-none, group) refl
 
--- bytes that keep to their sizes are the stuffing of their bits
+-- bytes as stuffing makes them are the stuffing of their bits
 pub stuff_into-front : (size : ℕ) (bytes : List ℕ) (rest : List Bool) → 1 ≤ size → KeepsStuffing size bytes
     → stuff_into size (unstuff_from size bytes ++ rest) ≡ bytes ++ stuff_into (next_byte_bits size bytes) rest
 stuff_into-front size [] rest r keeps = refl
@@ -323,7 +323,7 @@ byte_keeps : (size byte : ℕ) (bytes : List ℕ) → IsSize size → byte < 256
 byte_keeps size byte bytes (inl seven) h on = subst (λ n. byte < 2 ^ n) (sym seven) (ltb-true byte 128 (on seven))
 byte_keeps size byte bytes (inr eight) h on = subst (λ n. byte < 2 ^ n) (sym eight) h
 
--- a byte of data keeps to its size
+-- bytes that are data are as stuffing makes them
 pub data-keeps : (size : ℕ) (bytes : List ℕ) → IsSize size → AreBytes bytes → is_data bytes ≡ true → (size ≡ 7 → goes_on bytes ≡ true) → KeepsStuffing size bytes
 data-keeps size [] r bytes data_is on = tt
 data-keeps size (byte ∷ bytes) r each data_is on =

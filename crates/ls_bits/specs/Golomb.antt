@@ -27,7 +27,7 @@ short_word k v = zeros (v / 2 ^ k) ++ true ∷ bits_of k v
 abbrev pub escape_word : ℕ → ℕ → ℕ → List Bool
 escape_word glimit qbpp v = zeros (escape_zeros glimit qbpp) ++ true ∷ bits_of qbpp (v - 1)
 
--- a value is small where its short word has fewer zeros than an escape word
+-- a value is small if its short word has fewer zeros than an escape word
 abbrev pub is_small : ℕ → ℕ → ℕ → ℕ → Bool
 is_small k glimit qbpp v = nat_lt (v / 2 ^ k) (escape_zeros glimit qbpp)
 

@@ -7,12 +7,12 @@ use Rattle.ls_bits.specs.Bits.{bits_of, number_of, zeros}
 abbrev pub bits_after : ℕ → ℕ
 bits_after byte = if byte == 255 then 7 else 8
 
--- the byte of the first group of so many bits, filled with zeros where there are fewer
+-- the byte of the first group of `size` bits, filled with zeros if there are fewer
 abbrev pub first_group : ℕ → List Bool → ℕ
 first_group size bits = number_of (take size (bits ++ zeros size))
 
--- The bytes of bits, of which the first holds `size` bits: each group, and at the end 00 if it stands after FF.
--- No more than `most` bytes are told; one more than there are bits is always enough.
+-- The bytes of bits, of which the first holds `size`: each group, and at the end 00 if it stands after FF.
+-- There are at most `most` bytes; one more than there are bits is always enough.
 unfoldable pub groups : ℕ → ℕ → List Bool → List ℕ
 groups zero size bits = []
 groups (suc most) size [] = if size == 7 then 0 ∷ [] else []
@@ -20,7 +20,7 @@ groups (suc most) size (bit ∷ bits) =
     first_group size (bit ∷ bits)
     ∷ groups most (bits_after (first_group size (bit ∷ bits))) (drop size (bit ∷ bits))
 
--- the bytes of bits where the byte in front of them leaves so much size
+-- the bytes of bits, of which the first holds `size`
 abbrev pub stuff_into : ℕ → List Bool → List ℕ
 stuff_into size bits = groups (suc (length bits)) size bits
 

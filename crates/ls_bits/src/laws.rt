@@ -16,7 +16,7 @@ pub fn stuffed_bits_are_short()
     ensures none { stuff [] ≡ [] }
 {}
 
-/// Stuffed bits are bytes, and wholly data: no marker is in them, nor can one begin at their end.
+/// Stuffed bits are bytes, and wholly data (T.87 C.1): no marker is in them, nor can one begin at their end.
 pub fn stuffed_bits_are_data()
     ensures data { (bits : List Bool) → IsData (stuff bits) }
     ensures bytes { (bits : List Bool) → AreBytes (stuff bits) }
@@ -28,13 +28,13 @@ pub fn no_word_begins_another()
         → TakesWord k glimit qbpp bits v rest → TakesWord k glimit qbpp bits w others → (v ≡ w) × (rest ≡ others) }
 {}
 
-/// Bits that begin with a code word aren't uncanonical.
+/// Bits that begin with a code word of a code are never called not canonical.
 pub fn words_are_canonical()
     ensures { (k glimit qbpp : ℕ) (bits rest : List Bool) (v : ℕ) → IsGolomb k glimit qbpp
         → TakesWord k glimit qbpp bits v rest → IsUncanonical k glimit qbpp bits → ⊥ }
 {}
 
-/// A code word has at most glimit bits.
+/// A code word of a value up to 2^qbpp has at most glimit bits (T.87 A.5.3).
 pub fn words_keep_their_limit()
     ensures { (k glimit qbpp v : ℕ) → IsGolomb k glimit qbpp → v ≤ most_value qbpp
         → length (code_word k glimit qbpp v) ≤ glimit }

@@ -277,7 +277,7 @@ fn last_group(word: u64, held: u32, after_ff: bool) -> u8
     (bits << (byte_bits(after_ff) - held)) as u8
 }
 
-/// Whether one of the eight bytes of `word` is FF: where a byte is, the eight ones of it leave one at its lowest bit.
+/// Whether one of the eight bytes of `word` is FF: the eight ones of such a byte leave a one at its lowest bit.
 fn has_ff(word: u64) -> bool
     ensures { (result ≡ false) → HasNoFf word }
 {

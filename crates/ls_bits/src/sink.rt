@@ -8,7 +8,7 @@ use crate::packer::Packer;
 use std::alloc::{AllocError, Global};
 use std::marker::Model;
 
-/// The bits put so far, which `finish` stuffs into bytes (T.87 C.1).
+/// The bits put so far, the first one first, which `finish` stuffs into bytes (T.87 C.1).
 #[derive(Drop)]
 pub struct BitSink {
     packer: Packer,
@@ -25,7 +25,7 @@ impl Model for BitSink {
 }
 
 impl BitSink {
-    /// No bits yet. `alloc` is for their bytes.
+    /// No bits yet. `alloc` is for their bytes; nothing is allocated here.
     pub fn new(alloc: Global) -> BitSink
         ensures { result ≡ [] }
     {
@@ -34,7 +34,10 @@ impl BitSink {
         }
     }
 
-    /// Appends `value` in `count` bits, the most significant first. Where memory is refused nothing changes.
+    /// Appends `value` in `count` bits, the most significant first.
+    ///
+    /// `count` is at most 32, and `value` is below 2^count. Fails only if an allocation fails; the sink is unchanged then
+    /// and can be used again.
     pub fn put(&mut self, value: u32, count: u32) -> Result<(), AllocError>
         requires count { count ≤ 32 }
         requires value { value < 2 ^ count }
@@ -46,7 +49,10 @@ impl BitSink {
         Ok(())
     }
 
-    /// Appends the code word of `v` (T.87 A.5.3). Where memory is refused nothing changes.
+    /// Appends the code word of `v`: LG(k, glimit) of T.87 A.5.3, of at most glimit bits.
+    ///
+    /// `qbpp` is at most 16, `k` at most qbpp + 1, `glimit` from qbpp + 2 to 64, and `v` at most 2^qbpp. Fails only if an
+    /// allocation fails; the sink is unchanged then and can be used again.
     pub fn put_golomb(&mut self, k: u32, glimit: u32, qbpp: u32, v: u32) -> Result<(), AllocError>
         requires code { IsGolomb k glimit qbpp }
         requires value { v ≤ most_value qbpp }
@@ -58,7 +64,10 @@ impl BitSink {
         Ok(())
     }
 
-    /// The bits, stuffed. Where memory is refused the sink is gone.
+    /// The bits, stuffed (T.87 C.1): the last byte is filled with bits 0, and a last byte FF is followed by 00. No bits
+    /// make no bytes.
+    ///
+    /// Fails only if an allocation fails; the sink and its bits are gone then.
     pub fn finish(mut self) -> Result<Vec<u8>, AllocError>
         ensures { IfOk result (λ bytes. bytes.items ≡ stuff self) }
     {
