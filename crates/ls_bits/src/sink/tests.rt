@@ -1,3 +1,5 @@
+ghost use Rattle.std.specs.Prelude.{◌<◌};
+
 use super::*;
 use crate::testing::{Code, Filling, Put, WORDS, check_bytes, put, put_word};
 use std::process::Abort;
@@ -49,7 +51,9 @@ const ONES: [(u32, &[u8]); 8] = [
 ];
 
 /// That ones are stuffed also if they stand after so many bytes 00.
-fn check_ones(rt: &impl Abort, alloc: Global, bytes: u32) -> Result<(), AllocError> {
+fn check_ones(rt: &impl Abort, alloc: Global, bytes: u32) -> Result<(), AllocError>
+    requires { bytes < 8 }
+{
     for (zeros, ones) in ONES {
         let mut want = Vec::new(alloc);
         for _ in 0..bytes {
