@@ -10,7 +10,7 @@ use Rattle.std.specs.Int.{bit_at}
 use lib.Bits.{bit_or}
 use lib.Count.{count_leading_zeros}
 use Rattle.ls_bits.specs.Bits.{has_bit, bits_of, bit_value, number_of, zeros}
-use Rattle.ls_bits.specs.Taking.{LeadingZeros, found, none}
+use Rattle.ls_bits.specs.View.Taking.{LeadingZeros, found, none}
 
 pub length-bits_of : (count n : ℕ) → length (bits_of count n) ≡ count
 length-bits_of zero n = refl
@@ -65,7 +65,7 @@ shifted_left count keep width word e =
     let whole : word * 2 ^ count % 2 ^ width ≡ word * 2 ^ count % 2 ^ (keep + count) = ap (λ n. word * 2 ^ count % 2 ^ n) (sym e) in
     omega (arith, whole, parts, high, none)
 
--- what a word of 64 bits becomes where a value is shifted in from below
+-- what a word of 64 bits becomes if a value is shifted in from below
 pub shifted_in : (held count word value : ℕ) → held + count ≤ 64 → value < 2 ^ count
     → bits_of (held + count) (bit_or (word * 2 ^ count % 2 ^ 64) value) ≡ bits_of held word ++ bits_of count value
 shifted_in held count word value fits small =
@@ -132,7 +132,7 @@ number_of-zeros : (count : ℕ) → number_of (zeros count) ≡ 0
 number_of-zeros zero = refl
 number_of-zeros (suc count) = omega (arith, number_of-zeros count)
 
--- zeros behind bits shift their number
+-- zeros after bits shift their number
 pub number_of-filled : (bits : List Bool) (count : ℕ) → number_of (bits ++ zeros count) ≡ number_of bits * 2 ^ count
 number_of-filled [] count = omega (arith, number_of-zeros count)
 number_of-filled (bit ∷ bits) count =
@@ -168,7 +168,7 @@ bits_of-word count low rest h =
     let one : bits_of (suc low) (2 ^ low + rest) ≡ true ∷ bits_of low rest = one_on_top low rest h in
     sym (ap (bits_of (count + suc low)) same) ∙ tail ∙ rw (bits_of-zero count, one) refl
 
--- the first one of a number, and what stands behind it
+-- the first one of a number, and what stands after it
 pub bits_of-first_one : (count place n : ℕ) → 2 ^ place ≤ n → n < 2 ^ suc place → bits_of (count + suc place) n ≡ zeros count ++ true ∷ bits_of place n
 bits_of-first_one count place n low high =
     let doubled : 2 ^ suc place ≡ 2 ^ place * 2 = pow-suc 2 place in
@@ -176,9 +176,9 @@ bits_of-first_one count place n low high =
     let parts : 2 ^ place + rest ≡ n = omega arith in
     let word : bits_of (count + suc place) (2 ^ place + rest) ≡ zeros count ++ true ∷ bits_of place rest = bits_of-word count place rest (omega arith) in
     let scaled : 1 * 2 ^ place + rest ≡ n = omega arith in
-    let behind : bits_of place (1 * 2 ^ place + rest) ≡ bits_of place rest = bits_of-low place place 1 rest (omega arith) in
-    let behind_n : bits_of place n ≡ bits_of place rest = sym (ap (bits_of place) scaled) ∙ behind in
-    sym (ap (bits_of (count + suc place)) parts) ∙ word ∙ rw behind_n refl
+    let rest_bits : bits_of place (1 * 2 ^ place + rest) ≡ bits_of place rest = bits_of-low place place 1 rest (omega arith) in
+    let rest_n : bits_of place n ≡ bits_of place rest = sym (ap (bits_of place) scaled) ∙ rest_bits in
+    sym (ap (bits_of (count + suc place)) parts) ∙ word ∙ rw rest_n refl
 
 mul_at_least : (a b : ℕ) → 1 ≤ a → b ≤ a * b
 mul_at_least a b h = grind arith

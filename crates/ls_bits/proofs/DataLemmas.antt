@@ -4,14 +4,14 @@ use Rattle.std.proofs.lemmas.List.{take_more, drop_more, drop_all, append_assoc}
 use Rattle.std.proofs.lemmas.Bool.{cases_lt, and_parts, and_from, lt-ltb, le-ltb, ne_eqb, true≢false, cond-false}
 use Rattle.ls_bits.specs.Data.{goes_on, is_data, IsData, DataAtFront}
 
--- ---- data and what stands behind it
+-- ---- data and what stands after it
 
 goes_append_test : (test : Bool) (bytes more : List ℕ) → cond test (goes_on bytes) true ≡ true → cond test (goes_on (bytes ++ more)) true ≡ true
 goes_append_test false bytes more h = refl
 goes_append_test true [] more h = absurd (true≢false (sym h))
 goes_append_test true (byte ∷ bytes) more h = h
 
--- data with data behind it is data
+-- data with data after it is data
 pub data-append : (bytes more : List ℕ) → is_data bytes ≡ true → is_data more ≡ true → is_data (bytes ++ more) ≡ true
 data-append [] more a b = b
 data-append (byte ∷ bytes) more a b =
@@ -19,9 +19,9 @@ data-append (byte ∷ bytes) more a b =
     and_from _ _ (goes_append_test (eqb byte 255) bytes more parts.0) (data-append bytes more parts.1 b)
 
 -- the end of data is data
-pub data-behind : (bytes more : List ℕ) → is_data (bytes ++ more) ≡ true → is_data more ≡ true
-data-behind [] more h = h
-data-behind (byte ∷ bytes) more h = data-behind bytes more (and_parts _ _ h).1
+pub data-after_ff : (bytes more : List ℕ) → is_data (bytes ++ more) ≡ true → is_data more ≡ true
+data-after_ff [] more h = h
+data-after_ff (byte ∷ bytes) more h = data-after_ff bytes more (and_parts _ _ h).1
 
 -- ---- one step further
 
@@ -78,7 +78,7 @@ no_more bytes len more h ff stop data_is = elim (cases_lt len more) [
       let head : drop len bytes ≡ 255 ∷ drop (len + 1) bytes = drop_more bytes len 0 h ∙ ap (λ byte. byte ∷ drop (len + 1) bytes) ff in
       let whole : take more bytes ≡ take len bytes ++ (255 ∷ take n (drop (len + 1) bytes)) = front ∙ ap (λ list. take len bytes ++ take (suc n) list) head in
       let both : is_data (take len bytes ++ (255 ∷ take n (drop (len + 1) bytes))) ≡ true = sym (ap is_data whole) ∙ data_is in
-      let tail : is_data (255 ∷ take n (drop (len + 1) bytes)) ≡ true = data-behind (take len bytes) _ both in
+      let tail : is_data (255 ∷ take n (drop (len + 1) bytes)) ≡ true = data-after_ff (take len bytes) _ both in
       let goes : goes_on (take n (drop (len + 1) bytes)) ≡ true = (and_parts _ _ tail).0 in
       absurd (true≢false (sym goes ∙ blocked n (drop (len + 1) bytes) stop))
 ]
@@ -91,10 +91,10 @@ data-longest bytes len h so_far ff stop = record {
   longest = λ more within is_data. no_more bytes len more h ff stop is_data;
 }
 
--- where the bytes end
+-- the bytes end
 pub data-stop_end : (bytes : List ℕ) (len : ℕ) → len + 1 ≡ length bytes → goes_on (drop (len + 1) bytes) ≡ false
 data-stop_end bytes len e = ap goes_on (drop_all (len + 1) bytes (omega arith))
 
--- where a marker stands
+-- a marker stands there
 pub data-stop_marker : (bytes : List ℕ) (len : ℕ) → len + 1 < length bytes → 128 ≤ get_or bytes (len + 1) 0 → goes_on (drop (len + 1) bytes) ≡ false
 data-stop_marker bytes len h high = ap goes_on (drop_more bytes (len + 1) 0 h) ∙ le-ltb (get_or bytes (len + 1) 0) 128 high

@@ -5,7 +5,7 @@ use Rattle.std.proofs.lemmas.Nat.{shr-shr, shr_split}
 use Rattle.std.proofs.lemmas.Nat.Bits.{bit_at_and, bit_at_cat_low, bit_at_ones, bit_at-zero}
 use Rattle.std.specs.Int.{bit_at}
 use lib.Bits.{bit_and}
-use Rattle.ls_bits.specs.Packing.{HasNoFf}
+use Rattle.ls_bits.specs.View.Packing.{HasNoFf}
 
 -- ones that have a one one place, two places, four places above them
 pairs : ℕ → ℕ

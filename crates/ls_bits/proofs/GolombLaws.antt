@@ -7,7 +7,7 @@ use Rattle.std.proofs.Math.Nat.{mod-eq_of_lt, zero-div}
 use Rattle.ls_bits.specs.declared.source.CodeFault.{CodeFault}
 use Rattle.ls_bits.specs.declared.source.CodeFault.TheVariants.{OutOfBits, NotCanonical}
 use Rattle.ls_bits.specs.Bits.{bits_of, number_of, zeros, BeginsWith}
-use Rattle.ls_bits.specs.Taking.{ZerosFault}
+use Rattle.ls_bits.specs.View.Taking.{ZerosFault}
 use Rattle.ls_bits.specs.Golomb.{IsGolomb, most_value, escape_zeros, short_word, escape_word, code_word, IsUncanonical, zeros_only, needless_escape, too_large, TakesWord, GolombFault}
 use Rattle.ls_bits.proofs.BitLemmas.{length-bits_of, length-zeros, number_of-bits_of, bits_of-low}
 use Rattle.ls_bits.proofs.GolombLemmas.{code_word-small, code_word-escape}
@@ -139,7 +139,7 @@ canonical k glimit qbpp bits v rest code takes un =
 
 -- ---- what a reader finds
 
--- the front is zeros and a one, and too little stands behind it
+-- the front is zeros and a one, and too little stands after it
 pub record TooFew (k glimit qbpp count : ℕ) (left : List Bool) : Type 0 where
   pub enough_zeros : count ≤ escape_zeros glimit qbpp
   pub few_short : count < escape_zeros glimit qbpp → length left < k

@@ -5,6 +5,5 @@ pub mod GolombLaws
 pub mod GolombLemmas
 pub mod MaskLemmas
 pub mod PackingLemmas
-pub mod RoomLemmas
 pub mod StuffingLemmas
 pub mod WindowLemmas

@@ -3,9 +3,9 @@ use Rattle.std.proofs.Common.{◌≡◌, ℕ, ◌+◌, ◌-◌, ◌*◌, ◌%◌
 use Rattle.std.proofs.lemmas.Nat.{and_mask, one_shl, or_shifted, shl_whole, shl_below, mod_below, pow_pos}
 use Rattle.std.proofs.Math.Pow.{pow_mono}
 use lib.Bits.{bit_and, bit_or}
-use Rattle.ls_bits.specs.Packing.{room_for}
-use Rattle.ls_bits.proofs.StuffingLemmas.{room_range}
-use Rattle.ls_bits.proofs.PackingLemmas.{room_for-room}
+use Rattle.ls_bits.specs.View.Packing.{byte_bits}
+use Rattle.ls_bits.proofs.StuffingLemmas.{size_range}
+use Rattle.ls_bits.proofs.PackingLemmas.{byte_bits-size}
 
 -- `word & ((1 << count) - 1)` at a width
 pub masked : (width word count : ℕ) → count < width → bit_and word (1 * 2 ^ count % 2 ^ width - 1) ≡ word % 2 ^ count
@@ -20,22 +20,22 @@ led width count rest h small =
     let whole : bit_or (1 * 2 ^ count % 2 ^ width) rest ≡ 1 * 2 ^ count + rest = ap (λ n. bit_or n rest) shifted ∙ joined in
     omega arith
 
-pub last_group-is : (word held room : ℕ) (behind : Bool) → held ≤ 7 → room ≡ room_for behind
-    → bit_and word (1 * 2 ^ held % 2 ^ 64 - 1) * 2 ^ (room - held) % 2 ^ 64 ≡ word % 2 ^ held * 2 ^ (room_for behind - held)
-last_group-is word held room behind few e =
-    let range : (7 ≤ room_for behind) × (room_for behind ≤ 8) = room_range (room_for behind) (room_for-room behind) in
+pub last_group-is : (word held size : ℕ) (after_ff : Bool) → held ≤ 7 → size ≡ byte_bits after_ff
+    → bit_and word (1 * 2 ^ held % 2 ^ 64 - 1) * 2 ^ (size - held) % 2 ^ 64 ≡ word % 2 ^ held * 2 ^ (byte_bits after_ff - held)
+last_group-is word held size after_ff few e =
+    let range : (7 ≤ byte_bits after_ff) × (byte_bits after_ff ≤ 8) = size_range (byte_bits after_ff) (byte_bits-size after_ff) in
     let small : word % 2 ^ held < 2 ^ held = mod_below word (2 ^ held) (pow_pos held) in
-    ap (λ n. n * 2 ^ (room - held) % 2 ^ 64) (masked 64 word held (omega arith))
-    ∙ shl_whole (word % 2 ^ held) held (room - held) 64 small (omega (arith, range.1))
+    ap (λ n. n * 2 ^ (size - held) % 2 ^ 64) (masked 64 word held (omega arith))
+    ∙ shl_whole (word % 2 ^ held) held (size - held) 64 small (omega (arith, range.1))
     ∙ ap (λ n. word % 2 ^ held * 2 ^ (n - held)) e
 
-pub last_group-lt : (word held : ℕ) (behind : Bool) → held ≤ 7 → word % 2 ^ held * 2 ^ (room_for behind - held) < 256
-last_group-lt word held behind few =
-    let range : (7 ≤ room_for behind) × (room_for behind ≤ 8) = room_range (room_for behind) (room_for-room behind) in
+pub last_group-lt : (word held : ℕ) (after_ff : Bool) → held ≤ 7 → word % 2 ^ held * 2 ^ (byte_bits after_ff - held) < 256
+last_group-lt word held after_ff few =
+    let range : (7 ≤ byte_bits after_ff) × (byte_bits after_ff ≤ 8) = size_range (byte_bits after_ff) (byte_bits-size after_ff) in
     let small : word % 2 ^ held < 2 ^ held = mod_below word (2 ^ held) (pow_pos held) in
-    let below : word % 2 ^ held * 2 ^ (room_for behind - held) < 2 ^ (held + (room_for behind - held)) = shl_below (word % 2 ^ held) held (room_for behind - held) small in
-    let size : held + (room_for behind - held) ≤ 8 = omega (arith, range.0, range.1) in
-    let power : 2 ^ (held + (room_for behind - held)) ≤ 2 ^ 8 = pow_mono size in
+    let below : word % 2 ^ held * 2 ^ (byte_bits after_ff - held) < 2 ^ (held + (byte_bits after_ff - held)) = shl_below (word % 2 ^ held) held (byte_bits after_ff - held) small in
+    let size : held + (byte_bits after_ff - held) ≤ 8 = omega (arith, range.0, range.1) in
+    let power : 2 ^ (held + (byte_bits after_ff - held)) ≤ 2 ^ 8 = pow_mono size in
     omega arith
 
 -- `(high << count) | low`

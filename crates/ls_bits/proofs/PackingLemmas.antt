@@ -1,66 +1,66 @@
 -- What a sink's steps do to its bits.
 use Rattle.std.proofs.Common.{◌≡◌, ℕ, zero, suc, ◌+◌, ◌-◌, ◌*◌, ◌/◌, ◌%◌, ◌^◌, ◌<◌, ◌≤◌, ◌⊎◌, inl, inr, Bool, true, false, eqb, List, [], ◌∷◌, ◌++◌, length, take, drop, refl, sym, ◌∙◌, ap, subst, arith, append_assoc, length-append}
 use Rattle.std.proofs.lemmas.List.{append-nil, drop-append-le, take-append-drop, length-drop}
-use Rattle.std.proofs.lemmas.Bool.{ne_eqb}
+use Rattle.std.proofs.lemmas.Bool.{ne_eqb, true≢false}
 use Rattle.std.proofs.lemmas.Nat.{mul-mod_first, shr_below}
 use Rattle.std.proofs.Math.Nat.{mod-one, pow-suc}
 use Rattle.std.proofs.Math.Pow.{pow_mono}
 use lib.Bits.{bit_or}
 use Rattle.ls_bits.specs.Bits.{bits_of, zeros}
 use Rattle.ls_bits.specs.Stuffing.{stuff_into, stuff, unstuff}
-use Rattle.ls_bits.specs.Packing.{room_for, KeepsRoom, room_after, packed_bits, IsPacked, HasNoFf}
+use Rattle.ls_bits.specs.View.Packing.{byte_bits, KeepsStuffing, next_byte_bits, packed_bits, IsPacked, HasNoFf, with_word}
 use Rattle.ls_bits.proofs.BitLemmas.{bits_of-cat, bits_of-split, bits_of-mod, bits_of-word, shifted_in, length-bits_of}
-use Rattle.ls_bits.proofs.StuffingLemmas.{IsRoom, unstuff_from-append, room_after-append, KeepsRoom-append, length-unstuff_from, stuff_into-front, stuff_into-last, stuff_into-none, stuff_into-behind_ff}
+use Rattle.ls_bits.proofs.StuffingLemmas.{IsSize, unstuff_from-append, next_byte_bits-append, KeepsStuffing-append, length-unstuff_from, stuff_into-front, stuff_into-last, stuff_into-none, stuff_into-after_ff}
 
-pub room_for-room : (behind : Bool) → IsRoom (room_for behind)
-room_for-room true = inl refl
-room_for-room false = inr refl
+pub byte_bits-size : (after_ff : Bool) → IsSize (byte_bits after_ff)
+byte_bits-size true = inl refl
+byte_bits-size false = inr refl
 
 -- ---- a byte put out
 
 -- the byte that stands above the bits that still wait
-pub record IsNextByte (word waiting : ℕ) (behind : Bool) (byte : ℕ) : Type 0 where
-  pub is : byte ≡ word / 2 ^ waiting % 2 ^ room_for behind
+pub record IsNextByte (word waiting : ℕ) (after_ff : Bool) (byte : ℕ) : Type 0 where
+  pub is : byte ≡ word / 2 ^ waiting % 2 ^ byte_bits after_ff
 
-byte-lt : (word waiting byte : ℕ) (behind : Bool) → IsNextByte word waiting behind byte → byte < 2 ^ room_for behind
+byte-lt : (word waiting byte : ℕ) (after_ff : Bool) → IsNextByte word waiting after_ff byte → byte < 2 ^ byte_bits after_ff
 byte-lt word waiting byte true next = omega (arith, next.is)
 byte-lt word waiting byte false next = omega (arith, next.is)
 
-byte_bits : (word waiting byte : ℕ) (behind : Bool) → IsNextByte word waiting behind byte
-    → bits_of (room_for behind + waiting) word ≡ bits_of (room_for behind) byte ++ bits_of waiting word
-byte_bits word waiting byte behind next =
-    let room : ℕ = room_for behind in
-    let same : bits_of room byte ≡ bits_of room (word / 2 ^ waiting) = ap (bits_of room) next.is ∙ bits_of-mod room room (word / 2 ^ waiting) (omega arith) in
-    bits_of-split room waiting word ∙ ap (λ bits. bits ++ bits_of waiting word) (sym same)
+bits_of-next_byte : (word waiting byte : ℕ) (after_ff : Bool) → IsNextByte word waiting after_ff byte
+    → bits_of (byte_bits after_ff + waiting) word ≡ bits_of (byte_bits after_ff) byte ++ bits_of waiting word
+bits_of-next_byte word waiting byte after_ff next =
+    let size : ℕ = byte_bits after_ff in
+    let same : bits_of size byte ≡ bits_of size (word / 2 ^ waiting) = ap (bits_of size) next.is ∙ bits_of-mod size size (word / 2 ^ waiting) (omega arith) in
+    bits_of-split size waiting word ∙ ap (λ bits. bits ++ bits_of waiting word) (sym same)
 
-pub packed-byte : (start word other waiting byte : ℕ) (bytes : List ℕ) (behind : Bool) → IsPacked start bytes other behind
-    → waiting ≤ 63 → IsNextByte word waiting behind byte
+pub packed-byte : (start word other waiting byte : ℕ) (bytes : List ℕ) (after_ff : Bool) → IsPacked start bytes other after_ff
+    → waiting ≤ 63 → IsNextByte word waiting after_ff byte
     → IsPacked start (bytes ++ byte ∷ []) waiting (eqb byte 255)
-packed-byte start word other waiting byte bytes behind packed few next =
+packed-byte start word other waiting byte bytes after_ff packed few next =
     let front : drop start (bytes ++ byte ∷ []) ≡ drop start bytes ++ byte ∷ [] = drop-append-le start bytes (byte ∷ []) packed.within in
-    let small : byte < 2 ^ room_after 8 (drop start bytes) = subst (λ n. byte < 2 ^ n) (sym packed.room) (byte-lt word waiting byte behind next) in
+    let small : byte < 2 ^ next_byte_bits 8 (drop start bytes) = subst (λ n. byte < 2 ^ n) (sym packed.next) (byte-lt word waiting byte after_ff next) in
     record {
       within = omega (arith, packed.within, length-append bytes (byte ∷ []));
-      keeps = subst (KeepsRoom 8) (sym front) (KeepsRoom-append 8 (drop start bytes) (byte ∷ []) packed.keeps (small, tt));
-      room = ap (room_after 8) front ∙ room_after-append 8 (drop start bytes) (byte ∷ []);
+      keeps = subst (KeepsStuffing 8) (sym front) (KeepsStuffing-append 8 (drop start bytes) (byte ∷ []) packed.keeps (small, tt));
+      next = ap (next_byte_bits 8) front ∙ next_byte_bits-append 8 (drop start bytes) (byte ∷ []);
       few = few;
     }
 
-pub packed_bits-byte : (start word held other waiting byte : ℕ) (bytes : List ℕ) (behind : Bool) → IsPacked start bytes other behind
-    → room_for behind + waiting ≡ held → IsNextByte word waiting behind byte
+pub packed_bits-byte : (start word held other waiting byte : ℕ) (bytes : List ℕ) (after_ff : Bool) → IsPacked start bytes other after_ff
+    → byte_bits after_ff + waiting ≡ held → IsNextByte word waiting after_ff byte
     → packed_bits start (bytes ++ byte ∷ []) word waiting ≡ packed_bits start bytes word held
-packed_bits-byte start word held other waiting byte bytes behind packed sum next =
+packed_bits-byte start word held other waiting byte bytes after_ff packed sum next =
     let stuffed : List ℕ = drop start bytes in
     let front : drop start (bytes ++ byte ∷ []) ≡ stuffed ++ byte ∷ [] = drop-append-le start bytes (byte ∷ []) packed.within in
-    let out : unstuff (stuffed ++ byte ∷ []) ≡ unstuff stuffed ++ (bits_of (room_after 8 stuffed) byte ++ []) = unstuff_from-append 8 stuffed (byte ∷ []) in
-    let of_room : bits_of (room_after 8 stuffed) byte ++ [] ≡ bits_of (room_for behind) byte = append-nil _ ∙ ap (λ n. bits_of n byte) packed.room in
-    let whole : bits_of held word ≡ bits_of (room_for behind) byte ++ bits_of waiting word = sym (ap (λ n. bits_of n word) sum) ∙ byte_bits word waiting byte behind next in
+    let out : unstuff (stuffed ++ byte ∷ []) ≡ unstuff stuffed ++ (bits_of (next_byte_bits 8 stuffed) byte ++ []) = unstuff_from-append 8 stuffed (byte ∷ []) in
+    let of_size : bits_of (next_byte_bits 8 stuffed) byte ++ [] ≡ bits_of (byte_bits after_ff) byte = append-nil _ ∙ ap (λ n. bits_of n byte) packed.next in
+    let whole : bits_of held word ≡ bits_of (byte_bits after_ff) byte ++ bits_of waiting word = sym (ap (λ n. bits_of n word) sum) ∙ bits_of-next_byte word waiting byte after_ff next in
     ap (λ list. unstuff list ++ bits_of waiting word) front
-    ∙ ap (λ bits. bits ++ bits_of waiting word) (out ∙ ap (λ bits. unstuff stuffed ++ bits) of_room)
-    ∙ append_assoc (unstuff stuffed) (bits_of (room_for behind) byte) (bits_of waiting word)
+    ∙ ap (λ bits. bits ++ bits_of waiting word) (out ∙ ap (λ bits. unstuff stuffed ++ bits) of_size)
+    ∙ append_assoc (unstuff stuffed) (bits_of (byte_bits after_ff) byte) (bits_of waiting word)
     ∙ ap (λ bits. unstuff stuffed ++ bits) (sym whole)
 
--- what one byte out leaves, where it isn't FF
+-- what one byte out leaves if it isn't FF
 pub record StillPacked (start word : ℕ) (before after : List ℕ) (held waiting : ℕ) : Type 0 where
   pub packed : IsPacked start after waiting false
   pub bits : packed_bits start after word waiting ≡ packed_bits start before word held
@@ -75,14 +75,8 @@ one_out start word held other waiting bytes packed sum few not_ff =
       bits = packed_bits-byte start word held other waiting byte bytes false packed sum next;
     }
 
--- a byte of a word
-abbrev pub byte_of : ℕ → ℕ → ℕ
-byte_of word shift = word / 2 ^ shift % 256
-
 pub eight_out : (start word other : ℕ) (bytes : List ℕ) → IsPacked start bytes other false → HasNoFf word
-    → StillPacked start word bytes
-    ((((((((bytes ++ byte_of word 56 ∷ []) ++ byte_of word 48 ∷ []) ++ byte_of word 40 ∷ []) ++ byte_of word 32 ∷ []) ++ byte_of word 24 ∷ [])
-    ++ byte_of word 16 ∷ []) ++ byte_of word 8 ∷ []) ++ byte_of word 0 ∷ []) 64 0
+    → StillPacked start word bytes (with_word bytes word) 64 0
 eight_out start word other bytes packed none =
     let one = one_out start word 64 other 56 bytes packed refl (omega arith) none.at_56 in
     let two = one_out start word 56 56 48 _ one.packed refl (omega arith) none.at_48 in
@@ -94,6 +88,17 @@ eight_out start word other bytes packed none =
     let eight = one_out start word 8 8 0 _ seven.packed refl (omega arith) none.at_0 in
     record { packed = eight.packed; bits = eight.bits ∙ seven.bits ∙ six.bits ∙ five.bits ∙ four.bits ∙ three.bits ∙ two.bits ∙ one.bits }
 
+-- what a whole word out leaves, after a byte that isn't FF
+pub word_out : (start word other : ℕ) (after_ff : Bool) (before after : List ℕ) → IsPacked start before other after_ff → after_ff ≡ false → HasNoFf word
+    → after ≡ with_word before word → StillPacked start word before after 64 0
+word_out start word other true before after packed e none out = absurd (true≢false e)
+word_out start word other false before after packed e none out =
+    subst (λ (list : List ℕ). StillPacked start word before list 64 0) (sym out) (eight_out start word other before packed none)
+
+pub packed-held : (start other held : ℕ) (after_ff : Bool) (bytes : List ℕ) → IsPacked start bytes other false → after_ff ≡ false → held ≤ 63 → IsPacked start bytes held after_ff
+packed-held start other held true bytes packed e few = absurd (true≢false e)
+packed-held start other held false bytes packed e few = record { within = packed.within; keeps = packed.keeps; next = packed.next; few = few }
+
 -- ---- bits put
 
 pub packed_bits-put : (start word held count value : ℕ) (bytes : List ℕ) → held + count ≤ 64 → value < 2 ^ count
@@ -102,7 +107,7 @@ packed_bits-put start word held count value bytes fits small =
     ap (λ bits. unstuff (drop start bytes) ++ bits) (shifted_in held count word value fits small)
     ∙ sym (append_assoc (unstuff (drop start bytes)) (bits_of held word) (bits_of count value))
 
--- the first 64 of the bits that wait and those that are put, where they are so many, and those behind them
+-- the first 64 of the bits that wait and those that are put, if they are so many, and those after them
 pub full_bits : (held count waiting word value : ℕ) → held ≤ 63 → held + count ≡ 64 + waiting → count ≤ 64 → value < 2 ^ count
     → bits_of 64 (bit_or (word * 2 ^ (63 - held) % 2 ^ 64 * 2 ^ 1 % 2 ^ 64) (value / 2 ^ waiting)) ++ bits_of waiting value ≡ bits_of held word ++ bits_of count value
 full_bits held count waiting word value few sum most small =
@@ -137,17 +142,16 @@ packed_bits-full start held count waiting word value before after few sum most s
     ∙ sym (append_assoc (unstuff (drop start before)) (bits_of held word) (bits_of count value))
 
 -- the same, as the code has it: the value's copies are given by equations
-pub packed_bits-word_out : (start start_after held count waiting word value copied stored : ℕ) (before after : List ℕ) → held ≤ 63 → held + count ≡ 64 + waiting → count ≤ 64
-    → value < 2 ^ count → copied ≡ value → stored ≡ value → start_after ≡ start
-    → packed_bits start_after after (bit_or (word * 2 ^ (63 - held) % 2 ^ 64 * 2 ^ 1 % 2 ^ 64) (copied / 2 ^ waiting)) 0
+pub packed_bits-word_out : (start held count waiting word value copied stored : ℕ) (before after : List ℕ) → held ≤ 63 → held + count ≡ 64 + waiting → count ≤ 64
+    → value < 2 ^ count → copied ≡ value → stored ≡ value
+    → packed_bits start after (bit_or (word * 2 ^ (63 - held) % 2 ^ 64 * 2 ^ 1 % 2 ^ 64) (copied / 2 ^ waiting)) 0
     ≡ packed_bits start before (bit_or (word * 2 ^ (63 - held) % 2 ^ 64 * 2 ^ 1 % 2 ^ 64) (copied / 2 ^ waiting)) 64
-    → packed_bits start_after after stored waiting ≡ packed_bits start before word held ++ bits_of count value
-packed_bits-word_out start start_after held count waiting word value copied stored before after few sum most small copy store same out =
+    → packed_bits start after stored waiting ≡ packed_bits start before word held ++ bits_of count value
+packed_bits-word_out start held count waiting word value copied stored before after few sum most small copy store out =
     let full : ℕ → ℕ = λ n. bit_or (word * 2 ^ (63 - held) % 2 ^ 64 * 2 ^ 1 % 2 ^ 64) (n / 2 ^ waiting) in
     let out_value : packed_bits start after (full value) 0 ≡ packed_bits start before (full value) 64 =
-    sym (ap (λ n. packed_bits start after (full n) 0) copy) ∙ sym (ap (λ n. packed_bits n after (full copied) 0) same) ∙ out
-    ∙ ap (λ n. packed_bits start before (full n) 64) copy in
-    ap (λ n. packed_bits n after stored waiting) same ∙ ap (λ n. packed_bits start after n waiting) store
+    sym (ap (λ n. packed_bits start after (full n) 0) copy) ∙ out ∙ ap (λ n. packed_bits start before (full n) 64) copy in
+    ap (λ n. packed_bits start after n waiting) store
     ∙ packed_bits-full start held count waiting word value before after few sum most small out_value
 
 -- a number in more bits than it needs
@@ -160,45 +164,45 @@ bits_of-wide front count value bits small =
 -- ---- the end
 
 -- the bits stuffed are the bytes that are out, and the stuffing of those that wait
-pub stuff-packed : (start word held : ℕ) (bytes : List ℕ) (behind : Bool) → IsPacked start bytes held behind
-    → take start bytes ++ stuff (packed_bits start bytes word held) ≡ bytes ++ stuff_into (room_for behind) (bits_of held word)
-stuff-packed start word held bytes behind packed =
+pub stuff-packed : (start word held : ℕ) (bytes : List ℕ) (after_ff : Bool) → IsPacked start bytes held after_ff
+    → take start bytes ++ stuff (packed_bits start bytes word held) ≡ bytes ++ stuff_into (byte_bits after_ff) (bits_of held word)
+stuff-packed start word held bytes after_ff packed =
     let stuffed : List ℕ = drop start bytes in
-    let out : stuff (unstuff stuffed ++ bits_of held word) ≡ stuffed ++ stuff_into (room_after 8 stuffed) (bits_of held word) =
+    let out : stuff (unstuff stuffed ++ bits_of held word) ≡ stuffed ++ stuff_into (next_byte_bits 8 stuffed) (bits_of held word) =
     stuff_into-front 8 stuffed (bits_of held word) (omega arith) packed.keeps in
-    ap (λ list. take start bytes ++ list) (out ∙ ap (λ n. stuffed ++ stuff_into n (bits_of held word)) packed.room)
-    ∙ sym (append_assoc (take start bytes) stuffed (stuff_into (room_for behind) (bits_of held word)))
-    ∙ ap (λ list. list ++ stuff_into (room_for behind) (bits_of held word)) (take-append-drop start bytes)
+    ap (λ list. take start bytes ++ list) (out ∙ ap (λ n. stuffed ++ stuff_into n (bits_of held word)) packed.next)
+    ∙ sym (append_assoc (take start bytes) stuffed (stuff_into (byte_bits after_ff) (bits_of held word)))
+    ∙ ap (λ list. list ++ stuff_into (byte_bits after_ff) (bits_of held word)) (take-append-drop start bytes)
 
--- no bits wait behind a byte that isn't FF
-pub stuff-packed_whole : (start word held : ℕ) (bytes : List ℕ) (behind : Bool) → IsPacked start bytes held behind → held ≡ 0 → behind ≡ false
+-- no bits wait after a byte that isn't FF
+pub stuff-packed_whole : (start word held : ℕ) (bytes : List ℕ) (after_ff : Bool) → IsPacked start bytes held after_ff → held ≡ 0 → after_ff ≡ false
     → take start bytes ++ stuff (packed_bits start bytes word held) ≡ bytes
-stuff-packed_whole start word held bytes behind packed none other =
-    stuff-packed start word held bytes behind packed
-    ∙ ap (λ n. bytes ++ stuff_into (room_for behind) (bits_of n word)) none
-    ∙ ap (λ b. bytes ++ stuff_into (room_for b) []) other
+stuff-packed_whole start word held bytes after_ff packed none other =
+    stuff-packed start word held bytes after_ff packed
+    ∙ ap (λ n. bytes ++ stuff_into (byte_bits after_ff) (bits_of n word)) none
+    ∙ ap (λ b. bytes ++ stuff_into (byte_bits b) []) other
     ∙ ap (λ list. bytes ++ list) stuff_into-none
     ∙ append-nil bytes
 
-last_byte : (room held word : ℕ) → IsRoom room → held ≤ 7 → (1 ≤ held) ⊎ (room ≡ 7) → stuff_into room (bits_of held word) ≡ word % 2 ^ held * 2 ^ (room - held) ∷ []
-last_byte room zero word r few (inl some) = absurd (omega arith)
-last_byte room zero word r few (inr seven) =
+last_byte : (size held word : ℕ) → IsSize size → held ≤ 7 → (1 ≤ held) ⊎ (size ≡ 7) → stuff_into size (bits_of held word) ≡ word % 2 ^ held * 2 ^ (size - held) ∷ []
+last_byte size zero word r few (inl some) = absurd (omega arith)
+last_byte size zero word r few (inr seven) =
     let none : word % 2 ^ 0 ≡ 0 = mod-one word in
-    let product : word % 2 ^ 0 * 2 ^ (room - 0) ≡ 0 * 2 ^ (room - 0) = ap (λ n. n * 2 ^ (room - 0)) none in
-    let nothing : 0 ≡ word % 2 ^ 0 * 2 ^ (room - 0) = omega arith in
-    ap (λ n. stuff_into n []) seven ∙ stuff_into-behind_ff ∙ ap (λ n. n ∷ []) nothing
-last_byte room (suc held) word r few h = stuff_into-last room (suc held) word r (omega arith) few
+    let product : word % 2 ^ 0 * 2 ^ (size - 0) ≡ 0 * 2 ^ (size - 0) = ap (λ n. n * 2 ^ (size - 0)) none in
+    let nothing : 0 ≡ word % 2 ^ 0 * 2 ^ (size - 0) = omega arith in
+    ap (λ n. stuff_into n []) seven ∙ stuff_into-after_ff ∙ ap (λ n. n ∷ []) nothing
+last_byte size (suc held) word r few h = stuff_into-last size (suc held) word r (omega arith) few
 
-some_of : (held : ℕ) (behind : Bool) → (1 ≤ held) ⊎ (behind ≡ true) → (1 ≤ held) ⊎ (room_for behind ≡ 7)
-some_of held behind (inl h) = inl h
-some_of held behind (inr e) = inr (ap room_for e)
+some_of : (held : ℕ) (after_ff : Bool) → (1 ≤ held) ⊎ (after_ff ≡ true) → (1 ≤ held) ⊎ (byte_bits after_ff ≡ 7)
+some_of held after_ff (inl h) = inl h
+some_of held after_ff (inr e) = inr (ap byte_bits e)
 
 -- bits that wait, or an FF in front, make one byte more
-pub stuff-packed_last : (start word held : ℕ) (bytes : List ℕ) (behind : Bool) → IsPacked start bytes held behind → held ≤ 7 → (1 ≤ held) ⊎ (behind ≡ true)
-    → take start bytes ++ stuff (packed_bits start bytes word held) ≡ bytes ++ word % 2 ^ held * 2 ^ (room_for behind - held) ∷ []
-stuff-packed_last start word held bytes behind packed few some =
-    stuff-packed start word held bytes behind packed
-    ∙ ap (λ list. bytes ++ list) (last_byte (room_for behind) held word (room_for-room behind) few (some_of held behind some))
+pub stuff-packed_last : (start word held : ℕ) (bytes : List ℕ) (after_ff : Bool) → IsPacked start bytes held after_ff → held ≤ 7 → (1 ≤ held) ⊎ (after_ff ≡ true)
+    → take start bytes ++ stuff (packed_bits start bytes word held) ≡ bytes ++ word % 2 ^ held * 2 ^ (byte_bits after_ff - held) ∷ []
+stuff-packed_last start word held bytes after_ff packed few some =
+    stuff-packed start word held bytes after_ff packed
+    ∙ ap (λ list. bytes ++ list) (last_byte (byte_bits after_ff) held word (byte_bits-size after_ff) few (some_of held after_ff some))
 
 -- how many bits a sink has
 pub length-packed_bits : (start word held : ℕ) (bytes : List ℕ) → start ≤ length bytes
@@ -212,17 +216,17 @@ length-packed_bits start word held bytes h =
       length-drop start bytes,
     )
 
-some_byte : (bytes : List ℕ) → room_after 8 bytes ≡ 7 → 1 ≤ length bytes
+some_byte : (bytes : List ℕ) → next_byte_bits 8 bytes ≡ 7 → 1 ≤ length bytes
 some_byte [] e = absurd (omega arith)
 some_byte (byte ∷ bytes) e = omega arith
 
--- there are some where any wait, or FF is the last byte
-pub some_bits : (start word held : ℕ) (bytes : List ℕ) (behind : Bool) → IsPacked start bytes held behind → (1 ≤ held) ⊎ (behind ≡ true)
+-- there are some if any wait, or if FF is the last byte
+pub some_bits : (start word held : ℕ) (bytes : List ℕ) (after_ff : Bool) → IsPacked start bytes held after_ff → (1 ≤ held) ⊎ (after_ff ≡ true)
     → 0 < length (packed_bits start bytes word held)
-some_bits start word held bytes behind packed (inl some) = omega (arith, length-packed_bits start word held bytes packed.within)
-some_bits start word held bytes behind packed (inr ff) =
-    let room : room_after 8 (drop start bytes) ≡ 7 = packed.room ∙ ap room_for ff in
-    let some : 1 ≤ length (drop start bytes) = some_byte (drop start bytes) room in
+some_bits start word held bytes after_ff packed (inl some) = omega (arith, length-packed_bits start word held bytes packed.within)
+some_bits start word held bytes after_ff packed (inr ff) =
+    let next : next_byte_bits 8 (drop start bytes) ≡ 7 = packed.next ∙ ap byte_bits ff in
+    let some : 1 ≤ length (drop start bytes) = some_byte (drop start bytes) next in
     omega (arith, length-packed_bits start word held bytes packed.within, length-drop start bytes)
 
 -- ---- words put
@@ -239,8 +243,3 @@ tail-lt count low rest h =
     let doubled : 2 ^ suc low ≡ 2 ^ low * 2 = pow-suc 2 low in
     let grown : 2 ^ suc low ≤ 2 ^ (count + 1 + low) = pow_mono size in
     omega arith
-
--- room for the last byte is room for the others
-pub room_for_whole : (count held room : ℕ) → held ≤ count → (0 < count → held < room) → held < room + 7
-room_for_whole zero held room few h = omega arith
-room_for_whole (suc count) held room few h = omega (arith, h (omega arith))

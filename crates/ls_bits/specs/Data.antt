@@ -1,10 +1,10 @@
--- Which bytes are a scan's data, and what ends it (T.87 C.1): behind FF a byte below 80 belongs to the data, and a byte
+-- Which bytes are a scan's data, and what ends it (T.87 C.1): after FF a byte below 80 belongs to the data, and a byte
 -- of 80 or more makes a marker with it.
 use Rattle.std.specs.Prelude.{ℕ, ◌≤◌, Bool, true, false, ◌&&◌, ◌==◌, nat_lt, nat_le, IsTrue, if◌then◌else◌, List, [], ◌∷◌, length, take}
 use Rattle.ls_bits.specs.declared.data.Stop.{Stop}
 use Rattle.ls_bits.specs.declared.data.Stop.TheVariants.{Marker, End}
 
--- a byte that may stand behind FF: there is one, and it is below 80
+-- a byte that may stand after FF: there is one, and it is below 80
 abbrev pub goes_on : List ℕ → Bool
 goes_on [] = false
 goes_on (byte ∷ bytes) = nat_lt byte 128

@@ -27,7 +27,7 @@ short_word k v = zeros (v / 2 ^ k) ++ true ∷ bits_of k v
 abbrev pub escape_word : ℕ → ℕ → ℕ → List Bool
 escape_word glimit qbpp v = zeros (escape_zeros glimit qbpp) ++ true ∷ bits_of qbpp (v - 1)
 
--- a value is small where its short word has fewer zeros than an escape word
+-- a value is small if its short word has fewer zeros than an escape word
 abbrev pub is_small : ℕ → ℕ → ℕ → ℕ → Bool
 is_small k glimit qbpp v = nat_lt (v / 2 ^ k) (escape_zeros glimit qbpp)
 
@@ -44,7 +44,7 @@ pub data IsUncanonical (k glimit qbpp : ℕ) (bits : List Bool) : Type 0 where
   too_large : (v : ℕ) → most_value qbpp < v → v / 2 ^ k < escape_zeros glimit qbpp
       → BeginsWith (short_word k v) bits → IsUncanonical k glimit qbpp bits
 
--- the bits begin with the word of v, and this is left behind it
+-- the bits begin with the word of v, and this is left after it
 pub record TakesWord (k glimit qbpp : ℕ) (bits : List Bool) (v : ℕ) (rest : List Bool) : Type 0 where
   pub value : v ≤ most_value qbpp
   pub word : bits ≡ code_word k glimit qbpp v ++ rest

@@ -1,7 +1,6 @@
 pub mod Bits
 pub mod Data
 pub mod Golomb
-pub mod Packing
 pub mod Room
 pub mod Stuffing
-pub mod Taking
+pub mod View

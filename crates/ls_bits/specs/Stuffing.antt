@@ -1,37 +1,37 @@
--- Bit stuffing (T.87 A.1, C.1): bits are cut into groups of eight, or of seven behind a group of eight ones. A group is
+-- Bit stuffing (T.87 A.1, C.1): bits are cut into groups of eight, or of seven after a group of eight ones. A group is
 -- a byte; a group of seven has a 0 in front. The last group is filled with zeros, and a last byte FF is followed by 00.
 use Rattle.std.specs.Prelude.{ℕ, zero, suc, ◌==◌, Bool, if◌then◌else◌, List, [], ◌∷◌, ◌++◌, length, take, drop}
 use Rattle.ls_bits.specs.Bits.{bits_of, number_of, zeros}
 
--- how many bits the byte behind this one holds: seven behind FF, else eight
-abbrev pub room_behind : ℕ → ℕ
-room_behind byte = if byte == 255 then 7 else 8
+-- how many bits the byte after this one holds: seven after FF, else eight
+abbrev pub bits_after : ℕ → ℕ
+bits_after byte = if byte == 255 then 7 else 8
 
--- the byte of the first group of so many bits, filled with zeros where there are fewer
+-- the byte of the first group of `size` bits, filled with zeros if there are fewer
 abbrev pub first_group : ℕ → List Bool → ℕ
-first_group room bits = number_of (take room (bits ++ zeros room))
+first_group size bits = number_of (take size (bits ++ zeros size))
 
--- The bytes of bits, of which the first holds `room` bits: each group, and at the end 00 if it stands behind FF.
--- No more than `most` bytes are told; one more than there are bits is always enough.
+-- The bytes of bits, of which the first holds `size`: each group, and at the end 00 if it stands after FF.
+-- There are at most `most` bytes; one more than there are bits is always enough.
 unfoldable pub groups : ℕ → ℕ → List Bool → List ℕ
-groups zero room bits = []
-groups (suc most) room [] = if room == 7 then 0 ∷ [] else []
-groups (suc most) room (bit ∷ bits) =
-    first_group room (bit ∷ bits)
-    ∷ groups most (room_behind (first_group room (bit ∷ bits))) (drop room (bit ∷ bits))
+groups zero size bits = []
+groups (suc most) size [] = if size == 7 then 0 ∷ [] else []
+groups (suc most) size (bit ∷ bits) =
+    first_group size (bit ∷ bits)
+    ∷ groups most (bits_after (first_group size (bit ∷ bits))) (drop size (bit ∷ bits))
 
--- the bytes of bits where the byte in front of them leaves so much room
+-- the bytes of bits, of which the first holds `size`
 abbrev pub stuff_into : ℕ → List Bool → List ℕ
-stuff_into room bits = groups (suc (length bits)) room bits
+stuff_into size bits = groups (suc (length bits)) size bits
 
 -- the stuffed bits
 abbrev pub stuff : List Bool → List ℕ
 stuff bits = stuff_into 8 bits
 
--- the bits of bytes, of which the first holds `room` bits
+-- the bits of bytes, of which the first holds `size` bits
 abbrev pub unstuff_from : ℕ → List ℕ → List Bool
-unstuff_from room [] = []
-unstuff_from room (byte ∷ bytes) = bits_of room byte ++ unstuff_from (room_behind byte) bytes
+unstuff_from size [] = []
+unstuff_from size (byte ∷ bytes) = bits_of size byte ++ unstuff_from (bits_after byte) bytes
 
 -- the bits of bytes: all of each, but for the top bit of one that follows FF
 abbrev pub unstuff : List ℕ → List Bool

@@ -5,13 +5,13 @@ ghost use Rattle.ls_bits.specs.Data.{DataAtFront, stop_at};
 /// Why data ends.
 #[derive(Clone, Copy, Debug, Drop, PartialEq, Eq)]
 pub enum Stop {
-    /// A marker stands behind it: FF and a byte of 80 or more.
+    /// A marker stands after it: FF and a byte of 80 or more, also a fill byte FF.
     Marker,
     /// The bytes end, or their last one is a lone FF.
     End,
 }
 
-/// The data at the front of bytes.
+/// The data at the front of bytes (T.87 C.1).
 #[derive(Clone, Copy, Debug, Drop, PartialEq, Eq)]
 pub struct Data {
     /// How many bytes it has.
@@ -19,7 +19,8 @@ pub struct Data {
     pub stop: Stop,
 }
 
-/// The longest front of `bytes` in which no FF is followed by a byte of 80 or more and whose last byte isn't FF.
+/// The longest front of `bytes` in which no FF is followed by a byte of 80 or more and whose last byte isn't FF (T.87
+/// C.1). Takes any bytes, allocates nothing and cannot fail.
 pub fn data_of(bytes: &[u8]) -> Data
     ensures len { DataAtFront bytes.now result.len }
     ensures stop { result.stop ≡ stop_at (drop result.len bytes.now) }

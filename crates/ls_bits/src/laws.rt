@@ -5,7 +5,7 @@ ghost use Rattle.ls_bits.specs.Stuffing.{stuff, unstuff};
 ghost use Rattle.ls_bits.specs.Data.{IsData};
 ghost use Rattle.ls_bits.specs.Golomb.{IsGolomb, code_word, most_value, TakesWord, IsUncanonical};
 
-/// Un-stuffing what was stuffed gives the bits, and at most seven zeros behind them.
+/// Un-stuffing what was stuffed gives the bits, and at most seven zeros after them.
 pub fn unstuffing_gives_the_bits()
     ensures { (bits : List Bool) → (count : ℕ) × (count ≤ 7) × (unstuff (stuff bits) ≡ bits ++ zeros count) }
 {}
@@ -16,25 +16,25 @@ pub fn stuffed_bits_are_short()
     ensures none { stuff [] ≡ [] }
 {}
 
-/// Stuffed bits are bytes, and wholly data: no marker is in them, nor can one begin at their end.
+/// Stuffed bits are bytes, and wholly data (T.87 C.1): no marker is in them, nor can one begin at their end.
 pub fn stuffed_bits_are_data()
     ensures data { (bits : List Bool) → IsData (stuff bits) }
     ensures bytes { (bits : List Bool) → AreBytes (stuff bits) }
 {}
 
-/// No code word begins another of the same code: the same bits have one value, and one rest behind it.
+/// No code word begins another of the same code: the same bits have one value, and one rest after it.
 pub fn no_word_begins_another()
     ensures { (k glimit qbpp : ℕ) (bits rest others : List Bool) (v w : ℕ) → IsGolomb k glimit qbpp
         → TakesWord k glimit qbpp bits v rest → TakesWord k glimit qbpp bits w others → (v ≡ w) × (rest ≡ others) }
 {}
 
-/// Bits that begin with a code word aren't uncanonical.
+/// Bits that begin with a code word of a code are never called not canonical.
 pub fn words_are_canonical()
     ensures { (k glimit qbpp : ℕ) (bits rest : List Bool) (v : ℕ) → IsGolomb k glimit qbpp
         → TakesWord k glimit qbpp bits v rest → IsUncanonical k glimit qbpp bits → ⊥ }
 {}
 
-/// A code word has at most glimit bits.
+/// A code word of a value up to 2^qbpp has at most glimit bits (T.87 A.5.3).
 pub fn words_keep_their_limit()
     ensures { (k glimit qbpp v : ℕ) → IsGolomb k glimit qbpp → v ≤ most_value qbpp
         → length (code_word k glimit qbpp v) ≤ glimit }

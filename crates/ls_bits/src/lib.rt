@@ -1,8 +1,9 @@
 //! Bits, the stuffing of bits into bytes (T.87 C.1), and the Golomb words of T.87 (A.5.3).
 //!
-//! What it hands on: a sink is a list of bits, and finishes as those bits stuffed (`specs/Stuffing.antt`); a source is
-//! the bits of stuffed bytes; a word is that of the standard (`specs/Golomb.antt`); `data_of` is the data at the front
-//! of bytes (`specs/Data.antt`). `specs/Bits.antt` has the words for bits, bytes and numbers that the crates above use.
+//! A sink is a list of bits, and finishes as those bits stuffed (`specs/Stuffing.antt`); a source is the bits of stuffed
+//! bytes; a word is that of the standard (`specs/Golomb.antt`); `data_of` is the data at the front of bytes
+//! (`specs/Data.antt`). `specs/Bits.antt` has the words for bits, bytes and numbers that the crates above use;
+//! `specs/View` and `specs/Room.antt` say how the code's values are seen as these.
 //!
 //! ```
 //! let mut sink = BitSink::new(alloc);
@@ -12,15 +13,14 @@
 //! let value = source.take_golomb(2, 31, 8)?;
 //! ```
 //!
-//! In reading order: `sink` (into memory of its own), `room_sink` (into a vector of the caller's), `packer` (what both
-//! do), `data`, `source`, `window` (what a source holds), `laws` (what follows from the definitions alone).
+//! In reading order: `sink` (into memory of its own), `room_sink` (into a vector of the caller's, with no allocation),
+//! `packer` (what both hold), `data`, `source`, `window` (what a source holds), `laws` (what follows from the
+//! definitions alone).
 #![tactic(auto)]
 
 pub mod data;
 pub mod laws;
 mod packer;
-#[cfg(test)]
-mod plain;
 pub mod room_sink;
 pub mod sink;
 pub mod source;

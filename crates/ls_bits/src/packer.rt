@@ -1,30 +1,55 @@
-//! Packing bits into stuffed bytes, behind the bytes that a vector already has.
-ghost use Rattle.std.specs.Prelude.{◌≡◌, ◌+◌, ◌-◌, ◌*◌, ◌/◌, ◌%◌, ◌^◌, ◌<◌, ◌≤◌, [], ◌∷◌, ◌++◌, true, false, length, take, drop, vec_len, vec_capacity};
+//! Packing bits into stuffed bytes, after the bytes that a vector already has (T.87 C.1).
+ghost use Rattle.std.specs.Prelude.{◌≡◌, ◌+◌, ◌-◌, ◌*◌, ◌/◌, ◌%◌, ◌^◌, ◌<◌, ◌≤◌, [], ◌∷◌, ◌++◌, true, false, length, take, drop, vec_len, vec_capacity, OnOk};
 ghost use Rattle.ls_bits.specs.Bits.{bits_of, zeros as zero_bits};
 ghost use Rattle.ls_bits.specs.Stuffing.{stuff};
 ghost use Rattle.ls_bits.specs.Golomb.{IsGolomb, code_word, most_value};
-ghost use Rattle.ls_bits.specs.Packing.{room_for, packed_bits, IsPacked, HasNoFf};
+ghost use Rattle.ls_bits.specs.View.Packing.{byte_bits, HasRoom, KeepsRest, HasNoFf, with_word};
 
-/// Stuffed bytes, and the bits behind them that aren't a whole byte yet.
+use std::alloc::AllocError;
+use std::marker::Model;
+
+/// The most bytes that the bits in the word and those of one put make.
+const MOST_BYTES: usize = 20;
+
+/// Stuffed bytes, and the bits after them that aren't a whole byte yet.
 #[derive(Drop)]
 pub struct Packer {
     /// The vector that the bytes go into.
-    pub bytes: Vec<u8>,
+    bytes: Vec<u8>,
     /// Where in it the stuffed bytes begin.
-    pub start: usize,
-    /// Its lowest `held` bits are behind the stuffed bytes. Those above them mean nothing.
-    pub word: u64,
-    pub held: u32,
+    start: usize,
+    /// Its lowest `held` bits come after the stuffed bytes. Those above them mean nothing.
+    word: u64,
+    held: u32,
     /// Whether the last stuffed byte is FF.
-    pub behind_ff: bool,
+    after_ff: bool,
+}
+
+impl Model for Packer {
+    ghost use Rattle.std.specs.Prelude.{◌-◌, take, vec_len, vec_capacity};
+    ghost use Rattle.ls_bits.specs.View.Packing.{Packed, packed_bits, IsPacked};
+
+    ghost Value = { Packed };
+
+    ghost view = { λ p. record {
+      front = take p.start p.bytes.items;
+      bits = packed_bits p.start p.bytes.items p.word p.held;
+      held = p.held;
+      room = vec_capacity p.bytes - vec_len p.bytes;
+      capacity = vec_capacity p.bytes;
+    } };
+
+    ghost invariant = { λ p. IsPacked p.start p.bytes.items p.held p.after_ff };
 }
 
 impl Packer {
+    /// No bits yet, after the bytes of the vector.
     pub fn new(bytes: Vec<u8>) -> Packer
-        ensures packed { IsPacked result.start result.bytes.items result.held result.behind_ff }
-        ensures bits { packed_bits result.start result.bytes.items result.word result.held ≡ [] }
-        ensures bytes { result.bytes ≡ bytes }
-        ensures start { result.start ≡ vec_len bytes }
+        ensures front { result.front ≡ bytes.items }
+        ensures bits { result.bits ≡ [] }
+        ensures held { result.held ≡ 0 }
+        ensures room { result.room ≡ vec_capacity bytes - vec_len bytes }
+        ensures capacity { result.capacity ≡ vec_capacity bytes }
     {
         let start = bytes.len();
         Packer {
@@ -32,23 +57,28 @@ impl Packer {
             start,
             word: 0,
             held: 0,
-            behind_ff: false,
+            after_ff: false,
         }
     }
 
-    /// `value` in `count` bits, behind those that are there.
+    /// Takes room for any one put, or for the last byte. Fails only if an allocation fails.
+    #[inline(always)]
+    pub fn reserve(&mut self) -> Result<(), AllocError>
+        ensures room { OnOk result (HasRoom self.new 64) }
+        ensures bits { self.new.bits ≡ self.old.bits }
+        ensures front { self.new.front ≡ self.old.front }
+    {
+        self.bytes.reserve(MOST_BYTES)
+    }
+
+    /// Appends `value` in `count` bits.
     #[inline(always)]
     pub fn put(&mut self, value: u32, count: u32)
-        requires packed { IsPacked self.old.start self.old.bytes.items self.old.held self.old.behind_ff }
-        requires room { self.old.held + count < 7 * (vec_capacity self.old.bytes - vec_len self.old.bytes) + 7 }
+        requires room { HasRoom self.old count }
         requires count { count ≤ 64 }
         requires value { value < 2 ^ count }
-        ensures packed { IsPacked self.new.start self.new.bytes.items self.new.held self.new.behind_ff }
-        ensures bits { packed_bits self.new.start self.new.bytes.items self.new.word self.new.held
-            ≡ packed_bits self.old.start self.old.bytes.items self.old.word self.old.held ++ bits_of count value }
-        ensures start { self.new.start ≡ self.old.start }
-        ensures front { take self.old.start self.new.bytes.items ≡ take self.old.start self.old.bytes.items }
-        ensures capacity { vec_capacity self.old.bytes ≤ vec_capacity self.new.bytes }
+        ensures bits { self.new.bits ≡ self.old.bits ++ bits_of count value }
+        ensures rest { KeepsRest self.old self.new count }
     {
         let total = self.held + count;
         if total < 64 {
@@ -57,107 +87,81 @@ impl Packer {
         }
         let waiting = total - 64;
         let full = ((self.word << (63 - self.held)) << 1) | (u64::from(value) >> waiting);
-        if self.behind_ff || has_ff(full) {
+        if self.after_ff || has_ff(full) {
             self.put_by_bytes(value, count);
             return;
         }
-        self.put_out_word(full);
+        push_word(&mut self.bytes, full);
         self.word = u64::from(value);
         self.held = waiting;
     }
 
-    /// The code word of `v`.
+    /// Appends the code word of `v` (T.87 A.5.3).
     #[inline(always)]
     pub fn put_golomb(&mut self, k: u32, glimit: u32, qbpp: u32, v: u32)
-        requires packed { IsPacked self.old.start self.old.bytes.items self.old.held self.old.behind_ff }
-        requires room { self.old.held + length (code_word k glimit qbpp v)
-            < 7 * (vec_capacity self.old.bytes - vec_len self.old.bytes) + 7 }
+        requires room { HasRoom self.old (length (code_word k glimit qbpp v)) }
         requires code { IsGolomb k glimit qbpp }
         requires value { v ≤ most_value qbpp }
-        ensures packed { IsPacked self.new.start self.new.bytes.items self.new.held self.new.behind_ff }
-        ensures bits { packed_bits self.new.start self.new.bytes.items self.new.word self.new.held
-            ≡ packed_bits self.old.start self.old.bytes.items self.old.word self.old.held ++ code_word k glimit qbpp v }
-        ensures start { self.new.start ≡ self.old.start }
-        ensures front { take self.old.start self.new.bytes.items ≡ take self.old.start self.old.bytes.items }
-        ensures capacity { vec_capacity self.old.bytes ≤ vec_capacity self.new.bytes }
+        ensures bits { self.new.bits ≡ self.old.bits ++ code_word k glimit qbpp v }
+        ensures rest { KeepsRest self.old self.new (length (code_word k glimit qbpp v)) }
     {
         let escape = glimit - qbpp - 1;
         let small = v >> k;
         if small < escape {
-            self.put_word(small, low_bits(v, k), k);
+            self.put_unary(small, low_bits(v, k), k);
         } else {
             self.put_escape(escape, v - 1, qbpp);
         }
     }
 
-    /// So many zeros, a one, and `rest` in `count` bits.
-    #[inline(always)]
-    fn put_word(&mut self, zeros: u32, rest: u32, count: u32)
-        requires packed { IsPacked self.old.start self.old.bytes.items self.old.held self.old.behind_ff }
-        requires room { self.old.held + (zeros + 1 + count) < 7 * (vec_capacity self.old.bytes - vec_len self.old.bytes) + 7 }
-        requires count { count ≤ 17 }
-        requires total { zeros + 1 + count ≤ 64 }
-        requires rest { rest < 2 ^ count }
-        ensures packed { IsPacked self.new.start self.new.bytes.items self.new.held self.new.behind_ff }
-        ensures bits { packed_bits self.new.start self.new.bytes.items self.new.word self.new.held
-            ≡ packed_bits self.old.start self.old.bytes.items self.old.word self.old.held ++ (zero_bits zeros ++ true ∷ bits_of count rest) }
-        ensures start { self.new.start ≡ self.old.start }
-        ensures front { take self.old.start self.new.bytes.items ≡ take self.old.start self.old.bytes.items }
-        ensures capacity { vec_capacity self.old.bytes ≤ vec_capacity self.new.bytes }
-    {
-        self.put(led_by_one(rest, count), zeros + 1 + count);
-    }
-
-    /// As `put_word`, out of the way of the words that are common.
-    #[cold]
-    #[inline(never)]
-    fn put_escape(&mut self, zeros: u32, rest: u32, count: u32)
-        requires packed { IsPacked self.old.start self.old.bytes.items self.old.held self.old.behind_ff }
-        requires room { self.old.held + (zeros + 1 + count) < 7 * (vec_capacity self.old.bytes - vec_len self.old.bytes) + 7 }
-        requires count { count ≤ 17 }
-        requires total { zeros + 1 + count ≤ 64 }
-        requires rest { rest < 2 ^ count }
-        ensures packed { IsPacked self.new.start self.new.bytes.items self.new.held self.new.behind_ff }
-        ensures bits { packed_bits self.new.start self.new.bytes.items self.new.word self.new.held
-            ≡ packed_bits self.old.start self.old.bytes.items self.old.word self.old.held ++ (zero_bits zeros ++ true ∷ bits_of count rest) }
-        ensures start { self.new.start ≡ self.old.start }
-        ensures front { take self.old.start self.new.bytes.items ≡ take self.old.start self.old.bytes.items }
-        ensures capacity { vec_capacity self.old.bytes ≤ vec_capacity self.new.bytes }
-    {
-        self.put_word(zeros, rest, count);
-    }
-
-    /// The bits stuffed, behind the bytes that the vector had.
+    /// The vector: the bytes that it had, and after them the bits, stuffed.
     pub fn finish(mut self) -> Vec<u8>
-        requires packed { IsPacked self.start self.bytes.items self.held self.behind_ff }
-        requires room { 0 < length (packed_bits self.start self.bytes.items self.word self.held)
-            → self.held < 7 * (vec_capacity self.bytes - vec_len self.bytes) }
-        ensures bytes { result.items ≡ take self.start self.bytes.items
-            ++ stuff (packed_bits self.start self.bytes.items self.word self.held) }
-        ensures capacity { vec_capacity self.bytes ≤ vec_capacity result }
+        requires room { 0 < length self.bits → HasRoom self 7 }
+        ensures bytes { result.items ≡ self.front ++ stuff self.bits }
+        ensures capacity { vec_capacity result ≡ self.capacity }
     {
         self.put_out_bytes();
-        if self.held > 0 || self.behind_ff {
+        if self.held > 0 || self.after_ff {
             self.bytes
-                .push_reserved(last_group(self.word, self.held, self.behind_ff));
+                .push_reserved(last_group(self.word, self.held, self.after_ff));
         }
         self.bytes
     }
 
-    /// `value` in `count` bits, where the word has room for them.
+    /// So many zeros, a one, and `rest` in `count` bits.
+    #[inline(always)]
+    fn put_unary(&mut self, zeros: u32, rest: u32, count: u32)
+        requires room { HasRoom self.old (zeros + 1 + count) }
+        requires count { count ≤ 17 }
+        requires total { zeros + 1 + count ≤ 64 }
+        requires rest { rest < 2 ^ count }
+        ensures bits { self.new.bits ≡ self.old.bits ++ (zero_bits zeros ++ true ∷ bits_of count rest) }
+        ensures rest { KeepsRest self.old self.new (zeros + 1 + count) }
+    {
+        self.put(led_by_one(rest, count), zeros + 1 + count);
+    }
+
+    /// As `put_unary`, out of the way of the words that are common.
+    #[cold]
+    #[inline(never)]
+    fn put_escape(&mut self, zeros: u32, rest: u32, count: u32)
+        requires room { HasRoom self.old (zeros + 1 + count) }
+        requires count { count ≤ 17 }
+        requires total { zeros + 1 + count ≤ 64 }
+        requires rest { rest < 2 ^ count }
+        ensures bits { self.new.bits ≡ self.old.bits ++ (zero_bits zeros ++ true ∷ bits_of count rest) }
+        ensures rest { KeepsRest self.old self.new (zeros + 1 + count) }
+    {
+        self.put_unary(zeros, rest, count);
+    }
+
+    /// Appends `value` in `count` bits, which the word can hold.
     #[inline(always)]
     fn append(&mut self, value: u32, count: u32)
-        requires packed { IsPacked self.old.start self.old.bytes.items self.old.held self.old.behind_ff }
-        requires room { self.old.held + count < 64 }
+        requires held { self.old.held + count < 64 }
         requires value { value < 2 ^ count }
-        ensures packed { IsPacked self.new.start self.new.bytes.items self.new.held self.new.behind_ff }
-        ensures bits { packed_bits self.new.start self.new.bytes.items self.new.word self.new.held
-            ≡ packed_bits self.old.start self.old.bytes.items self.old.word self.old.held ++ bits_of count value }
-        ensures start { self.new.start ≡ self.old.start }
-        ensures front { take self.old.start self.new.bytes.items ≡ take self.old.start self.old.bytes.items }
-        ensures held { self.new.held ≡ self.old.held + count }
-        ensures bytes { self.new.bytes ≡ self.old.bytes }
-        ensures capacity { vec_capacity self.old.bytes ≤ vec_capacity self.new.bytes }
+        ensures bits { self.new.bits ≡ self.old.bits ++ bits_of count value }
+        ensures rest { KeepsRest self.old self.new count }
     {
         self.word = (self.word << count) | u64::from(value);
         self.held += count;
@@ -167,16 +171,11 @@ impl Packer {
     #[cold]
     #[inline(never)]
     fn put_by_bytes(&mut self, value: u32, count: u32)
-        requires packed { IsPacked self.old.start self.old.bytes.items self.old.held self.old.behind_ff }
-        requires room { self.old.held + count < 7 * (vec_capacity self.old.bytes - vec_len self.old.bytes) + 7 }
+        requires room { HasRoom self.old count }
         requires count { count ≤ 64 }
         requires value { value < 2 ^ count }
-        ensures packed { IsPacked self.new.start self.new.bytes.items self.new.held self.new.behind_ff }
-        ensures bits { packed_bits self.new.start self.new.bytes.items self.new.word self.new.held
-            ≡ packed_bits self.old.start self.old.bytes.items self.old.word self.old.held ++ bits_of count value }
-        ensures start { self.new.start ≡ self.old.start }
-        ensures front { take self.old.start self.new.bytes.items ≡ take self.old.start self.old.bytes.items }
-        ensures capacity { vec_capacity self.old.bytes ≤ vec_capacity self.new.bytes }
+        ensures bits { self.new.bits ≡ self.old.bits ++ bits_of count value }
+        ensures rest { KeepsRest self.old self.new count }
     {
         self.put_out_bytes();
         if count > 32 {
@@ -190,65 +189,48 @@ impl Packer {
 
     /// Puts out whole bytes until fewer than eight bits wait.
     fn put_out_bytes(&mut self)
-        requires packed { IsPacked self.old.start self.old.bytes.items self.old.held self.old.behind_ff }
-        requires room { self.old.held < 7 * (vec_capacity self.old.bytes - vec_len self.old.bytes) + 7 }
-        ensures packed { IsPacked self.new.start self.new.bytes.items self.new.held self.new.behind_ff }
-        ensures bits { packed_bits self.new.start self.new.bytes.items self.new.word self.new.held
-            ≡ packed_bits self.old.start self.old.bytes.items self.old.word self.old.held }
-        ensures start { self.new.start ≡ self.old.start }
-        ensures front { take self.old.start self.new.bytes.items ≡ take self.old.start self.old.bytes.items }
+        requires room { HasRoom self.old 0 }
+        ensures bits { self.new.bits ≡ self.old.bits }
         ensures held { self.new.held < 8 }
-        ensures size { 7 * vec_len self.new.bytes + self.new.held ≤ 7 * vec_len self.old.bytes + self.old.held }
-        ensures capacity { vec_capacity self.old.bytes ≤ vec_capacity self.new.bytes }
+        ensures rest { KeepsRest self.old self.new 0 }
     {
         while self.held >= 8 {
             self.put_out_byte();
         }
     }
 
-    /// Puts out the eight bytes of a word of which none is FF, in place of the bits that wait.
-    #[inline(always)]
-    fn put_out_word(&mut self, full: u64)
-        requires packed { IsPacked self.old.start self.old.bytes.items self.old.held self.old.behind_ff }
-        requires room { vec_len self.old.bytes + 8 ≤ vec_capacity self.old.bytes }
-        requires first { self.old.behind_ff ≡ false }
-        requires others { HasNoFf full }
-        ensures packed { IsPacked self.new.start self.new.bytes.items 0 self.new.behind_ff }
-        ensures bits { packed_bits self.new.start self.new.bytes.items full 0 ≡ packed_bits self.old.start self.old.bytes.items full 64 }
-        ensures start { self.new.start ≡ self.old.start }
-        ensures front { take self.old.start self.new.bytes.items ≡ take self.old.start self.old.bytes.items }
-        ensures capacity { vec_capacity self.old.bytes ≤ vec_capacity self.new.bytes }
-    {
-        self.bytes.push_reserved(byte_at(full, 56));
-        self.bytes.push_reserved(byte_at(full, 48));
-        self.bytes.push_reserved(byte_at(full, 40));
-        self.bytes.push_reserved(byte_at(full, 32));
-        self.bytes.push_reserved(byte_at(full, 24));
-        self.bytes.push_reserved(byte_at(full, 16));
-        self.bytes.push_reserved(byte_at(full, 8));
-        self.bytes.push_reserved(byte_at(full, 0));
-    }
-
     /// Puts out one whole byte.
     fn put_out_byte(&mut self)
-        requires packed { IsPacked self.old.start self.old.bytes.items self.old.held self.old.behind_ff }
-        requires room { vec_len self.old.bytes < vec_capacity self.old.bytes }
-        requires held { room_for self.old.behind_ff ≤ self.old.held }
-        ensures packed { IsPacked self.new.start self.new.bytes.items self.new.held self.new.behind_ff }
-        ensures bits { packed_bits self.new.start self.new.bytes.items self.new.word self.new.held
-            ≡ packed_bits self.old.start self.old.bytes.items self.old.word self.old.held }
-        ensures held { self.new.held + room_for self.old.behind_ff ≡ self.old.held }
-        ensures start { self.new.start ≡ self.old.start }
-        ensures front { take self.old.start self.new.bytes.items ≡ take self.old.start self.old.bytes.items }
-        ensures len { vec_len self.new.bytes ≡ vec_len self.old.bytes + 1 }
-        ensures capacity { vec_capacity self.new.bytes ≡ vec_capacity self.old.bytes }
+        requires room { 0 < self.old.room }
+        requires held { 8 ≤ self.old.held }
+        ensures bits { self.new.bits ≡ self.old.bits }
+        ensures held { self.new.held < self.old.held }
+        ensures rest { KeepsRest self.old self.new 0 }
     {
-        let waiting = self.held - room(self.behind_ff);
-        let byte = group(self.word >> waiting, self.behind_ff);
+        let waiting = self.held - byte_bits(self.after_ff);
+        let byte = group(self.word >> waiting, self.after_ff);
         self.bytes.push_reserved(byte);
         self.held = waiting;
-        self.behind_ff = byte == 0xff;
+        self.after_ff = byte == 0xff;
     }
+}
+
+/// Appends the eight bytes of a word.
+#[inline(always)]
+fn push_word(bytes: &mut Vec<u8>, word: u64)
+    requires { vec_len bytes.old + 8 ≤ vec_capacity bytes.old }
+    ensures bytes { bytes.new.items ≡ with_word bytes.old.items word }
+    ensures len { vec_len bytes.new ≡ vec_len bytes.old + 8 }
+    ensures capacity { vec_capacity bytes.new ≡ vec_capacity bytes.old }
+{
+    bytes.push_reserved(byte_at(word, 56));
+    bytes.push_reserved(byte_at(word, 48));
+    bytes.push_reserved(byte_at(word, 40));
+    bytes.push_reserved(byte_at(word, 32));
+    bytes.push_reserved(byte_at(word, 24));
+    bytes.push_reserved(byte_at(word, 16));
+    bytes.push_reserved(byte_at(word, 8));
+    bytes.push_reserved(byte_at(word, 0));
 }
 
 /// The lowest `count` bits of `value`.
@@ -268,18 +250,18 @@ fn led_by_one(rest: u32, count: u32) -> u32
     (1 << count) | rest
 }
 
-/// How many bits the next byte holds: seven behind FF, else eight.
-pub fn room(behind_ff: bool) -> u32
-    ensures { result ≡ room_for behind_ff }
+/// How many bits the next byte holds: seven after FF, else eight.
+pub fn byte_bits(after_ff: bool) -> u32
+    ensures { result ≡ byte_bits after_ff }
 {
-    if behind_ff { 7 } else { 8 }
+    if after_ff { 7 } else { 8 }
 }
 
 /// The byte of the lowest bits of `word`.
-fn group(word: u64, behind_ff: bool) -> u8
-    ensures { result ≡ word % 2 ^ room_for behind_ff }
+fn group(word: u64, after_ff: bool) -> u8
+    ensures { result ≡ word % 2 ^ byte_bits after_ff }
 {
-    if behind_ff {
+    if after_ff {
         (word & 0x7f) as u8
     } else {
         (word & 0xff) as u8
@@ -287,15 +269,15 @@ fn group(word: u64, behind_ff: bool) -> u8
 }
 
 /// The byte of the lowest `held` bits of `word`, filled with zeros.
-fn last_group(word: u64, held: u32, behind_ff: bool) -> u8
+fn last_group(word: u64, held: u32, after_ff: bool) -> u8
     requires { held ≤ 7 }
-    ensures { result ≡ (word % 2 ^ held) * 2 ^ (room_for behind_ff - held) }
+    ensures { result ≡ (word % 2 ^ held) * 2 ^ (byte_bits after_ff - held) }
 {
     let bits = word & ((1 << held) - 1);
-    (bits << (room(behind_ff) - held)) as u8
+    (bits << (byte_bits(after_ff) - held)) as u8
 }
 
-/// Whether one of the eight bytes of `word` is FF: where a byte is, the eight ones of it leave one at its lowest bit.
+/// Whether one of the eight bytes of `word` is FF: the eight ones of such a byte leave a one at its lowest bit.
 fn has_ff(word: u64) -> bool
     ensures { (result ≡ false) → HasNoFf word }
 {

@@ -8,28 +8,24 @@ use crate::packer::Packer;
 use std::alloc::{AllocError, Global};
 use std::marker::Model;
 
-/// The most bytes that the bits in the word and those of one put make.
-const MOST_BYTES: usize = 20;
-
-/// The bits put so far, which `finish` stuffs into bytes (T.87 C.1).
+/// The bits put so far, the first one first, which `finish` stuffs into bytes (T.87 C.1).
 #[derive(Drop)]
 pub struct BitSink {
     packer: Packer,
 }
 
 impl Model for BitSink {
-    ghost use Rattle.std.specs.Prelude.{◌≡◌, Bool, List};
-    ghost use Rattle.ls_bits.specs.Packing.{packed_bits, IsPacked};
+    ghost use Rattle.std.specs.Prelude.{◌≡◌, [], Bool, List};
 
     ghost Value = { List Bool };
 
-    ghost view = { λ s. packed_bits s.packer.start s.packer.bytes.items s.packer.word s.packer.held };
+    ghost view = { λ s. s.packer.bits };
 
-    ghost invariant = { λ s. IsPacked s.packer.start s.packer.bytes.items s.packer.held s.packer.behind_ff × (s.packer.start ≡ 0) };
+    ghost invariant = { λ s. s.packer.front ≡ [] };
 }
 
 impl BitSink {
-    /// No bits yet. `alloc` is for their bytes.
+    /// No bits yet. `alloc` is for their bytes; nothing is allocated here.
     pub fn new(alloc: Global) -> BitSink
         ensures { result ≡ [] }
     {
@@ -38,35 +34,44 @@ impl BitSink {
         }
     }
 
-    /// Appends `value` in `count` bits, the most significant first. Where memory is refused nothing changes.
+    /// Appends `value` in `count` bits, the most significant first.
+    ///
+    /// `count` is at most 32, and `value` is below 2^count. Fails only if an allocation fails; the sink is unchanged then
+    /// and can be used again.
     pub fn put(&mut self, value: u32, count: u32) -> Result<(), AllocError>
         requires count { count ≤ 32 }
         requires value { value < 2 ^ count }
         ensures ok { OnOk result (self.new ≡ self.old ++ bits_of count value) }
         ensures refused { OnErr result (self.new ≡ self.old) }
     {
-        self.packer.bytes.reserve(MOST_BYTES)?;
+        self.packer.reserve()?;
         self.packer.put(value, count);
         Ok(())
     }
 
-    /// Appends the code word of `v` (T.87 A.5.3). Where memory is refused nothing changes.
+    /// Appends the code word of `v`: LG(k, glimit) of T.87 A.5.3, of at most glimit bits.
+    ///
+    /// `qbpp` is at most 16, `k` at most qbpp + 1, `glimit` from qbpp + 2 to 64, and `v` at most 2^qbpp. Fails only if an
+    /// allocation fails; the sink is unchanged then and can be used again.
     pub fn put_golomb(&mut self, k: u32, glimit: u32, qbpp: u32, v: u32) -> Result<(), AllocError>
         requires code { IsGolomb k glimit qbpp }
         requires value { v ≤ most_value qbpp }
         ensures ok { OnOk result (self.new ≡ self.old ++ code_word k glimit qbpp v) }
         ensures refused { OnErr result (self.new ≡ self.old) }
     {
-        self.packer.bytes.reserve(MOST_BYTES)?;
+        self.packer.reserve()?;
         self.packer.put_golomb(k, glimit, qbpp, v);
         Ok(())
     }
 
-    /// The bits, stuffed. Where memory is refused the sink is gone.
+    /// The bits, stuffed (T.87 C.1): the last byte is filled with bits 0, and a last byte FF is followed by 00. No bits
+    /// make no bytes.
+    ///
+    /// Fails only if an allocation fails; the sink and its bits are gone then.
     pub fn finish(mut self) -> Result<Vec<u8>, AllocError>
         ensures { IfOk result (λ bytes. bytes.items ≡ stuff self) }
     {
-        self.packer.bytes.reserve(MOST_BYTES)?;
+        self.packer.reserve()?;
         Ok(self.packer.finish())
     }
 }

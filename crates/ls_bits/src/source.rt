@@ -9,7 +9,7 @@ use crate::window::Window;
 use std::marker::Model;
 use thiserror::Error;
 
-/// Why bits can't be taken. Nothing is said of the source's place then.
+/// Why bits can't be taken. After a fault nothing is promised of where the source stands.
 #[derive(Clone, Copy, Debug, Drop, PartialEq, Eq, Error)]
 pub enum CodeFault {
     /// Fewer bits are left than were asked for, or than a word has.
@@ -28,32 +28,27 @@ pub struct BitSource<'a> {
 
 impl<'a> Model for BitSource<'a> {
     ghost use Rattle.std.specs.Prelude.{Bool, List};
-    ghost use Rattle.ls_bits.specs.Packing.{bits_left, IsWindow};
 
     ghost Value = { List Bool };
 
-    ghost view = { λ s. bits_left s.window.word s.window.held s.window.behind_ff s.window.rest.now };
-
-    ghost invariant = { λ s. IsWindow s.window.held s.window.behind_ff s.window.rest.now };
+    ghost view = { λ s. s.window.bits };
 }
 
 impl<'a> BitSource<'a> {
-    /// The bits of stuffed bytes, which are wholly data.
+    /// The bits of stuffed bytes (T.87 C.1): all of each byte, but for the top bit of one after FF.
+    ///
+    /// The bytes are data, as `data_of` cuts it: no FF is followed by a byte of 80 or more, and the last one isn't FF.
+    /// Allocates nothing.
     pub fn new(bytes: &'a [u8]) -> BitSource<'a>
         requires { IsData bytes.now }
         ensures { result ≡ unstuff bytes.now }
     {
         BitSource {
-            window: Window {
-                word: 0,
-                held: 0,
-                behind_ff: false,
-                rest: bytes,
-            },
+            window: Window::new(bytes),
         }
     }
 
-    /// The next bit, 0 or 1. OutOfBits exactly where none is left.
+    /// Takes the next bit, 0 or 1. OutOfBits exactly if none is left.
     pub fn bit(&mut self) -> Result<u32, CodeFault>
         ensures ok { IfOk result (λ value. self.old ≡ bits_of 1 value ++ self.new) }
         ensures value { IfOk result (λ value. value < 2) }
@@ -62,7 +57,8 @@ impl<'a> BitSource<'a> {
         self.window.take(1)
     }
 
-    /// The next `count` bits, the most significant first. OutOfBits exactly where fewer are left.
+    /// Takes the next `count` bits, at most 32: the number that they are, the most significant first. OutOfBits exactly
+    /// if fewer are left.
     pub fn bits(&mut self, count: u32) -> Result<u32, CodeFault>
         requires { count ≤ 32 }
         ensures ok { IfOk result (λ value. self.old ≡ bits_of count value ++ self.new) }
@@ -72,17 +68,18 @@ impl<'a> BitSource<'a> {
         self.window.take(count)
     }
 
-    /// How many bits are left; 2^64 - 1 where they are more.
+    /// How many bits are left, stuffed ones not counted; 2^64 - 1 if they are more. Goes over all bytes that are left.
     pub fn left(&self) -> u64
         ensures { result ≡ min (length self.now) u64.MAX }
     {
         self.window.left()
     }
 
-    /// The value of the code word in front, which is taken (T.87 A.5.3).
+    /// Takes the code word in front, of the code LG(k, glimit) of T.87 A.5.3: its value, at most 2^qbpp.
     ///
-    /// NotCanonical where the bits can begin with no word, whatever followed them; else OutOfBits where no whole word
-    /// is in front.
+    /// `qbpp` is at most 16, `k` at most qbpp + 1, and `glimit` from qbpp + 2 to 64. NotCanonical if the bits that are
+    /// left can't begin with a word of the code, whatever followed them: too many zeros are in front, or the escape word
+    /// of a small value, or a short word of a value over 2^qbpp. Else OutOfBits if no whole word is in front.
     pub fn take_golomb(&mut self, k: u32, glimit: u32, qbpp: u32) -> Result<u32, CodeFault>
         requires { IsGolomb k glimit qbpp }
         ensures ok { IfOk result (λ v. TakesWord k glimit qbpp self.old v self.new) }
@@ -117,7 +114,7 @@ impl<'a> BitSource<'a> {
     }
 }
 
-/// A number of `high` and the `count` bits of `low` behind it.
+/// A number of `high` and the `count` bits of `low` after it.
 fn joined(high: u32, low: u32, count: u32) -> u32
     requires high { high < 64 }
     requires count { count ≤ 17 }

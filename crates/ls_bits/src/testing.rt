@@ -1,9 +1,9 @@
-//! What the tests share: bits to put, codes, and sinks and sources whose calls meet what these require.
+//! What the tests share: words and their bytes, and calls that meet what the sinks and the source require.
 ghost use Rattle.std.specs.Prelude.{◌≤◌, length};
 ghost use Rattle.ls_bits.specs.Golomb.{IsGolomb};
 ghost use Rattle.ls_bits.specs.Room.{Fits};
 
-use crate::data::{Stop, data_of};
+use crate::data::data_of;
 use crate::laws::words_keep_their_limit;
 use crate::room_sink::RoomSink;
 use crate::sink::BitSink;
@@ -14,8 +14,73 @@ use std::process::Abort;
 /// A number, and in how many bits it is put.
 pub type Put = (u32, u32);
 
+/// k, glimit, qbpp, a value, and the bytes of its word alone.
+pub type Word = (u32, u32, u32, u32, &'static [u8]);
+
+/// Words by T.87 A.5.3, stuffed by C.1: ones of 8 bits, and then those of the narrowest and widest codes.
+pub const WORDS: [Word; 26] = [
+    (2, 31, 8, 17, &[0x0a]),
+    (0, 32, 8, 22, &[0x00, 0x00, 0x02]),
+    (0, 32, 8, 23, &[0x00, 0x00, 0x01, 0x16]),
+    (0, 32, 8, 256, &[0x00, 0x00, 0x01, 0xff, 0x00]),
+    (8, 32, 8, 255, &[0xff, 0x40]),
+    (8, 32, 8, 256, &[0x40, 0x00]),
+    (3, 12, 5, 7, &[0xf0]),
+    (0, 2, 0, 0, &[0x80]),
+    (0, 2, 0, 1, &[0x40]),
+    (1, 2, 0, 0, &[0x80]),
+    (1, 2, 0, 1, &[0xc0]),
+    (0, 64, 0, 1, &[0x40]),
+    (2, 3, 1, 2, &[0xc0]),
+    (0, 3, 1, 1, &[0x40]),
+    (0, 3, 1, 2, &[0x60]),
+    (5, 6, 4, 15, &[0xbc]),
+    (5, 6, 4, 16, &[0xc0]),
+    (0, 18, 16, 1, &[0x40, 0x00, 0x00]),
+    (0, 18, 16, 65536, &[0x7f, 0xff, 0x60]),
+    (16, 18, 16, 65535, &[0xff, 0x7f, 0xc0]),
+    (16, 18, 16, 65536, &[0x7f, 0xff, 0x60]),
+    (17, 18, 16, 65536, &[0xc0, 0x00, 0x00]),
+    (17, 64, 16, 65535, &[0xbf, 0xff, 0x60]),
+    (0, 64, 16, 46, &[0x00, 0x00, 0x00, 0x00, 0x00, 0x02]),
+    (
+        0,
+        64,
+        16,
+        47,
+        &[0x00, 0x00, 0x00, 0x00, 0x00, 0x01, 0x00, 0x2e],
+    ),
+    (
+        0,
+        64,
+        16,
+        65536,
+        &[0x00, 0x00, 0x00, 0x00, 0x00, 0x01, 0xff, 0x7f, 0x80],
+    ),
+];
+
+/// That these are the bytes.
+pub fn check_bytes(rt: &impl Abort, got: &[u8], want: &[u8]) {
+    assert_eq!(rt; got, want);
+}
+
+/// That a source answers so.
+pub fn check_answer(
+    rt: &impl Abort,
+    got: Result<u32, CodeFault>,
+    want: Result<u32, CodeFault>,
+    bytes: &[u8],
+) {
+    assert_eq!(rt; got, want, "of {bytes:?}");
+}
+
+/// That so many bits are left.
+pub fn check_left(rt: &impl Abort, source: &BitSource<'_>, want: u64) {
+    assert_eq!(rt; source.left(), want);
+}
+
 /// A code of words: k, glimit, qbpp.
-#[derive(Clone, Copy, Debug, Drop)]
+#[derive(Clone, Copy, Drop)]
 pub struct Code {
     pub k: u32,
     pub glimit: u32,
@@ -38,15 +103,12 @@ impl Code {
     }
 }
 
-/// The bits of bytes, all of which are data.
-pub fn source_of<'a>(rt: &impl Abort, bytes: &'a [u8]) -> BitSource<'a> {
-    let data = data_of(bytes);
-    assert_eq!(rt; data.len, bytes.len(), "of {bytes:?}");
-    assert_eq!(rt; data.stop, Stop::End, "of {bytes:?}");
-    BitSource::new(&bytes[..data.len])
+/// The bits of the data at the front of bytes.
+pub fn source_of<'a>(bytes: &'a [u8]) -> BitSource<'a> {
+    BitSource::new(&bytes[..data_of(bytes).len])
 }
 
-/// Puts bits. Where memory is refused the same call is made once more.
+/// Puts bits. If an allocation fails, the same call is made once more.
 pub fn put(rt: &impl Abort, sink: &mut BitSink, (value, count): Put) -> Result<(), AllocError> {
     assert!(rt; count <= 32);
     assert!(rt; u64::from(value) < 1 << count);
@@ -56,7 +118,7 @@ pub fn put(rt: &impl Abort, sink: &mut BitSink, (value, count): Put) -> Result<(
     sink.put(value, count)
 }
 
-/// Puts the word of `v`. Where memory is refused the same call is made once more.
+/// Puts the word of `v`. If an allocation fails, the same call is made once more.
 pub fn put_word(rt: &impl Abort, sink: &mut BitSink, code: Code, v: u32) -> Result<(), AllocError> {
     assert!(rt; v <= 1 << code.qbpp);
     if sink.put_golomb(code.k, code.glimit, code.qbpp, v).is_ok() {

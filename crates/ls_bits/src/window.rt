@@ -1,37 +1,59 @@
-//! What a source holds: a word of bits, in front of bytes that aren't taken in yet.
+//! What a source holds: a word of bits, and after them the bytes that aren't taken in yet.
 ghost use Rattle.std.specs.Prelude.{◌≡◌, ◌+◌, ◌-◌, ◌*◌, ◌/◌, ◌%◌, ◌^◌, ◌<◌, ◌≤◌, ◌⊎◌, [], ◌∷◌, ◌++◌, true, length, min, IfOk, IfErr};
 ghost use Rattle.ls_bits.specs.Bits.{bits_of, zeros as zero_bits, BeginsWith};
-ghost use Rattle.ls_bits.specs.Packing.{room_for, bits_left, IsWindow};
-ghost use Rattle.ls_bits.specs.Taking.{ZerosFault, LeadingZeros};
+ghost use Rattle.ls_bits.specs.Stuffing.{unstuff};
+ghost use Rattle.ls_bits.specs.Data.{IsData};
+ghost use Rattle.ls_bits.specs.View.Taking.{ZerosFault, LeadingZeros};
 
-use crate::packer::room;
+use crate::packer::byte_bits;
 use crate::source::CodeFault;
+use std::marker::Model;
 
-/// The word is refilled where it holds fewer bits than this and more are wanted.
+/// The word is refilled if it holds fewer bits than this and more are wanted.
 const ENOUGH: u32 = 32;
 
+/// The bits that are left of stuffed bytes.
 #[derive(Drop)]
 pub struct Window<'a> {
     /// Its lowest `held` bits are next. Those above them mean nothing.
-    pub word: u64,
-    pub held: u32,
-    /// Whether the byte in front of `rest` is FF.
-    pub behind_ff: bool,
+    word: u64,
+    held: u32,
+    /// Whether the byte before `rest` is FF.
+    after_ff: bool,
     /// The bytes that aren't in the word yet.
-    pub rest: &'a [u8],
+    rest: &'a [u8],
+}
+
+impl<'a> Model for Window<'a> {
+    ghost use Rattle.ls_bits.specs.View.Packing.{BitsLeft, bits_left, IsWindow};
+
+    ghost Value = { BitsLeft };
+
+    ghost view = { λ w. record { bits = bits_left w.word w.held w.after_ff w.rest.now; held = w.held } };
+
+    ghost invariant = { λ w. IsWindow w.held w.after_ff w.rest.now };
 }
 
 impl<'a> Window<'a> {
-    /// The next `count` bits, as a number. OutOfBits where fewer are left.
+    /// The bits of stuffed bytes.
+    pub fn new(bytes: &'a [u8]) -> Window<'a>
+        requires { IsData bytes.now }
+        ensures { result.bits ≡ unstuff bytes.now }
+    {
+        Window {
+            word: 0,
+            held: 0,
+            after_ff: false,
+            rest: bytes,
+        }
+    }
+
+    /// The next `count` bits, as a number. OutOfBits if fewer are left.
     pub fn take(&mut self, count: u32) -> Result<u32, CodeFault>
-        requires window { IsWindow self.old.held self.old.behind_ff self.old.rest.now }
-        requires count { count ≤ 32 }
-        ensures window { IsWindow self.new.held self.new.behind_ff self.new.rest.now }
-        ensures ok { IfOk result (λ value. bits_left self.old.word self.old.held self.old.behind_ff self.old.rest.now
-            ≡ bits_of count value ++ bits_left self.new.word self.new.held self.new.behind_ff self.new.rest.now) }
+        requires { count ≤ 32 }
+        ensures ok { IfOk result (λ value. self.old.bits ≡ bits_of count value ++ self.new.bits) }
         ensures value { IfOk result (λ value. value < 2 ^ count) }
-        ensures fault { IfErr result (λ fault. (fault ≡ CodeFault.OutOfBits)
-            × (length (bits_left self.old.word self.old.held self.old.behind_ff self.old.rest.now) < count)) }
+        ensures fault { IfErr result (λ fault. (fault ≡ CodeFault.OutOfBits) × (length self.old.bits < count)) }
     {
         self.refill(count);
         if self.held < count {
@@ -41,17 +63,13 @@ impl<'a> Window<'a> {
         Ok(low_bits(self.word >> self.held, count))
     }
 
-    /// Takes zeros and the one behind them: how many zeros. NotCanonical where more than `most` are in front, OutOfBits
-    /// where nothing but zeros is left, and no more than these.
+    /// Takes zeros and the one after them: how many zeros. NotCanonical if more than `most` are in front, OutOfBits
+    /// if nothing but zeros is left, and no more than these.
     pub fn take_zeros(&mut self, most: u32) -> Result<u32, CodeFault>
-        requires window { IsWindow self.old.held self.old.behind_ff self.old.rest.now }
-        requires most { most ≤ 64 }
-        ensures window { IsWindow self.new.held self.new.behind_ff self.new.rest.now }
-        ensures ok { IfOk result (λ zeros. bits_left self.old.word self.old.held self.old.behind_ff self.old.rest.now
-            ≡ zero_bits zeros ++ true ∷ bits_left self.new.word self.new.held self.new.behind_ff self.new.rest.now) }
+        requires { most ≤ 64 }
+        ensures ok { IfOk result (λ zeros. self.old.bits ≡ zero_bits zeros ++ true ∷ self.new.bits) }
         ensures most { IfOk result (λ zeros. zeros ≤ most) }
-        ensures fault { IfErr result (λ fault. ZerosFault most
-            (bits_left self.old.word self.old.held self.old.behind_ff self.old.rest.now) fault) }
+        ensures fault { IfErr result (λ fault. ZerosFault most self.old.bits fault) }
     {
         let mut count = 0;
         'words: loop {
@@ -76,32 +94,29 @@ impl<'a> Window<'a> {
         }
     }
 
-    /// How many bits are left; `u64::MAX` where they are more.
+    /// How many bits are left; 2^64 - 1 if they are more.
     pub fn left(&self) -> u64
-        ensures { result ≡ min (length (bits_left self.now.word self.now.held self.now.behind_ff self.now.rest.now)) u64.MAX }
+        ensures { result ≡ min (length self.now.bits) u64.MAX }
     {
         let mut left = u64::from(self.held);
-        let mut behind_ff = self.behind_ff;
+        let mut after_ff = self.after_ff;
         for byte in self.rest {
-            left = left.saturating_add(u64::from(room(behind_ff)));
-            behind_ff = *byte == 0xff;
+            left = left.saturating_add(u64::from(byte_bits(after_ff)));
+            after_ff = *byte == 0xff;
         }
         left
     }
 
-    /// Takes bytes in where fewer than `wanted` bits are held, until these are or no bytes are left.
+    /// Takes bytes in if fewer than `wanted` bits are held, until these are or no bytes are left.
     fn refill(&mut self, wanted: u32)
-        requires window { IsWindow self.old.held self.old.behind_ff self.old.rest.now }
-        requires wanted { wanted ≤ ENOUGH }
-        ensures window { IsWindow self.new.held self.new.behind_ff self.new.rest.now }
-        ensures left { bits_left self.new.word self.new.held self.new.behind_ff self.new.rest.now
-            ≡ bits_left self.old.word self.old.held self.old.behind_ff self.old.rest.now }
-        ensures enough { (wanted ≤ self.new.held) ⊎ (self.new.rest.now ≡ []) }
+        requires { wanted ≤ ENOUGH }
+        ensures bits { self.new.bits ≡ self.old.bits }
+        ensures enough { (wanted ≤ self.new.held) ⊎ (length self.new.bits ≤ self.new.held) }
     {
         if self.held >= wanted {
             return;
         }
-        if !self.behind_ff
+        if !self.after_ff
             && let [first, second, third, fourth, rest @ ..] = self.rest
             && *first != 0xff
             && *second != 0xff
@@ -119,19 +134,16 @@ impl<'a> Window<'a> {
 
     /// As `refill`, byte by byte, until `ENOUGH` bits are held.
     fn refill_by_bytes(&mut self)
-        requires window { IsWindow self.old.held self.old.behind_ff self.old.rest.now }
-        ensures window { IsWindow self.new.held self.new.behind_ff self.new.rest.now }
-        ensures left { bits_left self.new.word self.new.held self.new.behind_ff self.new.rest.now
-            ≡ bits_left self.old.word self.old.held self.old.behind_ff self.old.rest.now }
-        ensures enough { (ENOUGH ≤ self.new.held) ⊎ (self.new.rest.now ≡ []) }
+        ensures bits { self.new.bits ≡ self.old.bits }
+        ensures enough { (ENOUGH ≤ self.new.held) ⊎ (length self.new.bits ≤ self.new.held) }
     {
         'bytes: while self.held < ENOUGH
             && let [byte, rest @ ..] = self.rest
         {
-            let room = room(self.behind_ff);
-            self.word = (self.word << room) | u64::from(*byte);
-            self.held += room;
-            self.behind_ff = *byte == 0xff;
+            let size = byte_bits(self.after_ff);
+            self.word = (self.word << size) | u64::from(*byte);
+            self.held += size;
+            self.after_ff = *byte == 0xff;
             self.rest = rest;
         }
     }
@@ -145,7 +157,7 @@ fn low_bits(word: u64, count: u32) -> u32
     (word & ((1 << count) - 1)) as u32
 }
 
-/// How many zeros are in front in the lowest `held` bits of `word`; no fewer than `held` where all of them are zeros.
+/// How many zeros are in front in the lowest `held` bits of `word`; no fewer than `held` if all of them are zeros.
 fn leading_zeros(word: u64, held: u32) -> u32
     requires some { 0 < held }
     requires few { held ≤ 64 }

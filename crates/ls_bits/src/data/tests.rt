@@ -18,6 +18,13 @@ fn data_ends_before_a_marker_or_a_lone_ff(rt: HostRuntime) {
     }
 }
 
+/// Data beside that of two bytes before a marker, and whether it is equal.
+const OTHERS: [(usize, Stop, bool); 3] = [
+    (2, Stop::Marker, true),
+    (1, Stop::Marker, false),
+    (2, Stop::End, false),
+];
+
 #[test]
 fn data_and_stops_are_printed_and_compared_by_their_fields(rt: HostRuntime) {
     let data = Data {
@@ -28,15 +35,7 @@ fn data_and_stops_are_printed_and_compared_by_their_fields(rt: HostRuntime) {
         return;
     };
     assert_eq!(rt; text.as_str(), "Data { len: 2, stop: Marker } End");
-    for (len, stop, is_equal) in [
-        (2, Stop::Marker, true),
-        (1, Stop::Marker, false),
-        (2, Stop::End, false),
-    ] {
-        assert_eq!(rt;
-            data == Data { len, stop },
-            is_equal,
-            "at {len} and {stop:?}"
-        );
+    for (len, stop, is_equal) in OTHERS {
+        assert_eq!(rt; data == Data { len, stop }, is_equal);
     }
 }

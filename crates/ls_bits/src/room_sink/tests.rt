@@ -1,7 +1,8 @@
 use super::*;
+use crate::testing::check_bytes;
 
 #[test]
-fn bits_go_behind_the_bytes_that_were_there(rt: HostRuntime) {
+fn bits_go_after_the_bytes_that_were_there(rt: HostRuntime) {
     let Ok(mut bytes) = Vec::with_capacity(rt.alloc(), 5) else {
         return;
     };
@@ -14,7 +15,7 @@ fn bits_go_behind_the_bytes_that_were_there(rt: HostRuntime) {
     sink.put(0, 0);
     sink.put(1, 1);
     let filled = sink.finish();
-    assert_eq!(rt; filled.as_slice(), [0x07, 0xff, 0x40].as_slice());
-    // The memory is that of before: no more was taken.
+    check_bytes(&rt, &filled, &[0x07, 0xff, 0x40]);
+    // The memory is that of before: nothing was allocated.
     assert_eq!(rt; filled.capacity(), capacity);
 }

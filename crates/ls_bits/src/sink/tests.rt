@@ -1,6 +1,7 @@
+ghost use Rattle.std.specs.Prelude.{◌<◌};
+
 use super::*;
-use crate::plain;
-use crate::testing::{Code, Put, put, put_word};
+use crate::testing::{Code, Filling, Put, WORDS, check_bytes, put, put_word};
 use std::process::Abort;
 
 /// Bits that are put one after the other, and the bytes that they make.
@@ -14,45 +15,92 @@ const BYTES: [(&[Put], &[u8]); 7] = [
     (&[(0xffff_ffff, 32)], &[0xff, 0x7f, 0xff, 0x7f, 0xc0]),
 ];
 
-/// The bytes of what was put, or nothing where memory was refused.
-fn bytes_of(rt: &impl Abort, alloc: Global, puts: &[Put]) -> Result<Vec<u8>, AllocError> {
+/// Room for the bits of each list and each word.
+const ROOM: usize = 192;
+
+/// That both sinks make these bytes of the bits; nothing if an allocation fails.
+fn check_puts(rt: &impl Abort, alloc: Global, puts: &[Put], want: &[u8]) -> Result<(), AllocError> {
     let mut sink = BitSink::new(alloc);
-    for bits in puts {
-        put(rt, &mut sink, *bits)?;
+    let mut filling = Filling::new(alloc, ROOM)?;
+    for (value, count) in puts {
+        put(rt, &mut sink, (*value, *count))?;
+        filling.put(rt, *value, *count);
     }
-    sink.finish()
+    check_bytes(rt, &sink.finish()?, want);
+    check_bytes(rt, &filling.finish(), want);
+    Ok(())
 }
 
 #[test]
 fn bits_are_stuffed(rt: HostRuntime) {
     for (puts, want) in BYTES {
-        let Ok(bytes) = bytes_of(&rt, rt.alloc(), puts) else {
-            return;
-        };
-        assert_eq!(rt; bytes.as_slice(), want, "at {puts:?}");
+        let _ = check_puts(&rt, rt.alloc(), puts, want);
     }
 }
 
-/// k, glimit, qbpp and a value, and the bytes of its word alone.
-const WORDS: [(u32, u32, u32, u32, &[u8]); 4] = [
-    (2, 31, 8, 17, &[0x0a]),
-    (0, 32, 8, 22, &[0x00, 0x00, 0x02]),
-    (0, 32, 8, 23, &[0x00, 0x00, 0x01, 0x16]),
-    (0, 32, 8, 256, &[0x00, 0x00, 0x01, 0xff, 0x00]),
+/// So many bits 0 and forty bits 1.
+const ONES: [(u32, &[u8]); 8] = [
+    (0, &[0xff, 0x7f, 0xff, 0x7f, 0xff, 0x60]),
+    (1, &[0x7f, 0xff, 0x7f, 0xff, 0x7f, 0xe0]),
+    (2, &[0x3f, 0xff, 0x7f, 0xff, 0x7f, 0xf0]),
+    (3, &[0x1f, 0xff, 0x7f, 0xff, 0x7f, 0xf8]),
+    (4, &[0x0f, 0xff, 0x7f, 0xff, 0x7f, 0xfc]),
+    (5, &[0x07, 0xff, 0x7f, 0xff, 0x7f, 0xfe]),
+    (6, &[0x03, 0xff, 0x7f, 0xff, 0x7f, 0xff, 0x00]),
+    (7, &[0x01, 0xff, 0x7f, 0xff, 0x7f, 0xff, 0x40]),
 ];
+
+/// That ones are stuffed also if they stand after so many bytes 00.
+fn check_ones(rt: &impl Abort, alloc: Global, bytes: u32) -> Result<(), AllocError>
+    requires { bytes < 8 }
+{
+    for (zeros, ones) in ONES {
+        let mut want = Vec::new(alloc);
+        for _ in 0..bytes {
+            want.push(0x00)?;
+        }
+        want.extend_from_slice(ones)?;
+        let puts = [
+            (0, 4 * bytes),
+            (0, zeros),
+            (0, 4 * bytes),
+            (u32::MAX, 32),
+            (255, 8),
+        ];
+        check_puts(rt, alloc, &puts, &want)?;
+    }
+    Ok(())
+}
+
+#[test]
+fn ones_are_stuffed_wherever_they_begin_in_64_bits(rt: HostRuntime) {
+    for bytes in 0..8 {
+        let _ = check_ones(&rt, rt.alloc(), bytes);
+    }
+}
+
+/// That both sinks make these bytes of a word.
+fn check_word(
+    rt: &impl Abort,
+    alloc: Global,
+    code: Code,
+    v: u32,
+    want: &[u8],
+) -> Result<(), AllocError> {
+    let mut sink = BitSink::new(alloc);
+    put_word(rt, &mut sink, code, v)?;
+    check_bytes(rt, &sink.finish()?, want);
+    let mut filling = Filling::new(alloc, ROOM)?;
+    filling.put_word(rt, code, v);
+    check_bytes(rt, &filling.finish(), want);
+    Ok(())
+}
 
 #[test]
 fn values_are_put_in_golomb_words(rt: HostRuntime) {
     for (k, glimit, qbpp, v, want) in WORDS {
         let code = Code::new(&rt, k, glimit, qbpp);
-        let mut sink = BitSink::new(rt.alloc());
-        if put_word(&rt, &mut sink, code, v).is_err() {
-            return;
-        }
-        let Ok(bytes) = sink.finish() else {
-            return;
-        };
-        assert_eq!(rt; bytes.as_slice(), want, "{v} by {code:?}");
+        let _ = check_word(&rt, rt.alloc(), code, v, want);
     }
 }
 
@@ -66,7 +114,7 @@ const MIXED: [Put; 6] = [
     (1, 7),
 ];
 
-/// Words that stand between those, two short ones and two escape words: k, glimit, qbpp and the value.
+/// Words that stand after those, two short ones and two escape words: k, glimit, qbpp and the value.
 const MIXED_WORDS: [(u32, u32, u32, u32); 4] = [
     (2, 31, 8, 17),
     (0, 32, 8, 256),
@@ -74,62 +122,73 @@ const MIXED_WORDS: [(u32, u32, u32, u32); 4] = [
     (0, 64, 16, 65535),
 ];
 
-/// All of the mixed bits and words, so many times, plainly.
-fn plain_mixture(rt: &impl Abort, alloc: Global, times: u32) -> Result<Vec<u8>, AllocError> {
-    let mut bits = Vec::new(alloc);
-    for _ in 0..times {
-        for (value, count) in MIXED {
-            assert!(rt; count <= 32);
-            plain::append(&mut bits, value, count)?;
-        }
-        for (k, glimit, qbpp, v) in MIXED_WORDS {
-            let code = Code::new(rt, k, glimit, qbpp);
-            plain::append_word(rt, &mut bits, code, v)?;
-        }
-    }
-    plain::stuffed(alloc, &bits)
-}
+/// The bytes of all these, eight times over: 1,384 bits, cut and stuffed by T.87 C.1.
+const MIXTURE: [u8; 178] = [
+    0xff, 0x3f, 0xff, 0x7f, 0xff, 0x77, 0xff, 0x7e, 0x04, 0x28, 0x00, 0x00, 0x0f, 0xff, 0x40, 0x00,
+    0x00, 0x00, 0x00, 0x00, 0x7f, 0xff, 0x5f, 0xef, 0xff, 0x7f, 0xff, 0x7d, 0xff, 0x7f, 0x81, 0x0a,
+    0x00, 0x00, 0x03, 0xff, 0x70, 0x00, 0x00, 0x00, 0x00, 0x00, 0x1f, 0xff, 0x77, 0xfb, 0xff, 0x7f,
+    0xff, 0x7f, 0x7f, 0xff, 0x60, 0x42, 0x80, 0x00, 0x00, 0xff, 0x7c, 0x00, 0x00, 0x00, 0x00, 0x00,
+    0x07, 0xff, 0x7d, 0xfe, 0xff, 0x7f, 0xff, 0x7f, 0xdf, 0xff, 0x78, 0x10, 0xa0, 0x00, 0x00, 0x3f,
+    0xfe, 0x00, 0x00, 0x00, 0x00, 0x00, 0x03, 0xff, 0x7e, 0xff, 0x3f, 0xff, 0x7f, 0xff, 0x77, 0xff,
+    0x7e, 0x04, 0x28, 0x00, 0x00, 0x0f, 0xff, 0x40, 0x00, 0x00, 0x00, 0x00, 0x00, 0x7f, 0xff, 0x5f,
+    0xef, 0xff, 0x7f, 0xff, 0x7d, 0xff, 0x7f, 0x81, 0x0a, 0x00, 0x00, 0x03, 0xff, 0x70, 0x00, 0x00,
+    0x00, 0x00, 0x00, 0x1f, 0xff, 0x77, 0xfb, 0xff, 0x7f, 0xff, 0x7f, 0x7f, 0xff, 0x60, 0x42, 0x80,
+    0x00, 0x00, 0xff, 0x7c, 0x00, 0x00, 0x00, 0x00, 0x00, 0x07, 0xff, 0x7d, 0xfe, 0xff, 0x7f, 0xff,
+    0x7f, 0xdf, 0xff, 0x78, 0x10, 0xa0, 0x00, 0x00, 0x3f, 0xfe, 0x00, 0x00, 0x00, 0x00, 0x00, 0x03,
+    0xff, 0x7e,
+];
 
-/// The same through a sink, each call made once more where memory was refused.
-fn mixture(rt: &impl Abort, alloc: Global, times: u32) -> Result<Vec<u8>, AllocError> {
+/// The mixture, each call made once more if an allocation fails.
+fn mixture(rt: &impl Abort, alloc: Global) -> Result<Vec<u8>, AllocError> {
     let mut sink = BitSink::new(alloc);
-    for _ in 0..times {
+    for _ in 0..8 {
         for bits in MIXED {
             put(rt, &mut sink, bits)?;
         }
         for (k, glimit, qbpp, v) in MIXED_WORDS {
-            let code = Code::new(rt, k, glimit, qbpp);
-            put_word(rt, &mut sink, code, v)?;
+            put_word(rt, &mut sink, Code::new(rt, k, glimit, qbpp), v)?;
         }
     }
     sink.finish()
 }
 
-#[test]
-fn a_refused_put_is_called_again(rt: HostRuntime) {
-    let Ok(want) = plain_mixture(&rt, rt.alloc(), 40) else {
-        return;
-    };
-    let Ok(got) = mixture(&rt, rt.alloc(), 40) else {
-        return;
-    };
-    assert_eq!(rt; got, want);
+/// The mixture, into a vector with room. A word counts for its glimit there.
+fn mixture_with_room(rt: &impl Abort, alloc: Global) -> Result<Vec<u8>, AllocError> {
+    let mut filling = Filling::new(alloc, 2000)?;
+    for _ in 0..8 {
+        for (value, count) in MIXED {
+            filling.put(rt, value, count);
+        }
+        for (k, glimit, qbpp, v) in MIXED_WORDS {
+            filling.put_word(rt, Code::new(rt, k, glimit, qbpp), v);
+        }
+    }
+    Ok(filling.finish())
 }
 
 #[test]
-fn nothing_is_refused_with_ample_memory(rt: HostRuntime) {
+fn a_put_is_called_again_if_an_allocation_fails(rt: HostRuntime) {
+    if let Ok(bytes) = mixture(&rt, rt.alloc()) {
+        check_bytes(&rt, &bytes, &MIXTURE);
+    }
+}
+
+#[test]
+fn a_sink_with_room_makes_the_same_bytes(rt: HostRuntime) {
+    if let Ok(bytes) = mixture_with_room(&rt, rt.alloc()) {
+        check_bytes(&rt, &bytes, &MIXTURE);
+    }
+}
+
+#[test]
+fn no_call_fails_with_ample_memory(rt: HostRuntime) {
     let mut sink = BitSink::new(rt.alloc());
     assert!(rt; sink.put(255, 8).is_ok());
     let code = Code::new(&rt, 2, 31, 8);
     assert!(rt; 17 <= 1 << code.qbpp);
     assert!(rt; sink.put_golomb(code.k, code.glimit, code.qbpp, 17).is_ok());
-    let Ok(bytes) = sink.finish() else {
-        panic!(rt; "memory was refused");
-    };
-    assert_eq!(rt; bytes.as_slice(), [0xff, 0x05].as_slice());
-    let Ok(many) = mixture(&rt, rt.alloc(), 40) else {
-        panic!(rt; "memory was refused");
-    };
-    // They are 6,920 bits: 865 bytes, and more for the FF among them.
-    assert!(rt; many.len() > 865);
+    let bytes = sink.finish().unwrap_or(Vec::new(rt.alloc()));
+    check_bytes(&rt, &bytes, &[0xff, 0x05]);
+    let many = mixture(&rt, rt.alloc()).unwrap_or(Vec::new(rt.alloc()));
+    check_bytes(&rt, &many, &MIXTURE);
 }

@@ -6,9 +6,9 @@ pub overflow_cast-result-2 : goal.overflow_cast-result-2
 overflow_cast-result-2 c =
     omega (
       arith,
-      last_group-is c.args.word c.args.held c.room.result c.args.behind_ff c.requires c.room.ensures,
-      last_group-lt c.args.word c.args.held c.args.behind_ff c.requires,
+      last_group-is c.args.word c.args.held c.byte_bits.result c.args.after_ff c.requires c.byte_bits.ensures,
+      last_group-lt c.args.word c.args.held c.args.after_ff c.requires,
     )
 
 pub returns : goal.returns
-returns c = last_group-is c.args.word c.args.held c.room.result c.args.behind_ff c.requires c.room.ensures
+returns c = last_group-is c.args.word c.args.held c.byte_bits.result c.args.after_ff c.requires c.byte_bits.ensures

@@ -1,42 +1,40 @@
-use Rattle.std.proofs.Common.{◌≡◌, ◌<◌, ◌≤◌, ◌++◌, ◌∷◌, [], ◌⊎◌, inl, inr, true, length, take, ap, sym, ◌∙◌, arith}
+use Rattle.std.proofs.Common.{◌≡◌, ◌<◌, ◌≤◌, ◌++◌, ◌∷◌, [], ◌⊎◌, inl, inr, true, length, ap, sym, ◌∙◌, arith}
 use Rattle.ls_bits.specs.Stuffing.{stuff}
-use Rattle.ls_bits.specs.Packing.{packed_bits}
-use Rattle.ls_bits.proofs.PackingLemmas.{some_bits, length-packed_bits, room_for_whole, stuff-packed_last, stuff-packed_whole}
+use Rattle.ls_bits.specs.View.Packing.{Packed, packed_bits}
+use Rattle.ls_bits.proofs.PackingLemmas.{some_bits, stuff-packed_last, stuff-packed_whole}
 use Rattle.ls_bits.proofs.packer.Packer.finish.Goals as goal
 use Rattle.ls_bits.proofs.packer.Packer.finish.Goals.{then-self-gt0-via-then-self-gt0, then-self-gt0-via-else-self-gt0+then-self}
 
-pub put_out_bytes-requires-clause-room : goal.put_out_bytes-requires-clause-room
-put_out_bytes-requires-clause-room c =
-    let few = length-packed_bits c.args.self.start c.args.self.word c.args.self.held c.args.self.bytes.items c.requires.packed.within in
-    room_for_whole _ _ _ (omega (arith, few)) c.requires.room
-
 pub push_reserved-requires : goal.push_reserved-requires
 push_reserved-requires c =
-    let some : (1 ≤ c.put_out_bytes.new.self.held) ⊎ (c.put_out_bytes.new.self.behind_ff ≡ true) = elim c.then-self-gt0.branch [
+    let some : (1 ≤ c.self.inside.held) ⊎ (c.self.inside.after_ff ≡ true) = elim c.then-self-gt0.branch [
       | then-self-gt0-via-then-self-gt0 w ↦ inl w.if-self-gt0.true
       | then-self-gt0-via-else-self-gt0+then-self w ↦ inr w.if-self.true
     ] in
-    let bits : 0 < length (packed_bits c.put_out_bytes.new.self.start c.put_out_bytes.new.self.bytes.items c.put_out_bytes.new.self.word c.put_out_bytes.new.self.held) = some_bits _ c.put_out_bytes.new.self.word _ _ _ c.put_out_bytes.ensures.packed some in
-    omega (arith, c.requires.room, ap length c.put_out_bytes.ensures.bits)
+    let bits : 0 < length (packed_bits c.self.inside.start c.self.inside.bytes.items c.self.inside.word c.self.inside.held) = some_bits _ c.self.inside.word _ _ _ c.self.invariant some in
+    let same : length (packed_bits c.self.inside.start c.self.inside.bytes.items c.self.inside.word c.self.inside.held) ≡ length c.args.self.bits =
+    ap (λ (p : Packed). length p.bits) c.self.view_is ∙ ap length c.put_out_bytes.ensures.bits in
+    omega (arith, c.requires.room (omega arith), c.put_out_bytes.ensures.rest.room, ap (λ (p : Packed). p.room) c.self.view_is)
 
 pub returns-then-self-gt0-clause-bytes : goal.returns-then-self-gt0-clause-bytes
 returns-then-self-gt0-clause-bytes c =
-    let some : (1 ≤ c.put_out_bytes.new.self.held) ⊎ (c.put_out_bytes.new.self.behind_ff ≡ true) = elim c.then-self-gt0.branch [
+    let some : (1 ≤ c.self.inside.held) ⊎ (c.self.inside.after_ff ≡ true) = elim c.then-self-gt0.branch [
       | then-self-gt0-via-then-self-gt0 w ↦ inl w.if-self-gt0.true
       | then-self-gt0-via-else-self-gt0+then-self w ↦ inr w.if-self.true
     ] in
+    let held : c.self.inside.held ≡ c.put_out_bytes.new.self.held = ap (λ (p : Packed). p.held) c.self.view_is in
     c.push_reserved.ensures.items
-    ∙ ap (λ byte. c.put_out_bytes.new.self.bytes.items ++ byte ∷ []) c.last_group.ensures
-    ∙ sym (stuff-packed_last c.put_out_bytes.new.self.start c.put_out_bytes.new.self.word c.put_out_bytes.new.self.held c.put_out_bytes.new.self.bytes.items c.put_out_bytes.new.self.behind_ff
-    c.put_out_bytes.ensures.packed (omega arith) some)
-    ∙ ap (λ bytes. bytes ++ stuff (packed_bits c.put_out_bytes.new.self.start c.put_out_bytes.new.self.bytes.items c.put_out_bytes.new.self.word c.put_out_bytes.new.self.held))
-    (ap (λ n. take n c.put_out_bytes.new.self.bytes.items) c.put_out_bytes.ensures.start ∙ c.put_out_bytes.ensures.front)
-    ∙ ap (λ bits. take c.args.self.start c.args.self.bytes.items ++ stuff bits) c.put_out_bytes.ensures.bits
+    ∙ ap (λ byte. c.self.inside.bytes.items ++ byte ∷ []) c.last_group.ensures
+    ∙ sym (stuff-packed_last c.self.inside.start c.self.inside.word c.self.inside.held c.self.inside.bytes.items c.self.inside.after_ff
+    c.self.invariant (omega (arith, c.put_out_bytes.ensures.held)) some)
+    ∙ ap (λ (p : Packed). p.front ++ stuff p.bits) c.self.view_is
+    ∙ ap (λ front. front ++ stuff c.put_out_bytes.new.self.bits) c.put_out_bytes.ensures.rest.front
+    ∙ ap (λ bits. c.args.self.front ++ stuff bits) c.put_out_bytes.ensures.bits
 
 pub returns-else-self-clause-bytes : goal.returns-else-self-clause-bytes
 returns-else-self-clause-bytes c =
-    sym (stuff-packed_whole c.put_out_bytes.new.self.start c.put_out_bytes.new.self.word c.put_out_bytes.new.self.held c.put_out_bytes.new.self.bytes.items c.put_out_bytes.new.self.behind_ff
-    c.put_out_bytes.ensures.packed (omega arith) c.if-self.false)
-    ∙ ap (λ bytes. bytes ++ stuff (packed_bits c.put_out_bytes.new.self.start c.put_out_bytes.new.self.bytes.items c.put_out_bytes.new.self.word c.put_out_bytes.new.self.held))
-    (ap (λ n. take n c.put_out_bytes.new.self.bytes.items) c.put_out_bytes.ensures.start ∙ c.put_out_bytes.ensures.front)
-    ∙ ap (λ bits. take c.args.self.start c.args.self.bytes.items ++ stuff bits) c.put_out_bytes.ensures.bits
+    sym (stuff-packed_whole c.self.inside.start c.self.inside.word c.self.inside.held c.self.inside.bytes.items c.self.inside.after_ff
+    c.self.invariant (omega arith) c.if-self.false)
+    ∙ ap (λ (p : Packed). p.front ++ stuff p.bits) c.self.view_is
+    ∙ ap (λ front. front ++ stuff c.put_out_bytes.new.self.bits) c.put_out_bytes.ensures.rest.front
+    ∙ ap (λ bits. c.args.self.front ++ stuff bits) c.put_out_bytes.ensures.bits

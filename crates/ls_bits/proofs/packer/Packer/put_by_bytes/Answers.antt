@@ -1,6 +1,5 @@
 use Rattle.std.proofs.Common.{◌≡◌, ◌+◌, ◌-◌, ◌^◌, ◌<◌, ◌++◌, ap, ◌∙◌, arith}
 use Rattle.ls_bits.specs.Bits.{bits_of}
-use Rattle.ls_bits.specs.Packing.{packed_bits}
 use Rattle.ls_bits.proofs.PackingLemmas.{bits_of-wide}
 use Rattle.ls_bits.proofs.packer.Packer.put_by_bytes.Goals as goal
 
@@ -12,4 +11,4 @@ returns-then-count-gt32-clause-bits c =
     ∙ ap (λ bits. bits ++ bits_of 32 c.args.value) (c.put_out_bytes-then-count-gt32.ensures.bits ∙ c.append.ensures.bits
     ∙ ap (λ bits. bits ++ bits_of (c.args.count - 32) 0) c.put_out_bytes.ensures.bits)
     ∙ bits_of-wide (c.args.count - 32) 32 c.args.value _ small
-    ∙ ap (λ count. packed_bits c.args.self.now.start c.args.self.now.bytes.items c.args.self.now.word c.args.self.now.held ++ bits_of count c.args.value) size
+    ∙ ap (λ count. c.args.self.now.bits ++ bits_of count c.args.value) size

@@ -1,8 +1,7 @@
 use Rattle.std.proofs.Common.{ℕ, sym, subst, ◌∙◌, arith}
 use Rattle.std.proofs.lemmas.Result.{err_from_is_err_and}
 use Rattle.ls_bits.specs.Golomb.{escape_zeros, TakesWord}
-use Rattle.ls_bits.specs.Packing.{bits_left}
-use Rattle.ls_bits.specs.Taking.{ZerosFault}
+use Rattle.ls_bits.specs.View.Taking.{ZerosFault}
 use Rattle.ls_bits.proofs.GolombLaws.{TooFew, too_few, zeros_fault, short_taken, short_too_large, escape_taken, escape_needless}
 use Rattle.ls_bits.proofs.source.BitSource.read_golomb.Goals as goal
 
@@ -15,7 +14,7 @@ returns-in_err-zeros-clause-fault c =
 pub returns-in_err-low-clause-fault : goal.returns-in_err-low-clause-fault
 returns-in_err-low-clause-fault c =
     let p = err_from_is_err_and c.from_residual-in_err-low.result c.from_residual-in_err-low.ensures.1 in
-    let few : TooFew c.args.k c.args.glimit c.args.qbpp c.in_ok-zeros.zeros (bits_left c.take_zeros.new.self.word c.take_zeros.new.self.held c.take_zeros.new.self.behind_ff c.take_zeros.new.self.rest.now) = record {
+    let few : TooFew c.args.k c.args.glimit c.args.qbpp c.in_ok-zeros.zeros c.take_zeros.new.self.bits = record {
       enough_zeros = c.in_ok-zeros.ensures.most;
       few_short = λ less. c.in_err-low.ensures.fault.1;
       few_escaped = λ more. absurd (omega (arith, c.if-zeros-escape.true));
@@ -26,7 +25,7 @@ returns-in_err-low-clause-fault c =
 pub returns-in_err-value-clause-fault : goal.returns-in_err-value-clause-fault
 returns-in_err-value-clause-fault c =
     let p = err_from_is_err_and c.from_residual-in_err-value.result c.from_residual-in_err-value.ensures.1 in
-    let few : TooFew c.args.k c.args.glimit c.args.qbpp c.in_ok-zeros.zeros (bits_left c.take_zeros.new.self.word c.take_zeros.new.self.held c.take_zeros.new.self.behind_ff c.take_zeros.new.self.rest.now) = record {
+    let few : TooFew c.args.k c.args.glimit c.args.qbpp c.in_ok-zeros.zeros c.take_zeros.new.self.bits = record {
       enough_zeros = c.in_ok-zeros.ensures.most;
       few_short = λ less. absurd (omega (arith, c.if-zeros-escape.false));
       few_escaped = λ more. c.in_err-value.ensures.fault.1;
@@ -43,7 +42,7 @@ pub returns-else-value-most-clause-ok : goal.returns-else-value-most-clause-ok
 returns-else-value-most-clause-ok c =
     let word = short_taken c.args.k c.args.glimit c.args.qbpp c.in_ok-zeros.zeros c.in_ok-low.low c.args.self.now _ _ c.if-zeros-escape.true
     (sym c.self.view_is ∙ c.in_ok-zeros.ensures.ok) c.in_ok-low.ensures.ok c.in_ok-low.ensures.value (omega (arith, c.if-value-most.false, c.most.ensures, c.joined-value.ensures)) in
-    subst (λ (value : ℕ). TakesWord c.args.k c.args.glimit c.args.qbpp c.args.self.now value (bits_left c.take.new.self.word c.take.new.self.held c.take.new.self.behind_ff c.take.new.self.rest.now))
+    subst (λ (value : ℕ). TakesWord c.args.k c.args.glimit c.args.qbpp c.args.self.now value c.take.new.self.bits)
     (sym c.joined-value.ensures) word
 
 pub returns-then-value-k-clause-fault : goal.returns-then-value-k-clause-fault

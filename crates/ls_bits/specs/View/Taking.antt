@@ -4,7 +4,7 @@ use Rattle.ls_bits.specs.declared.source.CodeFault.{CodeFault}
 use Rattle.ls_bits.specs.declared.source.CodeFault.TheVariants.{OutOfBits, NotCanonical}
 use Rattle.ls_bits.specs.Bits.{bits_of, zeros, BeginsWith}
 
--- so many zeros are in front in the lowest `held` bits of a word; where they are all zeros it is at least `held`
+-- so many zeros are in front in the lowest `held` bits of a word; if all of them are zeros it is at least `held`
 pub data LeadingZeros (held word count : ℕ) : Type 0 where
   found : count < held → bits_of held word ≡ zeros count ++ true ∷ bits_of (held - (count + 1)) word → LeadingZeros held word count
   none : held ≤ count → bits_of held word ≡ zeros held → LeadingZeros held word count

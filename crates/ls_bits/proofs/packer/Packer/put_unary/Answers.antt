@@ -1,8 +1,7 @@
 use Rattle.std.proofs.Common.{◌+◌, ◌^◌, ◌<◌, ◌++◌, ℕ, ap, sym, subst, ◌∙◌}
 use Rattle.ls_bits.specs.Bits.{bits_of}
-use Rattle.ls_bits.specs.Packing.{packed_bits}
 use Rattle.ls_bits.proofs.PackingLemmas.{word_at_once, tail-lt}
-use Rattle.ls_bits.proofs.packer.Packer.put_word.Goals as goal
+use Rattle.ls_bits.proofs.packer.Packer.put_unary.Goals as goal
 
 pub put-requires-clause-value : goal.put-requires-clause-value
 put-requires-clause-value c =
@@ -11,5 +10,5 @@ put-requires-clause-value c =
 pub returns-clause-bits : goal.returns-clause-bits
 returns-clause-bits c =
     c.put.ensures.bits
-    ∙ ap (λ tail. packed_bits c.args.self.now.start c.args.self.now.bytes.items c.args.self.now.word c.args.self.now.held ++ bits_of (c.args.zeros + 1 + c.args.count) tail) c.led_by_one.ensures
+    ∙ ap (λ tail. c.args.self.now.bits ++ bits_of (c.args.zeros + 1 + c.args.count) tail) c.led_by_one.ensures
     ∙ word_at_once _ c.args.zeros c.args.count c.args.rest c.requires.rest

@@ -1,0 +1,84 @@
+-- How a sink and a source hold bits: whole bytes, and a word of 64 bits whose lowest `held` bits are after them (in a
+-- sink) or in front of them (in a source).
+use Rattle.std.specs.Prelude.{◌≡◌, ℕ, ◌+◌, ◌*◌, ◌/◌, ◌%◌, ◌^◌, ◌<◌, ◌≤◌, Bool, if◌then◌else◌, List, [], ◌∷◌, ◌++◌, length, drop}
+use Rattle.ls_bits.specs.Bits.{bits_of}
+use Rattle.ls_bits.specs.Stuffing.{bits_after, unstuff_from, unstuff}
+
+-- how many bits the next byte holds
+abbrev pub byte_bits : Bool → ℕ
+byte_bits after_ff = if after_ff then 7 else 8
+
+-- bytes as stuffing makes them, the first of so many bits: a byte after FF is below 80
+abbrev pub KeepsStuffing : ℕ → List ℕ → Type 0
+KeepsStuffing size [] = Unit {0}
+KeepsStuffing size (byte ∷ bytes) = (byte < 2 ^ size) × KeepsStuffing (bits_after byte) bytes
+
+-- how many bits the byte after the last of these holds
+abbrev pub next_byte_bits : ℕ → List ℕ → ℕ
+next_byte_bits size [] = size
+next_byte_bits size (byte ∷ bytes) = next_byte_bits (bits_after byte) bytes
+
+-- the bits of a sink whose bytes begin at `start`
+abbrev pub packed_bits : ℕ → List ℕ → ℕ → ℕ → List Bool
+packed_bits start bytes word held = unstuff (drop start bytes) ++ bits_of held word
+
+pub record IsPacked (start : ℕ) (bytes : List ℕ) (held : ℕ) (after_ff : Bool) : Type 0 where
+  pub within : start ≤ length bytes
+  pub keeps : KeepsStuffing 8 (drop start bytes)
+  pub next : next_byte_bits 8 (drop start bytes) ≡ byte_bits after_ff
+  pub few : held ≤ 63
+
+-- what a packer is seen as
+pub record Packed : Type 0 where
+  -- the bytes that the vector had
+  pub front : List ℕ
+  -- the bits put since
+  pub bits : List Bool
+  -- how many of them aren't in a byte yet
+  pub held : ℕ
+  -- how many bytes more the vector has room for
+  pub room : ℕ
+  -- how many bytes it can have in all
+  pub capacity : ℕ
+
+-- so many bits more fit into the room, however they are stuffed
+abbrev pub HasRoom : Packed → ℕ → Type 0
+HasRoom packed count = packed.held + count < 7 * packed.room + 7
+
+-- what isn't bits is as it was, and `count` bits more have taken no more room than they need
+pub record KeepsRest (old new : Packed) (count : ℕ) : Type 0 where
+  pub front : new.front ≡ old.front
+  pub capacity : new.capacity ≡ old.capacity
+  pub room : 7 * old.room + new.held ≤ 7 * new.room + old.held + count
+
+-- bytes and the eight of a word after them
+abbrev pub with_word : List ℕ → ℕ → List ℕ
+with_word bytes word =
+    (((((((bytes ++ word / 2 ^ 56 % 256 ∷ []) ++ word / 2 ^ 48 % 256 ∷ []) ++ word / 2 ^ 40 % 256 ∷ []) ++ word / 2 ^ 32 % 256 ∷ [])
+    ++ word / 2 ^ 24 % 256 ∷ []) ++ word / 2 ^ 16 % 256 ∷ []) ++ word / 2 ^ 8 % 256 ∷ []) ++ word / 2 ^ 0 % 256 ∷ []
+
+-- none of the eight bytes of a word is FF
+pub record HasNoFf (word : ℕ) : Type 0 where
+  pub at_56 : word / 2 ^ 56 % 256 ≡ 255 → ⊥
+  pub at_48 : word / 2 ^ 48 % 256 ≡ 255 → ⊥
+  pub at_40 : word / 2 ^ 40 % 256 ≡ 255 → ⊥
+  pub at_32 : word / 2 ^ 32 % 256 ≡ 255 → ⊥
+  pub at_24 : word / 2 ^ 24 % 256 ≡ 255 → ⊥
+  pub at_16 : word / 2 ^ 16 % 256 ≡ 255 → ⊥
+  pub at_8 : word / 2 ^ 8 % 256 ≡ 255 → ⊥
+  pub at_0 : word / 2 ^ 0 % 256 ≡ 255 → ⊥
+
+-- the bits that a source has left
+abbrev pub bits_left : ℕ → ℕ → Bool → List ℕ → List Bool
+bits_left word held after_ff rest = bits_of held word ++ unstuff_from (byte_bits after_ff) rest
+
+-- what a source's window is seen as
+pub record BitsLeft : Type 0 where
+  -- the bits that are left
+  pub bits : List Bool
+  -- how many of them are in the word
+  pub held : ℕ
+
+pub record IsWindow (held : ℕ) (after_ff : Bool) (rest : List ℕ) : Type 0 where
+  pub few : held ≤ 63
+  pub keeps : KeepsStuffing (byte_bits after_ff) rest
