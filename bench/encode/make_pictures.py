@@ -1,7 +1,7 @@
 #!/usr/bin/env python3
 """Makes the films of one frame that encoders are timed on, byte for byte the same each time.
 
-  make_films.py FOLDER
+  make_pictures.py FOLDER
 
 - natural8.pgm, natural12.pgm, natural16.pgm: a scene of smooth light, edges and textures under the noise of a sensor.
 - colour8.ppm: that scene in colour.

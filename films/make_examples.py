@@ -1,8 +1,8 @@
 #!/usr/bin/env python3
 """Makes the small films of this folder, byte for byte the same each time.
 
-  make_films.py           writes the films beside this script
-  make_films.py --check   says whether the films that are there are those that it makes
+  make_examples.py           writes the films beside this script
+  make_examples.py --check   says whether the films that are there are those that it makes
 
 A film is Netpbm binary images joined with nothing between. Each shows a textured, softly lit ground over which the
 camera moves slowly, with discs that cross it and the mild noise of a sensor.
@@ -143,9 +143,9 @@ def main(words):
         elif not file.is_file() or file.read_bytes() != made:
             differing.append(film.name)
     for name in differing:
-        print(f"{name} isn't what make_films.py makes")
+        print(f"{name} isn't what make_examples.py makes")
     if words and not differing:
-        print("each film is what make_films.py makes")
+        print("each film is what make_examples.py makes")
     return 1 if differing else 0
 
 

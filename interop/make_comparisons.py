@@ -1,7 +1,7 @@
 #!/usr/bin/env python3
 """Makes the films that other programs are asked about, byte for byte the same each time.
 
-  make_films.py FOLDER
+  make_comparisons.py FOLDER
 
 A film is Netpbm binary images joined with nothing between. Of each kind, maxval and size there is one film, which shows
 each of CONTENTS in a frame. Three more films have a width, a height and a variety that those don't have.
