@@ -6,7 +6,7 @@ use Rattle.std.specs.List.{AllByRecursion}
 use Rattle.byteorder.specs.Endian.{big_number}
 use Rattle.ls_frame.specs.declared.netpbm.NetpbmFault.TheVariants.{SampleTooLarge, Truncated}
 use Rattle.ls_frame.specs.Faults.{sample_size}
-use Rattle.ls_frame.specs.Reading.{◌>>=◌, Take, samples_of, begun_of, byte_count, are_within, within, with_front, samples_at}
+use Rattle.ls_frame.specs.View.Reading.{◌>>=◌, Take, samples_of, begun_of, byte_count, are_within, within, with_front, samples_at}
 
 -- ---- pairs of bytes
 
@@ -27,11 +27,11 @@ pub samples_of-more : (front bytes all : List ℕ) (i sample : ℕ) → front ++
     → sample ≡ big_number 2 (drop (2 * i) bytes) → (front ++ sample ∷ []) ++ samples_of true (drop (2 * (i + 1)) bytes) ≡ all
 samples_of-more front bytes all i sample said more is =
     let left : 2 ≤ length (drop (2 * i) bytes) = simp length-drop (omega arith) in
-    let behind : drop 2 (drop (2 * i) bytes) ≡ drop (2 * (i + 1)) bytes =
+    let after : drop 2 (drop (2 * i) bytes) ≡ drop (2 * (i + 1)) bytes =
     drop-drop 2 (2 * i) bytes ∙ (let same : 2 * i + 2 ≡ 2 * (i + 1) = omega arith in ap (λ n. drop n bytes) same) in
     append_assoc front (sample ∷ []) (samples_of true (drop (2 * (i + 1)) bytes))
     ∙ ap (λ s. front ++ s ∷ samples_of true (drop (2 * (i + 1)) bytes)) is
-    ∙ ap (λ bs. front ++ big_number 2 (drop (2 * i) bytes) ∷ samples_of true bs) (sym behind)
+    ∙ ap (λ bs. front ++ big_number 2 (drop (2 * i) bytes) ∷ samples_of true bs) (sym after)
     ∙ ap (λ s. front ++ s) (sym (samples_of-pair (drop (2 * i) bytes) left))
     ∙ said
 
@@ -91,7 +91,7 @@ pub with_front-nil : (read : Take (List ℕ)) → with_front [] read ≡ read
 with_front-nil (Ok found) = refl
 with_front-nil (Err fault) = refl
 
--- what a piece's samples are read as: over maxval, or in front of what is read behind them
+-- what a piece's samples are read as: over maxval, or in front of what is read after them
 pub piece_read : Bool → List ℕ → Take (List ℕ) → Take (List ℕ)
 piece_read true front read = with_front front read
 piece_read false front read = Err SampleTooLarge
@@ -232,7 +232,7 @@ part-less wide piece kept filled left held begun within few more room same =
 pub left-by_len : (wide : Bool) (count len : ℕ) (samples : List ℕ) → len ≡ length samples → byte_count wide (count - len) ≡ byte_count wide (count - length samples)
 left-by_len wide count len samples same = ap (λ n. byte_count wide (count - n)) same
 
--- no byte is held behind the last sample
+-- no byte is held after the last sample
 piece-last : (wide : Bool) (left here begun filled : ℕ) → byte_count wide here + begun ≡ filled → filled ≤ byte_count wide left → left ≤ here → begun ≡ 0
 piece-last false left here begun filled all within last = omega arith
 piece-last true left here begun filled all within last = omega arith
