@@ -22,15 +22,16 @@ fn all_bytes_go_out_in_order(rt: HostRuntime) {
     }
 }
 
-/// Writes bytes to a writer of one byte a call, whose call of this number goes wrong.
-fn check_fault(rt: &impl Abort, bytes: &[u8], mishap: Mishap, call: usize) {
+/// Writes bytes to a writer of one byte a call, whose call after those before goes wrong.
+fn check_fault(rt: &impl Abort, bytes: &[u8], before: &[u8], mishap: Mishap) {
+    let call = before.len();
     let failing = [call];
     let mut writer = Counted::new(Sink::new(1, &failing, mishap));
     let want = Err(WriteFault { written: call });
     check(rt, "a fault", call, &write_bytes(&mut writer, bytes), &want);
     check(rt, "failures", call, &Outlet::failures(&writer), &1);
     let sink = writer.into_inner();
-    check_items(rt, "the bytes before", call, sink.written(), &bytes[..call]);
+    check_items(rt, "the bytes before", call, sink.written(), before);
 }
 
 #[test]
@@ -38,7 +39,7 @@ fn a_fault_says_how_many_bytes_went_out(rt: HostRuntime) {
     let bytes = b"abcdefg";
     for mishap in [Mishap::Fails, Mishap::TakesNothing] {
         for i in 0..bytes.len() {
-            check_fault(&rt, bytes, mishap, i);
+            check_fault(&rt, bytes, &bytes[..i], mishap);
         }
     }
 }

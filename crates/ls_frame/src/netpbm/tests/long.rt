@@ -32,12 +32,13 @@ fn check_long_image(
     let at = usize::from(maxval);
     match seen(got) {
         Ok(Some((kind, width, height, greatest, samples))) => {
-            let size = (kind, width, height, greatest, samples.len());
-            let want = (Kind::Gray, 300, 300, maxval, 90_000);
-            check(rt, "its size", at, &size, &want);
+            let size = (kind, width, height, greatest);
+            check(rt, "its size", at, &size, &(Kind::Gray, 300, 300, maxval));
+            assert!(rt; samples.len() == 90_000, "up to {maxval}");
             let mut sample = 0u16;
             for (i, got) in samples.iter().enumerate() {
-                check(rt, "a sample", i, got, &(sample & maxval));
+                let got = *got;
+                check(rt, "a sample", i, &got, &(sample & maxval));
                 sample = sample.wrapping_add(7);
             }
         }
