@@ -32,11 +32,16 @@ const CODE_HELP: &str = "\
 Writes a codestream of JPEG-LS (ITU-T T.87) for each frame of FILE to standard output.
 
 The codestreams are lossless and have the default parameters of the frame's maxval.
-They are joined with nothing between. Where a frame is at fault,
-the codestreams of exactly the good frames before it are written.";
+They are joined with nothing between, and each is written as soon as it is done. If a frame is at
+fault, the codestreams of exactly the good frames before it are written.
+
+CharLS and the tools on it read a codestream only if the maxval of its frame is 2^P - 1 with P bits a
+sample: 3, 7, 15, .., 255, 1023, 4095, .., 65535; ffmpeg reads few others. Codestreams of other
+maxvals are right by T.87 all the same. If one of these tools is to read them, first scale the film
+to such a maxval, as with Netpbm's pamdepth.";
 
 const FILM_HELP: &str = "\
-The film to read: binary Netpbm images (PGM, PPM; 1 to 16 bits a sample) one behind the other";
+The film to read: binary Netpbm images (PGM, PPM; 1 to 16 bits a sample) one after the other";
 
 /// The program's commands, options and help.
 pub fn command<'a>(alloc: Global) -> Result<Command<'a>, AllocError> {
@@ -66,7 +71,7 @@ fn film_command<'a>(
         .arg(file)
 }
 
-/// What the words behind the program's name ask for.
+/// What the words after the program's name ask for.
 ///
 /// The error is `clap`'s: a usage fault, help or the version that was asked for, or want of memory.
 pub fn read_words<'a>(alloc: Global, words: &'a [String]) -> Result<Request<'a>, Error> {

@@ -1,15 +1,13 @@
 //! The whole program over its words, its files and its two streams.
-use crate::coding::code_film;
 use crate::command_line::{Request, read_words, usage_fault};
-use crate::faults::FilmFault;
-use crate::listing::list_film;
 use clap::Error;
 use clap::error::ErrorKind;
+use ls_film::{FilmFault, code_film, list_film};
 use ls_frame::{Counted, Outlet, write_bytes};
 use std::alloc::Global;
 use std::fmt::Display;
 use std::fs::File;
-use std::io::BufReader;
+use std::io::{BufReader, BufWriter};
 use std::rt::{Env, Files};
 use std::{env, io};
 
@@ -20,17 +18,30 @@ const FAILED: u8 = 1;
 
 const USAGE: u8 = 2;
 
-/// Writes a line of text, or says that there is no memory for it.
-fn say<E: Outlet, D: Display + Drop>(alloc: Global, errors: &mut E, text: D) {
-    let line = format!(in alloc; "jlsrec: {text}\n");
-    let _refused = match &line {
-        Ok(line) => write_bytes(errors, line.as_bytes()),
-        Err(_) => write_bytes(errors, b"jlsrec: no memory\n"),
+/// Reads the words, runs the program and flushes its output.
+pub fn start<R, W, E>(rt: &R, output: &mut W, errors: &mut E) -> u8
+where
+    R: Env + Files + AllocGlobal,
+    W: Outlet,
+    E: Outlet,
+{
+    let alloc = rt.alloc();
+    let status = match words(rt) {
+        Ok(words) => run(rt, &words, output, errors),
+        Err(fault) if fault.kind() == io::ErrorKind::OutOfMemory => no_memory(alloc, errors),
+        Err(_) => match usage_fault(alloc, "a word isn't UTF-8") {
+            Ok(error) => answer(alloc, &error, output, errors),
+            Err(_) => no_memory(alloc, errors),
+        },
     };
+    finish(alloc, status, output, errors)
 }
 
-/// The program over the words behind its name: writes to `output` and `errors` what goes to standard
+/// The program over the words after its name: writes to `output` and `errors` what goes to standard
 /// output and standard error, and answers the status.
+///
+/// `code` writes each codestream to `output` itself, so that what was written is out. `list` writes by way of a
+/// buffer, which is flushed at the end.
 pub fn run<R, W, E>(rt: &R, words: &[String], output: &mut W, errors: &mut E) -> u8
 where
     R: Files + AllocGlobal,
@@ -39,14 +50,31 @@ where
 {
     let alloc = rt.alloc();
     match read_words(alloc, words) {
-        Ok(Request::List { file }) => {
-            read_film(rt, file, errors, |film| list_film(alloc, film, output))
-        }
+        Ok(Request::List { file }) => list(rt, file, output, errors),
         Ok(Request::Code { file }) => {
             read_film(rt, file, errors, |film| code_film(alloc, film, output))
         }
         Err(error) => answer(alloc, &error, output, errors),
     }
+}
+
+/// Lists a film by way of a buffer.
+fn list<R, W, E>(rt: &R, file: &str, output: &mut W, errors: &mut E) -> u8
+where
+    R: Files + AllocGlobal,
+    W: Outlet,
+    E: Outlet,
+{
+    let alloc = rt.alloc();
+    let Ok(buffered) = BufWriter::new(alloc, output) else {
+        return no_memory(alloc, errors);
+    };
+    let mut lines = Counted::new(buffered);
+    let status = read_film(rt, file, errors, |film| list_film(alloc, film, &mut lines));
+    let status = finish(alloc, status, &mut lines, errors);
+    // A buffer that is dropped writes again what couldn't be written.
+    let (_output, _unwritten) = lines.into_inner().into_parts();
+    status
 }
 
 /// Opens a film, has an engine read it, says why either failed, and answers the status.
@@ -113,50 +141,39 @@ fn answer<W: Outlet, E: Outlet>(
     }
 }
 
-/// Reads the words, runs the program and flushes its output.
-pub fn start<R, W, E>(rt: &R, output: &mut W, errors: &mut E) -> u8
-where
-    R: Env + Files + AllocGlobal,
-    W: Outlet,
-    E: Outlet,
-{
-    let alloc = rt.alloc();
-    let status = match words(rt) {
-        Ok(words) => run(rt, &words, output, errors),
-        Err(fault) if fault.kind() == io::ErrorKind::OutOfMemory => no_memory(alloc, errors),
-        Err(_) => match usage_fault(alloc, "a word isn't UTF-8") {
-            Ok(error) => answer(alloc, &error, output, errors),
-            Err(_) => no_memory(alloc, errors),
-        },
-    };
-    finish(alloc, status, output, errors)
-}
-
-/// Says that memory was refused before there was a request.
-pub fn no_memory<E: Outlet>(alloc: Global, errors: &mut E) -> u8 {
-    say(alloc, errors, "no memory");
-    FAILED
-}
-
-/// The words behind the program's name.
-fn words<R: Env + AllocGlobal>(rt: &R) -> io::Result<Vec<String>> {
-    Ok(env::args(rt)?.skip(1).collect(rt.alloc())?)
-}
-
-/// Flushes `output`, and says the status to end with.
-pub fn finish<W: Outlet, E: Outlet>(
-    alloc: Global,
-    status: u8,
-    output: &mut W,
-    errors: &mut E,
-) -> u8 {
+/// Flushes `output`, unless a write to it has failed, and says the status to end with: that of a failure where the
+/// flush is refused.
+fn finish<W: Outlet, E: Outlet>(alloc: Global, status: u8, output: &mut W, errors: &mut E) -> u8 {
+    if Outlet::failures(output) > 0 {
+        return status;
+    }
     match output.flush() {
         Ok(()) => status,
         Err(_) => {
             say(alloc, errors, "output failed");
-            status.max(FAILED)
+            FAILED
         }
     }
+}
+
+/// Says that memory was refused before there was a request.
+fn no_memory<E: Outlet>(alloc: Global, errors: &mut E) -> u8 {
+    say(alloc, errors, "no memory");
+    FAILED
+}
+
+/// The words after the program's name.
+fn words<R: Env + AllocGlobal>(rt: &R) -> io::Result<Vec<String>> {
+    Ok(env::args(rt)?.skip(1).collect(rt.alloc())?)
+}
+
+/// Writes a line of text, or says that there is no memory for it.
+fn say<E: Outlet, D: Display + Drop>(alloc: Global, errors: &mut E, text: D) {
+    let line = format!(in alloc; "jlsrec: {text}\n");
+    let _refused = match &line {
+        Ok(line) => write_bytes(errors, line.as_bytes()),
+        Err(_) => write_bytes(errors, b"jlsrec: no memory\n"),
+    };
 }
 
 #[cfg(test)]

@@ -1,11 +1,10 @@
-//! Films and what is written of them, words, readers and writers for the tests. Only the words take memory.
+//! Films and what is written of them, words, writers and checks for the tests. Only the words take memory.
 ghost use Rattle.std.specs.Prelude.{◌≤◌};
 ghost use Rattle.jlsrec.specs.declared.testing.TheConstants.{ROOM};
 
-use crate::faults::FilmFault;
 use std::alloc::{AllocError, Global};
 use std::io;
-use std::io::{Read, Write};
+use std::io::Write;
 use std::process::Abort;
 
 /// Where memory may be refused, the want of it is an answer too.
@@ -45,15 +44,10 @@ pub const BLACK: &[u8] = b"P5\n1 1\n255\n\x00";
 /// The line of the frame 0, of one gray sample up to 255.
 pub const FIRST_LINE: &[u8] = b"0 gray 1 1 255 8 3 7 21 64 32\n";
 
-/// The image `BLACK`, and behind it the same with a white sample.
-pub const TWO_IMAGES: &[u8] = b"P5\n1 1\n255\n\x00P5\n1 1\n255\n\xff";
-
-pub const TWO_CODESTREAMS: &[u8] = b"\xff\xd8\
+/// The codestream of that frame.
+pub const FIRST_CODESTREAM: &[u8] = b"\xff\xd8\
 \xff\xf7\x00\x0b\x08\x00\x01\x00\x01\x01\x01\x11\x00\
-\xff\xda\x00\x08\x01\x01\x00\x00\x00\x00\x80\xff\xd9\
-\xff\xd8\
-\xff\xf7\x00\x0b\x08\x00\x01\x00\x01\x01\x01\x11\x00\
-\xff\xda\x00\x08\x01\x01\x00\x00\x00\x00\x40\xff\xd9";
+\xff\xda\x00\x08\x01\x01\x00\x00\x00\x00\x80\xff\xd9";
 
 /// The words as a program gets them.
 pub fn words_of(alloc: Global, words: &[&str]) -> Result<Vec<String>, AllocError> {
@@ -64,29 +58,19 @@ pub fn words_of(alloc: Global, words: &[&str]) -> Result<Vec<String>, AllocError
     Ok(all)
 }
 
-/// What an engine answered, and the text that it wrote.
-pub type Outcome<'a> = (Result<u64, FilmFault>, &'a [u8]);
+/// That these bytes are the wanted ones.
+pub fn check_bytes(rt: &impl Abort, case: &str, got: &[u8], want: &[u8]) {
+    assert_eq!(rt; got, want, "{case}");
+}
 
-/// That an engine ended so. Or, where memory may be refused, that it says so and wrote the first pieces of the
-/// text, each of which ends in `mark`.
-pub fn check_outcome(
-    rt: &impl Abort,
-    memory: Memory,
-    mark: &[u8],
-    got: Outcome<'_>,
-    want: Outcome<'_>,
-    case: &str,
-) {
-    if memory == Memory::Refusable && got.0 == Err(FilmFault::NoMemory) {
-        assert!(rt; want.1.starts_with(got.1), "{case}: another text");
-        assert!(rt;
-            got.1.is_empty() || got.1.ends_with(mark),
-            "{case}: a part of a piece"
-        );
-    } else {
-        assert_eq!(rt; got.0, want.0, "{case}");
-        assert_eq!(rt; got.1, want.1, "{case}");
-    }
+/// That this status is the wanted one.
+pub fn check_status(rt: &impl Abort, case: &str, got: u8, want: u8) {
+    assert_eq!(rt; got, want, "{case}");
+}
+
+/// That this holds.
+pub fn check(rt: &impl Abort, case: &str, holds: bool) {
+    assert!(rt; holds, "{case}");
 }
 
 /// A header of 65,536 bytes that hasn't ended.
@@ -95,39 +79,6 @@ pub fn endless_header() -> [u8; 65_536] {
     header[0] = b'P';
     header[1] = b'5';
     header
-}
-
-/// A reader over memory that gives at most `most` bytes a call. Its call number `failing`, from 0, fails
-/// and gives nothing.
-#[derive(Drop)]
-pub struct Pieces<'a> {
-    rest: &'a [u8],
-    most: usize,
-    failing: Option<usize>,
-    calls: usize,
-}
-
-impl<'a> Pieces<'a> {
-    pub fn new(bytes: &'a [u8], most: usize, failing: Option<usize>) -> Pieces<'a> {
-        Pieces {
-            rest: bytes,
-            most,
-            failing,
-            calls: 0,
-        }
-    }
-}
-
-impl<'a> Read for Pieces<'a> {
-    fn read(&mut self, buf: &mut [u8]) -> io::Result<usize> {
-        let call = self.calls;
-        self.calls = call.saturating_add(1);
-        if self.failing == Some(call) {
-            return Err(io::Error::from(io::ErrorKind::BrokenPipe));
-        }
-        let room = buf.len().min(self.most);
-        self.rest.read(&mut buf[..room])
-    }
 }
 
 /// What goes wrong with a `Sink`.

@@ -6,15 +6,15 @@ use Rattle.ls_frame.specs.declared.netpbm.NetpbmFault.{NetpbmFault}
 use Rattle.ls_frame.specs.declared.netpbm.NetpbmFault.TheVariants.{BadMagic, SizeOutOfRange, MaxvalOutOfRange, SampleTooLarge, Truncated}
 use Rattle.ls_frame.specs.Picture.{sample_count, most_samples, greatest}
 use Rattle.ls_frame.specs.Netpbm.{is_white, is_digit, is_hash, blanks_bytes, Field, IsField, field_bytes, field_number, InRange, magic, Heading, heading_bytes, most_heading, is_wide}
-use Rattle.ls_frame.specs.Faults.{letter, kind_digit, gap_start, blank_or_digit, comment_text, digit_or_white, Start, gap, open_comment, digits, IsStart, start_bytes, start_due, Beginning, empty, one_letter, only_magic, in_width, in_height, in_maxval, IsBeginning, beginning_bytes, due, IsWidth, allows, Stops, too_long, ends, refuses, StopsInHeading, BreaksWidth, BreaksHeight, BreaksMaxval, BeginsRaster, EndsInRaster, ExceedsMaxval}
-use Rattle.ls_frame.specs.Reading.{◌>>=◌, wanted, digits_at, gap_at, number_at, in_range, in_range_at, kind_of, magic_at, white_at, heading_at, with_front, samples_at, picture_of, image_at}
+use Rattle.ls_frame.specs.Faults.{letter, kind_digit, gap_start, blank_or_digit, comment_text, digit_or_white, Start, gap, open_comment, digits, IsStart, start_bytes, start_due, Beginning, empty, one_letter, only_magic, in_width, in_height, in_maxval, IsBeginning, beginning_bytes, due, IsWidth, allows, BreaksOff, too_long, ends, refuses, StopsInHeading, BreaksWidth, BreaksHeight, BreaksMaxval, BeginsRaster, EndsInRaster, ExceedsMaxval}
+use Rattle.ls_frame.specs.View.Reading.{◌>>=◌, wanted, digits_at, gap_at, number_at, in_range, in_range_at, kind_of, magic_at, white_at, heading_at, with_front, samples_at, picture_of, image_at}
 use Rattle.ls_frame.proofs.StepLemmas.{gap_at-hash, digits_at-other, digits_at-fault, gap_at-other, gap_at-fault}
-use Rattle.ls_frame.proofs.TakeLemmas.{Takes, takes_as, takes_first, takes_second, StopsHere, no_byte, refused, StopsBehind, stops_seen}
+use Rattle.ls_frame.proofs.TakeLemmas.{Takes, takes_as, takes_first, takes_second, StopsHere, no_byte, refused, StopsAfter, stops_seen}
 use Rattle.ls_frame.proofs.GapLaws.{comment_passes, gap_passes}
 use Rattle.ls_frame.proofs.NumberLaws.{capped, in_range_if, out_of_range_if, followed_capped, digits_pass}
 use Rattle.ls_frame.proofs.HeadingLaws.{maxval_at, height_at, width_at, heading_at-steps}
 use Rattle.ls_frame.proofs.RasterLaws.{sample_passes, sample_over, sample_short, samples_pass}
-use Rattle.ls_frame.proofs.SpellingLaws.{digit_found, field_number_at, field_rest, behind_magic, at_width, in_width_at, at_height, in_height_at, at_count, at_maxval, in_maxval_at, header_of, behind_heading}
+use Rattle.ls_frame.proofs.SpellingLaws.{digit_found, field_number_at, field_rest, after_magic, at_width, in_width_at, at_height, in_height_at, at_count, at_maxval, in_maxval_at, header_of, after_heading}
 
 -- ---- gaps and digits
 
@@ -31,7 +31,7 @@ comment_fails : (room : ℕ) (bytes : List ℕ) (fault : NetpbmFault) → StopsH
 comment_fails room bytes fault (no_byte none) = gap_at-fault true room bytes fault none
 comment_fails room bytes fault (refused c left rest found not_allowed is) = absurd (let bad : ⊥ = cc in bad)
 
--- a byte behind digits that is neither one nor white space
+-- a byte after digits that is neither one nor white space
 digits_fail : (n room : ℕ) (bytes : List ℕ) (fault : NetpbmFault) → StopsHere room bytes digit_or_white fault → digits_at n room bytes ≡ Err fault
 digits_fail n room bytes fault (no_byte none) = digits_at-fault n room bytes fault none
 digits_fail n room bytes fault (refused c left rest found not_allowed is) =
@@ -108,10 +108,10 @@ in_range_fails fault n out =
 -- and with it the field
 field_out : (fault : NetpbmFault) (f : Field) (white room left : ℕ) (bytes rest : List ℕ) → IsField f → ¬ InRange (field_number f) → IsTrue (is_white white) → Takes room bytes (field_rest f white) left rest
     → in_range_at fault room bytes ≡ Err fault
-field_out fault f white room left bytes rest lawful out behind taken =
-    rw (field_number_at f white room left bytes rest lawful behind taken, in_range_fails fault (field_number f) out) refl
+field_out fault f white room left bytes rest lawful out after taken =
+    rw (field_number_at f white room left bytes rest lawful after taken, in_range_fails fault (field_number f) out) refl
 
--- a start behind others, from its first white space on
+-- a start after others, from its first white space on
 start_as : (before : List ℕ) (s : Start) → before ++ start_bytes s ≡ (before ++ start_first s ∷ []) ++ start_rest s
 start_as before s = ap (λ bs. before ++ bs) (start_parts s) ∙ sym (append_assoc before (start_first s ∷ []) (start_rest s))
 
@@ -119,7 +119,7 @@ start_as before s = ap (λ bs. before ++ bs) (start_parts s) ∙ sym (append_ass
 test_fails : {A : Type 0} (test : Bool) (fault : NetpbmFault) (next : Result A NetpbmFault) → test ≡ false → (wanted test fault >>= λ passed. next) ≡ Err fault
 test_fails test fault next is = rw is refl
 
--- a start behind `before`, with its first white space taken
+-- a start after `before`, with its first white space taken
 start_first_taken : (before : List ℕ) (s : Start) {bytes rest : List ℕ} {left : ℕ} → Takes most_heading bytes (before ++ start_bytes s) left rest
     → Takes most_heading bytes (before ++ start_first s ∷ []) (length (start_rest s) + left) (start_rest s ++ rest)
 start_first_taken before s taken = takes_first (before ++ start_first s ∷ []) (start_rest s) (takes_as taken (start_as before s))
@@ -127,7 +127,7 @@ start_first_taken before s taken = takes_first (before ++ start_first s ∷ []) 
 -- ---- a header that stops
 
 -- no magic
-magic_stops : (first room : ℕ) (bytes : List ℕ) (fault : NetpbmFault) → suc room ≡ most_heading → Stops most_heading (first ∷ bytes) [] letter fault → heading_at first room bytes ≡ Err fault
+magic_stops : (first room : ℕ) (bytes : List ℕ) (fault : NetpbmFault) → suc room ≡ most_heading → BreaksOff most_heading (first ∷ bytes) [] letter fault → heading_at first room bytes ≡ Err fault
 magic_stops first room bytes fault all (too_long rest whole none is) = absurd (omega arith)
 magic_stops first room bytes fault all (ends whole some is) = absurd (let bad : ⊥ = cc in bad)
 magic_stops first room bytes fault all (refuses c rest whole some not_allowed is) =
@@ -143,27 +143,27 @@ kind_stops : (left : ℕ) (rest : List ℕ) (fault : NetpbmFault) → StopsHere 
 kind_stops left rest fault (no_byte none) = rw none refl
 kind_stops left rest fault (refused c after back found not_allowed is) = rw (found, kind_refused c not_allowed, is) refl
 
--- the same behind the first byte
-second_stops : (first room : ℕ) (bytes : List ℕ) (fault : NetpbmFault) → suc room ≡ most_heading → StopsBehind most_heading (first ∷ bytes) (80 ∷ []) kind_digit fault → heading_at first room bytes ≡ Err fault
+-- the same after the first byte
+second_stops : (first room : ℕ) (bytes : List ℕ) (fault : NetpbmFault) → suc room ≡ most_heading → StopsAfter most_heading (first ∷ bytes) (80 ∷ []) kind_digit fault → heading_at first room bytes ≡ Err fault
 second_stops first room bytes fault all stop =
     let p : first ≡ 80 = cc (stop.takes.whole) in
-    let behind : bytes ≡ stop.rest = cc (stop.takes.whole) in
+    let after : bytes ≡ stop.rest = cc (stop.takes.whole) in
     let size : room ≡ stop.left = (let e = stop.takes.room_is in omega arith) in
-    rw (heading_at-steps first room bytes, p, behind, size, kind_stops stop.left stop.rest fault stop.here) refl
+    rw (heading_at-steps first room bytes, p, after, size, kind_stops stop.left stop.rest fault stop.here) refl
 
--- no white space behind the magic
+-- no white space after the magic
 white_stops : (left : ℕ) (rest : List ℕ) (fault : NetpbmFault) → StopsHere left rest gap_start fault → white_at left rest ≡ Err fault
 white_stops left rest fault (no_byte none) = rw none refl
 white_stops left rest fault (refused c after back found not_allowed is) = rw (found, not_allowed, is) refl
 
 -- a header fails where its beginning stops
-beginning_fails : (b : Beginning) (first room : ℕ) (bytes : List ℕ) (fault : NetpbmFault) → suc room ≡ most_heading → IsBeginning b → Stops most_heading (first ∷ bytes) (beginning_bytes b) (due b) fault
+beginning_fails : (b : Beginning) (first room : ℕ) (bytes : List ℕ) (fault : NetpbmFault) → suc room ≡ most_heading → IsBeginning b → BreaksOff most_heading (first ∷ bytes) (beginning_bytes b) (due b) fault
     → heading_at first room bytes ≡ Err fault
 beginning_fails empty first room bytes fault all lawful stops = magic_stops first room bytes fault all stops
 beginning_fails one_letter first room bytes fault all lawful stops = second_stops first room bytes fault all (stops_seen stops)
 beginning_fails (only_magic kind) first room bytes fault all lawful stops =
     let stop = stops_seen stops in
-    behind_magic kind first room stop.left bytes stop.rest all stop.takes
+    after_magic kind first room stop.left bytes stop.rest all stop.takes
     ∙ ap (λ r. r >>= λ found. width_at kind found.1 found.2) (white_stops stop.left stop.rest fault stop.here)
 beginning_fails (in_width kind s) first room bytes fault all lawful stops =
     let stop = stops_seen stops in
@@ -195,7 +195,7 @@ stop_fails (first ∷ bytes) fault stop = image_fails first bytes fault (beginni
 
 -- ---- a number out of its range
 
--- what is taken with the white space behind
+-- what is taken with the white space after
 with_last : {bytes : List ℕ} (front rest : List ℕ) (white : ℕ) → bytes ≡ front ++ white ∷ rest → length (front ++ white ∷ []) ≤ most_heading
     → Takes most_heading bytes (front ++ white ∷ []) (most_heading - length (front ++ white ∷ [])) rest
 with_last front rest white whole short = record { whole = whole ∙ sym (append_assoc front (white ∷ []) rest); room_is = omega arith }
@@ -209,7 +209,7 @@ width_fails (first ∷ bytes) b =
     image_fails first bytes SizeOutOfRange
     (in_width_at b.kind b.width b.white first (most_heading - 1) left bytes b.rest refl b.width_field taken
     ∙ ap (λ r. r >>= λ found. height_at b.kind found.0 found.1 found.2)
-    (field_out SizeOutOfRange b.width b.white _ left _ b.rest b.width_field b.out b.behind (takes_second (field_rest b.width b.white) left b.rest)))
+    (field_out SizeOutOfRange b.width b.white _ left _ b.rest b.width_field b.out b.after (takes_second (field_rest b.width b.white) left b.rest)))
 
 -- a height out of its range
 height_out : (bytes rest : List ℕ) (kind : Kind) (w h : Field) (white first room left : ℕ) → suc room ≡ most_heading → IsWidth w → IsField h → IsTrue (is_white white)
@@ -234,10 +234,10 @@ height_fails (first ∷ bytes) b =
     let taken = with_last (magic b.kind ++ field_bytes b.width ++ field_bytes b.height) b.rest b.white b.whole b.short in
     let n : ℕ = field_number b.height in
     image_fails first bytes SizeOutOfRange (elim b.out [
-      | inl out ↦ height_out bytes b.rest b.kind b.width b.height b.white first (most_heading - 1) _ refl b.width_passed b.height_field b.behind taken out
+      | inl out ↦ height_out bytes b.rest b.kind b.width b.height b.white first (most_heading - 1) _ refl b.width_passed b.height_field b.after taken out
       | inr many ↦ elim (cases_Bool (ltb 0 (capped n) && leb (capped n) greatest)) [
-        | inl test ↦ height_many bytes b.rest b.kind b.width b.height b.white first (most_heading - 1) _ refl b.width_passed b.height_field b.behind taken (in_range_if (capped n) n refl test) many
-        | inr test ↦ height_out bytes b.rest b.kind b.width b.height b.white first (most_heading - 1) _ refl b.width_passed b.height_field b.behind taken (out_of_range_if (capped n) n refl test)
+        | inl test ↦ height_many bytes b.rest b.kind b.width b.height b.white first (most_heading - 1) _ refl b.width_passed b.height_field b.after taken (in_range_if (capped n) n refl test) many
+        | inr test ↦ height_out bytes b.rest b.kind b.width b.height b.white first (most_heading - 1) _ refl b.width_passed b.height_field b.after taken (out_of_range_if (capped n) n refl test)
       ]
     ])
 
@@ -251,11 +251,11 @@ maxval_fails (first ∷ bytes) b =
     image_fails first bytes MaxvalOutOfRange
     (in_maxval_at b.kind b.width b.height b.maxval b.white first (most_heading - 1) left bytes b.rest refl b.size b.maxval_field taken
     ∙ ap (λ r. r >>= λ found. Ok (record { kind = b.kind; width = field_number b.width; height = field_number b.height; maxval = found.0 }, found.1, found.2))
-    (field_out MaxvalOutOfRange b.maxval b.white _ left _ b.rest b.maxval_field b.out b.behind (takes_second (field_rest b.maxval b.white) left b.rest)))
+    (field_out MaxvalOutOfRange b.maxval b.white _ left _ b.rest b.maxval_field b.out b.after (takes_second (field_rest b.maxval b.white) left b.rest)))
 
 -- ---- rasters
 
--- where what is behind the samples isn't read, the image isn't
+-- where what is after the samples isn't read, the image isn't
 raster_fails : (bytes rest : List ℕ) (h : Heading) (fault : NetpbmFault) → BeginsRaster bytes rest h
     → ((left : ℕ) → samples_at (is_wide (field_number h.maxval)) (field_number h.maxval) (suc left) rest ≡ Err fault) → image_at bytes ≡ Err fault
 raster_fails bytes rest h fault begins failed =
@@ -263,7 +263,7 @@ raster_fails bytes rest h fault begins failed =
     let count : ℕ = sample_count h.kind (field_number h.width) (field_number h.height) in
     let left : ℕ = count - suc (length begins.samples) in
     let more = begins.more in
-    behind_heading bytes (begins.raster ++ rest) h begins.lawful (begins.whole ∙ append_assoc (heading_bytes h) begins.raster rest)
+    after_heading bytes (begins.raster ++ rest) h begins.lawful (begins.whole ∙ append_assoc (heading_bytes h) begins.raster rest)
     ∙ ap (λ r. (r >>= λ found. Ok (picture_of (header_of h) found.0, found.1)) >>= λ found. Ok (Some found))
     (samples_pass wide (field_number h.maxval) begins.samples begins.raster rest count (suc left) begins.said begins.within (omega arith)
     ∙ ap (λ read. with_front begins.samples read) (failed left))

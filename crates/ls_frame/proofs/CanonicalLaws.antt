@@ -6,7 +6,7 @@ use Rattle.std.proofs.lemmas.Str.Parse.{IsNumeralModel, numerals_by_fold}
 use Rattle.ls_frame.specs.declared.frame.Kind.{Kind}
 use Rattle.ls_frame.specs.declared.frame.Kind.TheVariants.{Gray, Color}
 use Rattle.ls_frame.specs.Picture.{Picture, IsFrame, greatest}
-use Rattle.ls_frame.specs.Netpbm.{is_white, number_of, IsNumber, Field, IsField, field_number, magic, Heading, heading_bytes, IsHeading, most_heading, InRange, is_wide, IsSample, IsRaster, Spells}
+use Rattle.ls_frame.specs.Netpbm.{is_white, decimal_value, IsNumber, Field, IsField, field_number, magic, Heading, heading_bytes, IsHeading, most_heading, InRange, is_wide, IsSample, IsRaster, IsImageOf}
 use Rattle.ls_frame.specs.Canonical.{canonical_heading, sample_bytes, raster_bytes, canonical}
 use Rattle.ls_frame.proofs.NumberLaws.{AreDigits, followed}
 
@@ -21,7 +21,7 @@ decimal-number n small = record {
   each = digits_decimal numerals n (omega arith);
 }
 
-number-decimal : (n : ℕ) → n ≤ greatest → number_of (decimal n) ≡ n
+number-decimal : (n : ℕ) → n ≤ greatest → decimal_value (decimal n) ≡ n
 number-decimal n small = digits_value-decimal numerals n (omega arith)
 
 length-number : (n : ℕ) → n ≤ greatest → length (decimal n) ≤ 5
@@ -86,7 +86,7 @@ raster_bytes-say wide (s ∷ samples) = (sample_bytes wide s, raster_bytes wide 
 
 -- ---- the image
 
-pub canonical-spells : (f : Picture) → IsFrame f → Spells (canonical f) f
+pub canonical-spells : (f : Picture) → IsFrame f → IsImageOf (canonical f) f
 unfolding canonical
 canonical-spells f lawful = record {
   heading = heading_of f;

@@ -5,9 +5,9 @@ use Rattle.std.proofs.lemmas.Bool.{cond_both, cond-true, cond-false, eqb-true, n
 use Rattle.ls_frame.specs.declared.netpbm.NetpbmFault.{NetpbmFault}
 use Rattle.ls_frame.specs.declared.netpbm.NetpbmFault.TheVariants.{BadHeader}
 use Rattle.ls_frame.specs.Netpbm.{is_white, is_line_end, is_digit, is_hash, Blank, white, comment, IsBlank, blank_bytes, blanks_bytes}
-use Rattle.ls_frame.specs.Faults.{blank_or_digit, comment_text, Stops, too_long, ends, refuses}
-use Rattle.ls_frame.specs.Reading.{Step, gap_at}
-use Rattle.ls_frame.proofs.TakeLemmas.{Takes, takes_one, takes_cons, takes_more, takes_none, stops_cons, stops_behind}
+use Rattle.ls_frame.specs.Faults.{blank_or_digit, comment_text, BreaksOff, too_long, ends, refuses}
+use Rattle.ls_frame.specs.View.Reading.{Step, gap_at}
+use Rattle.ls_frame.proofs.TakeLemmas.{Takes, takes_one, takes_cons, takes_more, takes_none, stops_cons, stops_after}
 
 -- the characters of a comment's text
 abbrev pub IsText : List ℕ → Type 0
@@ -19,7 +19,7 @@ AreBlanks blanks = AllByRecursion IsBlank blanks
 
 -- ---- what is taken
 
--- parts of a gap, with the digit behind them found and still there
+-- parts of a gap, with the digit after them found and still there
 pub record GapRead (room : ℕ) (bytes : List ℕ) (found : ℕ × ℕ × List ℕ) : Type 0 where
   pub blanks : List Blank
   pub each : AreBlanks blanks
@@ -43,15 +43,15 @@ pub record OpenGapRead (room : ℕ) (bytes : List ℕ) (found : ℕ × ℕ × Li
 
 -- ---- where reading stops
 
--- behind parts of a gap, or in a comment behind them
+-- after parts of a gap, or in a comment after them
 pub data GapStops (room : ℕ) (bytes : List ℕ) (fault : NetpbmFault) : Type 0 where
-  among_blanks : (blanks : List Blank) → AreBlanks blanks → Stops room bytes (blanks_bytes blanks) blank_or_digit fault → GapStops room bytes fault
-  within_comment : (blanks : List Blank) (text : List ℕ) → AreBlanks blanks → IsText text → Stops room bytes (blanks_bytes blanks ++ 35 ∷ text) comment_text fault → GapStops room bytes fault
+  among_blanks : (blanks : List Blank) → AreBlanks blanks → BreaksOff room bytes (blanks_bytes blanks) blank_or_digit fault → GapStops room bytes fault
+  within_comment : (blanks : List Blank) (text : List ℕ) → AreBlanks blanks → IsText text → BreaksOff room bytes (blanks_bytes blanks ++ 35 ∷ text) comment_text fault → GapStops room bytes fault
 
--- in the open comment, or behind it
+-- in the open comment, or after it
 pub data OpenGapStops (room : ℕ) (bytes : List ℕ) (fault : NetpbmFault) : Type 0 where
-  still_inside : (text : List ℕ) → IsText text → Stops room bytes text comment_text fault → OpenGapStops room bytes fault
-  behind : (left : ℕ) (rest : List ℕ) → CommentRead room bytes left rest → GapStops left rest fault → OpenGapStops room bytes fault
+  still_inside : (text : List ℕ) → IsText text → BreaksOff room bytes text comment_text fault → OpenGapStops room bytes fault
+  after : (left : ℕ) (rest : List ℕ) → CommentRead room bytes left rest → GapStops left rest fault → OpenGapStops room bytes fault
 
 -- ---- one part more in front
 
@@ -61,18 +61,18 @@ gap_more b is taken read = record { blanks = b ∷ read.blanks; each = (is, read
 
 -- of where reading stops
 gap_stops_more : {room left : ℕ} {bytes rest : List ℕ} {fault : NetpbmFault} (b : Blank) → IsBlank b → Takes room bytes (blank_bytes b) left rest → GapStops left rest fault → GapStops room bytes fault
-gap_stops_more b is taken (among_blanks blanks each stops) = among_blanks (b ∷ blanks) (is, each) (stops_behind taken stops)
+gap_stops_more b is taken (among_blanks blanks each stops) = among_blanks (b ∷ blanks) (is, each) (stops_after taken stops)
 gap_stops_more b is taken (within_comment blanks text each those stops) =
     within_comment (b ∷ blanks) text (is, each) those
-    (rw append_assoc (stops_behind taken stops))
+    (rw append_assoc (stops_after taken stops))
 
 -- ---- one byte more in front
 
--- the digit behind a gap is left where it is
+-- the digit after a gap is left where it is
 digit_here : (room c : ℕ) (bytes : List ℕ) → IsTrue (is_digit c) → GapRead (suc room) (c ∷ bytes) (c, room, bytes)
 digit_here room c bytes digit = record { blanks = []; each = tt; digit = digit; takes = takes_none _ _ }
 
--- a character of the text, and the line end behind the text
+-- a character of the text, and the line end after the text
 comment_more : {room left : ℕ} {bytes rest : List ℕ} (c : ℕ) → IsTrue (not (is_line_end c)) → CommentRead room bytes left rest → CommentRead (suc room) (c ∷ bytes) left rest
 comment_more c is read = record { text = c ∷ read.text; end = read.end; each = (is, read.each); closes = read.closes; takes = takes_cons c read.takes }
 
@@ -94,11 +94,11 @@ hash_more c is read = gap_more (comment read.first.text read.first.end) (read.fi
 -- the same where reading stops
 open_stops_more : {room : ℕ} {bytes : List ℕ} {fault : NetpbmFault} (c : ℕ) → IsTrue (not (is_line_end c)) → OpenGapStops room bytes fault → OpenGapStops (suc room) (c ∷ bytes) fault
 open_stops_more c is (still_inside text each stops) = still_inside (c ∷ text) (is, each) (stops_cons c stops)
-open_stops_more c is (behind left rest read stops) = behind left rest (comment_more c is read) stops
+open_stops_more c is (after left rest read stops) = after left rest (comment_more c is read) stops
 
 hash_stops_more : {room : ℕ} {bytes : List ℕ} {fault : NetpbmFault} (c : ℕ) → IsTrue (is_hash c) → OpenGapStops room bytes fault → GapStops (suc room) (c ∷ bytes) fault
 hash_stops_more c is (still_inside text each stops) = let e = eqb-true c 35 is in rw e (within_comment [] text tt each (stops_cons 35 stops))
-hash_stops_more c is (behind left rest read stops) = gap_stops_more (comment read.text read.end) (read.each, read.closes) (comment_part c is read) stops
+hash_stops_more c is (after left rest read stops) = gap_stops_more (comment read.text read.end) (read.each, read.closes) (comment_part c is read) stops
 
 -- ---- what reading gives
 
@@ -122,7 +122,7 @@ none_allowed c a b d = rw (a, b, d) refl
 -- a line end closes the comment
 line_end_gives : (room c : ℕ) (bytes : List ℕ) (step : Step ℕ) → IsTrue (is_line_end c) → GapGives false room bytes step → GapGives true (suc room) (c ∷ bytes) step
 line_end_gives room c bytes (Ok found) is read = record { left = room; rest = bytes; first = comment_end room c bytes is; then = read }
-line_end_gives room c bytes (Err fault) is stops = behind room bytes (comment_end room c bytes is) stops
+line_end_gives room c bytes (Err fault) is stops = after room bytes (comment_end room c bytes is) stops
 
 -- another character goes on with it
 text_gives : (room c : ℕ) (bytes : List ℕ) (step : Step ℕ) → IsTrue (not (is_line_end c)) → GapGives true room bytes step → GapGives true (suc room) (c ∷ bytes) step
@@ -166,7 +166,7 @@ gap_outcome false (suc room) (c ∷ bytes) =
 
 -- ---- what a gap says is read
 
--- reading goes on behind a comment's text
+-- reading goes on after a comment's text
 pub comment_passes : (text bytes : List ℕ) (room left : ℕ) → IsText text → room ≡ length text + left → gap_at true room (text ++ bytes) ≡ gap_at true left bytes
 unfolding gap_at
 comment_passes [] bytes room left each is = let e : room ≡ left = omega arith in ap (λ r. gap_at true r bytes) e
@@ -174,14 +174,14 @@ comment_passes (c ∷ text) bytes zero left each is = absurd (omega arith)
 comment_passes (c ∷ text) bytes (suc room) left each is =
     cond-false (is_line_end c) _ _ (not-true _ each.0) ∙ comment_passes text bytes room left each.1 (omega arith)
 
--- and behind a whole comment
+-- and after a whole comment
 comment_ends : (text bytes : List ℕ) (end room left : ℕ) → IsText text → IsTrue (is_line_end end) → room ≡ length text + suc left
     → gap_at true room (text ++ end ∷ bytes) ≡ gap_at false left bytes
 unfolding gap_at
 comment_ends text bytes end room left each closes is =
     comment_passes text (end ∷ bytes) room (suc left) each is ∙ cond-true (is_line_end end) _ _ closes
 
--- and behind parts of a gap
+-- and after parts of a gap
 pub gap_passes : (blanks : List Blank) (bytes : List ℕ) (room left : ℕ) → AreBlanks blanks → room ≡ length (blanks_bytes blanks) + left
     → gap_at false room (blanks_bytes blanks ++ bytes) ≡ gap_at false left bytes
 unfolding gap_at
@@ -192,8 +192,8 @@ gap_passes (comment text end ∷ blanks) bytes zero left each is = absurd (omega
 gap_passes (comment text end ∷ blanks) bytes (suc room) left each is =
     let regrouped : ((text ++ end ∷ []) ++ blanks_bytes blanks) ++ bytes ≡ text ++ (end ∷ (blanks_bytes blanks ++ bytes)) = simp append_assoc in
     let size = simp length-append at is in
-    let behind : ℕ = length (blanks_bytes blanks) + left in
-    let far : room ≡ length text + suc behind = omega arith in
+    let after : ℕ = length (blanks_bytes blanks) + left in
+    let far : room ≡ length text + suc after = omega arith in
     ap (λ bs. gap_at true room bs) regrouped
-    ∙ comment_ends text (blanks_bytes blanks ++ bytes) end room behind each.0.0 each.0.1 far
-    ∙ gap_passes blanks bytes behind left each.1 refl
+    ∙ comment_ends text (blanks_bytes blanks ++ bytes) end room after each.0.0 each.0.1 far
+    ∙ gap_passes blanks bytes after left each.1 refl

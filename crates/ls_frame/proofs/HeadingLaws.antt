@@ -8,8 +8,8 @@ use Rattle.ls_frame.specs.declared.netpbm.NetpbmFault.{NetpbmFault}
 use Rattle.ls_frame.specs.declared.netpbm.NetpbmFault.TheVariants.{BadMagic, BadHeader, SizeOutOfRange, MaxvalOutOfRange}
 use Rattle.ls_frame.specs.Picture.{sample_count, most_samples}
 use Rattle.ls_frame.specs.Netpbm.{is_white, Field, field_bytes, field_number, magic, Heading, IsHeading, heading_bytes, most_heading}
-use Rattle.ls_frame.specs.Faults.{Beginning, empty, one_letter, only_magic, in_width, in_height, in_maxval, IsWidth, IsSize, IsBeginning, beginning_bytes, due, Stops, too_long, ends, refuses, StopsInHeading, BreaksWidth, BreaksHeight, BreaksMaxval}
-use Rattle.ls_frame.specs.Reading.{◌>>=◌, Step, wanted, byte_at, in_range_at, kind_of, magic_at, white_at, heading_at}
+use Rattle.ls_frame.specs.Faults.{Beginning, empty, one_letter, only_magic, in_width, in_height, in_maxval, IsWidth, IsSize, IsBeginning, beginning_bytes, due, BreaksOff, too_long, ends, refuses, StopsInHeading, BreaksWidth, BreaksHeight, BreaksMaxval}
+use Rattle.ls_frame.specs.View.Reading.{◌>>=◌, Step, wanted, byte_at, in_range_at, kind_of, magic_at, white_at, heading_at}
 use Rattle.ls_frame.proofs.TakeLemmas.{Takes, takes_one, takes_more, outcome_of_both, wanted_outcome, wanted_next_outcome}
 use Rattle.ls_frame.proofs.NumberLaws.{InRangeRead, FieldFault, field_stops, out_of_range, field_outcome}
 
@@ -30,7 +30,7 @@ height_at kind width room bytes =
 abbrev pub width_at : Kind → ℕ → List ℕ → Step Header
 width_at kind room bytes = in_range_at SizeOutOfRange room bytes >>= λ width. height_at kind width.0 width.1 width.2
 
--- the white space behind the magic, and what follows
+-- the white space after the magic, and what follows
 abbrev pub fields_at : Kind → ℕ → List ℕ → Step Header
 fields_at kind room bytes = white_at room bytes >>= λ first. width_at kind first.1 first.2
 
@@ -57,8 +57,8 @@ pub data HeadingFault (bytes : List ℕ) (fault : NetpbmFault) : Type 0 where
   of_size : BreaksWidth bytes ⊎ BreaksHeight bytes → fault ≡ SizeOutOfRange → HeadingFault bytes fault
   of_maxval : BreaksMaxval bytes → fault ≡ MaxvalOutOfRange → HeadingFault bytes fault
 
--- reading stops behind a beginning
-stops_at : {bytes : List ℕ} {fault : NetpbmFault} (b : Beginning) → 0 < length bytes → IsBeginning b → Stops most_heading bytes (beginning_bytes b) (due b) fault → HeadingFault bytes fault
+-- reading stops after a beginning
+stops_at : {bytes : List ℕ} {fault : NetpbmFault} (b : Beginning) → 0 < length bytes → IsBeginning b → BreaksOff most_heading bytes (beginning_bytes b) (due b) fault → HeadingFault bytes fault
 stops_at b some lawful stops = in_heading (record { some = some; beginning = b; lawful = lawful; stops = stops })
 
 -- the bytes that were taken with the last in one piece, and that they are few enough
@@ -81,7 +81,7 @@ maxval_read kind w h width height found size width_is height_is read = record {
     width = size.width.field;
     height = size.field;
     maxval = read.lawful;
-    last = read.behind;
+    last = read.after;
     width_range = size.width.range;
     height_range = size.range;
     few = size.few;
@@ -110,11 +110,11 @@ maxval_fault kind w h some size (out_of_range read is) = of_maxval (record {
   short = short_enough read.takes;
   size = size;
   maxval_field = read.lawful;
-  behind = read.behind;
+  after = read.after;
   out = read.out;
 }) is
 
--- behind the height
+-- after the height
 maxval_outcome : (bytes rest : List ℕ) (room : ℕ) (kind : Kind) (w h : Field) (white width height : ℕ) → 0 < length bytes → IsSize kind w h → width ≡ field_number w → height ≡ field_number h
     → IsTrue (is_white white) → Takes most_heading bytes (magic kind ++ field_bytes w ++ field_bytes h ++ white ∷ []) room rest
     → MatchResult (maxval_at kind width height room rest) (HeadingRead bytes) (HeadingFault bytes)
@@ -141,7 +141,7 @@ height_fault kind w some width (out_of_range read is) = of_size (inr (record {
   short = short_enough read.takes;
   width_passed = width;
   height_field = read.lawful;
-  behind = read.behind;
+  after = read.after;
   out = inl read.out;
 })) is
 
@@ -161,7 +161,7 @@ too_many {found = found} kind w width lawful width_is read test =
       short = short_enough read.takes;
       width_passed = lawful;
       height_field = read.lawful;
-      behind = read.behind;
+      after = read.after;
       out = inr (rw (← width_is, ← read.is) many);
     })) refl
 
@@ -172,7 +172,7 @@ size_read {found = found} kind w width lawful width_is read test =
     let few : sample_count kind width found.0 ≤ most_samples = leb-true (sample_count kind width found.0) most_samples test in
     record { width = lawful; field = read.lawful; range = read.range; few = rw (← width_is, ← read.is) few }
 
--- behind the width
+-- after the width
 height_outcome : (bytes rest : List ℕ) (room : ℕ) (kind : Kind) (w : Field) (white width : ℕ) → 0 < length bytes → IsWidth w → width ≡ field_number w
     → IsTrue (is_white white) → Takes most_heading bytes (magic kind ++ field_bytes w ++ white ∷ []) room rest
     → MatchResult (height_at kind width room rest) (HeadingRead bytes) (HeadingFault bytes)
@@ -181,7 +181,7 @@ height_outcome bytes rest room kind w white width some lawful width_is is taken 
     outcome_of_both (InRangeRead most_heading bytes before) (FieldFault most_heading bytes before SizeOutOfRange) (HeadingRead bytes) (HeadingFault bytes) (in_range_at SizeOutOfRange room rest) _
     (field_outcome SizeOutOfRange most_heading room bytes before rest white is taken)
     (λ found read. wanted_outcome (HeadingRead bytes) (HeadingFault bytes) (leb (sample_count kind width found.0) most_samples) SizeOutOfRange (maxval_at kind width found.0 found.1 found.2)
-    (λ test. maxval_outcome bytes found.2 found.1 kind w read.field read.white width found.0 some (size_read kind w width lawful width_is read test) width_is read.is read.behind read.takes)
+    (λ test. maxval_outcome bytes found.2 found.1 kind w read.field read.white width found.0 some (size_read kind w width lawful width_is read test) width_is read.is read.after read.takes)
     (λ test. too_many kind w width lawful width_is read test))
     (λ fault failed. height_fault kind w some lawful failed)
 
@@ -198,22 +198,22 @@ width_fault kind some (out_of_range read is) = of_size (inl (record {
   whole = whole_with_last _ _ read.takes;
   short = short_enough read.takes;
   width_field = read.lawful;
-  behind = read.behind;
+  after = read.after;
   out = read.out;
 })) is
 
--- behind the white space
+-- after the white space
 width_outcome : (bytes rest : List ℕ) (room : ℕ) (kind : Kind) (white : ℕ) → 0 < length bytes → IsTrue (is_white white) → Takes most_heading bytes (magic kind ++ white ∷ []) room rest
     → MatchResult (width_at kind room rest) (HeadingRead bytes) (HeadingFault bytes)
 width_outcome bytes rest room kind white some is taken =
     outcome_of_both (InRangeRead most_heading bytes (magic kind)) (FieldFault most_heading bytes (magic kind) SizeOutOfRange) (HeadingRead bytes) (HeadingFault bytes) (in_range_at SizeOutOfRange room rest) _
     (field_outcome SizeOutOfRange most_heading room bytes (magic kind) rest white is taken)
-    (λ found read. height_outcome bytes found.2 found.1 kind read.field read.white found.0 some (record { field = read.lawful; range = read.range }) read.is read.behind read.takes)
+    (λ found read. height_outcome bytes found.2 found.1 kind read.field read.white found.0 some (record { field = read.lawful; range = read.range }) read.is read.after read.takes)
     (λ fault failed. width_fault kind some failed)
 
--- ---- the magic, and the white space behind it
+-- ---- the magic, and the white space after it
 
--- behind the magic
+-- after the magic
 white_outcome : (bytes rest : List ℕ) (room : ℕ) (kind : Kind) → 0 < length bytes → Takes most_heading bytes (magic kind) room rest
     → MatchResult (fields_at kind room rest) (HeadingRead bytes) (HeadingFault bytes)
 white_outcome bytes rest zero kind some taken = let e = taken.room_is in stops_at (only_magic kind) some tt (too_long rest taken.whole (omega arith) refl)
@@ -245,7 +245,7 @@ kind_outcome first second room bytes whole p =
     (λ color. magic_taken Color first second room bytes whole (rw (p, eqb-true second 54 color) refl) refl)
     (λ not_color. stops_at one_letter (omega arith) tt (refuses second bytes (rw p refl) (omega arith) (or_from _ _ not_gray not_color) refl)))
 
--- behind the first
+-- after the first
 second_outcome : (first room : ℕ) (bytes : List ℕ) → suc room ≡ most_heading → first ≡ 80
     → MatchResult (byte_at room bytes >>= λ second. (kind_of second.0 >>= λ kind. Ok (kind, second.1, second.2))) (MagicRead (first ∷ bytes)) (HeadingFault (first ∷ bytes))
 second_outcome first zero bytes whole p = absurd (omega arith)

@@ -1,19 +1,19 @@
 -- Reading an image and its grammar say the same.
-use Rattle.std.proofs.Common.{◌≡◌, ℕ, ◌-◌, Bool, true, false, inl, inr, List, [], ◌∷◌, ◌++◌, Option, None, Some, MatchOption, MatchResult, Ok, refl, sym, ap, ◌∙◌, append_assoc}
+use Rattle.std.proofs.Common.{◌≡◌, ℕ, ◌-◌, Bool, true, false, inl, inr, List, [], ◌∷◌, ◌++◌, Option, None, Some, MatchOption, MatchResult, Ok, Err, refl, sym, ap, ◌∙◌, append_assoc}
 use Rattle.std.proofs.lemmas.Result.{MatchResult-at_ok, MatchResult-at_err}
 use Rattle.ls_frame.specs.declared.netpbm.header.Header.{Header}
 use Rattle.ls_frame.specs.declared.netpbm.NetpbmFault.{NetpbmFault}
 use Rattle.ls_frame.specs.declared.netpbm.NetpbmFault.TheVariants.{BadMagic, BadHeader, HeaderTooLong, SizeOutOfRange, MaxvalOutOfRange, SampleTooLarge, Truncated, Io, NoMemory}
 use Rattle.ls_frame.specs.Picture.{Picture, sample_count, IsFrame}
-use Rattle.ls_frame.specs.Netpbm.{heading_bytes, most_heading, is_wide, Spells}
-use Rattle.ls_frame.specs.Faults.{Due, letter, kind_digit, gap_start, blank_or_digit, comment_text, digit_or_white, fault_at, Stops, too_long, ends, refuses, StopsInHeading, BeginsRaster, EndsInRaster, ExceedsMaxval, Breaks}
-use Rattle.ls_frame.specs.Reading.{◌>>=◌, heading_at, samples_at, picture_of, raster_at, image_at}
-use Rattle.ls_frame.specs.Laws.{ReadsSpellings, SpellingsAreRead, ReadsNothingAtEnd, FaultsBreak, BreaksAreFaults}
+use Rattle.ls_frame.specs.Netpbm.{heading_bytes, most_heading, is_wide, IsImageOf, IsWholeHeading}
+use Rattle.ls_frame.specs.Faults.{Due, letter, kind_digit, gap_start, blank_or_digit, comment_text, digit_or_white, fault_at, BreaksOff, too_long, ends, refuses, StopsInHeading, BeginsRaster, EndsInRaster, ExceedsMaxval, Breaks}
+use Rattle.ls_frame.specs.View.Reading.{◌>>=◌, heading_at, samples_at, picture_of, raster_at, image_at}
+use Rattle.ls_frame.specs.View.Laws.{ReadsSpellings, SpellingsAreRead, ReadsNothingAtEnd, FaultsBreak, BreaksAreFaults}
 use Rattle.ls_frame.proofs.TakeLemmas.{outcome_of_both}
 use Rattle.ls_frame.proofs.HeadingLaws.{HeadingRead, HeadingFault, in_heading, of_size, of_maxval, heading_outcome}
 use Rattle.ls_frame.proofs.RasterLaws.{RasterRead, RasterBegun, RasterFault, ends_early, exceeds, samples_outcome, raster_read}
 use Rattle.ls_frame.proofs.BreakLaws.{stop_fails, width_fails, height_fails, maxval_fails, over_fails, short_fails}
-use Rattle.ls_frame.proofs.SpellingLaws.{header_of, behind_heading}
+use Rattle.ls_frame.proofs.SpellingLaws.{header_of, after_heading}
 
 -- ---- faults in the header
 
@@ -40,7 +40,7 @@ refusal_stops comment_text = refl
 refusal_stops digit_or_white = refl
 
 -- and so has each stop
-fault_stops : {room : ℕ} {bytes front : List ℕ} {d : Due} {fault : NetpbmFault} → Stops room bytes front d fault → stops_early fault ≡ true
+fault_stops : {room : ℕ} {bytes front : List ℕ} {d : Due} {fault : NetpbmFault} → BreaksOff room bytes front d fault → stops_early fault ≡ true
 unfolding stops_early
 fault_stops (too_long rest whole all is) = rw is refl
 fault_stops (ends whole some is) = rw is refl
@@ -67,7 +67,7 @@ heading_breaks bytes fault (of_maxval maxval is) = rw is maxval
 
 -- ---- faults in the raster
 
--- samples behind a header begin its raster
+-- samples after a header begin its raster
 raster_begins : {bytes rest : List ℕ} (found : Header × ℕ × List ℕ) (read : HeadingRead bytes found)
     → RasterBegun (is_wide found.0.maxval) found.0.maxval (sample_count found.0.kind found.0.width found.0.height) found.2 rest → BeginsRaster bytes rest read.heading
 raster_begins {rest = rest} found read begun = record {
@@ -100,9 +100,9 @@ raster_breaks {bytes = bytes} found read (exceeds next rest sample begun said ov
 
 -- ---- what is read
 
--- a spelling at the front, and what is behind it
+-- a spelling at the front, and what is after it
 abbrev PictureRead : List ℕ → Picture × List ℕ → Type 0
-PictureRead bytes found = (front : List ℕ) × (bytes ≡ front ++ found.1) × Spells front found.0
+PictureRead bytes found = (front : List ℕ) × (bytes ≡ front ++ found.1) × IsImageOf front found.0
 
 -- the picture is a frame
 picture_frame : {bytes : List ℕ} (found : Header × ℕ × List ℕ) (samples rest : List ℕ) → HeadingRead bytes found
@@ -145,7 +145,7 @@ picture_read found samples rest read raster = (
   },
 )
 
--- what is read behind a header is its raster; else the bytes break so
+-- what is read after a header is its raster; else the bytes break so
 raster_outcome : (bytes : List ℕ) (found : Header × ℕ × List ℕ) → HeadingRead bytes found → MatchResult (raster_at found.0 found.2) (PictureRead bytes) (Breaks bytes)
 raster_outcome bytes found read =
     let wide : Bool = is_wide found.0.maxval in
@@ -178,8 +178,24 @@ abbrev frame_header : Picture → Header
 frame_header f = record { kind = f.kind; width = f.width; height = f.height; maxval = f.maxval }
 
 -- the header of a spelling says the size of its picture
-heading_says : (front : List ℕ) (f : Picture) (said : Spells front f) → header_of said.heading ≡ frame_header f
+heading_says : (front : List ℕ) (f : Picture) (said : IsImageOf front f) → header_of said.heading ≡ frame_header f
 heading_says front f said = rw (said.kind, said.width, said.height, said.maxval) refl
+
+-- ---- headers
+
+-- what is read of a header is a whole legal one
+pub heading_read : (first : ℕ) (bytes : List ℕ) (found : Header × ℕ × List ℕ) → heading_at first (most_heading - 1) bytes ≡ Ok found
+    → (front : List ℕ) × (first ∷ bytes ≡ front ++ found.2) × IsWholeHeading front
+heading_read first bytes found read =
+    let all : List ℕ = first ∷ bytes in
+    let whole = MatchResult-at_ok (HeadingRead all) (HeadingFault all) found read (heading_outcome first (most_heading - 1) bytes refl) in
+    (heading_bytes whole.heading, whole.whole, (whole.heading, whole.lawful, refl))
+
+-- a header takes no memory
+pub heading_needs_no_memory : (first : ℕ) (bytes : List ℕ) → heading_at first (most_heading - 1) bytes ≡ Err NoMemory → ⊥
+heading_needs_no_memory first bytes failed =
+    let all : List ℕ = first ∷ bytes in
+    heading_breaks all NoMemory (MatchResult-at_err (HeadingRead all) (HeadingFault all) NoMemory failed (heading_outcome first (most_heading - 1) bytes refl))
 
 -- ---- the laws
 
@@ -187,7 +203,7 @@ pub spellings_are_read : SpellingsAreRead
 spellings_are_read front rest f said =
     let whole : front ++ rest ≡ heading_bytes said.heading ++ (said.raster ++ rest) =
     ap (λ bs. bs ++ rest) said.whole ∙ append_assoc (heading_bytes said.heading) said.raster rest in
-    behind_heading (front ++ rest) (said.raster ++ rest) said.heading said.lawful whole
+    after_heading (front ++ rest) (said.raster ++ rest) said.heading said.lawful whole
     ∙ ap (λ h. raster_at h (said.raster ++ rest) >>= λ found. Ok (Some found)) (heading_says front f said)
     ∙ ap (λ r. (r >>= λ found. Ok (picture_of (frame_header f) found.0, found.1)) >>= λ found. Ok (Some found))
     (raster_read (is_wide f.maxval) f.maxval (sample_count f.kind f.width f.height) f.samples said.raster rest said.samples said.frame.each said.frame.count)

@@ -1,8 +1,6 @@
 pub mod BreakLaws
 pub mod CanonicalLaws
-pub mod EngineLemmas
 pub mod ExponentLemmas
-pub mod FilmLemmas
 pub mod GapLaws
 pub mod HeadingLaws
 pub mod ImageLaws

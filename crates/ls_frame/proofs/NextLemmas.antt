@@ -2,10 +2,11 @@
 use Rattle.std.proofs.Common.{◌≡◌, ℕ, List, [], ◌++◌, Option, None, Some, Result, Ok, Err, IfOk, IfErr, IfSome, IfNone, IsTrue, refl, sym, ap, ◌∙◌, append-nil}
 use Rattle.ls_frame.specs.declared.netpbm.NetpbmFault.{NetpbmFault}
 use Rattle.ls_frame.specs.Picture.{Picture}
-use Rattle.ls_frame.specs.Netpbm.{Spells, NoImage}
-use Rattle.ls_frame.specs.Faults.{Breaks, blames_bytes}
-use Rattle.ls_frame.specs.Film.{Tells, Gave, WasAtEnd, IsBroken}
-use Rattle.ls_frame.specs.Reading.{known, image_at, GivesImage}
+use Rattle.ls_frame.specs.Netpbm.{IsImageOf, NoImage}
+use Rattle.ls_frame.specs.Faults.{Breaks, IsBroken, blames_bytes}
+use Rattle.ls_frame.specs.View.Known.{Tells, Gave, WasAtEnd}
+use Rattle.ls_frame.specs.View.Known.{known}
+use Rattle.ls_frame.specs.View.Reading.{image_at, GivesImage}
 use Rattle.ls_frame.proofs.ImageLaws.{reads_spellings, spellings_are_read, reads_nothing_at_end, faults_break, breaks_are_faults}
 
 -- bytes that aren't read begin with no image
@@ -18,7 +19,7 @@ pub is_broken : (bytes : List ℕ) (fault : NetpbmFault) → image_at bytes ≡ 
 is_broken bytes fault failed = record { breaks = faults_break bytes fault failed; no_image = no_image-from_fault bytes fault failed }
 
 pub next-frame : (old new : Option (List ℕ)) (r : Result (Option Picture) NetpbmFault) → GivesImage old new r
-    → IfOk r (λ next. IfSome next (λ f. Gave old new (λ image. Spells image f)))
+    → IfOk r (λ next. IfSome next (λ f. Gave old new (λ image. IsImageOf image f)))
 next-frame old new (Err fault) read = tt
 next-frame old new (Ok None) read = tt
 next-frame old new (Ok (Some f)) read = λ told.
@@ -45,17 +46,17 @@ found_parts {A} {B} f g rest rest' same =
     (ap (λ (p : A × B). p.0) pair, ap (λ (p : A × B). p.1) pair)
 
 -- two images at the front of the same bytes are one
-same_front : (front rest front' rest' : List ℕ) (f g : Picture) → Spells front f → Spells front' g → front ++ rest ≡ front' ++ rest' → (f ≡ g) × (rest ≡ rest')
+same_front : (front rest front' rest' : List ℕ) (f g : Picture) → IsImageOf front f → IsImageOf front' g → front ++ rest ≡ front' ++ rest' → (f ≡ g) × (rest ≡ rest')
 same_front front rest front' rest' f g spelled spelled' whole =
     let one = spellings_are_read front rest f spelled in
     let other = spellings_are_read front' rest' g spelled' in
     let same : ◌≡◌ {A = Result (Option (Picture × List ℕ)) NetpbmFault} (Ok (Some (f, rest))) (Ok (Some (g, rest'))) = sym one ∙ ap image_at whole ∙ other in
     found_parts f g rest rest' same
 
-pub begins_none : (front rest : List ℕ) (f g : Picture) → Spells front f → Spells (front ++ rest) g → rest ≡ []
+pub begins_none : (front rest : List ℕ) (f g : Picture) → IsImageOf front f → IsImageOf (front ++ rest) g → rest ≡ []
 begins_none front rest f g spelled spelled' = (same_front front rest (front ++ rest) [] f g spelled spelled' (sym (append-nil (front ++ rest)))).1
 
-pub one_frame : (bytes : List ℕ) (f g : Picture) → Spells bytes f → Spells bytes g → f ≡ g
+pub one_frame : (bytes : List ℕ) (f g : Picture) → IsImageOf bytes f → IsImageOf bytes g → f ≡ g
 one_frame bytes f g spelled spelled' = (same_front bytes [] bytes [] f g spelled spelled' refl).0
 
 pub one_way : (bytes : List ℕ) (fault other : NetpbmFault) → Breaks bytes fault → Breaks bytes other → fault ≡ other

@@ -5,10 +5,10 @@ use Rattle.std.proofs.lemmas.Bool.{cond_both, cond-true, leb-true, ltb-true, leb
 use Rattle.ls_frame.specs.declared.netpbm.NetpbmFault.{NetpbmFault}
 use Rattle.ls_frame.specs.declared.netpbm.NetpbmFault.TheVariants.{BadHeader}
 use Rattle.ls_frame.specs.Picture.{greatest}
-use Rattle.ls_frame.specs.Netpbm.{is_white, is_digit, Gap, gap_bytes, blanks_bytes, number_of, Field, IsField, field_bytes, field_number, InRange}
-use Rattle.ls_frame.specs.Faults.{digit_or_white, Start, gap, open_comment, digits, IsStart, start_bytes, start_due, Stops, too_long, ends, refuses}
-use Rattle.ls_frame.specs.Reading.{◌>>=◌, Step, more, digits_at, gap_at, number_at, in_range, in_range_at}
-use Rattle.ls_frame.proofs.TakeLemmas.{Takes, takes_one, takes_cons, takes_more, takes_as, stops_cons, stops_behind, stops_as, outcome_weaker, outcome_of_both}
+use Rattle.ls_frame.specs.Netpbm.{is_white, is_digit, Gap, gap_bytes, blanks_bytes, decimal_value, Field, IsField, field_bytes, field_number, InRange}
+use Rattle.ls_frame.specs.Faults.{digit_or_white, Start, gap, open_comment, digits, IsStart, start_bytes, start_due, BreaksOff, too_long, ends, refuses}
+use Rattle.ls_frame.specs.View.Reading.{◌>>=◌, Step, with_digit, digits_at, gap_at, number_at, in_range, in_range_at}
+use Rattle.ls_frame.proofs.TakeLemmas.{Takes, takes_one, takes_cons, takes_more, takes_as, stops_cons, stops_after, stops_as, outcome_weaker, outcome_of_both}
 use Rattle.ls_frame.proofs.GapLaws.{GapRead, GapStops, among_blanks, within_comment, gap_outcome}
 
 -- each is a digit
@@ -23,7 +23,7 @@ followed n ds = fold (λ n digit. 10 * n + (digit - 48)) n ds
 
 -- the same, capped at each digit
 abbrev pub followed_capped : ℕ → List ℕ → ℕ
-followed_capped n ds = fold more n ds
+followed_capped n ds = fold with_digit n ds
 
 -- from 65536 on numbers are one
 abbrev pub capped : ℕ → ℕ
@@ -32,24 +32,24 @@ capped n = min n (greatest + 1)
 -- a number capped digit by digit is the number capped
 pub capped_at_end : (ds : List ℕ) (m n : ℕ) → m ≡ capped n → followed_capped m ds ≡ capped (followed n ds)
 capped_at_end [] m n is = is
-capped_at_end (d ∷ ds) m n is = capped_at_end ds (more m d) (10 * n + (d - 48)) (omega arith)
+capped_at_end (d ∷ ds) m n is = capped_at_end ds (with_digit m d) (10 * n + (d - 48)) (omega arith)
 
 -- no digit is above `9`
 pub digit_most : (c : ℕ) → IsTrue (is_digit c) → c ≤ 57
 digit_most c is = leb-true c 57 (and_parts (leb 48 c) (leb c 57) is).1
 
 -- a first digit and more of them
-pub capped_number : (d : ℕ) (ds : List ℕ) → IsTrue (is_digit d) → followed_capped (d - 48) ds ≡ capped (number_of (d ∷ ds))
+pub capped_number : (d : ℕ) (ds : List ℕ) → IsTrue (is_digit d) → followed_capped (d - 48) ds ≡ capped (decimal_value (d ∷ ds))
 capped_number d ds is = let small = digit_most d is in capped_at_end ds (d - 48) (10 * 0 + (d - 48)) (omega arith)
 
 -- ---- digits
 
--- digits behind those that made n, and the white space behind them
+-- digits after those that made n, and the white space after them
 pub record DigitsRead (n room : ℕ) (bytes : List ℕ) (found : ℕ × ℕ × List ℕ) : Type 0 where
   pub ds : List ℕ
   pub white : ℕ
   pub each : AreDigits ds
-  pub behind : IsTrue (is_white white)
+  pub after : IsTrue (is_white white)
   pub takes : Takes room bytes (ds ++ white ∷ []) found.1 found.2
   pub is : found.0 ≡ followed_capped n ds
 
@@ -57,18 +57,18 @@ pub record DigitsRead (n room : ℕ) (bytes : List ℕ) (found : ℕ × ℕ × L
 pub record DigitsStop (room : ℕ) (bytes : List ℕ) (fault : NetpbmFault) : Type 0 where
   pub ds : List ℕ
   pub each : AreDigits ds
-  pub stops : Stops room bytes ds digit_or_white fault
+  pub stops : BreaksOff room bytes ds digit_or_white fault
 
 -- one digit more in front
-digits_more : {n room : ℕ} {bytes : List ℕ} {found : ℕ × ℕ × List ℕ} (c : ℕ) → IsTrue (is_digit c) → DigitsRead (more n c) room bytes found → DigitsRead n (suc room) (c ∷ bytes) found
-digits_more c is read = record { ds = c ∷ read.ds; white = read.white; each = (is, read.each); behind = read.behind; takes = takes_cons c read.takes; is = read.is }
+digits_more : {n room : ℕ} {bytes : List ℕ} {found : ℕ × ℕ × List ℕ} (c : ℕ) → IsTrue (is_digit c) → DigitsRead (with_digit n c) room bytes found → DigitsRead n (suc room) (c ∷ bytes) found
+digits_more c is read = record { ds = c ∷ read.ds; white = read.white; each = (is, read.each); after = read.after; takes = takes_cons c read.takes; is = read.is }
 
 digits_stop_more : {room : ℕ} {bytes : List ℕ} {fault : NetpbmFault} (c : ℕ) → IsTrue (is_digit c) → DigitsStop room bytes fault → DigitsStop (suc room) (c ∷ bytes) fault
 digits_stop_more c is stop = record { ds = c ∷ stop.ds; each = (is, stop.each); stops = stops_cons c stop.stops }
 
 -- no digits
 white_here : (n room c : ℕ) (bytes : List ℕ) → IsTrue (is_white c) → DigitsRead n (suc room) (c ∷ bytes) (n, room, bytes)
-white_here n room c bytes is = record { ds = []; white = c; each = tt; behind = is; takes = takes_one c room bytes; is = refl }
+white_here n room c bytes is = record { ds = []; white = c; each = tt; after = is; takes = takes_one c room bytes; is = refl }
 
 -- a byte that neither test takes is refused
 neither : (c : ℕ) → is_digit c ≡ false → is_white c ≡ false → (is_digit c || is_white c) ≡ false
@@ -79,7 +79,7 @@ abbrev pub DigitsGive : ℕ → ℕ → List ℕ → Step ℕ → Type 0
 DigitsGive n room bytes step = MatchResult step (DigitsRead n room bytes) (DigitsStop room bytes)
 
 -- a digit is one of the number
-digit_gives : (n room c : ℕ) (bytes : List ℕ) (step : Step ℕ) → IsTrue (is_digit c) → DigitsGive (more n c) room bytes step → DigitsGive n (suc room) (c ∷ bytes) step
+digit_gives : (n room c : ℕ) (bytes : List ℕ) (step : Step ℕ) → IsTrue (is_digit c) → DigitsGive (with_digit n c) room bytes step → DigitsGive n (suc room) (c ∷ bytes) step
 digit_gives n room c bytes (Ok found) is read = digits_more c is read
 digit_gives n room c bytes (Err fault) is stop = digits_stop_more c is stop
 
@@ -96,25 +96,25 @@ unfolding digits_at
 digits_outcome n zero bytes = record { ds = []; each = tt; stops = too_long bytes refl refl refl }
 digits_outcome n (suc room) [] = record { ds = []; each = tt; stops = ends refl (omega arith) refl }
 digits_outcome n (suc room) (c ∷ bytes) =
-    cond_both (is_digit c) (digits_at (more n c) room bytes) _ (DigitsGive n (suc room) (c ∷ bytes))
-    (λ is. digit_gives n room c bytes (digits_at (more n c) room bytes) is (digits_outcome (more n c) room bytes))
+    cond_both (is_digit c) (digits_at (with_digit n c) room bytes) _ (DigitsGive n (suc room) (c ∷ bytes))
+    (λ is. digit_gives n room c bytes (digits_at (with_digit n c) room bytes) is (digits_outcome (with_digit n c) room bytes))
     (λ no_digit. white_gives n room c bytes no_digit)
 
--- reading goes on behind digits
+-- reading goes on after digits
 pub digits_pass : (ds bytes : List ℕ) (n room left : ℕ) → AreDigits ds → room ≡ length ds + left → digits_at n room (ds ++ bytes) ≡ digits_at (followed_capped n ds) left bytes
 unfolding digits_at
 digits_pass [] bytes n room left each is = let e : room ≡ left = omega arith in ap (λ r. digits_at n r bytes) e
 digits_pass (c ∷ ds) bytes n zero left each is = absurd (omega arith)
-digits_pass (c ∷ ds) bytes n (suc room) left each is = cond-true (is_digit c) _ _ each.0 ∙ digits_pass ds bytes (more n c) room left each.1 (omega arith)
+digits_pass (c ∷ ds) bytes n (suc room) left each is = cond-true (is_digit c) _ _ each.0 ∙ digits_pass ds bytes (with_digit n c) room left each.1 (omega arith)
 
--- ---- a field, behind the white space that begins its gap
+-- ---- a field, after the white space that begins its gap
 
--- `before` and a field were taken, and the white space behind
+-- `before` and a field were taken, and the white space after
 pub record FieldRead (room : ℕ) (bytes before : List ℕ) (found : ℕ × ℕ × List ℕ) : Type 0 where
   pub field : Field
   pub white : ℕ
   pub lawful : IsField field
-  pub behind : IsTrue (is_white white)
+  pub after : IsTrue (is_white white)
   pub takes : Takes room bytes (before ++ field_bytes field ++ white ∷ []) found.1 found.2
   pub is : found.0 ≡ capped (field_number field)
 
@@ -122,7 +122,7 @@ pub record FieldRead (room : ℕ) (bytes before : List ℕ) (found : ℕ × ℕ 
 pub record FieldStops (room : ℕ) (bytes before : List ℕ) (fault : NetpbmFault) : Type 0 where
   pub start : Start
   pub lawful : IsStart start
-  pub stops : Stops room bytes (before ++ start_bytes start) (start_due start) fault
+  pub stops : BreaksOff room bytes (before ++ start_bytes start) (start_due start) fault
 
 -- a gap and digits are a field
 field_read : {room between : ℕ} {bytes before middle : List ℕ} (w : ℕ) (found second : ℕ × ℕ × List ℕ) → IsTrue (is_white w) → Takes room bytes (before ++ w ∷ []) between middle
@@ -135,7 +135,7 @@ field_read {before = before} w found second white taken read number =
       field = f;
       white = number.white;
       lawful = record { gap = record { first = white; blanks = read.each }; digits = record { some = omega arith; each = (read.digit, number.each) } };
-      behind = number.behind;
+      after = number.after;
       takes = takes_as (takes_more (takes_more taken read.takes) (takes_cons found.0 number.takes)) same;
       is = number.is ∙ capped_number found.0 number.ds read.digit;
     }
@@ -146,11 +146,11 @@ gap_stops : {room between : ℕ} {bytes before middle : List ℕ} {fault : Netpb
 gap_stops {before = before} w is taken (among_blanks blanks each stops) =
     let g : Gap = record { first = w; blanks = blanks } in
     let same : (before ++ w ∷ []) ++ blanks_bytes blanks ≡ before ++ gap_bytes g = simp append_assoc in
-    record { start = gap g; lawful = record { first = is; blanks = each }; stops = stops_as (stops_behind taken stops) same }
+    record { start = gap g; lawful = record { first = is; blanks = each }; stops = stops_as (stops_after taken stops) same }
 gap_stops {before = before} w is taken (within_comment blanks text each those stops) =
     let g : Gap = record { first = w; blanks = blanks } in
     let same : (before ++ w ∷ []) ++ (blanks_bytes blanks ++ 35 ∷ text) ≡ before ++ (gap_bytes g ++ 35 ∷ text) = simp append_assoc in
-    record { start = open_comment g text; lawful = (record { first = is; blanks = each }, those); stops = stops_as (stops_behind taken stops) same }
+    record { start = open_comment g text; lawful = (record { first = is; blanks = each }, those); stops = stops_as (stops_after taken stops) same }
 
 -- and where it stops in the digits
 digits_stop : {room between : ℕ} {bytes before middle : List ℕ} {fault : NetpbmFault} (w : ℕ) (found : ℕ × ℕ × List ℕ) → IsTrue (is_white w) → Takes room bytes (before ++ w ∷ []) between middle
@@ -161,7 +161,7 @@ digits_stop {before = before} w found white taken read stop =
     record {
       start = digits g (found.0 ∷ stop.ds);
       lawful = (record { first = white; blanks = read.each }, record { some = omega arith; each = (read.digit, stop.each) });
-      stops = stops_as (stops_behind (takes_more taken read.takes) (stops_cons found.0 stop.stops)) same;
+      stops = stops_as (stops_after (takes_more taken read.takes) (stops_cons found.0 stop.stops)) same;
     }
 
 -- what is read is a field, and where it fails it stops
@@ -197,13 +197,13 @@ out_of_range_if n m is test range = elim (and_cases (ltb 0 n) (leb n greatest) t
   | inr over ↦ let e : greatest < n = leb-false n greatest over in absurd (omega arith)
 ]
 
--- `before` and a field with its number from 1 to 65535 were taken, and the white space behind
+-- `before` and a field with its number from 1 to 65535 were taken, and the white space after
 pub record InRangeRead (room : ℕ) (bytes before : List ℕ) (found : ℕ × ℕ × List ℕ) : Type 0 where
   pub field : Field
   pub white : ℕ
   pub lawful : IsField field
   pub range : InRange (field_number field)
-  pub behind : IsTrue (is_white white)
+  pub after : IsTrue (is_white white)
   pub takes : Takes room bytes (before ++ field_bytes field ++ white ∷ []) found.1 found.2
   pub is : found.0 ≡ field_number field
 
@@ -215,7 +215,7 @@ pub record OutOfRange (room : ℕ) (bytes before : List ℕ) : Type 0 where
   pub rest : List ℕ
   pub lawful : IsField field
   pub out : ¬ InRange (field_number field)
-  pub behind : IsTrue (is_white white)
+  pub after : IsTrue (is_white white)
   pub takes : Takes room bytes (before ++ field_bytes field ++ white ∷ []) left rest
 
 -- how a field fails
@@ -230,7 +230,7 @@ in_range_read {found = found} read range = record {
   white = read.white;
   lawful = read.lawful;
   range = range;
-  behind = read.behind;
+  after = read.after;
   takes = read.takes;
   is = same_in_range found.0 (field_number read.field) read.is range;
 }
@@ -243,11 +243,11 @@ out_of_range_read {found = found} read out = record {
   rest = found.2;
   lawful = read.lawful;
   out = out;
-  behind = read.behind;
+  after = read.after;
   takes = read.takes;
 }
 
--- the test behind the number
+-- the test after the number
 ranged : (range_fault : NetpbmFault) (room : ℕ) (bytes before : List ℕ) (found : ℕ × ℕ × List ℕ) → FieldRead room bytes before found
     → MatchResult (in_range range_fault found.0 >>= λ n. Ok (n, found.1, found.2)) (InRangeRead room bytes before) (FieldFault room bytes before range_fault)
 ranged range_fault room bytes before found read =

@@ -1,4 +1,4 @@
--- Pieces of a text that go out one behind the other, and the bytes of samples in pieces.
+-- Pieces of a text that go out one after the other, and the bytes of samples in pieces.
 use Rattle.std.proofs.Common.{◌≡◌, ℕ, ◌+◌, ◌-◌, ◌*◌, ◌/◌, ◌%◌, ◌<◌, ◌≤◌, Bool, true, false, List, [], ◌∷◌, ◌++◌, length, take, drop, get_or, set, Option, refl, sym, ap, subst, ◌∙◌, arith, append_assoc, append-nil}
 use Rattle.std.proofs.KnownBytes.{Appends-trans}
 use Rattle.std.proofs.Math.Seq.{take-append-add, take-add}
@@ -9,7 +9,7 @@ use Rattle.std.specs.List.{AllByRecursion}
 use Rattle.std.specs.Io.KnownBytes.{Appends}
 use Rattle.ls_frame.specs.Picture.{Picture, IsFrame}
 use Rattle.ls_frame.specs.Netpbm.{is_wide}
-use Rattle.ls_frame.specs.Reading.{byte_count}
+use Rattle.ls_frame.specs.View.Reading.{byte_count}
 use Rattle.ls_frame.specs.Canonical.{canonical_heading, sample_bytes, raster_bytes, canonical}
 
 -- ---- the bytes of samples
@@ -45,7 +45,7 @@ raster_bytes-more wide samples i within =
     ∙ raster_bytes-append wide (take i samples) (get_or samples i 0 ∷ [])
     ∙ ap (λ bs. raster_bytes wide (take i samples) ++ bs) (raster_bytes-one wide (get_or samples i 0))
 
--- laid behind those before
+-- laid after those before
 pub wide-more : (piece samples : List ℕ) (i : ℕ) → i < length samples → 2 * length samples ≤ length piece → take (2 * i) piece ≡ raster_bytes true (take i samples)
     → take (2 * (i + 1)) (set (set piece (2 * i) (get_or samples i 0 / 256)) (2 * i + 1) (get_or samples i 0 % 256)) ≡ raster_bytes true (take (i + 1) samples)
 wide-more piece samples i within room before =
@@ -85,19 +85,19 @@ samples-more wide samples piece done end order is =
     ∙ raster_bytes-append wide (take done samples) (part samples done end)
     ∙ ap (λ bs. raster_bytes wide (take done samples) ++ bs) (sym is)
 
--- and those behind it
-abbrev behind : Bool → List ℕ → ℕ → ℕ → List ℕ
-behind wide samples done end = raster_bytes wide (drop (end - done) (drop done samples))
+-- and those after it
+abbrev after : Bool → List ℕ → ℕ → ℕ → List ℕ
+after wide samples done end = raster_bytes wide (drop (end - done) (drop done samples))
 
 samples-split : (wide : Bool) (samples piece : List ℕ) (done end : ℕ) → piece ≡ raster_bytes wide (part samples done end)
-    → raster_bytes wide samples ≡ raster_bytes wide (take done samples) ++ (piece ++ behind wide samples done end)
+    → raster_bytes wide samples ≡ raster_bytes wide (take done samples) ++ (piece ++ after wide samples done end)
 samples-split wide samples piece done end is =
     let rest = drop done samples in
     ap (raster_bytes wide) (sym (take-append-drop done samples))
     ∙ raster_bytes-append wide (take done samples) rest
     ∙ ap (λ s. raster_bytes wide (take done samples) ++ raster_bytes wide s) (sym (take-append-drop (end - done) rest))
     ∙ ap (λ bs. raster_bytes wide (take done samples) ++ bs) (raster_bytes-append wide (part samples done end) (drop (end - done) rest))
-    ∙ ap (λ bs. raster_bytes wide (take done samples) ++ (bs ++ behind wide samples done end)) (sym is)
+    ∙ ap (λ bs. raster_bytes wide (take done samples) ++ (bs ++ after wide samples done end)) (sym is)
 
 -- no more than all
 pub samples-few : (wide : Bool) (samples piece : List ℕ) (done end : ℕ) → piece ≡ raster_bytes wide (part samples done end)
@@ -105,11 +105,11 @@ pub samples-few : (wide : Bool) (samples piece : List ℕ) (done end : ℕ) → 
 samples-few wide samples piece done end is =
     let front = raster_bytes wide (take done samples) in
     let all = ap length (samples-split wide samples piece done end is) in
-    omega (arith, all, length-append front (piece ++ behind wide samples done end), length-append piece (behind wide samples done end))
+    omega (arith, all, length-append front (piece ++ after wide samples done end), length-append piece (after wide samples done end))
 
 -- ---- pieces
 
--- a piece went out in part, behind others
+-- a piece went out in part, after others
 pub appends-part : (a b c : Option (List ℕ)) (front piece rest : List ℕ) (before mid written : ℕ) → mid ≡ before + length front → mid ≤ written → written < mid + length piece
     → Appends a b front → Appends b c (take (written - mid) piece) → Appends a c (take (written - before) (front ++ (piece ++ rest)))
 appends-part a b c front piece rest before mid written is low part out more =
@@ -126,7 +126,7 @@ pub samples-part : (wide : Bool) (samples piece : List ℕ) (done end : ℕ) (a 
     → Appends a b (raster_bytes wide (take done samples)) → Appends b c (take (written - mid) piece) → Appends a c (take (written - before) (raster_bytes wide samples))
 samples-part wide samples piece done end a b c before mid written is count low less out more =
     rw (samples-split wide samples piece done end is)
-    (appends-part a b c (raster_bytes wide (take done samples)) piece (behind wide samples done end) before mid written count low less out more)
+    (appends-part a b c (raster_bytes wide (take done samples)) piece (after wide samples done end) before mid written count low less out more)
 
 -- ---- a text of two pieces
 

@@ -6,7 +6,7 @@ use Rattle.ls_frame.specs.declared.netpbm.NetpbmFault.{NetpbmFault}
 use Rattle.ls_frame.specs.declared.netpbm.NetpbmFault.TheVariants.{SampleTooLarge, Truncated}
 use Rattle.ls_frame.specs.Netpbm.{IsSample, IsRaster}
 use Rattle.ls_frame.specs.Faults.{sample_size}
-use Rattle.ls_frame.specs.Reading.{◌>>=◌, sample_at, within, with_front, samples_at}
+use Rattle.ls_frame.specs.View.Reading.{◌>>=◌, sample_at, within, with_front, samples_at}
 use Rattle.ls_frame.proofs.TakeLemmas.{outcome_of_both}
 use Rattle.ls_frame.proofs.RasterLemmas.{with_front-nil, with_front-all}
 
@@ -22,7 +22,7 @@ pub record SampleRead (wide : Bool) (bytes : List ℕ) (found : ℕ × List ℕ)
   pub whole : bytes ≡ first ++ found.1
   pub said : IsSample wide first found.0
 
--- so many samples within maxval, and what is behind them
+-- so many samples within maxval, and what is after them
 pub record RasterRead (wide : Bool) (maxval count : ℕ) (bytes : List ℕ) (found : List ℕ × List ℕ) : Type 0 where
   pub raster : List ℕ
   pub whole : bytes ≡ raster ++ found.1
@@ -30,7 +30,7 @@ pub record RasterRead (wide : Bool) (maxval count : ℕ) (bytes : List ℕ) (fou
   pub each : AreWithin maxval found.0
   pub all : length found.0 ≡ count
 
--- fewer samples within maxval, and what is behind them
+-- fewer samples within maxval, and what is after them
 pub record RasterBegun (wide : Bool) (maxval count : ℕ) (bytes rest : List ℕ) : Type 0 where
   pub raster : List ℕ
   pub samples : List ℕ
@@ -67,7 +67,7 @@ begun_none wide maxval count bytes = record { raster = []; samples = []; whole =
 whole_more : {bytes middle : List ℕ} (first raster rest : List ℕ) → bytes ≡ first ++ middle → middle ≡ raster ++ rest → bytes ≡ (first ++ raster) ++ rest
 whole_more first raster rest a b = a ∙ ap (λ bs. first ++ bs) b ∙ sym (append_assoc first raster rest)
 
--- behind it begins the raster
+-- after it begins the raster
 begun_more : {wide : Bool} {maxval count : ℕ} {bytes rest : List ℕ} (found : ℕ × List ℕ) → SampleRead wide bytes found → found.0 ≤ maxval → RasterBegun wide maxval count found.1 rest
     → RasterBegun wide maxval (suc count) bytes rest
 begun_more found read is begun = record {
@@ -80,9 +80,9 @@ begun_more found read is begun = record {
 }
 
 -- or ends
-read_more : {wide : Bool} {maxval count : ℕ} {bytes : List ℕ} (found : ℕ × List ℕ) (behind : List ℕ × List ℕ) → SampleRead wide bytes found → found.0 ≤ maxval → RasterRead wide maxval count found.1 behind
-    → RasterRead wide maxval (suc count) bytes (found.0 ∷ behind.0, behind.1)
-read_more found behind read is more = record {
+read_more : {wide : Bool} {maxval count : ℕ} {bytes : List ℕ} (found : ℕ × List ℕ) (after : List ℕ × List ℕ) → SampleRead wide bytes found → found.0 ≤ maxval → RasterRead wide maxval count found.1 after
+    → RasterRead wide maxval (suc count) bytes (found.0 ∷ after.0, after.1)
+read_more found after read is more = record {
   raster = read.first ++ more.raster;
   whole = whole_more read.first more.raster _ read.whole more.whole;
   said = (read.first, more.raster, refl, read.said, more.said);
@@ -103,17 +103,17 @@ exceeds_here {wide = wide} {maxval = maxval} {bytes = bytes} count found read ov
 
 -- ---- what reading gives
 
--- the test of a sample, and the samples behind it
-behind_sample : (wide : Bool) (maxval count : ℕ) (bytes : List ℕ) (found : ℕ × List ℕ) → SampleRead wide bytes found
+-- the test of a sample, and the samples after it
+after_sample : (wide : Bool) (maxval count : ℕ) (bytes : List ℕ) (found : ℕ × List ℕ) → SampleRead wide bytes found
     → MatchResult (samples_at wide maxval count found.1) (RasterRead wide maxval count found.1) (RasterFault wide maxval count found.1)
     → MatchResult (within maxval found.0 >>= λ s. with_front (s ∷ []) (samples_at wide maxval count found.1)) (RasterRead wide maxval (suc count) bytes) (RasterFault wide maxval (suc count) bytes)
-behind_sample wide maxval count bytes found read outcome =
+after_sample wide maxval count bytes found read outcome =
     let P = RasterRead wide maxval (suc count) bytes in
     let Q = RasterFault wide maxval (suc count) bytes in
     cond_both (leb found.0 maxval) (Ok found.0) (Err SampleTooLarge) (λ r. MatchResult (r >>= λ s. with_front (s ∷ []) (samples_at wide maxval count found.1)) P Q)
-    (λ test. outcome_of_both (RasterRead wide maxval count found.1) (RasterFault wide maxval count found.1) P Q (samples_at wide maxval count found.1) (λ behind. Ok (found.0 ∷ behind.0, behind.1))
+    (λ test. outcome_of_both (RasterRead wide maxval count found.1) (RasterFault wide maxval count found.1) P Q (samples_at wide maxval count found.1) (λ after. Ok (found.0 ∷ after.0, after.1))
     outcome
-    (λ behind more. read_more found behind read (leb-true found.0 maxval test) more)
+    (λ after more. read_more found after read (leb-true found.0 maxval test) more)
     (λ fault failed. fault_more found read (leb-true found.0 maxval test) failed))
     (λ test. exceeds_here count found read (leb-false found.0 maxval test))
 
@@ -124,7 +124,7 @@ samples_outcome wide maxval zero bytes = record { raster = []; whole = refl; sai
 samples_outcome wide maxval (suc count) bytes =
     outcome_of_both (SampleRead wide bytes) (EndsInSample wide bytes) (RasterRead wide maxval (suc count) bytes) (RasterFault wide maxval (suc count) bytes) (sample_at wide bytes) _
     (sample_outcome wide bytes)
-    (λ found read. behind_sample wide maxval count bytes found read (samples_outcome wide maxval count found.1))
+    (λ found read. after_sample wide maxval count bytes found read (samples_outcome wide maxval count found.1))
     (λ fault ends. ends_early bytes (begun_none wide maxval count bytes) ends.0 ends.1)
 
 -- ---- what a raster says is read
@@ -159,7 +159,7 @@ pub sample_short : (wide : Bool) (maxval count : ℕ) (bytes : List ℕ) → len
 unfolding samples_at
 sample_short wide maxval count bytes short = rw (short_sample wide bytes short) refl
 
--- reading goes on behind samples within maxval
+-- reading goes on after samples within maxval
 pub samples_pass : (wide : Bool) (maxval : ℕ) (samples raster bytes : List ℕ) (count left : ℕ) → IsRaster wide raster samples → AreWithin maxval samples → count ≡ length samples + left
     → samples_at wide maxval count (raster ++ bytes) ≡ with_front samples (samples_at wide maxval left bytes)
 samples_pass wide maxval [] raster bytes count left said each all =

@@ -1,12 +1,13 @@
 -- Samples in the bytes of a raster.
 use Rattle.std.proofs.Common.{◌≡◌, ℕ, zero, suc, ◌+◌, ◌-◌, ◌*◌, ◌/◌, ◌%◌, ◌&&◌, cond, leb, get_or, set, ◌⊎◌, inl, inr, Ok, Err, take, ◌<◌, ◌≤◌, Bool, true, false, List, [], ◌∷◌, ◌++◌, length, drop, refl, sym, ap, ◌∙◌, min, arith, append_assoc, append-nil}
+use Rattle.std.proofs.Math.Seq.{take-add}
 use Rattle.std.proofs.lemmas.List.{drop-drop, length-drop, length-take, length-take-le, length-append, get_or-take, take_more_set}
 use Rattle.std.proofs.lemmas.Bool.{and_parts, and_from, leb-true}
 use Rattle.std.specs.List.{AllByRecursion}
 use Rattle.byteorder.specs.Endian.{big_number}
 use Rattle.ls_frame.specs.declared.netpbm.NetpbmFault.TheVariants.{SampleTooLarge, Truncated}
 use Rattle.ls_frame.specs.Faults.{sample_size}
-use Rattle.ls_frame.specs.Reading.{◌>>=◌, Take, samples_of, begun_of, byte_count, are_within, within, with_front, samples_at}
+use Rattle.ls_frame.specs.View.Reading.{◌>>=◌, Take, samples_of, begun_of, byte_count, are_within, within, with_front, samples_at}
 
 -- ---- pairs of bytes
 
@@ -27,11 +28,11 @@ pub samples_of-more : (front bytes all : List ℕ) (i sample : ℕ) → front ++
     → sample ≡ big_number 2 (drop (2 * i) bytes) → (front ++ sample ∷ []) ++ samples_of true (drop (2 * (i + 1)) bytes) ≡ all
 samples_of-more front bytes all i sample said more is =
     let left : 2 ≤ length (drop (2 * i) bytes) = simp length-drop (omega arith) in
-    let behind : drop 2 (drop (2 * i) bytes) ≡ drop (2 * (i + 1)) bytes =
+    let after : drop 2 (drop (2 * i) bytes) ≡ drop (2 * (i + 1)) bytes =
     drop-drop 2 (2 * i) bytes ∙ (let same : 2 * i + 2 ≡ 2 * (i + 1) = omega arith in ap (λ n. drop n bytes) same) in
     append_assoc front (sample ∷ []) (samples_of true (drop (2 * (i + 1)) bytes))
     ∙ ap (λ s. front ++ s ∷ samples_of true (drop (2 * (i + 1)) bytes)) is
-    ∙ ap (λ bs. front ++ big_number 2 (drop (2 * i) bytes) ∷ samples_of true bs) (sym behind)
+    ∙ ap (λ bs. front ++ big_number 2 (drop (2 * i) bytes) ∷ samples_of true bs) (sym after)
     ∙ ap (λ s. front ++ s) (sym (samples_of-pair (drop (2 * i) bytes) left))
     ∙ said
 
@@ -39,6 +40,15 @@ pub samples_of-all : (front bytes all : List ℕ) (i : ℕ) → front ++ samples
 samples_of-all front bytes all i said none =
     let short : length (drop (2 * i) bytes) < 2 = simp length-drop (omega arith) in
     sym (append-nil front) ∙ ap (λ s. front ++ s) (sym (samples_of-short (drop (2 * i) bytes) short)) ∙ said
+
+-- the samples of n bytes more, which were widened
+pub widened-more : (front bytes widened : List ℕ) (done n : ℕ) → done + n ≤ length bytes → take (length (take n (drop done bytes))) widened ≡ take n (drop done bytes)
+    → (front ++ take done bytes) ++ take n widened ≡ front ++ take (done + n) bytes
+widened-more front bytes widened done n within laid =
+    let count : length (take n (drop done bytes)) ≡ n = length-take-le n (drop done bytes) (simp length-drop (omega (arith, within))) in
+    append_assoc front (take done bytes) (take n widened)
+    ∙ ap (λ s. front ++ (take done bytes ++ s)) (ap (λ k. take k widened) (sym count) ∙ laid)
+    ∙ ap (λ s. front ++ s) (sym (take-add done n bytes))
 
 -- ---- how many samples bytes say, and the byte of a sample begun
 
@@ -91,7 +101,7 @@ pub with_front-nil : (read : Take (List ℕ)) → with_front [] read ≡ read
 with_front-nil (Ok found) = refl
 with_front-nil (Err fault) = refl
 
--- what a piece's samples are read as: over maxval, or in front of what is read behind them
+-- what a piece's samples are read as: over maxval, or in front of what is read after them
 pub piece_read : Bool → List ℕ → Take (List ℕ) → Take (List ℕ)
 piece_read true front read = with_front front read
 piece_read false front read = Err SampleTooLarge
@@ -232,7 +242,7 @@ part-less wide piece kept filled left held begun within few more room same =
 pub left-by_len : (wide : Bool) (count len : ℕ) (samples : List ℕ) → len ≡ length samples → byte_count wide (count - len) ≡ byte_count wide (count - length samples)
 left-by_len wide count len samples same = ap (λ n. byte_count wide (count - n)) same
 
--- no byte is held behind the last sample
+-- no byte is held after the last sample
 piece-last : (wide : Bool) (left here begun filled : ℕ) → byte_count wide here + begun ≡ filled → filled ≤ byte_count wide left → left ≤ here → begun ≡ 0
 piece-last false left here begun filled all within last = omega arith
 piece-last true left here begun filled all within last = omega arith

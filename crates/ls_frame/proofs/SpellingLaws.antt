@@ -7,9 +7,9 @@ use Rattle.ls_frame.specs.declared.netpbm.header.Header.{Header}
 use Rattle.ls_frame.specs.declared.netpbm.NetpbmFault.{NetpbmFault}
 use Rattle.ls_frame.specs.declared.netpbm.NetpbmFault.TheVariants.{SizeOutOfRange, MaxvalOutOfRange}
 use Rattle.ls_frame.specs.Picture.{sample_count, most_samples, greatest}
-use Rattle.ls_frame.specs.Netpbm.{is_white, is_digit, Blank, blanks_bytes, IsNumber, number_of, Field, IsField, field_bytes, field_number, InRange, magic, Heading, IsHeading, heading_bytes, most_heading}
+use Rattle.ls_frame.specs.Netpbm.{is_white, is_digit, Blank, blanks_bytes, IsNumber, decimal_value, Field, IsField, field_bytes, field_number, InRange, magic, Heading, IsHeading, heading_bytes, most_heading}
 use Rattle.ls_frame.specs.Faults.{IsWidth, IsSize}
-use Rattle.ls_frame.specs.Reading.{◌>>=◌, wanted, digits_at, number_at, in_range, in_range_at, magic_at, white_at, heading_at, raster_at, image_at}
+use Rattle.ls_frame.specs.View.Reading.{◌>>=◌, wanted, digits_at, number_at, in_range, in_range_at, magic_at, white_at, heading_at, raster_at, image_at}
 use Rattle.ls_frame.proofs.StepLemmas.{digits_at-white, gap_at-digit, white_no_digit}
 use Rattle.ls_frame.proofs.TakeLemmas.{Takes, takes_as, takes_first, takes_second, takes_last}
 use Rattle.ls_frame.proofs.GapLaws.{AreBlanks, gap_passes}
@@ -31,12 +31,12 @@ digit_found blanks bytes d room left each digit is =
 
 -- parts of a gap, digits and white space
 number_passes : (blanks : List Blank) (ds rest : List ℕ) (white room left : ℕ) → AreBlanks blanks → IsNumber ds → IsTrue (is_white white) → room ≡ length (blanks_bytes blanks) + (length ds + suc left)
-    → number_at room (blanks_bytes blanks ++ (ds ++ white ∷ rest)) ≡ Ok (capped (number_of ds), left, rest)
-number_passes blanks [] rest white room left each number behind is = absurd (let some = number.some in omega arith)
-number_passes blanks (d ∷ ds) rest white room left each number behind is =
+    → number_at room (blanks_bytes blanks ++ (ds ++ white ∷ rest)) ≡ Ok (capped (decimal_value ds), left, rest)
+number_passes blanks [] rest white room left each number after is = absurd (let some = number.some in omega arith)
+number_passes blanks (d ∷ ds) rest white room left each number after is =
     digit_found blanks (ds ++ white ∷ rest) d room (length ds + suc left) each number.each.0 (omega arith)
     ∙ digits_pass ds (white ∷ rest) (d - 48) (length ds + suc left) (suc left) number.each.1 refl
-    ∙ digits_at-white (followed_capped (d - 48) ds) (suc left) white left (white ∷ rest) rest refl (no_digit_if_white white behind) behind
+    ∙ digits_at-white (followed_capped (d - 48) ds) (suc left) white left (white ∷ rest) rest refl (no_digit_if_white white after) after
     ∙ ap (λ n. Ok (n, left, rest)) (capped_number d ds number.each.0)
 
 -- ---- fields
@@ -47,24 +47,24 @@ in_range_passes fault n range =
     let same : capped n ≡ n = omega arith in
     rw (same, lt-ltb 0 n range.some, le-leb n greatest range.most) refl
 
--- what a field says behind the white space that begins it, with the white space behind
+-- what a field says after the white space that begins it, with the white space after
 abbrev pub field_rest : Field → ℕ → List ℕ
 field_rest f white = blanks_bytes f.gap.blanks ++ (f.digits ++ white ∷ [])
 
 -- a field's number
 pub field_number_at : (f : Field) (white room left : ℕ) (bytes rest : List ℕ) → IsField f → IsTrue (is_white white) → Takes room bytes (field_rest f white) left rest
     → number_at room bytes ≡ Ok (capped (field_number f), left, rest)
-field_number_at f white room left bytes rest lawful behind taken =
+field_number_at f white room left bytes rest lawful after taken =
     let regrouped : (blanks_bytes f.gap.blanks ++ (f.digits ++ white ∷ [])) ++ rest ≡ blanks_bytes f.gap.blanks ++ (f.digits ++ white ∷ rest) = simp append_assoc in
     let size = simp length-append at taken.room_is in
     ap (λ bs. number_at room bs) (taken.whole ∙ regrouped)
-    ∙ number_passes f.gap.blanks f.digits rest white room left lawful.gap.blanks lawful.digits behind (omega arith)
+    ∙ number_passes f.gap.blanks f.digits rest white room left lawful.gap.blanks lawful.digits after (omega arith)
 
 -- and in its range it is read
 pub field_passes : (fault : NetpbmFault) (f : Field) (white room left : ℕ) (bytes rest : List ℕ) → IsField f → InRange (field_number f) → IsTrue (is_white white) → Takes room bytes (field_rest f white) left rest
     → in_range_at fault room bytes ≡ Ok (field_number f, left, rest)
-field_passes fault f white room left bytes rest lawful range behind taken =
-    rw (field_number_at f white room left bytes rest lawful behind taken, in_range_passes fault (field_number f) range) refl
+field_passes fault f white room left bytes rest lawful range after taken =
+    rw (field_number_at f white room left bytes rest lawful after taken, in_range_passes fault (field_number f) range) refl
 
 -- ---- the header, one field after the other
 
@@ -72,44 +72,44 @@ field_passes fault f white room left bytes rest lawful range behind taken =
 magic_passes : (kind : Kind) (first room left : ℕ) (bytes rest : List ℕ) → suc room ≡ most_heading → Takes most_heading (first ∷ bytes) (magic kind) left rest → magic_at first room bytes ≡ Ok (kind, left, rest)
 magic_passes Gray first room left bytes rest all taken =
     let p : first ≡ 80 = cc (taken.whole) in
-    let behind : bytes ≡ 53 ∷ rest = cc (taken.whole) in
+    let after : bytes ≡ 53 ∷ rest = cc (taken.whole) in
     let size : room ≡ suc left = (let e = taken.room_is in omega arith) in
-    rw (p, behind, size) refl
+    rw (p, after, size) refl
 magic_passes Color first room left bytes rest all taken =
     let p : first ≡ 80 = cc (taken.whole) in
-    let behind : bytes ≡ 54 ∷ rest = cc (taken.whole) in
+    let after : bytes ≡ 54 ∷ rest = cc (taken.whole) in
     let size : room ≡ suc left = (let e = taken.room_is in omega arith) in
-    rw (p, behind, size) refl
+    rw (p, after, size) refl
 
--- and the white space behind it
+-- and the white space after it
 pub white_passes : (w left : ℕ) (rest : List ℕ) → IsTrue (is_white w) → white_at (suc left) (w ∷ rest) ≡ Ok (tt, left, rest)
 white_passes w left rest is = rw is refl
 
--- reading goes on behind the magic
-pub behind_magic : (kind : Kind) (first room left : ℕ) (bytes rest : List ℕ) → suc room ≡ most_heading → Takes most_heading (first ∷ bytes) (magic kind) left rest
+-- reading goes on after the magic
+pub after_magic : (kind : Kind) (first room left : ℕ) (bytes rest : List ℕ) → suc room ≡ most_heading → Takes most_heading (first ∷ bytes) (magic kind) left rest
     → heading_at first room bytes ≡ fields_at kind left rest
-behind_magic kind first room left bytes rest all taken =
+after_magic kind first room left bytes rest all taken =
     heading_at-steps first room bytes ∙ ap (λ r. r >>= λ found. fields_at found.0 found.1 found.2) (magic_passes kind first room left bytes rest all taken)
 
--- and behind the white space behind it
+-- and after the white space after it
 pub at_width : (kind : Kind) (white first room left : ℕ) (bytes rest : List ℕ) → suc room ≡ most_heading → IsTrue (is_white white) → Takes most_heading (first ∷ bytes) (magic kind ++ white ∷ []) left rest
     → heading_at first room bytes ≡ width_at kind left rest
 at_width kind white first room left bytes rest all is taken =
-    behind_magic kind first room (suc left) bytes (white ∷ rest) all (takes_last (magic kind) white taken)
+    after_magic kind first room (suc left) bytes (white ∷ rest) all (takes_last (magic kind) white taken)
     ∙ ap (λ r. r >>= λ found. width_at kind found.1 found.2) (white_passes white left rest is)
 
--- a field behind others, from its first white space on
+-- a field after others, from its first white space on
 pub field_as : (before : List ℕ) (f : Field) (white : ℕ) → before ++ field_bytes f ++ white ∷ [] ≡ (before ++ f.gap.first ∷ []) ++ field_rest f white
 field_as before f white = simp append_assoc
 
--- behind a width this is left to read, from the width on
+-- after a width this is left to read, from the width on
 pub in_width_at : (kind : Kind) (w : Field) (white first room left : ℕ) (bytes rest : List ℕ) → suc room ≡ most_heading → IsField w → Takes most_heading (first ∷ bytes) (magic kind ++ field_bytes w ++ white ∷ []) left rest
     → heading_at first room bytes ≡ width_at kind (length (field_rest w white) + left) (field_rest w white ++ rest)
 in_width_at kind w white first room left bytes rest all lawful taken =
     at_width kind w.gap.first first room (length (field_rest w white) + left) bytes (field_rest w white ++ rest) all lawful.gap.first
     (takes_first (magic kind ++ w.gap.first ∷ []) (field_rest w white) (takes_as taken (field_as (magic kind) w white)))
 
--- reading goes on behind a width
+-- reading goes on after a width
 pub at_height : (kind : Kind) (w : Field) (white first room left : ℕ) (bytes rest : List ℕ) → suc room ≡ most_heading → IsWidth w → IsTrue (is_white white)
     → Takes most_heading (first ∷ bytes) (magic kind ++ field_bytes w ++ white ∷ []) left rest → heading_at first room bytes ≡ height_at kind (field_number w) left rest
 at_height kind w white first room left bytes rest all width is taken =
@@ -117,7 +117,7 @@ at_height kind w white first room left bytes rest all width is taken =
     ∙ ap (λ r. r >>= λ found. height_at kind found.0 found.1 found.2)
     (field_passes SizeOutOfRange w white (length (field_rest w white) + left) left (field_rest w white ++ rest) rest width.field width.range is (takes_second (field_rest w white) left rest))
 
--- behind a height this is left to read, from the height on
+-- after a height this is left to read, from the height on
 pub in_height_at : (kind : Kind) (w h : Field) (white first room left : ℕ) (bytes rest : List ℕ) → suc room ≡ most_heading → IsWidth w → IsField h
     → Takes most_heading (first ∷ bytes) (magic kind ++ field_bytes w ++ field_bytes h ++ white ∷ []) left rest
     → heading_at first room bytes ≡ height_at kind (field_number w) (length (field_rest h white) + left) (field_rest h white ++ rest)
@@ -130,7 +130,7 @@ in_height_at kind w h white first room left bytes rest all width lawful taken =
 pub test_passes : {A : Type 0} (test : Bool) (fault : NetpbmFault) (next : Result A NetpbmFault) → test ≡ true → (wanted test fault >>= λ passed. next) ≡ next
 test_passes test fault next is = rw is refl
 
--- behind the height its number and the width's are tested
+-- after the height its number and the width's are tested
 pub at_count : (kind : Kind) (w h : Field) (white first room left : ℕ) (bytes rest : List ℕ) → suc room ≡ most_heading → IsWidth w → IsField h → InRange (field_number h) → IsTrue (is_white white)
     → Takes most_heading (first ∷ bytes) (magic kind ++ field_bytes w ++ field_bytes h ++ white ∷ []) left rest
     → heading_at first room bytes ≡ (wanted (leb (sample_count kind (field_number w) (field_number h)) most_samples) SizeOutOfRange >>= λ few. maxval_at kind (field_number w) (field_number h) left rest)
@@ -139,7 +139,7 @@ at_count kind w h white first room left bytes rest all width lawful range is tak
     ∙ ap (λ r. r >>= λ found. (wanted (leb (sample_count kind (field_number w) found.0) most_samples) SizeOutOfRange >>= λ few. maxval_at kind (field_number w) found.0 found.1 found.2))
     (field_passes SizeOutOfRange h white (length (field_rest h white) + left) left (field_rest h white ++ rest) rest lawful range is (takes_second (field_rest h white) left rest))
 
--- reading goes on behind a size
+-- reading goes on after a size
 pub at_maxval : (kind : Kind) (w h : Field) (white first room left : ℕ) (bytes rest : List ℕ) → suc room ≡ most_heading → IsSize kind w h → IsTrue (is_white white)
     → Takes most_heading (first ∷ bytes) (magic kind ++ field_bytes w ++ field_bytes h ++ white ∷ []) left rest
     → heading_at first room bytes ≡ maxval_at kind (field_number w) (field_number h) left rest
@@ -147,7 +147,7 @@ at_maxval kind w h white first room left bytes rest all size is taken =
     at_count kind w h white first room left bytes rest all size.width size.field size.range is taken
     ∙ test_passes _ SizeOutOfRange (maxval_at kind (field_number w) (field_number h) left rest) (le-leb _ most_samples size.few)
 
--- behind a maxval this is left to read, from the maxval on
+-- after a maxval this is left to read, from the maxval on
 pub in_maxval_at : (kind : Kind) (w h m : Field) (white first room left : ℕ) (bytes rest : List ℕ) → suc room ≡ most_heading → IsSize kind w h → IsField m
     → Takes most_heading (first ∷ bytes) (magic kind ++ field_bytes w ++ field_bytes h ++ field_bytes m ++ white ∷ []) left rest
     → heading_at first room bytes ≡ maxval_at kind (field_number w) (field_number h) (length (field_rest m white) + left) (field_rest m white ++ rest)
@@ -173,10 +173,10 @@ heading_passes h first room left bytes rest all lawful taken =
     (takes_second (field_rest h.maxval h.last) left rest))
 
 -- bytes that begin with a header
-pub behind_heading : (bytes rest : List ℕ) (h : Heading) → IsHeading h → bytes ≡ heading_bytes h ++ rest → image_at bytes ≡ (raster_at (header_of h) rest >>= λ found. Ok (Some found))
+pub after_heading : (bytes rest : List ℕ) (h : Heading) → IsHeading h → bytes ≡ heading_bytes h ++ rest → image_at bytes ≡ (raster_at (header_of h) rest >>= λ found. Ok (Some found))
 unfolding image_at
-behind_heading [] rest h lawful whole = absurd (let size = simp length-append at (ap length whole) in omega arith)
-behind_heading (first ∷ bytes) rest h lawful whole =
+after_heading [] rest h lawful whole = absurd (let size = simp length-append at (ap length whole) in omega arith)
+after_heading (first ∷ bytes) rest h lawful whole =
     let short = lawful.short in
     let left : ℕ = most_heading - length (heading_bytes h) in
     let taken : Takes most_heading (first ∷ bytes) (heading_bytes h) left rest = record { whole = whole; room_is = omega arith } in

@@ -4,13 +4,13 @@ use Rattle.std.proofs.lemmas.Bool.{eq-eqb, ne_eqb, leb-true, and_parts, or_from}
 use Rattle.ls_frame.specs.declared.netpbm.NetpbmFault.{NetpbmFault}
 use Rattle.ls_frame.specs.declared.netpbm.NetpbmFault.TheVariants.{BadHeader}
 use Rattle.ls_frame.specs.Netpbm.{is_white, is_line_end, is_digit, is_hash}
-use Rattle.ls_frame.specs.Reading.{◌>>=◌, Step, byte_at, more, digits_at, gap_at}
+use Rattle.ls_frame.specs.View.Reading.{◌>>=◌, Step, byte_at, with_digit, digits_at, gap_at}
 
 -- ---- digits
 
 digit_step : ℕ → ℕ × ℕ × List ℕ → Step ℕ
 digit_step n found =
-    cond (is_digit found.0) (digits_at (more n found.0) found.1 found.2) (cond (is_white found.0) (Ok (n, found.1, found.2)) (Err BadHeader))
+    cond (is_digit found.0) (digits_at (with_digit n found.0) found.1 found.2) (cond (is_white found.0) (Ok (n, found.1, found.2)) (Err BadHeader))
 
 digits_at-byte : (n room : ℕ) (bytes : List ℕ) → digits_at n room bytes ≡ (byte_at room bytes >>= digit_step n)
 unfolding digits_at digit_step
@@ -19,7 +19,7 @@ digits_at-byte n (suc room) [] = refl
 digits_at-byte n (suc room) (c ∷ bytes) = refl
 
 pub digits_at-digit : (n room c room' : ℕ) (bytes bytes' : List ℕ) → byte_at room bytes ≡ Ok (c, room', bytes') → is_digit c ≡ true
-    → digits_at n room bytes ≡ digits_at (more n c) room' bytes'
+    → digits_at n room bytes ≡ digits_at (with_digit n c) room' bytes'
 unfolding digit_step
 digits_at-digit n room c room' bytes bytes' found digit = rw (digits_at-byte n room bytes, found, digit) refl
 

@@ -1,8 +1,8 @@
--- Bytes taken off the front, where reading stops behind them, and what steps in a row come to.
+-- Bytes taken off the front, where reading stops after them, and what steps in a row come to.
 use Rattle.std.proofs.Common.{◌≡◌, ℕ, suc, ◌+◌, ◌-◌, Bool, true, false, List, [], ◌∷◌, ◌++◌, length, Result, Ok, Err, MatchResult, refl, sym, ap, ◌∙◌, arith, length-append, append_assoc, append-nil}
 use Rattle.ls_frame.specs.declared.netpbm.NetpbmFault.{NetpbmFault}
-use Rattle.ls_frame.specs.Faults.{Due, allows, fault_at, Stops, too_long, ends, refuses}
-use Rattle.ls_frame.specs.Reading.{◌>>=◌, wanted, byte_at}
+use Rattle.ls_frame.specs.Faults.{Due, allows, fault_at, BreaksOff, too_long, ends, refuses}
+use Rattle.ls_frame.specs.View.Reading.{◌>>=◌, wanted, byte_at}
 
 -- ---- bytes taken
 
@@ -23,7 +23,7 @@ takes_cons c taken = record { whole = ap (λ bs. c ∷ bs) taken.whole; room_is 
 pub takes_one : (c room : ℕ) (rest : List ℕ) → Takes (suc room) (c ∷ rest) (c ∷ []) room rest
 takes_one c room rest = takes_cons c (takes_none room rest)
 
--- one behind the other
+-- one after the other
 pub takes_more : {room between left : ℕ} {bytes front middle back rest : List ℕ} → Takes room bytes front between middle → Takes between middle back left rest
     → Takes room bytes (front ++ back) left rest
 takes_more {front = front} {back = back} {rest = rest} first second = record {
@@ -50,23 +50,23 @@ takes_last front c {rest = rest} taken = record { whole = taken.whole ∙ append
 -- ---- where reading stops
 
 -- it stops at the same place with one byte more in front
-pub stops_cons : {room : ℕ} {bytes front : List ℕ} {d : Due} {fault : NetpbmFault} (c : ℕ) → Stops room bytes front d fault → Stops (suc room) (c ∷ bytes) (c ∷ front) d fault
+pub stops_cons : {room : ℕ} {bytes front : List ℕ} {d : Due} {fault : NetpbmFault} (c : ℕ) → BreaksOff room bytes front d fault → BreaksOff (suc room) (c ∷ bytes) (c ∷ front) d fault
 stops_cons c (too_long rest whole all is) = too_long rest (ap (λ bs. c ∷ bs) whole) (omega arith) is
 stops_cons c (ends whole some is) = ends (ap (λ bs. c ∷ bs) whole) (omega arith) is
 stops_cons c (refuses b rest whole some not_allowed is) = refuses b rest (ap (λ bs. c ∷ bs) whole) (omega arith) not_allowed is
 
--- it stops behind what is taken
-pub stops_behind : {room left : ℕ} {bytes front rest back : List ℕ} {d : Due} {fault : NetpbmFault} → Takes room bytes front left rest → Stops left rest back d fault
-    → Stops room bytes (front ++ back) d fault
-stops_behind {front = front} {back = back} taken (too_long rest whole all is) =
+-- it stops after what is taken
+pub stops_after : {room left : ℕ} {bytes front rest back : List ℕ} {d : Due} {fault : NetpbmFault} → Takes room bytes front left rest → BreaksOff left rest back d fault
+    → BreaksOff room bytes (front ++ back) d fault
+stops_after {front = front} {back = back} taken (too_long rest whole all is) =
     too_long rest (taken.whole ∙ ap (λ bs. front ++ bs) whole ∙ sym (append_assoc front back rest)) (simp length-append (let e = taken.room_is in omega arith)) is
-stops_behind {front = front} {back = back} taken (ends whole some is) =
+stops_after {front = front} {back = back} taken (ends whole some is) =
     ends (taken.whole ∙ ap (λ bs. front ++ bs) whole) (simp length-append (let e = taken.room_is in omega arith)) is
-stops_behind {front = front} {back = back} taken (refuses c rest whole some not_allowed is) =
+stops_after {front = front} {back = back} taken (refuses c rest whole some not_allowed is) =
     refuses c rest (taken.whole ∙ ap (λ bs. front ++ bs) whole ∙ sym (append_assoc front back (c ∷ rest))) (simp length-append (let e = taken.room_is in omega arith)) not_allowed is
 
 -- the same bytes by another name
-pub stops_as : {room : ℕ} {bytes front front' : List ℕ} {d : Due} {fault : NetpbmFault} → Stops room bytes front d fault → front ≡ front' → Stops room bytes front' d fault
+pub stops_as : {room : ℕ} {bytes front front' : List ℕ} {d : Due} {fault : NetpbmFault} → BreaksOff room bytes front d fault → front ≡ front' → BreaksOff room bytes front' d fault
 stops_as stops same = rw (← same) stops
 
 -- ---- where reading stops, seen from there
@@ -77,14 +77,14 @@ pub data StopsHere (room : ℕ) (bytes : List ℕ) (d : Due) (fault : NetpbmFaul
   refused : (c left : ℕ) (rest : List ℕ) → byte_at room bytes ≡ Ok (c, left, rest) → allows d c ≡ false → fault ≡ fault_at d → StopsHere room bytes d fault
 
 -- `front` is taken, and then reading stops
-pub record StopsBehind (room : ℕ) (bytes front : List ℕ) (d : Due) (fault : NetpbmFault) : Type 0 where
+pub record StopsAfter (room : ℕ) (bytes front : List ℕ) (d : Due) (fault : NetpbmFault) : Type 0 where
   pub left : ℕ
   pub rest : List ℕ
   pub takes : Takes room bytes front left rest
   pub here : StopsHere left rest d fault
 
 -- where it stops, `front` was taken
-pub stops_seen : {room : ℕ} {bytes front : List ℕ} {d : Due} {fault : NetpbmFault} → Stops room bytes front d fault → StopsBehind room bytes front d fault
+pub stops_seen : {room : ℕ} {bytes front : List ℕ} {d : Due} {fault : NetpbmFault} → BreaksOff room bytes front d fault → StopsAfter room bytes front d fault
 stops_seen (too_long rest whole all is) = record { left = 0; rest = rest; takes = record { whole = whole; room_is = omega arith }; here = no_byte (rw is refl) }
 stops_seen {room = room} {front = front} (ends whole some is) = record {
   left = suc (room - suc (length front));

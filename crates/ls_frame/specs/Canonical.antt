@@ -12,7 +12,7 @@ abbrev pub sample_bytes : Bool → ℕ → List ℕ
 sample_bytes false sample = sample ∷ []
 sample_bytes true sample = sample / 256 ∷ sample % 256 ∷ []
 
--- those of samples, one behind the other
+-- those of samples, one after the other
 unfoldable pub raster_bytes : Bool → List ℕ → List ℕ
 raster_bytes wide samples = flat_map (sample_bytes wide) samples
 

@@ -5,7 +5,7 @@ use Rattle.ls_frame.specs.declared.frame.Kind.{Kind}
 use Rattle.ls_frame.specs.declared.netpbm.NetpbmFault.{NetpbmFault}
 use Rattle.ls_frame.specs.declared.netpbm.NetpbmFault.TheVariants.{BadMagic, BadHeader, HeaderTooLong, SizeOutOfRange, MaxvalOutOfRange, SampleTooLarge, Truncated, Io, NoMemory}
 use Rattle.ls_frame.specs.Picture.{sample_count, most_samples}
-use Rattle.ls_frame.specs.Netpbm.{is_white, is_line_end, is_digit, is_hash, Gap, IsGap, gap_bytes, IsNumber, Field, IsField, field_bytes, field_number, magic, Heading, heading_bytes, IsHeading, most_heading, InRange, is_wide, IsSample, IsRaster}
+use Rattle.ls_frame.specs.Netpbm.{is_white, is_line_end, is_digit, is_hash, Gap, IsGap, gap_bytes, IsNumber, Field, IsField, field_bytes, field_number, magic, Heading, heading_bytes, IsHeading, most_heading, InRange, is_wide, IsSample, IsRaster, NoImage}
 
 -- a fault of the bytes, and not of a device or of memory
 abbrev pub blames_bytes : NetpbmFault → Bool
@@ -31,14 +31,31 @@ blames_device Truncated = false
 blames_device Io = true
 blames_device NoMemory = false
 
+-- a fault of memory
+abbrev pub blames_memory : NetpbmFault → Bool
+blames_memory BadMagic = false
+blames_memory BadHeader = false
+blames_memory HeaderTooLong = false
+blames_memory SizeOutOfRange = false
+blames_memory MaxvalOutOfRange = false
+blames_memory SampleTooLarge = false
+blames_memory Truncated = false
+blames_memory Io = false
+blames_memory NoMemory = true
+
 -- whether a call failed by its device
 abbrev pub failed_device : {X : Type 0} → Result X NetpbmFault → Bool
 failed_device (Ok x) = false
 failed_device (Err fault) = blames_device fault
 
+-- whether a call failed for want of memory
+abbrev pub failed_for_memory : {X : Type 0} → Result X NetpbmFault → Bool
+failed_for_memory (Ok x) = false
+failed_for_memory (Err fault) = blames_memory fault
+
 -- ---- a header's beginnings
 
--- what may come behind the beginning of a header
+-- what may come after the beginning of a header
 pub data Due : Type 0 where
   letter : Due
   kind_digit : Due
@@ -86,7 +103,7 @@ start_due (open_comment g text) = comment_text
 start_due (digits g ds) = digit_or_white
 
 -- The beginning of a header: the magic or less, or the magic, whole fields within their ranges, and a start. Digits
--- with nothing behind them are a start, and not a whole field: a digit may follow.
+-- with nothing after them are a start, and not a whole field: a digit may follow.
 pub data Beginning : Type 0 where
   empty : Beginning
   one_letter : Beginning
@@ -132,21 +149,21 @@ due (in_maxval kind w h s) = start_due s
 
 -- ---- where reading stops
 
--- Reading stops behind `front`, of the `room` bytes that a header may have: the room is used up, or the
+-- Reading stops after `front`, of the `room` bytes that a header may have: the room is used up, or the
 -- input ends, or a byte follows that isn't allowed.
-pub data Stops (room : ℕ) (bytes front : List ℕ) (d : Due) (fault : NetpbmFault) : Type 0 where
-  too_long : (rest : List ℕ) → bytes ≡ front ++ rest → length front ≡ room → fault ≡ HeaderTooLong → Stops room bytes front d fault
-  ends : bytes ≡ front → length front < room → fault ≡ Truncated → Stops room bytes front d fault
-  refuses : (c : ℕ) (rest : List ℕ) → bytes ≡ front ++ c ∷ rest → length front < room → allows d c ≡ false → fault ≡ fault_at d → Stops room bytes front d fault
+pub data BreaksOff (room : ℕ) (bytes front : List ℕ) (d : Due) (fault : NetpbmFault) : Type 0 where
+  too_long : (rest : List ℕ) → bytes ≡ front ++ rest → length front ≡ room → fault ≡ HeaderTooLong → BreaksOff room bytes front d fault
+  ends : bytes ≡ front → length front < room → fault ≡ Truncated → BreaksOff room bytes front d fault
+  refuses : (c : ℕ) (rest : List ℕ) → bytes ≡ front ++ c ∷ rest → length front < room → allows d c ≡ false → fault ≡ fault_at d → BreaksOff room bytes front d fault
 
 -- It stops in a header, and some byte was there.
 pub record StopsInHeading (bytes : List ℕ) (fault : NetpbmFault) : Type 0 where
   pub some : 0 < length bytes
   pub beginning : Beginning
   pub lawful : IsBeginning beginning
-  pub stops : Stops most_heading bytes (beginning_bytes beginning) (due beginning) fault
+  pub stops : BreaksOff most_heading bytes (beginning_bytes beginning) (due beginning) fault
 
--- ---- numbers out of range, seen with the white space behind them
+-- ---- numbers out of range, seen with the white space after them
 
 pub record BreaksWidth (bytes : List ℕ) : Type 0 where
   pub kind : Kind
@@ -156,7 +173,7 @@ pub record BreaksWidth (bytes : List ℕ) : Type 0 where
   pub whole : bytes ≡ magic kind ++ field_bytes width ++ white ∷ rest
   pub short : length (magic kind ++ field_bytes width ++ white ∷ []) ≤ most_heading
   pub width_field : IsField width
-  pub behind : IsTrue (is_white white)
+  pub after : IsTrue (is_white white)
   pub out : ¬ InRange (field_number width)
 
 pub record BreaksHeight (bytes : List ℕ) : Type 0 where
@@ -169,7 +186,7 @@ pub record BreaksHeight (bytes : List ℕ) : Type 0 where
   pub short : length (magic kind ++ field_bytes width ++ field_bytes height ++ white ∷ []) ≤ most_heading
   pub width_passed : IsWidth width
   pub height_field : IsField height
-  pub behind : IsTrue (is_white white)
+  pub after : IsTrue (is_white white)
   pub out : (¬ InRange (field_number height)) ⊎ (most_samples < sample_count kind (field_number width) (field_number height))
 
 pub record BreaksMaxval (bytes : List ℕ) : Type 0 where
@@ -183,7 +200,7 @@ pub record BreaksMaxval (bytes : List ℕ) : Type 0 where
   pub short : length (magic kind ++ field_bytes width ++ field_bytes height ++ field_bytes maxval ++ white ∷ []) ≤ most_heading
   pub size : IsSize kind width height
   pub maxval_field : IsField maxval
-  pub behind : IsTrue (is_white white)
+  pub after : IsTrue (is_white white)
   pub out : ¬ InRange (field_number maxval)
 
 -- ---- rasters
@@ -233,3 +250,8 @@ Breaks bytes SampleTooLarge = ExceedsMaxval bytes
 Breaks bytes Truncated = StopsInHeading bytes Truncated ⊎ EndsInRaster bytes
 Breaks bytes Io = ⊥
 Breaks bytes NoMemory = ⊥
+
+-- The bytes break with this fault, and no image stands at their front.
+pub record IsBroken (bytes : List ℕ) (fault : NetpbmFault) : Type 0 where
+  pub breaks : Breaks bytes fault
+  pub no_image : NoImage bytes

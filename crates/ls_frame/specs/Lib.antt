@@ -1,12 +1,7 @@
-pub mod Alike
 pub mod Canonical
-pub mod Devices
-pub mod Engine
 pub mod Faults
-pub mod Film
-pub mod Laws
 pub mod Netpbm
 pub mod Parameters
 pub mod Picture
-pub mod Reading
 pub mod Tuning
+pub mod View

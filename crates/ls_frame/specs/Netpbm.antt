@@ -1,6 +1,6 @@
 -- The grammar of a Netpbm image, after the pgm and ppm pages, for the binary forms:
 -- magic, gap, width, gap, height, gap, maxval, one white space character, raster.
--- Narrower than the pages: a comment stands in a gap alone, behind white space, and touches neither the magic nor a
+-- Narrower than the pages: a comment stands in a gap alone, after white space, and touches neither the magic nor a
 -- number. The recorder's own limits are those on the sides, on the count of samples and on the header's length.
 use Rattle.std.specs.Prelude.{◌≡◌, ℕ, ◌+◌, ◌-◌, ◌*◌, ◌<◌, ◌≤◌, ◌&&◌, ◌||◌, ◌==◌, not, Bool, true, false, nat_le, IsTrue, List, [], ◌∷◌, ◌++◌, length, fold, flat_map}
 use Rattle.std.specs.List.{AllByRecursion}
@@ -44,7 +44,7 @@ blank_bytes (comment text end) = 35 ∷ (text ++ end ∷ [])
 abbrev pub blanks_bytes : List Blank → List ℕ
 blanks_bytes blanks = flat_map blank_bytes blanks
 
--- A gap begins with a white space character, so that each `#` in it stands behind one.
+-- A gap begins with a white space character, so that each `#` in it stands after one.
 pub record Gap : Type 0 where
   pub first : ℕ
   pub blanks : List Blank
@@ -64,12 +64,12 @@ pub record IsNumber (digits : List ℕ) : Type 0 where
   pub each : AllByRecursion (λ c. IsTrue (is_digit c)) digits
 
 -- what digits stand for
-abbrev pub number_of : List ℕ → ℕ
-number_of digits = fold (λ n digit. 10 * n + (digit - 48)) 0 digits
+abbrev pub decimal_value : List ℕ → ℕ
+decimal_value digits = fold (λ n digit. 10 * n + (digit - 48)) 0 digits
 
 -- ---- the header
 
--- a gap and the number behind it
+-- a gap and the number after it
 pub record Field : Type 0 where
   pub gap : Gap
   pub digits : List ℕ
@@ -82,7 +82,7 @@ abbrev pub field_bytes : Field → List ℕ
 field_bytes field = gap_bytes field.gap ++ field.digits
 
 abbrev pub field_number : Field → ℕ
-field_number field = number_of field.digits
+field_number field = decimal_value field.digits
 
 -- `P5` for gray, `P6` for colour
 abbrev pub magic : Kind → List ℕ
@@ -99,7 +99,7 @@ pub record Heading : Type 0 where
 abbrev pub heading_bytes : Heading → List ℕ
 heading_bytes h = magic h.kind ++ field_bytes h.width ++ field_bytes h.height ++ field_bytes h.maxval ++ h.last ∷ []
 
--- the most bytes of a header, from the magic through the white space character behind maxval
+-- the most bytes of a header, from the magic through the white space character after maxval
 abbrev pub most_heading : ℕ
 most_heading = 65536
 
@@ -119,6 +119,14 @@ pub record IsHeading (h : Heading) : Type 0 where
   pub maxval_range : InRange (field_number h.maxval)
   pub short : length (heading_bytes h) ≤ most_heading
 
+-- The bytes are a whole legal header, and nothing after it.
+abbrev pub IsWholeHeading : List ℕ → Type 0
+IsWholeHeading bytes = (heading : Heading) × IsHeading heading × (bytes ≡ heading_bytes heading)
+
+-- A whole legal header stands at the front.
+abbrev pub BeginsWithHeading : List ℕ → Type 0
+BeginsWithHeading bytes = (front : List ℕ) × (rest : List ℕ) × (bytes ≡ front ++ rest) × IsWholeHeading front
+
 -- ---- the raster
 
 -- samples of a maxval from 256 on take two bytes, others one
@@ -130,7 +138,7 @@ abbrev pub IsSample : Bool → List ℕ → ℕ → Type 0
 IsSample false bytes sample = bytes ≡ sample ∷ []
 IsSample true bytes sample = (high : ℕ) × (low : ℕ) × (bytes ≡ high ∷ low ∷ []) × (sample ≡ 256 * high + low)
 
--- the bytes say the samples one behind the other
+-- the bytes say the samples one after the other
 abbrev pub IsRaster : Bool → List ℕ → List ℕ → Type 0
 IsRaster wide raster [] = raster ≡ []
 IsRaster wide raster (sample ∷ samples) =
@@ -139,7 +147,7 @@ IsRaster wide raster (sample ∷ samples) =
 -- ---- the image
 
 -- The bytes are a header and a raster, and these say the picture, which is a frame.
-pub record Spells (bytes : List ℕ) (f : Picture) : Type 0 where
+pub record IsImageOf (bytes : List ℕ) (f : Picture) : Type 0 where
   pub heading : Heading
   pub raster : List ℕ
   pub whole : bytes ≡ heading_bytes heading ++ raster
@@ -153,4 +161,4 @@ pub record Spells (bytes : List ℕ) (f : Picture) : Type 0 where
 
 -- no image stands at the front
 abbrev pub NoImage : List ℕ → Type 0
-NoImage bytes = (front rest : List ℕ) (f : Picture) → bytes ≡ front ++ rest → Spells front f → ⊥
+NoImage bytes = (front rest : List ℕ) (f : Picture) → bytes ≡ front ++ rest → IsImageOf front f → ⊥

@@ -37,8 +37,8 @@ abbrev pub limit_of : ℕ → ℕ
 limit_of maxval = 2 * (bpp_of maxval + max 8 (bpp_of maxval))
 
 -- CLAMP_i of C.2.4.1.1.1: v, or low where v is outside of low to maxval
-abbrev pub clamped : ℕ → ℕ → ℕ → ℕ
-clamped v low maxval = if nat_lt maxval v || nat_lt v low then low else v
+abbrev pub clamped_threshold : ℕ → ℕ → ℕ → ℕ
+clamped_threshold v low maxval = if nat_lt maxval v || nat_lt v low then low else v
 
 -- FACTOR of C.2.4.1.1.1
 abbrev pub large_factor : ℕ → ℕ
@@ -56,13 +56,13 @@ unclamped_thresholds maxval =
 
 -- the default thresholds (C.2.4.1.1.1), each clamped by the one before
 abbrev pub default_t1 : ℕ → ℕ
-default_t1 maxval = clamped (unclamped_thresholds maxval).0 1 maxval
+default_t1 maxval = clamped_threshold (unclamped_thresholds maxval).0 1 maxval
 
 abbrev pub default_t2 : ℕ → ℕ
-default_t2 maxval = clamped (unclamped_thresholds maxval).1 (default_t1 maxval) maxval
+default_t2 maxval = clamped_threshold (unclamped_thresholds maxval).1 (default_t1 maxval) maxval
 
 abbrev pub default_t3 : ℕ → ℕ
-default_t3 maxval = clamped (unclamped_thresholds maxval).2 (default_t2 maxval) maxval
+default_t3 maxval = clamped_threshold (unclamped_thresholds maxval).2 (default_t2 maxval) maxval
 
 -- the default of RESET (C.2.4.1.1)
 abbrev pub default_reset : ℕ

@@ -1,8 +1,8 @@
 //! Readers and writers whose failed calls are counted.
 ghost use Rattle.std.specs.Prelude.{◌≡◌, ℕ, ◌<◌, List, OnOk, OnErr, IfOk, is_err, length};
 ghost use Rattle.std.specs.Io.{ReadsAtMost, WritesAtMost};
-ghost use Rattle.std.specs.Io.KnownBytes.{ReadConsumes, WriteAppends};
-ghost use Rattle.ls_frame.specs.Devices.{count_after};
+ghost use Rattle.std.specs.Io.KnownBytes.{Keeps, ReadConsumes, WriteAppends};
+ghost use Rattle.ls_frame.specs.View.Devices.{count_after};
 
 use std::io;
 use std::io::{Read, Write};
@@ -62,7 +62,7 @@ impl Feed for &[u8] {
 
 /// A reader or a writer with the count of its failed calls.
 ///
-/// Its plain `read`, `write` and `flush` are those of what it wraps, and aren't counted.
+/// Its plain `read`, `write` and `flush` are those of what it wraps, and leave the count as it is.
 #[derive(Drop)]
 pub struct Counted<X> {
     inner: X,
@@ -70,7 +70,7 @@ pub struct Counted<X> {
 }
 
 impl<X> Counted<X> {
-    ghost use Rattle.ls_frame.specs.Devices.{wrapped, failed_calls};
+    ghost use Rattle.ls_frame.specs.View.Devices.{wrapped, failed_calls};
 
     /// Wraps a reader or a writer, with no failed call yet.
     pub fn new(inner: X) -> Counted<X>
@@ -89,17 +89,21 @@ impl<X> Counted<X> {
 }
 
 impl<R: Read> Read for Counted<R> {
-    ghost use Rattle.ls_frame.specs.Devices.{wrapped};
+    ghost use Rattle.ls_frame.specs.View.Devices.{failed_calls, wrapped};
 
     ghost remaining = { λ c. R.remaining (wrapped c) };
 
-    fn read(&mut self, buf: &mut [u8]) -> io::Result<usize> {
+    fn read(&mut self, buf: &mut [u8]) -> io::Result<usize>
+        ensures bound { ReadsAtMost result buf.new }
+        ensures bytes { ReadConsumes (R.remaining (wrapped self.old)) (R.remaining (wrapped self.new)) result buf.new }
+        ensures failures { failed_calls self.new ≡ failed_calls self.old }
+    {
         self.inner.read(buf)
     }
 }
 
 impl<R: Read> Feed for Counted<R> {
-    ghost use Rattle.ls_frame.specs.Devices.{failed_calls};
+    ghost use Rattle.ls_frame.specs.View.Devices.{failed_calls};
 
     ghost failed_reads = { failed_calls };
 
@@ -119,21 +123,28 @@ impl<R: Read> Feed for Counted<R> {
 }
 
 impl<W: Write> Write for Counted<W> {
-    ghost use Rattle.ls_frame.specs.Devices.{wrapped};
+    ghost use Rattle.ls_frame.specs.View.Devices.{failed_calls, wrapped};
 
     ghost contents = { λ c. W.contents (wrapped c) };
 
-    fn write(&mut self, buf: &[u8]) -> io::Result<usize> {
+    fn write(&mut self, buf: &[u8]) -> io::Result<usize>
+        ensures bound { WritesAtMost result buf.now }
+        ensures bytes { WriteAppends (W.contents (wrapped self.old)) (W.contents (wrapped self.new)) result buf.now }
+        ensures failures { failed_calls self.new ≡ failed_calls self.old }
+    {
         self.inner.write(buf)
     }
 
-    fn flush(&mut self) -> io::Result<()> {
+    fn flush(&mut self) -> io::Result<()>
+        ensures bytes { Keeps (W.contents (wrapped self.old)) (W.contents (wrapped self.new)) }
+        ensures failures { failed_calls self.new ≡ failed_calls self.old }
+    {
         self.inner.flush()
     }
 }
 
 impl<W: Write> Outlet for Counted<W> {
-    ghost use Rattle.ls_frame.specs.Devices.{failed_calls};
+    ghost use Rattle.ls_frame.specs.View.Devices.{failed_calls};
 
     ghost failed_writes = { failed_calls };
 

@@ -68,7 +68,7 @@ impl Model for Frame {
 }
 
 /// How many samples a picture of this kind and size has, in all components together.
-pub(crate) fn samples_in(kind: Kind, width: u16, height: u16) -> u64
+pub(crate) fn sample_count(kind: Kind, width: u16, height: u16) -> u64
     ensures { result ≡ sample_count kind width height }
 {
     u64::from(width) * u64::from(height) * u64::from(kind.components())
@@ -100,7 +100,7 @@ impl Frame {
         if width == 0 || height == 0 {
             return Err((FrameFault::ZeroSize, samples));
         }
-        let count = samples_in(kind, width, height);
+        let count = sample_count(kind, width, height);
         if count > MOST_SAMPLES {
             return Err((FrameFault::TooManySamples, samples));
         }
@@ -192,7 +192,7 @@ impl Frame {
 
 impl PartialEq for Frame {
     ghost use Rattle.ls_frame.specs.Picture.{same_picture};
-    ghost use Rattle.ls_frame.specs.Alike.{same_picture-laws};
+    ghost use Rattle.ls_frame.specs.View.Alike.{same_picture-laws};
 
     ghost eq = { same_picture };
 

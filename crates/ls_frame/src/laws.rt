@@ -2,24 +2,24 @@
 ghost use Rattle.std.specs.Prelude.{◌≡◌, ◌+◌, ◌^◌, ◌≤◌, ◌++◌, [], List, ℕ, None};
 ghost use Rattle.ls_frame.specs.declared.netpbm.NetpbmFault.{NetpbmFault};
 ghost use Rattle.ls_frame.specs.Picture.{Picture, IsFrame};
-ghost use Rattle.ls_frame.specs.Netpbm.{Spells, NoImage};
+ghost use Rattle.ls_frame.specs.Netpbm.{IsImageOf, NoImage};
 ghost use Rattle.ls_frame.specs.Canonical.{canonical};
 ghost use Rattle.ls_frame.specs.Faults.{Breaks};
 ghost use Rattle.ls_frame.specs.Parameters.{Parameters, IsLegal, preset_fault, ceil_log2};
 
 /// No Netpbm image begins another: what follows one inside the bytes of another is nothing.
 pub fn no_image_begins_another()
-    ensures { (front rest : List ℕ) (f g : Picture) → Spells front f → Spells (front ++ rest) g → rest ≡ [] }
+    ensures { (front rest : List ℕ) (f g : Picture) → IsImageOf front f → IsImageOf (front ++ rest) g → rest ≡ [] }
 {}
 
 /// An image has one frame.
 pub fn images_have_one_frame()
-    ensures { (bytes : List ℕ) (f g : Picture) → Spells bytes f → Spells bytes g → f ≡ g }
+    ensures { (bytes : List ℕ) (f g : Picture) → IsImageOf bytes f → IsImageOf bytes g → f ≡ g }
 {}
 
 /// What is written of a frame is an image of it.
 pub fn canonical_text_spells_its_frame()
-    ensures { (f : Picture) → IsFrame f → Spells (canonical f) f }
+    ensures { (f : Picture) → IsFrame f → IsImageOf (canonical f) f }
 {}
 
 /// Bytes break the grammar in one way.

@@ -4,11 +4,11 @@ mod raster;
 mod written;
 
 ghost use Rattle.std.specs.Prelude.{◌≡◌, ◌≤◌, ◌⊎◌, IsTrue, IfOk, IfErr, IfSome, IfNone, [], length, take};
-ghost use Rattle.ls_frame.specs.Devices.{count_after};
-ghost use Rattle.ls_frame.specs.Faults.{blames_bytes, failed_device};
-ghost use Rattle.ls_frame.specs.Film.{Tells, Gave, WasAtEnd, IsBroken};
-ghost use Rattle.ls_frame.specs.Netpbm.{Spells};
-ghost use Rattle.ls_frame.specs.Reading.{known, GivesImage};
+ghost use Rattle.ls_frame.specs.View.Devices.{count_after};
+ghost use Rattle.ls_frame.specs.Faults.{IsBroken, blames_bytes, failed_device};
+ghost use Rattle.ls_frame.specs.View.Known.{Tells, Gave, WasAtEnd, known};
+ghost use Rattle.ls_frame.specs.Netpbm.{BeginsWithHeading, IsImageOf, IsWholeHeading};
+ghost use Rattle.ls_frame.specs.View.Reading.{GivesImage};
 
 use crate::device::{Failed, Feed};
 use crate::frame::Frame;
@@ -62,9 +62,11 @@ impl From<AllocError> for NetpbmFault {
 }
 
 /// The next image, read as `image_at` reads.
-#[tactic(auto, unfolding(crate::specs::Reading::image_at))]
+#[tactic(auto, unfolding(crate::specs::View::Reading::image_at))]
 fn read_image<R: Feed>(alloc: Global, reader: &mut R) -> Result<Option<Frame>, NetpbmFault>
     ensures bytes { GivesImage (R.remaining reader.old) (R.remaining reader.new) result }
+    ensures memory { IfErr result (λ fault. fault ≡ NetpbmFault.NoMemory →
+        Gave (R.remaining reader.old) (R.remaining reader.new) IsWholeHeading) }
     ensures failures { R.failed_reads reader.new ≡ count_after (failed_device result) (R.failed_reads reader.old) }
 {
     let mut first = [0u8; 1];
@@ -87,28 +89,32 @@ fn read_image<R: Feed>(alloc: Global, reader: &mut R) -> Result<Option<Frame>, N
 
 /// Reads one image and not a byte more; `None` exactly at the end of input.
 ///
-/// Where the reader tells its bytes, the clauses say which they were. After a fault nothing is said of the
-/// reader's place.
+/// If the bytes are known (as in memory), the clauses say which were read. `NoMemory` comes only after a whole
+/// legal header, with exactly that header read; after any other fault nothing is said of the reader's place.
 pub fn next_frame<R: Feed>(alloc: Global, reader: &mut R) -> Result<Option<Frame>, NetpbmFault>
     // The bytes that were read spell the frame.
     ensures frame { IfOk result (λ next. IfSome next
-        (λ f. Gave (R.remaining reader.old) (R.remaining reader.new) (λ image. Spells image f))) }
+        (λ f. Gave (R.remaining reader.old) (R.remaining reader.new) (λ image. IsImageOf image f))) }
     ensures end { IfOk result (λ next. IfNone next (WasAtEnd (R.remaining reader.old) (R.remaining reader.new))) }
     // What was left breaks so, and begins with no image.
     ensures broken { IfErr result (λ fault. IsTrue (blames_bytes fault) →
         Tells (R.remaining reader.old) → IsBroken (known (R.remaining reader.old)) fault) }
+    // Memory is asked for after the header and before the raster.
+    ensures memory { IfErr result (λ fault. fault ≡ NetpbmFault.NoMemory →
+        Gave (R.remaining reader.old) (R.remaining reader.new) IsWholeHeading) }
     ensures failures { R.failed_reads reader.new ≡ count_after (failed_device result) (R.failed_reads reader.old) }
 {
     read_image(alloc, reader)
 }
 
-/// Reads the image at the front of `bytes`, and says how many of them it takes; `None` exactly where
-/// there are none.
+/// Reads the image at the front of `bytes`, and says how many of them it takes; `None` exactly if there
+/// are none. `NoMemory` comes only if a whole legal header stands at the front.
 pub fn first_frame(alloc: Global, bytes: &[u8]) -> Result<Option<(Frame, usize)>, NetpbmFault>
-    ensures frame { IfOk result (λ next. IfSome next (λ found. Spells (take found.1 bytes.now) found.0)) }
+    ensures frame { IfOk result (λ next. IfSome next (λ found. IsImageOf (take found.1 bytes.now) found.0)) }
     ensures within { IfOk result (λ next. IfSome next (λ found. found.1 ≤ length bytes.now)) }
     ensures end { IfOk result (λ next. IfNone next (bytes.now ≡ [])) }
     ensures broken { IfErr result (λ fault. (fault ≡ NetpbmFault.NoMemory) ⊎ IsBroken bytes.now fault) }
+    ensures memory { IfErr result (λ fault. fault ≡ NetpbmFault.NoMemory → BeginsWithHeading bytes.now) }
 {
     let mut rest = bytes;
     match next_frame(alloc, &mut rest)? {

@@ -1,7 +1,7 @@
 //! Writing bytes whole.
 ghost use Rattle.std.specs.Prelude.{◌≡◌, ◌<◌, OnOk, IfErr, is_err, length, take};
 ghost use Rattle.std.specs.Io.KnownBytes.{Appends};
-ghost use Rattle.ls_frame.specs.Devices.{count_after};
+ghost use Rattle.ls_frame.specs.View.Devices.{count_after};
 
 use crate::device::{Failed, Outlet};
 use thiserror::Error;

@@ -1,6 +1,6 @@
 //! The coding parameters of T.87 (A.2.1, C.2.4.1).
 ghost use Rattle.std.specs.Prelude.{◌≡◌, ◌<◌, ◌≤◌, ◌+◌, ◌↔◌, IsTrue, IfOk};
-ghost use Rattle.ls_frame.specs.Parameters.{ceil_log2, clamped, unclamped_thresholds, default_parameters, explicit_parameters, range_of, qbpp_of, bpp_of, limit_of, IsLegal};
+ghost use Rattle.ls_frame.specs.Parameters.{ceil_log2, clamped_threshold, unclamped_thresholds, default_parameters, explicit_parameters, range_of, qbpp_of, bpp_of, limit_of, IsLegal};
 
 use std::marker::Model;
 use thiserror::Error;
@@ -64,10 +64,10 @@ impl Presets {
         ensures value { result ≡ default_parameters maxval }
         ensures maxval { result.maxval ≡ maxval }
     {
-        let (first, second, third) = unclamped(maxval);
-        let t1 = clamp(first, 1, maxval);
-        let t2 = clamp(second, t1, maxval);
-        let t3 = clamp(third, t2, maxval);
+        let (first, second, third) = unclamped_thresholds(maxval);
+        let t1 = clamped_threshold(first, 1, maxval);
+        let t2 = clamped_threshold(second, t1, maxval);
+        let t3 = clamped_threshold(third, t2, maxval);
         Presets {
             maxval,
             t1,
@@ -204,7 +204,7 @@ impl Presets {
 }
 
 /// The default thresholds before they are clamped (C.2.4.1.1.1).
-fn unclamped(maxval: u16) -> (u16, u16, u16)
+fn unclamped_thresholds(maxval: u16) -> (u16, u16, u16)
     requires { 0 < maxval }
     ensures { result ≡ unclamped_thresholds maxval }
 {
@@ -232,8 +232,8 @@ fn bits_up_to(greatest: u16) -> u32
 }
 
 /// `value`, or `low` where `value` is outside of `low` to `maxval`.
-fn clamp(value: u16, low: u16, maxval: u16) -> u16
-    ensures { result ≡ clamped value low maxval }
+fn clamped_threshold(value: u16, low: u16, maxval: u16) -> u16
+    ensures { result ≡ clamped_threshold value low maxval }
 {
     if value > maxval || value < low {
         low

@@ -1,9 +1,32 @@
-//! Readers and writers for the tests. They take no memory.
+//! Readers, writers and checks for the tests. They take no memory.
 ghost use Rattle.std.specs.Prelude.{◌≤◌};
 ghost use Rattle.ls_frame.specs.declared.testing.TheConstants.{ROOM};
 
+use std::fmt::Debug;
 use std::io;
 use std::io::{Read, Write};
+use std::process::Abort;
+
+/// That a value is the wanted one.
+pub fn check<T: PartialEq + Debug>(rt: &impl Abort, case: &str, at: usize, got: &T, want: &T) {
+    assert_eq!(rt; got, want, "{case}, at {at}");
+}
+
+/// That items are the wanted ones.
+pub fn check_items<T: PartialEq + Debug>(
+    rt: &impl Abort,
+    case: &str,
+    at: usize,
+    got: &[T],
+    want: &[T],
+) {
+    assert_eq!(rt; got, want, "{case}, at {at}");
+}
+
+/// That this holds.
+pub fn check_so(rt: &impl Abort, case: &str, at: usize, holds: bool) {
+    assert!(rt; holds, "{case}, at {at}");
+}
 
 /// A reader over memory that gives at most `most` bytes a call. Its calls of the numbers `failing`,
 /// counted from 0, fail and give nothing.

@@ -1,15 +1,19 @@
 use super::*;
-use crate::testing::{Memory, words_of};
+use crate::testing::{Memory, check, words_of};
 use std::process::Abort;
 
 /// The words, or nothing where memory may be refused and was.
 fn fixture(rt: &impl Abort, alloc: Global, memory: Memory, line: &[&str]) -> Option<Vec<String>> {
     let words = words_of(alloc, line).ok();
-    assert!(rt;
-        words.is_some() || memory == Memory::Refusable,
-        "no memory for {line:?}"
-    );
+    let may_lack = words.is_some() || memory == Memory::Refusable;
+    check(rt, "no memory for words", may_lack);
     words
+}
+
+/// That memory was refused where it may be.
+fn check_refusal(rt: &impl Abort, memory: Memory, error: &Error) {
+    check(rt, "an error", error.kind() == ErrorKind::OutOfMemory);
+    check(rt, "no memory", memory == Memory::Refusable);
 }
 
 fn check_files(rt: &impl Abort, alloc: Global, memory: Memory) {
@@ -24,11 +28,8 @@ fn check_files(rt: &impl Abort, alloc: Global, memory: Memory) {
             return;
         };
         match read_words(alloc, &words) {
-            Ok(request) => assert_eq!(rt; request, want, "at {line:?}"),
-            Err(error) => {
-                assert_eq!(rt; error.kind(), ErrorKind::OutOfMemory, "at {line:?}");
-                assert_eq!(rt; memory, Memory::Refusable, "at {line:?}");
-            }
+            Ok(request) => check(rt, "a request", request == want),
+            Err(error) => check_refusal(rt, memory, &error),
         }
     }
 }
@@ -73,9 +74,9 @@ fn check_answers(rt: &impl Abort, alloc: Global, memory: Memory) {
             Err(error) if memory == Memory::Refusable && error.kind() == ErrorKind::OutOfMemory =>
                 {}
             Err(error) => {
-                assert_eq!(rt; error.use_stderr(), is_fault, "at {line:?}");
-                assert_eq!(rt; error.exit_code() == 2, is_fault, "at {line:?}");
-                assert_ne!(rt; error.kind(), ErrorKind::OutOfMemory, "at {line:?}");
+                check(rt, "standard error", error.use_stderr() == is_fault);
+                check(rt, "status 2", (error.exit_code() == 2) == is_fault);
+                check(rt, "its kind", error.kind() != ErrorKind::OutOfMemory);
             }
         }
     }
@@ -102,24 +103,24 @@ fn check_columns(rt: &impl Abort, help: &str) {
         let mut names = lines
             .by_ref()
             .map(|line| line.split_ascii_whitespace().next());
-        assert!(rt;
-            names.any(|name| name == Some(column)),
-            "no {column} in its place"
-        );
+        check(rt, column, names.any(|name| name == Some(column)));
     }
 }
 
-/// What the help of `code` says: where the output goes, its form, and what is written before a fault.
-const CODING: [&str; 4] = [
+/// What the help of `code` says: where the output goes, its form, what is written before a fault, and which maxvals other
+/// programs read.
+const CODING: [&str; 6] = [
     "to standard output",
     "a codestream of JPEG-LS (ITU-T T.87) for each frame",
     "joined with nothing between",
     "the codestreams of exactly the good frames before it are written",
+    "only if the maxval of its frame is 2^P - 1",
+    "pamdepth",
 ];
 
 fn check_coding(rt: &impl Abort, help: &str) {
     for words in CODING {
-        assert!(rt; help.contains(words), "no {words}");
+        check(rt, words, help.contains(words));
     }
 }
 
@@ -152,10 +153,10 @@ fn help_says_what_is_coded_with_ample_memory(rt: HostRuntime) {
 fn check_usage_fault(rt: &impl Abort, alloc: Global, memory: Memory) {
     match usage_fault(alloc, "strange words") {
         Ok(error) => {
-            assert!(rt; error.use_stderr());
-            assert_eq!(rt; error.exit_code(), 2);
+            check(rt, "standard error", error.use_stderr());
+            check(rt, "status 2", error.exit_code() == 2);
         }
-        Err(_) => assert_eq!(rt; memory, Memory::Refusable),
+        Err(_) => check(rt, "no memory", memory == Memory::Refusable),
     }
 }
 

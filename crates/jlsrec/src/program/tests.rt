@@ -1,7 +1,7 @@
 use super::*;
 use crate::testing::{
-    BLACK, FILM, FILM_CODESTREAMS, FILM_LINES, FIRST_LINE, Memory, Mishap, Sink, TWO_CODESTREAMS,
-    endless_header, words_of,
+    BLACK, FILM, FILM_CODESTREAMS, FILM_LINES, FIRST_CODESTREAM, FIRST_LINE, Memory, Mishap, Sink,
+    check, check_bytes, check_status, endless_header, words_of,
 };
 use std::fs;
 use std::io::Write;
@@ -10,7 +10,9 @@ use std::process::Abort;
 /// A status, and what was written to output and to errors.
 type Ending<'a> = (u8, &'a [u8], &'a [u8]);
 
-/// Runs the program over words and over writers to which this happens. Nothing, where memory may be
+const FAILED_OUTPUT: &[u8] = b"jlsrec: output failed\n";
+
+/// Runs the program over words and over writers to which this happens. Nothing, if memory may be
 /// refused and was before the run.
 fn run_words<R: Files + Abort + AllocGlobal>(
     rt: &R,
@@ -19,7 +21,7 @@ fn run_words<R: Files + Abort + AllocGlobal>(
     mishaps: (Mishap, Mishap),
 ) -> Option<(u8, Sink, Sink)> {
     let Ok(words) = words_of(rt.alloc(), words) else {
-        assert_eq!(rt; memory, Memory::Refusable);
+        check(rt, "no memory for words", memory == Memory::Refusable);
         return None;
     };
     let mut output = Counted::new(Sink::new(4096, mishaps.0));
@@ -28,47 +30,35 @@ fn run_words<R: Files + Abort + AllocGlobal>(
     Some((status, output.into_inner(), errors.into_inner()))
 }
 
-/// That a run ended so. Or, where memory may be refused, that it failed, says so, and wrote a part of
+/// That a run ended so. Or, if memory may be refused, that it failed, says so, and wrote a part of
 /// the output.
 fn check_ending(rt: &impl Abort, memory: Memory, got: Ending<'_>, want: Ending<'_>, case: &str) {
     let (status, output, errors) = got;
     if memory == Memory::Refusable && errors.ends_with(b"no memory\n") {
-        assert_eq!(rt; status, 1, "{case}");
-        assert!(rt; want.1.starts_with(output), "{case}: other output");
-        assert!(rt; errors.starts_with(b"jlsrec: "), "{case}: other errors");
+        check_status(rt, case, status, 1);
+        check(rt, case, want.1.starts_with(output));
+        check(rt, case, errors.starts_with(b"jlsrec: "));
     } else {
-        assert_eq!(rt; status, want.0, "{case}");
-        assert_eq!(rt; output, want.1, "{case}");
-        assert_eq!(rt; errors, want.2, "{case}");
+        check_status(rt, case, status, want.0);
+        check_bytes(rt, case, output, want.1);
+        check_bytes(rt, case, errors, want.2);
     }
 }
 
-/// Runs a command over a file, and compares. Its errors are to be this text behind the names of program and file.
+/// Runs a command over a file, and compares.
 fn check_file<R: Files + Abort + AllocGlobal>(
     rt: &R,
     memory: Memory,
     words: [&str; 2],
     mishap: Mishap,
-    want: (u8, &[u8], &str),
+    want: Ending<'_>,
 ) {
-    let [_, file] = words;
-    let Some((status, output, errors)) = run_words(rt, memory, &words, (mishap, Mishap::Nothing))
-    else {
+    let mishaps = (mishap, Mishap::Nothing);
+    let Some((status, output, errors)) = run_words(rt, memory, &words, mishaps) else {
         return;
     };
-    let (want_status, want_output, text) = want;
-    let mut said = Sink::new(4096, Mishap::Nothing);
-    if !text.is_empty() {
-        assert!(rt; write!(said, "jlsrec: {file}: {text}\n").is_ok());
-    }
     let got = (status, output.written(), errors.written());
-    check_ending(
-        rt,
-        memory,
-        got,
-        (want_status, want_output, said.written()),
-        text,
-    );
+    check_ending(rt, memory, got, want, words[1]);
 }
 
 /// Runs a command over a file of these bytes, which is made for it, and compares.
@@ -78,55 +68,107 @@ fn check_film<R: Files + Abort + AllocGlobal>(
     words: [&str; 2],
     film: &[u8],
     mishap: Mishap,
-    want: (u8, &[u8], &str),
+    want: Ending<'_>,
 ) {
     let [_, file] = words;
     if fs::write(rt, file, film).is_ok() {
         check_file(rt, memory, words, mishap, want);
     } else {
-        assert_eq!(rt; memory, Memory::Refusable, "{file} isn't written");
+        check(rt, "the film isn't written", memory == Memory::Refusable);
     }
     let _gone = fs::remove_file(rt, file);
 }
 
-const BAD_FILMS: [(&[u8], &[u8], &str); 7] = [
-    (b"P4 1 1\n", b"", "frame 0: bad magic"),
-    (b"P5 1 1 255#", b"", "frame 0: bad header"),
-    (b"P5 0 1 255\n", b"", "frame 0: size out of range"),
-    (b"P5 1 1 0\n", b"", "frame 0: maxval out of range"),
-    (b"P5 1 1 7\n\x08", b"", "frame 0: sample too large"),
-    (b"P5 2 1 255\n\x00", b"", "frame 0: truncated"),
-    (
-        b"P5 1 1 255\n\x00P5 1 1 7\n\x08",
-        FIRST_LINE,
-        "frame 1: sample too large",
-    ),
-];
-
-/// That a command over this file does as it should where nothing can be read, and where nothing can be written.
-fn check_mishaps<R: Files + Abort + AllocGlobal>(rt: &R, memory: Memory, words: [&str; 2]) {
-    let nothing = Mishap::Nothing;
-    check_film(rt, memory, words, b"", nothing, (0, b"", ""));
-    let film = endless_header();
-    let want = (1, b"".as_slice(), "frame 0: header too long");
-    check_film(rt, memory, words, &film, nothing, want);
-    let want = (1, b"".as_slice(), "output failed after 0 bytes");
-    check_film(rt, memory, words, BLACK, Mishap::Fails(0), want);
-    check_film(rt, memory, words, BLACK, Mishap::TakesNothing(0), want);
-    let want = (1, b"".as_slice(), "can't open");
-    check_file(rt, memory, words, nothing, want);
-    let want = (1, b"".as_slice(), "frame 0: read failed");
-    check_file(rt, memory, [words[0], "."], nothing, want);
+/// What is said of a fault: this text after the names of program and file.
+fn said(rt: &impl Abort, file: &str, text: &str) -> Sink {
+    let mut errors = Sink::new(4096, Mishap::Nothing);
+    check(rt, text, write!(errors, "jlsrec: {file}: {text}\n").is_ok());
+    errors
 }
 
+/// The same where the command is to fail with this text, and with this output before.
+fn check_fault<R: Files + Abort + AllocGlobal>(
+    rt: &R,
+    memory: Memory,
+    words: [&str; 2],
+    film: &[u8],
+    mishap: Mishap,
+    output: &[u8],
+    text: &str,
+) {
+    let errors = said(rt, words[1], text);
+    check_film(
+        rt,
+        memory,
+        words,
+        film,
+        mishap,
+        (1, output, errors.written()),
+    );
+}
+
+/// Films whose first frame is bad.
+const BAD_FILMS: [(&[u8], &str); 6] = [
+    (b"P4 1 1\n", "frame 0: bad magic"),
+    (b"P5 1 1 255#", "frame 0: bad header"),
+    (b"P5 0 1 255\n", "frame 0: size out of range"),
+    (b"P5 1 1 0\n", "frame 0: maxval out of range"),
+    (b"P5 1 1 7\n\x08", "frame 0: sample too large"),
+    (b"P5 2 1 255\n\x00", "frame 0: truncated"),
+];
+
+/// A film of `BLACK` and a bad frame.
+const BAD_SECOND_FRAME: &[u8] = b"P5\n1 1\n255\n\x00P5 1 1 7\n\x08";
+
+/// That a command over this file does as it should with films and bad films, and if no film can be read. `whole` is what
+/// it writes of `FILM`, `first` of `BLACK`.
+fn check_command<R: Files + Abort + AllocGlobal>(
+    rt: &R,
+    memory: Memory,
+    words: [&str; 2],
+    whole: &[u8],
+    first: &[u8],
+) {
+    let nothing = Mishap::Nothing;
+    check_film(rt, memory, words, FILM, nothing, (0, whole, b""));
+    check_film(rt, memory, words, b"", nothing, (0, b"", b""));
+    for (film, text) in BAD_FILMS {
+        check_fault(rt, memory, words, film, nothing, b"", text);
+    }
+    let long = "frame 0: header too long";
+    check_fault(rt, memory, words, &endless_header(), nothing, b"", long);
+    let second = "frame 1: sample too large";
+    check_fault(rt, memory, words, BAD_SECOND_FRAME, nothing, first, second);
+    let unopened = said(rt, words[1], "can't open");
+    check_file(rt, memory, words, nothing, (1, b"", unopened.written()));
+    let unread = said(rt, ".", "frame 0: read failed");
+    let folder = [words[0], "."];
+    check_file(rt, memory, folder, nothing, (1, b"", unread.written()));
+}
+
+/// A listing goes by way of a buffer, so that a write fails when that is flushed.
 fn check_listings<R: Files + Abort + AllocGlobal>(rt: &R, memory: Memory, file: &str) {
     let words = ["list", file];
-    let nothing = Mishap::Nothing;
-    check_film(rt, memory, words, FILM, nothing, (0, FILM_LINES, ""));
-    for (film, output, text) in BAD_FILMS {
-        check_film(rt, memory, words, film, nothing, (1, output, text));
+    check_command(rt, memory, words, FILM_LINES, FIRST_LINE);
+    for mishap in [
+        Mishap::Fails(0),
+        Mishap::TakesNothing(0),
+        Mishap::FailsToFlush,
+    ] {
+        let written = if mishap == Mishap::FailsToFlush {
+            FIRST_LINE
+        } else {
+            b""
+        };
+        check_film(
+            rt,
+            memory,
+            words,
+            BLACK,
+            mishap,
+            (1, written, FAILED_OUTPUT),
+        );
     }
-    check_mishaps(rt, memory, words);
 }
 
 #[test]
@@ -139,14 +181,16 @@ fn films_are_listed_or_memory_is_wanting(rt: HostRuntime) {
     check_listings(&rt, Memory::Refusable, "listed_or_memory_is_wanting.pgm");
 }
 
+/// Each codestream goes out by itself, so that a fault says how many bytes did.
 fn check_codings<R: Files + Abort + AllocGlobal>(rt: &R, memory: Memory, file: &str) {
     let words = ["code", file];
-    let nothing = Mishap::Nothing;
-    check_film(rt, memory, words, FILM, nothing, (0, FILM_CODESTREAMS, ""));
-    let film = b"P5 1 1 255\n\x00P5 1 1 7\n\x08";
-    let want = (1, &TWO_CODESTREAMS[..28], "frame 1: sample too large");
-    check_film(rt, memory, words, film, nothing, want);
-    check_mishaps(rt, memory, words);
+    check_command(rt, memory, words, FILM_CODESTREAMS, FIRST_CODESTREAM);
+    let none = "output failed after 0 bytes";
+    check_fault(rt, memory, words, BLACK, Mishap::Fails(0), b"", none);
+    check_fault(rt, memory, words, BLACK, Mishap::TakesNothing(0), b"", none);
+    let first = &FILM_CODESTREAMS[..57];
+    let one = "output failed after 57 bytes";
+    check_fault(rt, memory, words, FILM, Mishap::Fails(1), first, one);
 }
 
 #[test]
@@ -179,40 +223,38 @@ const ANSWERED: [(&[&str], u8); 16] = [
     (&["-V"], 0),
 ];
 
+/// That this is a usage fault, or what was asked for.
+fn check_answer(rt: &impl Abort, memory: Memory, got: Ending<'_>, want: u8) {
+    let (status, output, errors) = got;
+    if memory == Memory::Refusable && status == 1 {
+        check_bytes(rt, "no memory", output, b"");
+        check_bytes(rt, "no memory", errors, b"jlsrec: no memory\n");
+    } else if want == 2 {
+        check_status(rt, "a usage fault", status, 2);
+        check_bytes(rt, "a usage fault", output, b"");
+        check(rt, "a usage fault", errors.starts_with(b"error: "));
+    } else {
+        check_status(rt, "help", status, 0);
+        check(rt, "help", !output.is_empty());
+        check_bytes(rt, "help", errors, b"");
+    }
+}
+
 fn check_answers<R: Files + Abort + AllocGlobal>(rt: &R, memory: Memory) {
+    let nothing = (Mishap::Nothing, Mishap::Nothing);
     for (words, want) in ANSWERED {
-        let Some((status, output, errors)) = run_words(
-            rt,
-            memory,
-            words,
-            (Mishap::Nothing, Mishap::Nothing),
-        ) else {
+        let Some((status, output, errors)) = run_words(rt, memory, words, nothing) else {
             return;
         };
-        if memory == Memory::Refusable && status == 1 {
-            assert_eq!(rt; output.written(), b"".as_slice(), "at {words:?}");
-            assert_eq!(rt;
-                errors.written(),
-                b"jlsrec: no memory\n".as_slice(),
-                "at {words:?}"
-            );
-        } else if want == 2 {
-            assert_eq!(rt; status, 2, "at {words:?}");
-            assert_eq!(rt; output.written(), b"".as_slice(), "at {words:?}");
-            assert!(rt; errors.written().starts_with(b"error: "), "at {words:?}");
-        } else {
-            assert_eq!(rt; status, 0, "at {words:?}");
-            assert!(rt; !output.written().is_empty(), "at {words:?}");
-            assert_eq!(rt; errors.written(), b"".as_slice(), "at {words:?}");
-        }
+        let got = (status, output.written(), errors.written());
+        check_answer(rt, memory, got, want);
     }
     let refuses = (Mishap::Fails(0), Mishap::Nothing);
     let Some((status, output, errors)) = run_words(rt, memory, &["--help"], refuses) else {
         return;
     };
-    let want = (1, b"".as_slice(), b"jlsrec: output failed\n".as_slice());
     let got = (status, output.written(), errors.written());
-    check_ending(rt, memory, got, want, "--help");
+    check_ending(rt, memory, got, (1, b"", FAILED_OUTPUT), "--help");
 }
 
 #[test]
@@ -225,32 +267,30 @@ fn words_without_a_film_are_answered_or_memory_is_wanting(rt: HostRuntime) {
     check_answers(&rt, Memory::Refusable);
 }
 
+/// Words, what happens to output, and the status.
+const UNSAID: [(&[&str], Mishap, u8); 4] = [
+    (
+        &["list", "a_file_that_is_not_there.pgm"],
+        Mishap::Nothing,
+        1,
+    ),
+    (&["list", "."], Mishap::Nothing, 1),
+    (&["--nope"], Mishap::Nothing, 2),
+    (&["--help"], Mishap::Fails(0), 1),
+];
+
 /// With a writer for errors that refuses, the status stays, and nothing more is written.
 fn check_unsaid<R: Files + Abort + AllocGlobal>(rt: &R, memory: Memory) {
-    let cases: [(&[&str], Mishap, u8); 4] = [
-        (
-            &["list", "a_file_that_is_not_there.pgm"],
-            Mishap::Nothing,
-            1,
-        ),
-        (&["list", "."], Mishap::Nothing, 1),
-        (&["--nope"], Mishap::Nothing, 2),
-        (&["--help"], Mishap::Fails(0), 1),
-    ];
-    for (words, mishap, want) in cases {
-        let Some((status, output, errors)) = run_words(
-            rt,
-            memory,
-            words,
-            (mishap, Mishap::Fails(0)),
-        ) else {
+    for (words, mishap, want) in UNSAID {
+        let mishaps = (mishap, Mishap::Fails(0));
+        let Some((status, output, errors)) = run_words(rt, memory, words, mishaps) else {
             return;
         };
         if memory == Memory::Ample || status != 1 {
-            assert_eq!(rt; status, want, "at {words:?}");
+            check_status(rt, "errors refused", status, want);
         }
-        assert_eq!(rt; output.written(), b"".as_slice(), "at {words:?}");
-        assert_eq!(rt; errors.written(), b"".as_slice(), "at {words:?}");
+        check_bytes(rt, "errors refused: output", output.written(), b"");
+        check_bytes(rt, "errors refused: errors", errors.written(), b"");
     }
 }
 
@@ -269,9 +309,9 @@ const FINISHES: [(u8, Mishap, u8, &[u8]); 6] = [
     (0, Mishap::Nothing, 0, b""),
     (1, Mishap::Nothing, 1, b""),
     (2, Mishap::Nothing, 2, b""),
-    (0, Mishap::FailsToFlush, 1, b"jlsrec: output failed\n"),
-    (1, Mishap::FailsToFlush, 1, b"jlsrec: output failed\n"),
-    (2, Mishap::FailsToFlush, 2, b"jlsrec: output failed\n"),
+    (0, Mishap::FailsToFlush, 1, FAILED_OUTPUT),
+    (1, Mishap::FailsToFlush, 1, FAILED_OUTPUT),
+    (2, Mishap::FailsToFlush, 1, FAILED_OUTPUT),
 ];
 
 fn check_finishes(rt: &impl Abort, alloc: Global, memory: Memory) {
@@ -279,14 +319,9 @@ fn check_finishes(rt: &impl Abort, alloc: Global, memory: Memory) {
         let mut output = Counted::new(Sink::new(4096, mishap));
         let mut errors = Counted::new(Sink::new(4096, Mishap::Nothing));
         let status = finish(alloc, given, &mut output, &mut errors);
-        assert_eq!(rt; status, want, "{given} and {mishap:?}");
         let errors = errors.into_inner();
-        if memory == Memory::Ample
-            || text.is_empty()
-            || errors.written() != b"jlsrec: no memory\n".as_slice()
-        {
-            assert_eq!(rt; errors.written(), text, "{given} and {mishap:?}");
-        }
+        let got = (status, b"".as_slice(), errors.written());
+        check_ending(rt, memory, got, (want, b"", text), "a flush");
     }
 }
 
@@ -301,11 +336,19 @@ fn a_failed_flush_is_said_at_the_end_or_memory_is_wanting(rt: HostRuntime) {
 }
 
 #[test]
+fn nothing_is_flushed_after_a_failed_write(rt: HostRuntime) {
+    let mut output = Counted::new(Sink::new(0, Mishap::FailsToFlush));
+    let mut errors = Counted::new(Sink::new(4096, Mishap::Nothing));
+    check(&rt, "a write", output.give(b"a").is_err());
+    let status = finish(rt.alloc(), 1, &mut output, &mut errors);
+    check_status(&rt, "a flush", status, 1);
+    check_bytes(&rt, "a flush", errors.into_inner().written(), b"");
+}
+
+#[test]
 fn want_of_memory_is_said_without_any(rt: HostRuntime) {
     let mut errors = Counted::new(Sink::new(4096, Mishap::Nothing));
-    assert_eq!(rt; no_memory(rt.alloc(), &mut errors), 1);
-    assert_eq!(rt;
-        errors.into_inner().written(),
-        b"jlsrec: no memory\n".as_slice()
-    );
+    check_status(&rt, "no memory", no_memory(rt.alloc(), &mut errors), 1);
+    let errors = errors.into_inner();
+    check_bytes(&rt, "no memory", errors.written(), b"jlsrec: no memory\n");
 }

@@ -1,5 +1,6 @@
 use super::*;
-use crate::testing::{Mishap, Pieces, Sink};
+use crate::testing::{Mishap, Pieces, Sink, check, check_items, check_so};
+use std::process::Abort;
 
 #[test]
 fn failed_feeds_are_counted_one_by_one(rt: HostRuntime) {
@@ -15,72 +16,84 @@ fn failed_feeds_are_counted_one_by_one(rt: HostRuntime) {
         (Ok(0), b"cb", 3),
     ];
     for (i, (want, bytes, failures)) in steps.into_iter().enumerate() {
-        assert_eq!(rt; reader.feed(&mut buf), want, "at {i}");
-        assert_eq!(rt; &buf[..2], bytes, "at {i}");
-        assert_eq!(rt; Feed::failures(&reader), failures, "at {i}");
+        check(&rt, "a feed", i, &reader.feed(&mut buf), &want);
+        check_items(&rt, "its bytes", i, &buf[..2], bytes);
+        check(&rt, "failures", i, &Feed::failures(&reader), &failures);
     }
-    assert_eq!(rt; reader.into_inner().given, 3);
+    check(&rt, "bytes given", 0, &reader.into_inner().given, &3);
+}
+
+/// Steps of a writer that takes two bytes a call, and whose calls 1, 2 and 4 go wrong.
+fn check_gives(rt: &impl Abort, mishap: Mishap) {
+    let mut writer = Counted::new(Sink::new(2, &[1, 2, 4], mishap));
+    let steps: [(&[u8], Result<usize, Failed>, u64); 7] = [
+        (b"abc", Ok(2), 0),
+        (b"c", Err(Failed), 1),
+        (b"cde", Err(Failed), 2),
+        (b"c", Ok(1), 2),
+        (b"d", Err(Failed), 3),
+        (b"", Ok(0), 3),
+        (b"de", Ok(2), 3),
+    ];
+    for (i, (bytes, want, failures)) in steps.into_iter().enumerate() {
+        check(rt, "a give", i, &writer.give(bytes), &want);
+        check(rt, "failures", i, &Outlet::failures(&writer), &failures);
+    }
+    let sink = writer.into_inner();
+    check_items(rt, "all bytes", 0, sink.written(), b"abcde");
+    check(rt, "calls", 0, &sink.calls, &7);
 }
 
 #[test]
 fn failed_gives_are_counted_one_by_one(rt: HostRuntime) {
-    for mishap in [Mishap::Fails, Mishap::TakesNothing] {
-        let mut writer = Counted::new(Sink::new(2, &[1, 2, 4], mishap));
-        let steps: [(&[u8], Result<usize, Failed>, u64); 7] = [
-            (b"abc", Ok(2), 0),
-            (b"c", Err(Failed), 1),
-            (b"cde", Err(Failed), 2),
-            (b"c", Ok(1), 2),
-            (b"d", Err(Failed), 3),
-            (b"", Ok(0), 3),
-            (b"de", Ok(2), 3),
-        ];
-        for (i, (bytes, want, failures)) in steps.into_iter().enumerate() {
-            assert_eq!(rt; writer.give(bytes), want, "{mishap:?} at {i}");
-            assert_eq!(rt; Outlet::failures(&writer), failures, "{mishap:?} at {i}");
-        }
-        let sink = writer.into_inner();
-        assert_eq!(rt; sink.written(), b"abcde".as_slice(), "{mishap:?}");
-        assert_eq!(rt; sink.calls, 7, "{mishap:?}");
-    }
+    check_gives(&rt, Mishap::Fails);
+    check_gives(&rt, Mishap::TakesNothing);
+}
+
+/// A plain read.
+fn read<R: Read>(reader: &mut R, buf: &mut [u8]) -> Result<usize, io::ErrorKind> {
+    reader.read(buf).map_err(|e| e.kind())
 }
 
 #[test]
 fn plain_reads_are_handed_on_and_not_counted(rt: HostRuntime) {
-    let mut reader = Counted::new(Pieces::new(b"abc", 2, &[1]));
+    let broken = Err(io::ErrorKind::BrokenPipe);
+    let mut reader = Counted::new(Pieces::new(b"abc", 2, &[0, 2]));
     let mut buf = [0u8; 2];
-    assert_eq!(rt; reader.read(&mut buf).ok(), Some(2));
-    assert_eq!(rt; &buf, b"ab");
-    let fault = reader.read(&mut buf).err().map(|e| e.kind());
-    assert_eq!(rt; fault, Some(io::ErrorKind::BrokenPipe));
-    assert_eq!(rt; reader.read(&mut buf).ok(), Some(1));
-    assert_eq!(rt; &buf, b"cb");
-    assert_eq!(rt; Feed::failures(&reader), 0);
+    check(&rt, "a feed", 0, &reader.feed(&mut buf), &Err(Failed));
+    check(&rt, "a read", 1, &read(&mut reader, &mut buf), &Ok(2));
+    check_items(&rt, "its bytes", 1, &buf, b"ab");
+    check(&rt, "a read", 2, &read(&mut reader, &mut buf), &broken);
+    check(&rt, "a read", 3, &read(&mut reader, &mut buf), &Ok(1));
+    check_items(&rt, "its bytes", 3, &buf, b"cb");
+    check(&rt, "failures", 0, &Feed::failures(&reader), &1);
+}
+
+/// A plain write.
+fn write<W: Write>(writer: &mut W, bytes: &[u8]) -> Result<usize, io::ErrorKind> {
+    writer.write(bytes).map_err(|e| e.kind())
+}
+
+/// A writer whose first call of `give`, later call of `write` and second call of `flush` go wrong, the write so.
+fn check_plain_writes(rt: &impl Abort, mishap: Mishap, want: Result<usize, io::ErrorKind>) {
+    let mut writer = Counted::new(Sink::new(2, &[0, 2], mishap));
+    check(rt, "a give", 0, &writer.give(b"abc"), &Err(Failed));
+    check(rt, "a write", 1, &write(&mut writer, b"abc"), &Ok(2));
+    check(rt, "a write", 2, &write(&mut writer, b"c"), &want);
+    check(rt, "a write", 3, &write(&mut writer, b"c"), &Ok(1));
+    for (call, is_done) in [(0, false), (1, true), (2, false)] {
+        check_so(rt, "a flush", call, writer.flush().is_ok() == is_done);
+    }
+    check(rt, "failures", 0, &Outlet::failures(&writer), &1);
+    let sink = writer.into_inner();
+    check_items(rt, "all bytes", 0, sink.written(), b"abc");
+    check(rt, "flushes", 0, &sink.flushes, &3);
 }
 
 #[test]
 fn plain_writes_and_flushes_are_handed_on_and_not_counted(rt: HostRuntime) {
-    for (mishap, want) in [
-        (Mishap::Fails, Err(io::ErrorKind::BrokenPipe)),
-        (Mishap::TakesNothing, Ok(0)),
-    ] {
-        let mut writer = Counted::new(Sink::new(2, &[1], mishap));
-        assert_eq!(rt; writer.write(b"abc").ok(), Some(2), "{mishap:?}");
-        assert_eq!(rt;
-            writer.write(b"c").map_err(|e| e.kind()),
-            want,
-            "{mishap:?}"
-        );
-        assert_eq!(rt; writer.write(b"c").ok(), Some(1), "{mishap:?}");
-        assert!(rt; writer.flush().is_ok(), "{mishap:?}");
-        let fault = writer.flush().err().map(|e| e.kind());
-        assert_eq!(rt; fault, Some(io::ErrorKind::BrokenPipe), "{mishap:?}");
-        assert!(rt; writer.flush().is_ok(), "{mishap:?}");
-        assert_eq!(rt; Outlet::failures(&writer), 0, "{mishap:?}");
-        let sink = writer.into_inner();
-        assert_eq!(rt; sink.written(), b"abc".as_slice(), "{mishap:?}");
-        assert_eq!(rt; sink.flushes, 3, "{mishap:?}");
-    }
+    check_plain_writes(&rt, Mishap::Fails, Err(io::ErrorKind::BrokenPipe));
+    check_plain_writes(&rt, Mishap::TakesNothing, Ok(0));
 }
 
 #[test]
@@ -88,9 +101,9 @@ fn bytes_in_memory_never_fail(rt: HostRuntime) {
     let mut rest = b"abc".as_slice();
     let mut buf = [0u8; 2];
     for (want, bytes, left) in [(2, b"ab", 1), (1, b"cb", 0), (0, b"cb", 0)] {
-        assert_eq!(rt; rest.feed(&mut buf), Ok(want), "with {left} left");
-        assert_eq!(rt; &buf, bytes, "with {left} left");
-        assert_eq!(rt; rest.len(), left, "with {left} left");
-        assert_eq!(rt; rest.failures(), 0, "with {left} left");
+        check(&rt, "a feed", left, &rest.feed(&mut buf), &Ok(want));
+        check_items(&rt, "its bytes", left, &buf, bytes);
+        check(&rt, "bytes left", left, &rest.len(), &left);
+        check(&rt, "failures", left, &rest.failures(), &0);
     }
 }

@@ -1,11 +1,12 @@
 use super::*;
+use crate::testing::{check, check_items};
 use std::alloc::Global;
 use std::process::Abort;
 
 /// Kind, width, height, maxval, samples.
 type Parts = (Kind, u16, u16, u16, &'static [u16]);
 
-/// A frame of these parts, or nothing where memory is refused.
+/// A frame of these parts, or nothing if memory is refused.
 fn frame_of(rt: &impl Abort, alloc: Global, parts: Parts) -> Option<Frame> {
     let (kind, width, height, maxval, samples) = parts;
     let samples = samples.to_vec(alloc).ok()?;
@@ -43,15 +44,15 @@ const REFUSED: [(Parts, FrameFault); 10] = [
 
 #[test]
 fn the_first_fault_is_named_and_the_samples_come_back(rt: HostRuntime) {
-    for (parts, want) in REFUSED {
+    for (i, (parts, want)) in REFUSED.into_iter().enumerate() {
         let (kind, width, height, maxval, samples) = parts;
         let Ok(given) = samples.to_vec(rt.alloc()) else {
             return;
         };
         let refused = Frame::new(kind, width, height, maxval, given).err();
         let (fault, returned) = refused.expect(&rt, "these parts make no frame");
-        assert_eq!(rt; fault, want, "at {parts:?}");
-        assert_eq!(rt; returned.as_slice(), samples, "at {parts:?}");
+        check(&rt, "a fault", i, &fault, &want);
+        check_items(&rt, "the samples", i, &returned, samples);
     }
 }
 
@@ -64,16 +65,16 @@ const FRAMES: [Parts; 4] = [
 
 #[test]
 fn a_frame_has_the_parts_that_it_was_made_of(rt: HostRuntime) {
-    for parts in FRAMES {
+    for (i, parts) in FRAMES.into_iter().enumerate() {
         let Some(frame) = frame_of(&rt, rt.alloc(), parts) else {
             return;
         };
         let (kind, width, height, maxval, samples) = parts;
-        assert_eq!(rt; frame.kind(), kind, "at {parts:?}");
-        assert_eq!(rt; frame.width(), width, "at {parts:?}");
-        assert_eq!(rt; frame.height(), height, "at {parts:?}");
-        assert_eq!(rt; frame.maxval(), maxval, "at {parts:?}");
-        assert_eq!(rt; frame.samples(), samples, "at {parts:?}");
+        check(&rt, "the kind", i, &frame.kind(), &kind);
+        check(&rt, "the width", i, &frame.width(), &width);
+        check(&rt, "the height", i, &frame.height(), &height);
+        check(&rt, "maxval", i, &frame.maxval(), &maxval);
+        check_items(&rt, "the samples", i, frame.samples(), samples);
     }
 }
 
@@ -116,21 +117,21 @@ const PAIRS: [(Parts, Parts, bool); 7] = [
 ];
 
 #[test]
-fn frames_are_equal_where_they_are_alike_in_all(rt: HostRuntime) {
-    for (left, right, alike) in PAIRS {
+fn frames_are_equal_if_they_are_alike_in_all(rt: HostRuntime) {
+    for (i, (left, right, alike)) in PAIRS.into_iter().enumerate() {
         let Some(first) = frame_of(&rt, rt.alloc(), left) else {
             return;
         };
         let Some(second) = frame_of(&rt, rt.alloc(), right) else {
             return;
         };
-        assert_eq!(rt; first == second, alike, "at {left:?} and {right:?}");
-        assert_eq!(rt; second == first, alike, "at {right:?} and {left:?}");
+        check(&rt, "left and right", i, &(first == second), &alike);
+        check(&rt, "right and left", i, &(second == first), &alike);
     }
 }
 
 #[test]
 fn colour_has_three_components(rt: HostRuntime) {
-    assert_eq!(rt; Kind::Gray.components(), 1);
-    assert_eq!(rt; Kind::Color.components(), 3);
+    check(&rt, "gray", 0, &Kind::Gray.components(), &1);
+    check(&rt, "colour", 0, &Kind::Color.components(), &3);
 }

@@ -1,14 +1,15 @@
 //! The header of an image, byte by byte.
 ghost use Rattle.std.specs.Prelude.{◌≡◌, ◌+◌, ◌<◌, ◌≤◌, ◌&&◌, true, false, MatchOption, OnOk, IfErr, IfOk, MatchResult, nat_lt, nat_le, Ok, Err, None, Some, if◌then◌else◌};
-ghost use Rattle.ls_frame.specs.Devices.{count_after};
+ghost use Rattle.ls_frame.specs.View.Devices.{count_after};
 ghost use Rattle.ls_frame.specs.Picture.{sample_count, most_samples};
 ghost use Rattle.ls_frame.specs.Netpbm.{is_white, is_line_end, is_digit, is_hash};
-ghost use Rattle.ls_frame.specs.Reading.{GivesStep, known, byte_at, digits_at, gap_at, number_at, in_range_at, magic_at, white_at, heading_at, more};
+ghost use Rattle.ls_frame.specs.View.Known.{known};
+ghost use Rattle.ls_frame.specs.View.Reading.{GivesStep, byte_at, digits_at, gap_at, number_at, in_range_at, magic_at, white_at, heading_at, with_digit};
 ghost use Rattle.ls_frame.specs.Faults.{blames_device, failed_device};
 
 use super::NetpbmFault;
 use crate::device::{Failed, Feed};
-use crate::frame::{Kind, MOST_SAMPLES, samples_in};
+use crate::frame::{Kind, MOST_SAMPLES, sample_count};
 
 /// The most bytes of a header.
 pub(super) const HEADER_BYTES: u32 = 65_536;
@@ -65,7 +66,7 @@ fn next_byte<R: Feed>(reader: &mut R, room: &mut u32) -> Result<u8, NetpbmFault>
     }
 }
 
-/// The digits behind those that made `number`, and the white space character behind them.
+/// The digits after those that made `number`, and the white space character after them.
 #[tactic(auto, using(crate::proofs::StepLemmas::digit_lemmas))]
 fn read_digits<R: Feed>(reader: &mut R, room: &mut u32, mut number: u32) -> Result<u32, NetpbmFault>
     requires { number ≤ 65536 }
@@ -89,13 +90,13 @@ fn read_digits<R: Feed>(reader: &mut R, room: &mut u32, mut number: u32) -> Resu
 fn with_digit(number: u32, digit: u8) -> u32
     requires small { number ≤ 65536 }
     requires digit { 48 ≤ digit }
-    ensures value { result ≡ more number digit }
+    ensures value { result ≡ with_digit number digit }
     ensures small { result ≤ 65536 }
 {
     (10 * number + u32::from(digit - b'0')).min(TOO_LARGE)
 }
 
-/// The first digit behind the rest of a gap.
+/// The first digit after the rest of a gap.
 #[tactic(auto, using(crate::proofs::StepLemmas::gap_lemmas))]
 fn read_gap<R: Feed>(reader: &mut R, room: &mut u32) -> Result<u8, NetpbmFault>
     ensures bytes { GivesStep (R.remaining reader.old) (R.remaining reader.new) room.new result
@@ -118,7 +119,7 @@ fn read_gap<R: Feed>(reader: &mut R, room: &mut u32) -> Result<u8, NetpbmFault>
     }
 }
 
-/// The number behind the rest of a gap, and the white space character behind it.
+/// The number after the rest of a gap, and the white space character after it.
 fn read_number<R: Feed>(reader: &mut R, room: &mut u32) -> Result<u32, NetpbmFault>
     ensures bytes { GivesStep (R.remaining reader.old) (R.remaining reader.new) room.new result
         (number_at room.old (known (R.remaining reader.old))) }
@@ -128,7 +129,7 @@ fn read_number<R: Feed>(reader: &mut R, room: &mut u32) -> Result<u32, NetpbmFau
     read_digits(reader, room, u32::from(digit - b'0'))
 }
 
-/// The number behind the rest of a gap, and the white space character behind it; `fault` where it
+/// The number after the rest of a gap, and the white space character after it; `fault` where it
 /// isn't 1 to 65535.
 fn read_in_range<R: Feed>(
     reader: &mut R,
@@ -176,8 +177,8 @@ fn read_white<R: Feed>(reader: &mut R, room: &mut u32) -> Result<(), NetpbmFault
     }
 }
 
-/// The header behind its first byte.
-#[tactic(auto, unfolding(crate::specs::Reading::heading_at))]
+/// The header after its first byte.
+#[tactic(auto, unfolding(crate::specs::View::Reading::heading_at))]
 pub(super) fn read_header<R: Feed>(
     reader: &mut R,
     room: &mut u32,
@@ -195,7 +196,7 @@ pub(super) fn read_header<R: Feed>(
     read_white(reader, room)?;
     let width = read_in_range(reader, room, NetpbmFault::SizeOutOfRange)?;
     let height = read_in_range(reader, room, NetpbmFault::SizeOutOfRange)?;
-    if samples_in(kind, width, height) > MOST_SAMPLES {
+    if sample_count(kind, width, height) > MOST_SAMPLES {
         return Err(NetpbmFault::SizeOutOfRange);
     }
     let maxval = read_in_range(reader, room, NetpbmFault::MaxvalOutOfRange)?;

@@ -1,20 +1,24 @@
 //! The raster of an image, in pieces.
 ghost use Rattle.std.specs.Prelude.{◌≡◌, ◌+◌, ◌*◌, ◌/◌, ◌<◌, ◌≤◌, ◌++◌, [], true, false, OnOk, IfOk, IfErr, IsSome, IsTrue, MatchResult, ◌^◌, length, take, vec_len, vec_capacity};
-ghost use Rattle.ls_frame.specs.Devices.{count_after};
+ghost use Rattle.ls_frame.specs.View.Devices.{count_after};
 ghost use Rattle.ls_frame.specs.Picture.{sample_count};
 ghost use Rattle.ls_frame.specs.Netpbm.{is_wide};
-ghost use Rattle.ls_frame.specs.Faults.{blames_bytes, failed_device, sample_size};
-ghost use Rattle.ls_frame.specs.Reading.{samples_of, begun_of, byte_count, are_within, samples_at, known, GivesTake};
+ghost use Rattle.ls_frame.specs.Faults.{blames_bytes, failed_device, failed_for_memory, sample_size};
+ghost use Rattle.ls_frame.specs.View.Known.{known};
+ghost use Rattle.ls_frame.specs.View.Reading.{samples_of, begun_of, byte_count, are_within, samples_at, GivesTake};
 
 use super::NetpbmFault;
 use super::header::Header;
 use crate::device::{Failed, Feed};
-use crate::frame::samples_in;
+use crate::frame::sample_count;
 use byteorder::{BigEndian, ByteOrder};
-use std::alloc::{AllocError, Global};
+use std::alloc::Global;
 
 /// How many bytes of a raster are asked for at once: an even number.
 const PIECE: usize = 65_536;
+
+/// How many bytes are widened to samples at once.
+const WIDENED: usize = 4096;
 
 /// Whether no sample is over `maxval`.
 fn are_within(samples: &[u16], maxval: u16) -> bool
@@ -23,12 +27,32 @@ fn are_within(samples: &[u16], maxval: u16) -> bool
     samples.iter().all(|sample| *sample <= maxval)
 }
 
-/// Appends the samples that take one byte each.
-fn append_narrow(samples: &mut Vec<u16>, bytes: &[u8]) -> Result<(), AllocError>
-    ensures items { OnOk result (samples.new.items ≡ samples.old.items ++ samples_of false bytes.now) }
-    ensures room { OnOk result (vec_capacity samples.old ≤ vec_capacity samples.new) }
+/// Appends the samples that take one byte each, into room that is there.
+fn append_narrow(samples: &mut Vec<u16>, bytes: &[u8])
+    requires { vec_len samples.old + length bytes.now ≤ vec_capacity samples.old }
+    ensures items { samples.new.items ≡ samples.old.items ++ samples_of false bytes.now }
+    ensures room { vec_capacity samples.old ≤ vec_capacity samples.new }
 {
-    samples.extend(bytes.iter().map(|byte| u16::from(*byte)))
+    let mut widened = [0u16; WIDENED];
+    let mut done = 0;
+    while done < bytes.len() {
+        let end = done + WIDENED.min(bytes.len() - done);
+        widen(&mut widened, &bytes[done..end]);
+        match samples.extend_from_slice(&widened[..end - done]) {
+            Ok(()) => done = end,
+            Err(_) => unreachable!(),
+        }
+    }
+}
+
+/// Lays bytes, each as a sample, at the front of `widened`.
+fn widen(widened: &mut [u16; WIDENED], bytes: &[u8])
+    requires { length bytes.now ≤ length widened.old }
+    ensures { take (length bytes.now) widened.new ≡ bytes.now }
+{
+    for i in 0..bytes.len() {
+        widened[i] = u16::from(bytes[i]);
+    }
 }
 
 /// Appends the samples that take two bytes each, the most significant first, into room that is there.
@@ -53,15 +77,16 @@ fn take_samples(
     ensures items { OnOk result (samples.new.items ≡ samples.old.items ++ samples_of wide bytes.now) }
     ensures room { OnOk result (vec_capacity samples.old ≤ vec_capacity samples.new) }
     ensures within { OnOk result (are_within maxval (samples_of wide bytes.now) ≡ true) }
-    ensures over { IfErr result (λ fault. IsTrue (blames_bytes fault) →
-        (fault ≡ NetpbmFault.SampleTooLarge) × (are_within maxval (samples_of wide bytes.now) ≡ false)) }
+    ensures over { IfErr result (λ fault. (fault ≡ NetpbmFault.SampleTooLarge)
+        × (are_within maxval (samples_of wide bytes.now) ≡ false)) }
     ensures device { failed_device result ≡ false }
+    ensures memory { failed_for_memory result ≡ false }
 {
     let start = samples.len();
     if wide {
         append_wide(samples, bytes);
     } else {
-        append_narrow(samples, bytes)?;
+        append_narrow(samples, bytes);
     }
     if !are_within(&samples[start..], maxval) {
         return Err(NetpbmFault::SampleTooLarge);
@@ -69,9 +94,9 @@ fn take_samples(
     Ok(())
 }
 
-/// Reads behind the `held` bytes at the front of `piece`, up to `end` at most, and says where its bytes
+/// Reads after the `held` bytes at the front of `piece`, up to `end` at most, and says where its bytes
 /// end then.
-fn feed_behind<R: Feed>(
+fn feed_after<R: Feed>(
     reader: &mut R,
     piece: &mut [u8],
     held: usize,
@@ -85,6 +110,7 @@ fn feed_behind<R: Feed>(
         (λ fault. IsTrue (blames_bytes fault) → (fault ≡ NetpbmFault.Truncated) × (known (R.remaining reader.old) ≡ [])) }
     ensures order { IfOk result (λ filled. held < filled) }
     ensures within { IfOk result (λ filled. filled ≤ end) }
+    ensures memory { failed_for_memory result ≡ false }
     ensures failures { R.failed_reads reader.new ≡ count_after (failed_device result) (R.failed_reads reader.old) }
 {
     match reader.feed(&mut piece[held..end]) {
@@ -114,7 +140,7 @@ fn keep_begun(piece: &mut [u8], wide: bool, filled: usize) -> usize
 }
 
 /// How many bytes so many samples take.
-fn bytes_in(wide: bool, samples: usize) -> usize
+fn byte_count(wide: bool, samples: usize) -> usize
     requires { samples ≤ 2 ^ 28 }
     ensures { result ≡ byte_count wide samples }
 {
@@ -139,12 +165,13 @@ fn read_samples<R: Feed>(
         (samples_at wide maxval count (known (R.remaining reader.old))) }
     ensures count { OnOk result (length samples.new.items ≡ count) }
     ensures within { OnOk result (are_within maxval samples.new.items ≡ true) }
+    ensures memory { failed_for_memory result ≡ false }
     ensures failures { R.failed_reads reader.new ≡ count_after (failed_device result) (R.failed_reads reader.old) }
 {
     let mut held = 0;
     'pieces: while samples.len() < count {
-        let end = bytes_in(wide, count - samples.len()).min(piece.len());
-        let filled = feed_behind(reader, piece, held, end)?;
+        let end = byte_count(wide, count - samples.len()).min(piece.len());
+        let filled = feed_after(reader, piece, held, end)?;
         take_samples(samples, wide, &piece[..filled], maxval)?;
         held = keep_begun(piece, wide, filled);
     }
@@ -163,12 +190,13 @@ pub(super) fn read_raster<R: Feed>(
         (known (R.remaining reader.old))) }
     ensures count { IfOk result (λ samples. length samples.items ≡ sample_count header.kind header.width header.height) }
     ensures within { IfOk result (λ samples. are_within header.maxval samples.items ≡ true) }
+    ensures memory { IfErr result (λ fault. fault ≡ NetpbmFault.NoMemory → reader.new ≡ reader.old) }
     ensures failures { R.failed_reads reader.new ≡ count_after (failed_device result) (R.failed_reads reader.old) }
 {
-    let count = samples_in(header.kind, header.width, header.height) as usize;
+    let count = sample_count(header.kind, header.width, header.height) as usize;
     let wide = is_wide(header.maxval);
     let mut samples = Vec::with_capacity(alloc, count)?;
-    let mut piece = vec![in alloc; 0u8; bytes_in(wide, count).min(PIECE)]?;
+    let mut piece = vec![in alloc; 0u8; byte_count(wide, count).min(PIECE)]?;
     read_samples(reader, &mut piece, &mut samples, wide, header.maxval, count)?;
     Ok(samples)
 }

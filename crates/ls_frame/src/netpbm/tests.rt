@@ -4,7 +4,7 @@ mod long;
 use super::*;
 use crate::device::Counted;
 use crate::frame::Kind;
-use crate::testing::Pieces;
+use crate::testing::{Pieces, check, check_items, check_so};
 use std::io;
 use std::io::Read;
 use std::process::Abort;
@@ -40,7 +40,7 @@ fn is_refused(
     if memory == Memory::Refusable && got == Err(NetpbmFault::NoMemory) {
         return true;
     }
-    assert_eq!(rt; got, want.map(Some), "at {case}");
+    check(rt, case, 0, &got, &want.map(Some));
     false
 }
 
@@ -107,22 +107,33 @@ fn bad_headers_are_named_without_memory(rt: HostRuntime) {
     for (case, bytes, want) in BAD_HEADERS {
         let mut rest = bytes;
         let got = next_frame(rt.alloc(), &mut rest);
-        assert_eq!(rt; seen(&got), Err(want), "at {case}");
+        check(&rt, case, 0, &seen(&got), &Err(want));
         let mut reader = Counted::new(Pieces::new(bytes, 1, &[]));
         let got = next_frame(rt.alloc(), &mut reader);
-        assert_eq!(rt; seen(&got), Err(want), "at {case}, by pieces");
-        assert_eq!(rt; Feed::failures(&reader), 0, "at {case}");
+        check(&rt, case, 1, &seen(&got), &Err(want));
+        check(&rt, case, 1, &Feed::failures(&reader), &0);
     }
+}
+
+/// That the input was at its end.
+fn check_end(rt: &impl Abort, got: &Result<Option<Frame>, NetpbmFault>) {
+    check(rt, "the end", 0, &seen(got), &Ok(None));
 }
 
 #[test]
 fn no_bytes_are_no_image(rt: HostRuntime) {
     let mut rest = b"".as_slice();
-    assert_eq!(rt; seen(&next_frame(rt.alloc(), &mut rest)), Ok(None));
+    check_end(&rt, &next_frame(rt.alloc(), &mut rest));
     let mut reader = Counted::new(Pieces::new(b"", 1, &[]));
-    assert_eq!(rt; seen(&next_frame(rt.alloc(), &mut reader)), Ok(None));
-    assert_eq!(rt; Feed::failures(&reader), 0);
-    assert_eq!(rt; reader.into_inner().furthest, 1);
+    check_end(&rt, &next_frame(rt.alloc(), &mut reader));
+    check(&rt, "failures", 0, &Feed::failures(&reader), &0);
+    check(
+        &rt,
+        "the farthest byte",
+        0,
+        &reader.into_inner().furthest,
+        &1,
+    );
 }
 
 const IMAGES: [(&str, &[u8], Result<Parts<'static>, NetpbmFault>); 20] = [
@@ -137,7 +148,7 @@ const IMAGES: [(&str, &[u8], Result<Parts<'static>, NetpbmFault>); 20] = [
         Ok((Kind::Gray, 1, 1, 255, &[7])),
     ),
     (
-        "a comment behind a comment",
+        "a comment after a comment",
         b"P5\n#a\n#b\n1 1 255\n\x07",
         Ok((Kind::Gray, 1, 1, 255, &[7])),
     ),
@@ -238,16 +249,16 @@ fn check_images(rt: &impl Abort, alloc: Global, memory: Memory) {
         let mut rest = bytes;
         let got = next_frame(alloc, &mut rest);
         if !is_refused(rt, memory, &got, want, case) && want.is_ok() {
-            assert!(rt; rest.is_empty(), "at {case}");
+            check_so(rt, case, 0, rest.is_empty());
         }
         for most in [1, 2, 3, 7] {
             let mut reader = Counted::new(Pieces::new(bytes, most, &[]));
             let got = next_frame(alloc, &mut reader);
             let is_refused = is_refused(rt, memory, &got, want, case);
-            assert_eq!(rt; Feed::failures(&reader), 0, "at {case}");
+            check(rt, case, most, &Feed::failures(&reader), &0);
             if !is_refused && want.is_ok() {
                 let furthest = reader.into_inner().furthest;
-                assert_eq!(rt; furthest, bytes.len(), "at {case}, {most} bytes a call");
+                check(rt, case, most, &furthest, &bytes.len());
             }
         }
     }
@@ -270,14 +281,14 @@ fn each_beginning_of_an_image_is_truncated(rt: HostRuntime) {
         let bytes = &image[..end];
         let mut rest = bytes;
         let got = next_frame(rt.alloc(), &mut rest).err();
-        // Memory is asked for behind the header.
+        // Memory is asked for after the header.
         if end < 11 || got != Some(NetpbmFault::NoMemory) {
-            assert_eq!(rt; got, Some(NetpbmFault::Truncated), "of {end} bytes");
+            check(&rt, "an end", end, &got, &Some(NetpbmFault::Truncated));
         }
     }
 }
 
-/// A header of so many blanks behind the magic, and then these bytes.
+/// A header of so many blanks after the magic, and then these bytes.
 const LONG_HEADERS: [(&str, u64, &[u8], Result<Parts<'static>, NetpbmFault>); 4] = [
     (
         "65535 bytes and then the end",
@@ -321,7 +332,7 @@ fn a_header_has_65536_bytes_at_most(rt: HostRuntime) {
 }
 
 #[test]
-fn not_a_byte_behind_an_image_is_asked_for(rt: HostRuntime) {
+fn not_a_byte_after_an_image_is_asked_for(rt: HostRuntime) {
     let first: Parts<'static> = (Kind::Gray, 3, 1, 255, &[7, 8, 9]);
     let second: Parts<'static> = (Kind::Color, 1, 1, 255, &[1, 2, 3]);
     let bytes = b"P5 3 1 255\n\x07\x08\x09P6 1 1 255\n\x01\x02\x03";
@@ -330,13 +341,13 @@ fn not_a_byte_behind_an_image_is_asked_for(rt: HostRuntime) {
     if is_refused(&rt, Memory::Refusable, &got, Ok(first), "the first image") {
         return;
     }
-    assert_eq!(rt; rest, b"P6 1 1 255\n\x01\x02\x03".as_slice());
+    check_items(&rt, "the rest", 0, rest, b"P6 1 1 255\n\x01\x02\x03");
     let got = next_frame(rt.alloc(), &mut rest);
     if is_refused(&rt, Memory::Refusable, &got, Ok(second), "the second image") {
         return;
     }
-    assert!(rt; rest.is_empty());
-    assert_eq!(rt; seen(&next_frame(rt.alloc(), &mut rest)), Ok(None));
+    check_so(&rt, "the end", 0, rest.is_empty());
+    check_end(&rt, &next_frame(rt.alloc(), &mut rest));
     for most in [1, 2, 7, 100] {
         let mut reader = Counted::new(Pieces::new(bytes, most, &[]));
         let got = next_frame(rt.alloc(), &mut reader);
@@ -344,11 +355,11 @@ fn not_a_byte_behind_an_image_is_asked_for(rt: HostRuntime) {
         let pieces = reader.into_inner();
         if is_refused {
             // The room for the raster is made before its first byte is asked for.
-            assert_eq!(rt; pieces.given, 11, "at {most} bytes a call");
+            check(&rt, "bytes of a header", most, &pieces.given, &11);
         } else {
-            assert_eq!(rt; pieces.singly, Some(11), "at {most} bytes a call");
-            assert_eq!(rt; pieces.given, 14, "at {most} bytes a call");
-            assert_eq!(rt; pieces.furthest, 14, "at {most} bytes a call");
+            check(&rt, "bytes one by one", most, &pieces.singly, &Some(11));
+            check(&rt, "bytes of an image", most, &pieces.given, &14);
+            check(&rt, "the farthest byte", most, &pieces.furthest, &14);
         }
     }
 }
@@ -371,9 +382,10 @@ fn faults_say_what_is_wrong(rt: HostRuntime) {
         let Ok(text) = fault.to_string(rt.alloc()) else {
             return;
         };
-        assert_eq!(rt; text.as_str(), want, "at {fault:?}");
+        check_items(&rt, want, 0, text.as_bytes(), want.as_bytes());
     }
-    assert_eq!(rt; NetpbmFault::from(AllocError), NetpbmFault::NoMemory);
+    let refused = NetpbmFault::from(AllocError);
+    check(&rt, "no memory", 0, &refused, &NetpbmFault::NoMemory);
 }
 
 #[test]
@@ -405,6 +417,6 @@ fn the_image_in_front_is_found_with_its_length_with_ample_memory(rt: HostRuntime
             ))),
             Err(fault) => Err(fault),
         };
-        assert_eq!(rt; got, want, "at {case}");
+        check(&rt, case, 0, &got, &want);
     }
 }

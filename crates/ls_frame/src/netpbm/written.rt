@@ -2,10 +2,10 @@
 ghost use Rattle.std.specs.Prelude.{◌≡◌, ◌+◌, ◌-◌, ◌*◌, ◌<◌, ◌≤◌, ◌^◌, ◌++◌, true, false, OnOk, IfOk, IfErr, is_err, length, take};
 ghost use Rattle.std.specs.List.{AllByRecursion};
 ghost use Rattle.std.specs.Io.KnownBytes.{Appends};
-ghost use Rattle.ls_frame.specs.Devices.{count_after};
+ghost use Rattle.ls_frame.specs.View.Devices.{count_after};
 ghost use Rattle.ls_frame.specs.Netpbm.{magic};
 ghost use Rattle.ls_frame.specs.Canonical.{canonical_heading, raster_bytes, canonical};
-ghost use Rattle.ls_frame.specs.Reading.{byte_count};
+ghost use Rattle.ls_frame.specs.View.Reading.{byte_count};
 
 use super::raster::is_wide;
 use crate::device::Outlet;
@@ -41,7 +41,7 @@ fn write_piece<W: Outlet>(writer: &mut W, piece: &[u8], before: usize) -> Result
     ensures count { IfOk result (λ written. written ≡ before + length piece.now) }
     ensures fault { IfErr result
         (λ fault. Appends (W.contents writer.old) (W.contents writer.new) (take (fault.written - before) piece.now)) }
-    ensures behind { IfErr result (λ fault. before ≤ fault.written) }
+    ensures after { IfErr result (λ fault. before ≤ fault.written) }
     ensures part { IfErr result (λ fault. fault.written < before + length piece.now) }
     ensures failures { W.failed_writes writer.new ≡ count_after (is_err result) (W.failed_writes writer.old) }
 {
@@ -53,7 +53,7 @@ fn write_piece<W: Outlet>(writer: &mut W, piece: &[u8], before: usize) -> Result
     }
 }
 
-/// Writes samples by way of `piece`, behind `before` bytes. A fault counts those too.
+/// Writes samples by way of `piece`, after `before` bytes. A fault counts those too.
 fn write_samples<W: Outlet>(
     writer: &mut W,
     piece: &mut [u8; PIECE],
@@ -67,7 +67,7 @@ fn write_samples<W: Outlet>(
     ensures fault { IfErr result
         (λ fault. Appends (W.contents writer.old) (W.contents writer.new)
         (take (fault.written - before) (raster_bytes wide samples.now))) }
-    ensures behind { IfErr result (λ fault. before ≤ fault.written) }
+    ensures after { IfErr result (λ fault. before ≤ fault.written) }
     ensures part { IfErr result (λ fault. fault.written < before + length (raster_bytes wide samples.now)) }
     ensures failures { W.failed_writes writer.new ≡ count_after (is_err result) (W.failed_writes writer.old) }
 {
@@ -100,7 +100,7 @@ fn put_heading(piece: &mut [u8; PIECE], frame: &Frame) -> usize
     put(piece, end, b"\n")
 }
 
-/// Lays `text` behind the `filled` bytes at the front of `piece`, and says where it ends.
+/// Lays `text` after the `filled` bytes at the front of `piece`, and says where it ends.
 fn put(piece: &mut [u8], filled: usize, text: &[u8]) -> usize
     requires { filled + length text.now ≤ length piece.old }
     ensures laid { take result piece.new ≡ take filled piece.old ++ text.now }

@@ -1,5 +1,5 @@
 use super::*;
-use crate::testing::{Mishap, Sink};
+use crate::testing::{Mishap, Sink, check, check_items, check_so};
 use std::io::Write;
 
 /// MAXVAL, bpp, qbpp, LIMIT, T1, T2, T3.
@@ -32,10 +32,12 @@ fn the_defaults_follow_from_maxval(rt: HostRuntime) {
             presets.t2(),
             presets.t3(),
         );
-        assert_eq!(rt; got, row, "at {maxval}");
-        assert_eq!(rt; presets.range(), u32::from(maxval) + 1, "at {maxval}");
-        assert_eq!(rt; presets.reset(), 64, "at {maxval}");
-        assert!(rt; presets.is_default(), "at {maxval}");
+        let at = usize::from(maxval);
+        let range = u32::from(maxval) + 1;
+        check(&rt, "the defaults", at, &got, &row);
+        check(&rt, "RANGE", at, &presets.range(), &range);
+        check(&rt, "RESET", at, &presets.reset(), &64);
+        check_so(&rt, "is_default", at, presets.is_default());
     }
 }
 
@@ -49,9 +51,9 @@ fn the_first_range_that_is_left_is_named(rt: HostRuntime) {
         ((255, 3, 7, 21, 2), PresetFault::ResetRange),
         ((255, 3, 7, 21, 256), PresetFault::ResetRange),
     ];
-    for ((maxval, t1, t2, t3, reset), fault) in rows {
+    for (i, ((maxval, t1, t2, t3, reset), fault)) in rows.into_iter().enumerate() {
         let got = Presets::explicit(maxval, t1, t2, t3, reset);
-        assert_eq!(rt; got, Err(fault), "at {maxval} {t1} {t2} {t3} {reset}");
+        check(&rt, "a fault", i, &got, &Err(fault));
     }
 }
 
@@ -60,11 +62,10 @@ fn explicit_parameters_are_kept(rt: HostRuntime) {
     let Ok(presets) = Presets::explicit(1, 1, 1, 1, 255) else {
         panic!(rt; "these parameters are legal");
     };
-    assert_eq!(rt; presets.maxval(), 1);
-    assert_eq!(rt; presets.t1(), 1);
-    assert_eq!(rt; presets.t2(), 1);
-    assert_eq!(rt; presets.t3(), 1);
-    assert_eq!(rt; presets.reset(), 255);
+    let thresholds = (presets.t1(), presets.t2(), presets.t3());
+    check(&rt, "MAXVAL", 0, &presets.maxval(), &1);
+    check(&rt, "the thresholds", 0, &thresholds, &(1, 1, 1));
+    check(&rt, "RESET", 0, &presets.reset(), &255);
 }
 
 #[test]
@@ -77,7 +78,7 @@ fn faults_have_their_texts(rt: HostRuntime) {
         (PresetFault::ResetRange, "RESET"),
     ] {
         let mut sink = Sink::new(16, &[], Mishap::Fails);
-        assert!(rt; write!(sink, "{fault}").is_ok(), "at {text}");
-        assert_eq!(rt; sink.written(), text.as_bytes(), "at {text}");
+        check_so(&rt, text, 0, write!(sink, "{fault}").is_ok());
+        check_items(&rt, text, 0, sink.written(), text.as_bytes());
     }
 }

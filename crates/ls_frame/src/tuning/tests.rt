@@ -1,4 +1,5 @@
 use super::*;
+use crate::testing::{check, check_so};
 
 /// MAXVAL, T1, T2, T3, RESET.
 type Row = (u16, u16, u16, u16, u16);
@@ -37,9 +38,9 @@ fn what_is_chosen_stands_beside_the_defaults(rt: HostRuntime) {
         (Tuning { t1: 10, ..PLAIN }, 255, Err(PresetFault::T2Range)),
         (SPELLED_OUT, 1, Err(PresetFault::T1Range)),
     ];
-    for (tuning, maxval, want) in rows {
+    for (i, (tuning, maxval, want)) in rows.into_iter().enumerate() {
         assert!(rt; maxval > 0);
-        assert_eq!(rt; seen(tuning.presets(maxval)), want, "at {tuning:?}");
+        check(&rt, "a tuning", i, &seen(tuning.presets(maxval)), &want);
     }
 }
 
@@ -48,13 +49,27 @@ fn nothing_chosen_means_the_defaults(rt: HostRuntime) {
     for maxval in [1u16, 2, 3, 7, 127, 128, 255, 1023, 4095, 65535] {
         assert!(rt; maxval > 0);
         let defaults = Presets::default_of(maxval);
-        assert_eq!(rt; PLAIN.presets(maxval), Ok(defaults), "at {maxval}");
+        let got = PLAIN.presets(maxval);
+        check(
+            &rt,
+            "the defaults",
+            usize::from(maxval),
+            &got,
+            &Ok(defaults),
+        );
     }
 }
 
 #[test]
 fn the_defaults_chosen_are_the_defaults(rt: HostRuntime) {
     let got = SPELLED_OUT.presets(255);
-    assert_eq!(rt; got, Ok(Presets::default_of(255)));
-    assert!(rt; got.is_ok_and(|presets| presets.is_default()));
+    check(
+        &rt,
+        "the defaults",
+        255,
+        &got,
+        &Ok(Presets::default_of(255)),
+    );
+    let is_default = got.is_ok_and(|presets| presets.is_default());
+    check_so(&rt, "is_default", 255, is_default);
 }

@@ -10,12 +10,12 @@ fn a_failed_read_is_named_and_counted_once(rt: HostRuntime) {
             let mut reader = Counted::new(Pieces::new(bytes, 1, &failing));
             let got = next_frame(rt.alloc(), &mut reader).err();
             let failures = Feed::failures(&reader);
-            // Memory is asked for behind the header, and before the call that fails.
+            // Memory is asked for after the header, and before the call that fails.
             if i >= 11 && got == Some(NetpbmFault::NoMemory) {
-                assert_eq!(rt; failures, 0, "at call {i} of {bytes:?}");
+                check(&rt, "failures", i, &failures, &0);
             } else {
-                assert_eq!(rt; got, Some(NetpbmFault::Io), "at call {i} of {bytes:?}");
-                assert_eq!(rt; failures, 1, "at call {i} of {bytes:?}");
+                check(&rt, "a failed read", i, &got, &Some(NetpbmFault::Io));
+                check(&rt, "failures", i, &failures, &1);
             }
         }
     }
@@ -25,11 +25,11 @@ fn a_failed_read_is_named_and_counted_once(rt: HostRuntime) {
 fn a_failed_read_is_not_the_end(rt: HostRuntime) {
     let mut reader = Counted::new(Pieces::new(b"", 1, &[0]));
     let got = next_frame(rt.alloc(), &mut reader);
-    assert_eq!(rt; seen(&got), Err(NetpbmFault::Io));
-    assert_eq!(rt; Feed::failures(&reader), 1);
+    check(&rt, "a failed read", 0, &seen(&got), &Err(NetpbmFault::Io));
+    check(&rt, "failures", 0, &Feed::failures(&reader), &1);
 }
 
-/// An image with a bad sample, and the call behind the bytes of that sample.
+/// An image with a bad sample, and the call after the bytes of that sample.
 const BAD_SAMPLES: [(&[u8], usize); 2] = [
     (b"P5 2 1 7\n\x08\x00", 10),
     (b"P5 2 1 256\n\x01\x01\x00\x00", 13),
@@ -43,6 +43,6 @@ fn a_bad_sample_is_named_before_the_next_read(rt: HostRuntime) {
         let mut reader = Counted::new(Pieces::new(bytes, 1, &failing));
         let got = next_frame(rt.alloc(), &mut reader);
         is_refused(&rt, Memory::Refusable, &got, want, "a read that would fail");
-        assert_eq!(rt; Feed::failures(&reader), 0, "before call {call}");
+        check(&rt, "failures before", call, &Feed::failures(&reader), &0);
     }
 }

@@ -29,22 +29,22 @@ fn check_long_image(
     is_wide: bool,
 ) {
     let maxval = if is_wide { 65535 } else { 255 };
+    let at = usize::from(maxval);
     match seen(got) {
         Ok(Some((kind, width, height, greatest, samples))) => {
-            assert_eq!(rt; kind, Kind::Gray, "up to {maxval}");
-            assert_eq!(rt;
-                (width, height, greatest),
-                (300, 300, maxval),
-                "up to {maxval}"
-            );
-            assert_eq!(rt; samples.len(), 90_000, "up to {maxval}");
+            let size = (kind, width, height, greatest);
+            check(rt, "its size", at, &size, &(Kind::Gray, 300, 300, maxval));
+            assert!(rt; samples.len() == 90_000, "up to {maxval}");
             let mut sample = 0u16;
             for (i, got) in samples.iter().enumerate() {
-                assert_eq!(rt; *got, sample & maxval, "at sample {i} up to {maxval}");
+                let got = *got;
+                check(rt, "a sample", i, &got, &(sample & maxval));
                 sample = sample.wrapping_add(7);
             }
         }
-        Err(NetpbmFault::NoMemory) if memory == Memory::Refusable => {}
+        Err(NetpbmFault::NoMemory) => {
+            check(rt, "no memory", at, &memory, &Memory::Refusable);
+        }
         Ok(None) => panic!(rt; "no image up to {maxval}"),
         Err(fault) => panic!(rt; "{fault} up to {maxval}"),
     }
@@ -53,7 +53,7 @@ fn check_long_image(
 fn check_long_images(rt: &impl Abort, alloc: Global, memory: Memory) {
     for is_wide in [false, true] {
         let Ok(bytes) = long_image(alloc, is_wide) else {
-            assert_eq!(rt; memory, Memory::Refusable);
+            check(rt, "no memory", 0, &memory, &Memory::Refusable);
             return;
         };
         let mut rest = bytes.as_slice();

@@ -1,14 +1,14 @@
 use super::*;
 use crate::device::Counted;
 use crate::netpbm::first_frame;
-use crate::testing::{Mishap, Sink};
+use crate::testing::{Mishap, Sink, check, check_items, check_so};
 use std::alloc::{AllocError, Global};
 use std::process::Abort;
 
 /// Kind, width, height, maxval, samples.
 type Parts = (Kind, u16, u16, u16, &'static [u16]);
 
-/// A frame of these samples, or nothing where memory was refused.
+/// A frame of these samples, or nothing if memory was refused.
 fn frame_of(rt: &impl Abort, alloc: Global, parts: Parts) -> Option<Frame> {
     let (kind, width, height, maxval, samples) = parts;
     let samples = samples.to_vec(alloc).ok()?;
@@ -36,15 +36,15 @@ const TEXTS: [(Parts, &[u8]); 6] = [
 
 #[test]
 fn a_frame_has_one_text(rt: HostRuntime) {
-    for (parts, want) in TEXTS {
+    for (i, (parts, want)) in TEXTS.into_iter().enumerate() {
         let Some(frame) = frame_of(&rt, rt.alloc(), parts) else {
             return;
         };
         let mut writer = Counted::new(Sink::new(16, &[], Mishap::Fails));
-        assert_eq!(rt; write_frame(&mut writer, &frame), Ok(()), "at {parts:?}");
-        assert_eq!(rt; Outlet::failures(&writer), 0, "at {parts:?}");
+        check(&rt, "a text", i, &write_frame(&mut writer, &frame), &Ok(()));
+        check(&rt, "failures", i, &Outlet::failures(&writer), &0);
         let sink = writer.into_inner();
-        assert_eq!(rt; sink.written(), want, "at {parts:?}");
+        check_items(&rt, "its bytes", i, sink.written(), want);
     }
 }
 
@@ -59,10 +59,10 @@ fn a_fault_says_how_much_of_the_text_went_out(rt: HostRuntime) {
             let failing = [i];
             let mut writer = Counted::new(Sink::new(1, &failing, mishap));
             let got = write_frame(&mut writer, &frame);
-            assert_eq!(rt; got, Err(WriteFault { written: i }), "{mishap:?} at {i}");
-            assert_eq!(rt; Outlet::failures(&writer), 1, "{mishap:?} at {i}");
+            check(&rt, "a fault", i, &got, &Err(WriteFault { written: i }));
+            check(&rt, "failures", i, &Outlet::failures(&writer), &1);
             let sink = writer.into_inner();
-            assert_eq!(rt; sink.written(), &text[..i], "{mishap:?} at {i}");
+            check_items(&rt, "the bytes before", i, sink.written(), &text[..i]);
         }
     }
 }
@@ -89,13 +89,20 @@ fn a_frame_of_several_pieces_is_read_back_with_ample_memory(rt: HostRuntime) {
             panic!(rt; "no memory");
         };
         let mut writer = Counted::new(Vec::new(rt.alloc()));
-        assert_eq!(rt; write_frame(&mut writer, &frame), Ok(()), "up to {maxval}");
+        let at = usize::from(maxval);
+        check(
+            &rt,
+            "a text",
+            at,
+            &write_frame(&mut writer, &frame),
+            &Ok(()),
+        );
         let text = writer.into_inner();
-        assert_eq!(rt; text.len(), size, "up to {maxval}");
+        check(&rt, "its length", at, &text.len(), &size);
         let Ok(Some((read, taken))) = first_frame(rt.alloc(), &text) else {
             panic!(rt; "no image up to {maxval}");
         };
-        assert_eq!(rt; taken, size, "up to {maxval}");
-        assert!(rt; read == frame, "up to {maxval}");
+        check(&rt, "what is read", at, &taken, &size);
+        check_so(&rt, "the frame", at, read == frame);
     }
 }

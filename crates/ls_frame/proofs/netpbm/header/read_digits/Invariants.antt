@@ -1,5 +1,6 @@
 use Rattle.std.proofs.Common.{◌≡◌, ◌≤◌, IsSome}
-use Rattle.ls_frame.specs.Reading.{known, digits_at}
+use Rattle.ls_frame.specs.View.Known.{known}
+use Rattle.ls_frame.specs.View.Reading.{digits_at}
 use Rattle.ls_frame.proofs.netpbm.header.read_digits.Given as goal
 
 -- what is left reads on from the number so far as everything did from the start

@@ -1,5 +1,6 @@
 use Rattle.std.proofs.Common.{sym, ap, ◌∙◌}
-use Rattle.ls_frame.specs.Reading.{known, gap_at}
+use Rattle.ls_frame.specs.View.Known.{known}
+use Rattle.ls_frame.specs.View.Reading.{gap_at}
 use Rattle.ls_frame.proofs.StepLemmas.{gap_at-other}
 use Rattle.ls_frame.proofs.netpbm.header.read_gap.Goals as goal
 

@@ -1,5 +1,6 @@
 use Rattle.std.proofs.Common.{◌≡◌, IsSome, false}
-use Rattle.ls_frame.specs.Reading.{known, gap_at}
+use Rattle.ls_frame.specs.View.Known.{known}
+use Rattle.ls_frame.specs.View.Reading.{gap_at}
 use Rattle.ls_frame.proofs.netpbm.header.read_gap.Given as goal
 
 -- what is left reads on, in a comment or not, as everything did from the start

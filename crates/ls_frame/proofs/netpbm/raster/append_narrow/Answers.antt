@@ -1,20 +1,26 @@
-use Rattle.std.proofs.Common.{◌++◌, rules, ap, ◌∙◌}
-use Rattle.std.proofs.lemmas.Iterator.{YieldsList-from_slice, YieldsList-from_map}
-use Rattle.std.proofs.lemmas.Iterator.Adapters.{items_from_extend}
-use Rattle.std.proofs.lemmas.List.{map-id}
-use Rattle.std.proofs.lemmas.Result.{on_ok_weaker}
-use Rattle.ls_frame.specs.Reading.{samples_of}
+use Rattle.std.proofs.Common.{◌≡◌, ◌+◌, ◌-◌, ◌++◌, take, ap, ◌∙◌, arith, rules}
+use Rattle.std.proofs.lemmas.List.{take_all}
+use Rattle.ls_frame.specs.View.Reading.{samples_of}
+use Rattle.ls_frame.proofs.RasterLemmas.{widened-more}
 use Rattle.ls_frame.proofs.netpbm.raster.append_narrow.Goals as goal
 
 pub returns-clause-items : goal.returns-clause-items
 unfolding samples_of
 returns-clause-items c =
-    let extended = items_from_extend c.extend.result c.extend.ensures.ran
-    (YieldsList-from_map _ (λ x. x) (YieldsList-from_slice c.args.bytes.now (search rules)) (search rules) (λ x r q k. search rules)) in
-    on_ok_weaker c.extend.result (λ grown. grown.0 ∙ ap (λ s. c.args.samples.now.items ++ s) (map-id c.args.bytes.now)) extended
+    c.loop-done.invariant.said ∙ ap (λ s. c.args.samples.now.items ++ s) (take_all c.loop-done.done c.args.bytes.now (omega arith))
 
-pub returns-clause-room : goal.returns-clause-room
-returns-clause-room c =
-    let extended = items_from_extend c.extend.result c.extend.ensures.ran
-    (YieldsList-from_map _ (λ x. x) (YieldsList-from_slice c.args.bytes.now (search rules)) (search rules) (λ x r q k. search rules)) in
-    on_ok_weaker c.extend.result (λ grown. grown.2) extended
+pub loop-done-preserved : goal.loop-done-preserved
+loop-done-preserved c =
+    let done = c.loop-done.done in
+    let some = done + c.min.result - done in
+    let end : done + some ≡ done + c.min.result = omega arith in
+    record {
+      said = c.in-Ok.ensures.items
+          ∙ ap (λ s. s ++ take some c.widen.new.widened) c.loop-done.invariant.said
+          ∙ widened-more c.args.samples.now.items c.args.bytes.now c.widen.new.widened done some (omega arith) c.widen.ensures
+          ∙ ap (λ n. c.args.samples.now.items ++ take n c.args.bytes.now) end;
+      size = search rules;
+      within = search rules;
+      count = search rules;
+      room = search rules;
+    }

@@ -1,5 +1,5 @@
 use Rattle.std.proofs.Common.{◌≡◌, ◌+◌, ◌*◌, ◌++◌, true, drop, vec_len, vec_capacity}
-use Rattle.ls_frame.specs.Reading.{samples_of}
+use Rattle.ls_frame.specs.View.Reading.{samples_of}
 use Rattle.ls_frame.proofs.netpbm.raster.append_wide.Given as goal
 
 abbrev pub invariant-loop-i : goal.invariant-loop-i

@@ -1,7 +1,8 @@
 use Rattle.std.proofs.Common.{◌≡◌, ◌-◌, ◌<◌, ◌≤◌, ◌++◌, Ok, Err, length, take, sym, ap, subst, ◌∙◌, arith, rules}
 use Rattle.std.proofs.lemmas.List.{length-append}
 use Rattle.std.proofs.lemmas.Result.{err_from_is_err_and}
-use Rattle.ls_frame.specs.Reading.{known, samples_of, byte_count}
+use Rattle.ls_frame.specs.View.Known.{known}
+use Rattle.ls_frame.specs.View.Reading.{samples_of, byte_count}
 use Rattle.ls_frame.proofs.RasterLemmas.{part-few, part-less, part-last, left-by_len, pieces-more, pieces-over, pieces-end, pieces-all, are_within-append}
 use Rattle.ls_frame.proofs.netpbm.raster.read_samples.Goals as goal
 
@@ -18,7 +19,7 @@ returns-in_err-filled-clause-bytes g c = λ told.
 pub take_samples-requires : goal.take_samples-requires
 take_samples-requires g c =
     let left = left-by_len c.args.wide c.args.count c.len-in-pieces.result c.pieces.samples.items (c.len-in-pieces.ensures ∙ c.pieces.samples.ok.0) in
-    let few = part-few c.args.wide c.feed_behind.new.piece c.in_ok-filled.filled (c.args.count - length c.pieces.samples.items)
+    let few = part-few c.args.wide c.feed_after.new.piece c.in_ok-filled.filled (c.args.count - length c.pieces.samples.items)
     (omega (arith, c.in_ok-filled.ensures.within)) (omega (arith, c.in_ok-filled.ensures.within, left)) in
     omega (arith, c.pieces.samples.ok.0, few)
 
@@ -28,39 +29,39 @@ returns-in_err-take_samples-clause-bytes g c = λ told.
     let before = c.pieces.invariant.said told in
     let read = c.in_ok-filled.ensures.bytes before.0 in
     let left = left-by_len c.args.wide c.args.count c.len-in-pieces.result c.pieces.samples.items (c.len-in-pieces.ensures ∙ c.pieces.samples.ok.0) in
-    let few = part-few c.args.wide c.feed_behind.new.piece c.in_ok-filled.filled (c.args.count - length c.pieces.samples.items)
+    let few = part-few c.args.wide c.feed_after.new.piece c.in_ok-filled.filled (c.args.count - length c.pieces.samples.items)
     (omega (arith, c.in_ok-filled.ensures.within)) (omega (arith, c.in_ok-filled.ensures.within, left)) in
     rw (p.1, p.2) (λ blamed.
-    let over = c.in_err-take_samples.ensures.over blamed in
+    let over = c.in_err-take_samples.ensures.over in
     pieces-over c.args.wide c.args.maxval c.args.count c.pieces.samples.items _ _ _ _ before.1 read.1 over.1 few
     ∙ ap Err (sym over.0))
 
 pub pieces-smaller : goal.pieces-smaller
 pieces-smaller g c =
     let left = left-by_len c.args.wide c.args.count c.len-in-pieces.result c.pieces.samples.items (c.len-in-pieces.ensures ∙ c.pieces.samples.ok.0) in
-    let part = take c.in_ok-filled.filled c.feed_behind.new.piece in
-    let less = part-less c.args.wide c.feed_behind.new.piece c.keep_begun-held.new.piece c.in_ok-filled.filled (c.args.count - length c.pieces.samples.items) c.pieces.held c.keep_begun-held.result
+    let part = take c.in_ok-filled.filled c.feed_after.new.piece in
+    let less = part-less c.args.wide c.feed_after.new.piece c.keep_begun-held.new.piece c.in_ok-filled.filled (c.args.count - length c.pieces.samples.items) c.pieces.held c.keep_begun-held.result
     (omega (arith, c.in_ok-filled.ensures.within)) (omega (arith, c.in_ok-filled.ensures.within, left)) c.in_ok-filled.ensures.order
     (omega (arith, c.in_ok-filled.ensures.within, c.in_ok-filled.ensures.order)) c.keep_begun-held.ensures.kept in
-    let behind : c.args.count - length c.take_samples.new.samples.items ≡ (c.args.count - length c.pieces.samples.items) - length (samples_of c.args.wide part) =
+    let after : c.args.count - length c.take_samples.new.samples.items ≡ (c.args.count - length c.pieces.samples.items) - length (samples_of c.args.wide part) =
     rw c.in_ok-take_samples.ensures.items (omega (arith, length-append c.pieces.samples.items (samples_of c.args.wide part))) in
-    subst (λ n. byte_count c.args.wide n - c.keep_begun-held.result < byte_count c.args.wide (c.args.count - length c.pieces.samples.items) - c.pieces.held) (sym behind) less
+    subst (λ n. byte_count c.args.wide n - c.keep_begun-held.result < byte_count c.args.wide (c.args.count - length c.pieces.samples.items) - c.pieces.held) (sym after) less
 
 pub pieces-preserved : goal.pieces-preserved
 pieces-preserved g c =
     let left = left-by_len c.args.wide c.args.count c.len-in-pieces.result c.pieces.samples.items (c.len-in-pieces.ensures ∙ c.pieces.samples.ok.0) in
-    let few = part-few c.args.wide c.feed_behind.new.piece c.in_ok-filled.filled (c.args.count - length c.pieces.samples.items)
+    let few = part-few c.args.wide c.feed_after.new.piece c.in_ok-filled.filled (c.args.count - length c.pieces.samples.items)
     (omega (arith, c.in_ok-filled.ensures.within)) (omega (arith, c.in_ok-filled.ensures.within, left)) in
     record {
-      few = rw c.in_ok-take_samples.ensures.items (omega (arith, length-append c.pieces.samples.items (samples_of c.args.wide (take c.in_ok-filled.filled c.feed_behind.new.piece)), few, c.pieces.samples.ok.0));
+      few = rw c.in_ok-take_samples.ensures.items (omega (arith, length-append c.pieces.samples.items (samples_of c.args.wide (take c.in_ok-filled.filled c.feed_after.new.piece)), few, c.pieces.samples.ok.0));
       room = omega (arith, c.in_ok-take_samples.ensures.room);
       held = search rules;
       narrow = search rules;
       last = λ all.
-          let behind = length-append c.pieces.samples.items (samples_of c.args.wide (take c.in_ok-filled.filled c.feed_behind.new.piece)) in
-          let none : c.args.count - length c.pieces.samples.items ≤ length (samples_of c.args.wide (take c.in_ok-filled.filled c.feed_behind.new.piece)) =
-          omega (arith, behind, ap length c.in_ok-take_samples.ensures.items, all) in
-          part-last c.args.wide c.feed_behind.new.piece c.keep_begun-held.new.piece c.in_ok-filled.filled (c.args.count - length c.pieces.samples.items) c.keep_begun-held.result
+          let after = length-append c.pieces.samples.items (samples_of c.args.wide (take c.in_ok-filled.filled c.feed_after.new.piece)) in
+          let none : c.args.count - length c.pieces.samples.items ≤ length (samples_of c.args.wide (take c.in_ok-filled.filled c.feed_after.new.piece)) =
+          omega (arith, after, ap length c.in_ok-take_samples.ensures.items, all) in
+          part-last c.args.wide c.feed_after.new.piece c.keep_begun-held.new.piece c.in_ok-filled.filled (c.args.count - length c.pieces.samples.items) c.keep_begun-held.result
           (omega (arith, c.in_ok-filled.ensures.within)) (omega (arith, c.in_ok-filled.ensures.within, left))
           (omega (arith, c.in_ok-filled.ensures.within, c.in_ok-filled.ensures.order)) c.keep_begun-held.ensures.kept none;
       within = rw c.in_ok-take_samples.ensures.items (are_within-append c.args.maxval c.pieces.samples.items _ c.pieces.invariant.within c.in_ok-take_samples.ensures.within);

@@ -1,8 +1,9 @@
 use Rattle.std.proofs.Common.{◌≡◌, ◌-◌, ◌≤◌, ◌++◌, true, false, length, take, IsSome, vec_capacity}
-use Rattle.ls_frame.specs.Reading.{known, byte_count, are_within, with_front, samples_at}
+use Rattle.ls_frame.specs.View.Known.{known}
+use Rattle.ls_frame.specs.View.Reading.{byte_count, are_within, with_front, samples_at}
 use Rattle.ls_frame.proofs.netpbm.raster.read_samples.Given as goal
 
--- the samples so far, and what is held and left to read behind them, are what the whole is
+-- the samples so far, and what is held and left to read after them, are what the whole is
 abbrev pub invariant-pieces : goal.invariant-pieces
 invariant-pieces g l =
     let remaining = g.R.Read.remaining in

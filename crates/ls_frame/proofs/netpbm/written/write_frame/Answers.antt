@@ -36,7 +36,7 @@ returns-in_err-write_samples-clause-fault g c =
     let wide = c.is_wide-wide.ensures ∙ ap is_wide c.maxval.ensures.value in
     let whole = canonical-pieces c.args.frame.now _ c.samples.result.now c.is_wide-wide.result c.put_heading-end.ensures.laid wide c.samples.ensures.value in
     rw (p.1, p.2) (back-part (canonical c.args.frame.now) _ _ _ _ _ c.in_ok-written.written c.in_err-write_samples.field-0.0.written whole c.in_ok-written.ensures.count
-    c.in_err-write_samples.ensures.behind c.in_err-write_samples.ensures.part c.in_ok-written.ensures.ok c.in_err-write_samples.ensures.fault)
+    c.in_err-write_samples.ensures.after c.in_err-write_samples.ensures.part c.in_ok-written.ensures.ok c.in_err-write_samples.ensures.fault)
 
 pub returns-in_err-write_samples-clause-part : goal.returns-in_err-write_samples-clause-part
 returns-in_err-write_samples-clause-part g c =

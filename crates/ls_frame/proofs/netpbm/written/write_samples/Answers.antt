@@ -23,7 +23,7 @@ pub returns-in_err-written-clause-fault : goal.returns-in_err-written-clause-fau
 returns-in_err-written-clause-fault g c =
     let p = err_from_is_err_and c.from_residual.result c.from_residual.ensures.1 in
     rw (p.1, p.2) (samples-part c.args.wide c.args.samples.now _ c.pieces.done (c.pieces.done + c.min.result) _ _ _ c.args.before c.pieces.written c.in_err-written.field-0.0.written
-    c.put_samples-filled.ensures.laid c.pieces.invariant.count c.in_err-written.ensures.behind c.in_err-written.ensures.part c.pieces.invariant.out c.in_err-written.ensures.fault)
+    c.put_samples-filled.ensures.laid c.pieces.invariant.count c.in_err-written.ensures.after c.in_err-written.ensures.part c.pieces.invariant.out c.in_err-written.ensures.fault)
 
 pub returns-in_err-written-clause-part : goal.returns-in_err-written-clause-part
 returns-in_err-written-clause-part g c =

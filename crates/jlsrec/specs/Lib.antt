@@ -1,4 +1,0 @@
-pub mod Coding
-pub mod Listing
-pub mod Stopping
-pub mod Texts

@@ -1,0 +1,6 @@
+pub mod EngineLemmas
+pub mod FileLemmas
+pub mod FilmLemmas
+pub mod LineLemmas
+pub mod SliceLemmas
+pub mod StopLemmas

@@ -1,0 +1,4 @@
+pub mod Coding
+pub mod Film
+pub mod Listing
+pub mod View

@@ -1,0 +1,57 @@
+//! The codestreams of a film's frames, one after the other.
+ghost use Rattle.std.specs.Prelude.{◌≡◌, IfOk, IfErr, refl};
+ghost use Rattle.ls_frame.specs.View.Devices.{count_after};
+ghost use Rattle.ls_film.specs.Coding.{default_file};
+ghost use Rattle.ls_film.specs.View.Engine.{Completes};
+ghost use Rattle.ls_film.specs.View.Memory.{IsTextOf, StopsOver};
+ghost use Rattle.ls_film.specs.View.Stopping.{Stops, failed_reader, failed_writer};
+
+use crate::engine::{Text, text_of_bytes, write_text};
+use crate::faults::FilmFault;
+use ls_frame::{Feed, Frame, Outlet};
+use ls_stream::encode_frame;
+use std::alloc::{AllocError, Global};
+
+/// Writes the codestream of each frame of a film, with the default parameters of its maxval, and says how
+/// many there were.
+///
+/// Each codestream is written as soon as its frame is read. If the bytes of reader and writer are known (as in memory),
+/// the clauses say which were read and written. After `FilmFault::Input` nothing is said of the reader's place.
+pub fn code_film<R: Feed, W: Outlet>(
+    alloc: Global,
+    reader: &mut R,
+    writer: &mut W,
+) -> Result<u64, FilmFault>
+    ensures completes { IfOk result (Completes default_file
+        (R.remaining reader.old) (R.remaining reader.new) (W.contents writer.old) (W.contents writer.new)) }
+    ensures stops { IfErr result (Stops default_file
+        (R.remaining reader.old) (R.remaining reader.new) (W.contents writer.old) (W.contents writer.new)) }
+    ensures reads { R.failed_reads reader.new ≡ count_after (failed_reader result) (R.failed_reads reader.old) }
+    ensures writes { W.failed_writes writer.new ≡ count_after (failed_writer result) (W.failed_writes writer.old) }
+{
+    write_text::<Codestreams, R, W>(alloc, reader, writer)
+}
+
+/// The codestreams of a film in memory, as far as they were written, and how the coding ended.
+pub fn code_bytes(alloc: Global, film: &[u8]) -> (Vec<u8>, Result<u64, FilmFault>)
+    ensures completes { IfOk result.1 (IsTextOf default_file film.now result.0.items) }
+    ensures stops { IfErr result.1 (StopsOver default_file film.now result.0.items) }
+{
+    text_of_bytes::<Codestreams>(alloc, film)
+}
+
+/// A codestream for each frame.
+struct Codestreams;
+
+impl Text for Codestreams {
+    ghost text = { default_file };
+
+    fn piece(alloc: Global, _number: u64, frame: &Frame) -> Result<Vec<u8>, AllocError> {
+        encode_frame(alloc, frame)
+    }
+
+    ghost empty = { refl };
+}
+
+#[cfg(test)]
+mod tests;

@@ -1,0 +1,49 @@
+use super::*;
+use crate::testing::{Mishap, Sink};
+use std::io::Write;
+use std::process::Abort;
+
+/// The faults of a frame, but for want of memory, and their texts.
+const INPUT_FAULTS: [(NetpbmFault, &str); 8] = [
+    (NetpbmFault::BadMagic, "frame 3: bad magic"),
+    (NetpbmFault::BadHeader, "frame 3: bad header"),
+    (NetpbmFault::HeaderTooLong, "frame 3: header too long"),
+    (NetpbmFault::SizeOutOfRange, "frame 3: size out of range"),
+    (
+        NetpbmFault::MaxvalOutOfRange,
+        "frame 3: maxval out of range",
+    ),
+    (NetpbmFault::SampleTooLarge, "frame 3: sample too large"),
+    (NetpbmFault::Truncated, "frame 3: truncated"),
+    (NetpbmFault::Io, "frame 3: read failed"),
+];
+
+/// That a fault is this one, and has this text.
+fn check_fault(rt: &impl Abort, got: FilmFault, want: FilmFault, text: &str) {
+    assert_eq!(rt; got, want, "{text}");
+    let mut sink = Sink::new(4096, Mishap::Nothing);
+    assert!(rt; write!(sink, "{got}").is_ok(), "{text}");
+    assert_eq!(rt; sink.written(), text.as_bytes(), "{text}");
+}
+
+#[test]
+fn faults_of_frames_have_their_numbers_and_texts(rt: HostRuntime) {
+    for (fault, text) in INPUT_FAULTS {
+        let got = FilmFault::input_fault(3, fault);
+        check_fault(&rt, got, FilmFault::Input(3, fault), text);
+    }
+}
+
+#[test]
+fn other_faults_have_their_texts(rt: HostRuntime) {
+    let refused = FilmFault::input_fault(3, NetpbmFault::NoMemory);
+    check_fault(&rt, refused, FilmFault::NoMemory, "no memory");
+    let output = FilmFault::Output(7);
+    check_fault(&rt, output, output, "output failed after 7 bytes");
+    check_fault(
+        &rt,
+        FilmFault::TooMany,
+        FilmFault::TooMany,
+        "too many frames",
+    );
+}

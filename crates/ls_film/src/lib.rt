@@ -1,0 +1,28 @@
+//! Films: images of frames, one after the other, and what is written of one: a line for each frame, or a codestream.
+//!
+//! What it hands on: a film is images and nothing between them (`specs/Film.antt`); what is written of it is the lines or
+//! the codestreams of its frames (`specs/Listing.antt`, `specs/Coding.antt`); an engine that stops says which frames it
+//! read and which bytes it wrote (`specs/View/Engine.antt`). The relations on films take what an image is as a parameter,
+//! so a film of codestreams is read by the same ones.
+//!
+//! ```
+//! let mut reader = Counted::new(BufReader::new(alloc, file)?);
+//! let mut writer = Counted::new(rt.stdout());
+//! let frames = code_film(alloc, &mut reader, &mut writer)?;
+//! let (lines, ended) = list_bytes(alloc, film);
+//! ```
+//!
+//! In reading order: `faults` (why an engine stopped), `listing` (the line of a frame), `coding` (its codestream), `engine`
+//! (under both: reads a film and writes a piece for each frame).
+#![tactic(auto)]
+
+pub mod coding;
+mod engine;
+pub mod faults;
+pub mod listing;
+#[cfg(test)]
+mod testing;
+
+pub use coding::{code_bytes, code_film};
+pub use faults::{FilmFault, MOST_FRAMES};
+pub use listing::{list_bytes, list_film};

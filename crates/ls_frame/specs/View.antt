@@ -1,0 +1,6 @@
+-- How the code's values are seen as what the standard and the Netpbm pages speak of.
+pub mod Alike
+pub mod Devices
+pub mod Known
+pub mod Laws
+pub mod Reading

@@ -1,0 +1,18 @@
+-- What is known of a reader's bytes, and what it gave.
+use Rattle.std.specs.Prelude.{◌≡◌, ℕ, IsSome, List, [], ◌++◌, Option, unwrap_or}
+
+-- A reader tells its bytes, as one over memory does and a file doesn't.
+abbrev pub Tells : Option (List ℕ) → Type 0
+Tells bytes = IsSome bytes
+
+-- the known bytes
+abbrev pub known : Option (List ℕ) → List ℕ
+known bytes = unwrap_or bytes []
+
+-- If the reader's bytes are known, P holds of those that it gave.
+abbrev pub Gave : Option (List ℕ) → Option (List ℕ) → (List ℕ → Type 0) → Type 0
+Gave old new P = Tells old → Tells new × (bytes : List ℕ) × (known old ≡ bytes ++ known new) × P bytes
+
+-- The reader was at its end, and no byte was read.
+abbrev pub WasAtEnd : Option (List ℕ) → Option (List ℕ) → Type 0
+WasAtEnd old new = Tells old → Tells new × (known old ≡ []) × (known new ≡ [])
