@@ -27,19 +27,6 @@ pub fn put_marker(bytes: &mut Vec<u8>, marker: Marker)
     bytes.push_reserved(marker.code());
 }
 
-/// A field of two bytes.
-fn put_field(bytes: &mut Vec<u8>, field: u16)
-    requires room { vec_len bytes.old + 2 ≤ vec_capacity bytes.old }
-    ensures bytes { bytes.new.items ≡ bytes.old.items ++ two_bytes field }
-    ensures len { vec_len bytes.new ≡ vec_len bytes.old + 2 }
-    ensures capacity { vec_capacity bytes.new ≡ vec_capacity bytes.old }
-{
-    let mut two = [0u8; 2];
-    BigEndian::write_u16(&mut two, field);
-    bytes.push_reserved(two[0]);
-    bytes.push_reserved(two[1]);
-}
-
 /// The frame header: the bits of a sample (P), the lines, the samples of a line, and the components, numbered from 1
 /// (SOF55; T.87 C.2.2).
 #[tactic(auto, unfolding(crate::specs::Segments::header_contents))]
@@ -58,6 +45,55 @@ pub fn put_frame_header(bytes: &mut Vec<u8>, frame: &Frame)
     put_field(bytes, frame.width());
     bytes.push_reserved(count);
     put_components(bytes, count);
+}
+
+/// Preset parameters, only where they have to be written (`needs_presets`).
+pub fn put_presets_if_needed(bytes: &mut Vec<u8>, presets: &Presets)
+    requires room { vec_len bytes.old + presets_length presets.now ≤ vec_capacity bytes.old }
+    ensures bytes { bytes.new.items ≡ bytes.old.items ++ miscellaneous_bytes (written_presets presets.now) }
+    ensures len { vec_len bytes.new ≡ vec_len bytes.old + presets_length presets.now }
+    ensures capacity { vec_capacity bytes.new ≡ vec_capacity bytes.old }
+{
+    if needs_presets(presets) {
+        put_presets(bytes, presets);
+    }
+}
+
+/// How many bytes that takes.
+pub fn presets_length(presets: &Presets) -> u64
+    ensures value { result ≡ presets_length presets.now }
+    ensures small { result ≤ 15 }
+{
+    if needs_presets(presets) { 15 } else { 0 }
+}
+
+/// The header of a scan of one component, of this identifier (SOS; T.87 C.2.3).
+#[tactic(auto, unfolding(crate::specs::Segments::scan_contents))]
+pub fn put_scan_header(bytes: &mut Vec<u8>, id: u8)
+    requires room { vec_len bytes.old + 10 ≤ vec_capacity bytes.old }
+    ensures bytes { bytes.new.items ≡ bytes.old.items ++ segment Marker.StartOfScan (scan_contents id) }
+    ensures len { vec_len bytes.new ≡ vec_len bytes.old + 10 }
+    ensures capacity { vec_capacity bytes.new ≡ vec_capacity bytes.old }
+{
+    put_marker(bytes, Marker::StartOfScan);
+    put_field(bytes, 8);
+    bytes.push_reserved(1);
+    bytes.push_reserved(id);
+    put_field(bytes, 0);
+    put_field(bytes, 0);
+}
+
+/// A field of two bytes.
+fn put_field(bytes: &mut Vec<u8>, field: u16)
+    requires room { vec_len bytes.old + 2 ≤ vec_capacity bytes.old }
+    ensures bytes { bytes.new.items ≡ bytes.old.items ++ two_bytes field }
+    ensures len { vec_len bytes.new ≡ vec_len bytes.old + 2 }
+    ensures capacity { vec_capacity bytes.new ≡ vec_capacity bytes.old }
+{
+    let mut two = [0u8; 2];
+    BigEndian::write_u16(&mut two, field);
+    bytes.push_reserved(two[0]);
+    bytes.push_reserved(two[1]);
 }
 
 /// P: the bits of a frame's samples.
@@ -82,9 +118,26 @@ fn put_components(bytes: &mut Vec<u8>, count: u8)
     }
 }
 
+/// Whether a codestream has to write its parameters: they aren't the defaults of the greatest MAXVAL of their precision.
+fn needs_presets(presets: &Presets) -> bool
+    ensures { result ≡ needs_presets presets.now }
+{
+    *presets != Presets::default_of(greatest_maxval(presets.bpp()))
+}
+
+/// The greatest MAXVAL of a precision of 2 to 16 bits.
+fn greatest_maxval(precision: u32) -> u16
+    requires low { 2 ≤ precision }
+    requires high { precision ≤ 16 }
+    ensures value { result ≡ greatest_maxval precision }
+    ensures some { 0 < result }
+{
+    ((1u32 << precision) - 1) as u16
+}
+
 /// Preset parameters (LSE with ID 1; T.87 C.2.4.1.1).
 #[tactic(auto, unfolding(crate::specs::Segments::presets_contents))]
-pub fn put_presets(bytes: &mut Vec<u8>, presets: &Presets)
+fn put_presets(bytes: &mut Vec<u8>, presets: &Presets)
     requires room { vec_len bytes.old + 15 ≤ vec_capacity bytes.old }
     ensures bytes { bytes.new.items ≡ bytes.old.items ++ segment Marker.PresetParameters (presets_contents presets.now) }
     ensures len { vec_len bytes.new ≡ vec_len bytes.old + 15 }
@@ -109,57 +162,4 @@ fn put_parameters(bytes: &mut Vec<u8>, presets: &Presets)
     put_field(bytes, presets.t2());
     put_field(bytes, presets.t3());
     put_field(bytes, presets.reset());
-}
-
-/// The header of a scan of one component, of this identifier (SOS; T.87 C.2.3).
-#[tactic(auto, unfolding(crate::specs::Segments::scan_contents))]
-pub fn put_scan_header(bytes: &mut Vec<u8>, id: u8)
-    requires room { vec_len bytes.old + 10 ≤ vec_capacity bytes.old }
-    ensures bytes { bytes.new.items ≡ bytes.old.items ++ segment Marker.StartOfScan (scan_contents id) }
-    ensures len { vec_len bytes.new ≡ vec_len bytes.old + 10 }
-    ensures capacity { vec_capacity bytes.new ≡ vec_capacity bytes.old }
-{
-    put_marker(bytes, Marker::StartOfScan);
-    put_field(bytes, 8);
-    bytes.push_reserved(1);
-    bytes.push_reserved(id);
-    put_field(bytes, 0);
-    put_field(bytes, 0);
-}
-
-/// Preset parameters, only where they have to be written (`needs_presets`).
-pub fn put_presets_if_needed(bytes: &mut Vec<u8>, presets: &Presets)
-    requires room { vec_len bytes.old + presets_length presets.now ≤ vec_capacity bytes.old }
-    ensures bytes { bytes.new.items ≡ bytes.old.items ++ miscellaneous_bytes (written_presets presets.now) }
-    ensures len { vec_len bytes.new ≡ vec_len bytes.old + presets_length presets.now }
-    ensures capacity { vec_capacity bytes.new ≡ vec_capacity bytes.old }
-{
-    if needs_presets(presets) {
-        put_presets(bytes, presets);
-    }
-}
-
-/// How many bytes that takes.
-pub fn presets_length(presets: &Presets) -> u64
-    ensures value { result ≡ presets_length presets.now }
-    ensures small { result ≤ 15 }
-{
-    if needs_presets(presets) { 15 } else { 0 }
-}
-
-/// Whether a codestream has to write its parameters: they aren't the defaults of the greatest MAXVAL of their precision.
-fn needs_presets(presets: &Presets) -> bool
-    ensures { result ≡ needs_presets presets.now }
-{
-    *presets != Presets::default_of(greatest_maxval(presets.bpp()))
-}
-
-/// The greatest MAXVAL of a precision of 2 to 16 bits.
-fn greatest_maxval(precision: u32) -> u16
-    requires low { 2 ≤ precision }
-    requires high { precision ≤ 16 }
-    ensures value { result ≡ greatest_maxval precision }
-    ensures some { 0 < result }
-{
-    ((1u32 << precision) - 1) as u16
 }
