@@ -44,15 +44,12 @@ stats_in s number = slice_index_or s.contexts number (stats 0 (pos 0) (pos 0) 0)
 abbrev pub context_in : Coding → Neighbours → Context
 context_in s n = context_of s.parameters n
 
--- its error, its word and its event
+-- its error and its word
 unfoldable pub regular_error_in : Coding → Neighbours → ℕ → ℤ
 regular_error_in s n sample = regular_error_of s.parameters (context_in s n) (stats_in s (context_in s n).number) n sample
 
 unfoldable pub regular_word_in : Coding → Neighbours → ℕ → Word
 regular_word_in s n sample = regular_word s.parameters (stats_in s (context_in s n).number) (regular_error_in s n sample)
-
-abbrev pub regular_event_in : Coding → Neighbours → ℕ → Event
-regular_event_in s n sample = regular (context_in s n).number (regular_error_in s n sample)
 
 -- the state with it coded
 abbrev pub regular_after : Coding → ℕ → ℤ → Coding
@@ -91,9 +88,6 @@ counts_in s ri_type = if ri_type then s.ri_type_1 else s.ri_type_0
 
 unfoldable pub interruption_word_in : Coding → Neighbours → ℕ → Word
 interruption_word_in s n sample = interruption_word s.parameters s.run_index (ri_type_of n) (counts_in s (ri_type_of n)) (interruption_error s.parameters n sample)
-
-abbrev pub interruption_event_in : Coding → Neighbours → ℕ → Event
-interruption_event_in s n sample = interruption (ri_type_of n) (interruption_error s.parameters n sample)
 
 abbrev pub interruption_after : Coding → Bool → ℤ → Coding
 interruption_after s ri_type e = record {
