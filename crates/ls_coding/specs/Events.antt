@@ -64,23 +64,23 @@ broken_after_events events = fold (λ broken event. is_broken event) false event
 
 -- the bits of a code word
 abbrev pub golomb_bits : Parameters → Word → List Bool
-golomb_bits p w = code_word w.k w.glimit (qbpp_of p.maxval) w.value
+golomb_bits p word = code_word word.k word.glimit (qbpp_of p.maxval) word.value
 
 -- of a sample of regular mode
 abbrev pub regular_error_of : Parameters → Context → Stats → Neighbours → ℕ → ℤ
-regular_error_of p x s n sample = error_of p x.negative (predicted p x.negative s.c n) sample
+regular_error_of p context stats neighbours sample = error_of p context.negative (predicted p context.negative stats.c neighbours) sample
 
 abbrev pub regular_word : Parameters → Stats → ℤ → Word
-regular_word p s e = let k = golomb_parameter s.n s.a in record {
+regular_word p stats e = let k = golomb_parameter stats.n stats.a in record {
   k = k;
   glimit = limit_of p.maxval;
-  value = mapped_error (is_inverted k s.b s.n) e;
+  value = mapped_error (is_inverted k stats.b stats.n) e;
 }
 
 -- of an interruption sample, behind its run's bits at this RUNindex
 abbrev pub interruption_word : Parameters → ℕ → Bool → Counts → ℤ → Word
-interruption_word p index ri_type s e = record {
-  k = interruption_k ri_type s;
+interruption_word p index ri_type counts e = record {
+  k = interruption_k ri_type counts;
   glimit = limit_of p.maxval - order index - 1;
-  value = interruption_value ri_type s e;
+  value = interruption_value ri_type counts e;
 }

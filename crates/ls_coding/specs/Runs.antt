@@ -32,19 +32,19 @@ pub record Walk : Type 0 where
 
 -- a bit 1 for each 2^J samples, which raises RUNindex (A.7.1.2); `most` bounds the bits
 abbrev pub walk : ℕ → Walk → Walk
-walk zero w = w
-walk (suc most) w =
-    if nat_le (2 ^ order w.index) w.left
-    then walk most (record { ones = w.ones + 1; index = min (w.index + 1) last_index; left = w.left - 2 ^ order w.index })
-    else w
+walk zero so_far = so_far
+walk (suc most) so_far =
+    if nat_le (2 ^ order so_far.index) so_far.left
+    then walk most (record { ones = so_far.ones + 1; index = min (so_far.index + 1) last_index; left = so_far.left - 2 ^ order so_far.index })
+    else so_far
 
 unfoldable pub walked : ℕ → ℕ → Walk
 walked index count = walk count (record { ones = 0; index = index; left = count })
 
 -- how a run ends behind its ones: broken, with the samples left in J bits; at the line's end with samples left, or none
 abbrev pub tail_of : Bool → Walk → Tail
-tail_of true w = Broken (order w.index) w.left
-tail_of false w = if w.left == 0 then LineFull else LinePart
+tail_of true so_far = Broken (order so_far.index) so_far.left
+tail_of false so_far = if so_far.left == 0 then LineFull else LinePart
 
 -- its bits: a 0 and those J bits; a further 1; nothing
 abbrev pub tail_bits : Tail → List Bool

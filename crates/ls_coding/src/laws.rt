@@ -22,16 +22,16 @@ pub fn lawful_events_are_reached()
 /// end, and a run with the sample that interrupts it.
 pub fn lawful_events_are_short()
     ensures sample { (p : Parameters) (events : List Event) → IsLegal p → IsLawful p events
-        → (n : Neighbours) (sample : ℕ) → AreSamples p.maxval n → sample ≤ p.maxval
-        → length (golomb_bits p (regular_word p (stats_after_events p (context_of p n).number events)
-        (regular_error_of p (context_of p n) (stats_after_events p (context_of p n).number events) n sample))) ≤ limit_of p.maxval }
+        → (neighbours : Neighbours) (sample : ℕ) → AreSamples p.maxval neighbours → sample ≤ p.maxval
+        → length (golomb_bits p (regular_word p (stats_after_events p (context_of p neighbours).number events)
+        (regular_error_of p (context_of p neighbours) (stats_after_events p (context_of p neighbours).number events) neighbours sample))) ≤ limit_of p.maxval }
     ensures full_run { (p : Parameters) (events : List Event) → IsLegal p → IsLawful p events → (count : ℕ) → 0 < count
         → length (run_bits (run_index_after_events events) (run_of count false)) ≤ limit_of p.maxval * count }
     ensures broken_run { (p : Parameters) (events : List Event) → IsLegal p → IsLawful p events
-        → (count : ℕ) (n : Neighbours) (sample : ℕ) → AreSamples p.maxval n → Interrupts p.maxval n.a sample
+        → (count : ℕ) (neighbours : Neighbours) (sample : ℕ) → AreSamples p.maxval neighbours → Interrupts p.maxval neighbours.a sample
         → length (run_bits (run_index_after_events events) (run_of count true)
-        ++ golomb_bits p (interruption_word p (index_at (run_index_after_events events) (run_of count true)) (ri_type_of n)
-        (counts_after_events p (ri_type_of n) events) (interruption_error p n sample))) ≤ limit_of p.maxval * (count + 1) }
+        ++ golomb_bits p (interruption_word p (index_at (run_index_after_events events) (run_of count true)) (ri_type_of neighbours)
+        (counts_after_events p (ri_type_of neighbours) events) (interruption_error p neighbours sample))) ≤ limit_of p.maxval * (count + 1) }
 {}
 
 /// The Golomb parameter is the least exponent that brings N to A.

@@ -27,13 +27,13 @@ impl Model for Plan {
 
     ghost Value = { Planned };
 
-    ghost view = { λ p. record {
-      neighbours = p.neighbours;
-      k = p.k;
-      glimit = p.glimit;
-      number = p.number;
-      negative = p.negative;
-      prediction = pos p.prediction;
+    ghost view = { λ plan. record {
+      neighbours = plan.neighbours;
+      k = plan.k;
+      glimit = plan.glimit;
+      number = plan.number;
+      negative = plan.negative;
+      prediction = pos plan.prediction;
     } };
 }
 

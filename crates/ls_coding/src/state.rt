@@ -40,16 +40,16 @@ impl Model for State {
 
     ghost Value = { Coding };
 
-    ghost view = { λ s. record {
-      parameters = s.presets;
-      contexts = all_regular s.counters;
-      ri_type_0 = interrupting_at s.counters 0;
-      ri_type_1 = interrupting_at s.counters 1;
-      run_index = s.run_index;
-      broken = s.broken;
+    ghost view = { λ state. record {
+      parameters = state.presets;
+      contexts = all_regular state.counters;
+      ri_type_0 = interrupting_at state.counters 0;
+      ri_type_1 = interrupting_at state.counters 1;
+      run_index = state.run_index;
+      broken = state.broken;
     } };
 
-    ghost invariant = { λ s. IsSoundState s.presets s.limit s.run_index s.counters };
+    ghost invariant = { λ state. IsSoundState state.presets state.limit state.run_index state.counters };
 }
 
 impl State {
