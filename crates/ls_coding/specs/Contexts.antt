@@ -21,7 +21,7 @@ is_zero (negsuc number) = false
 abbrev pub is_run : Neighbours → Bool
 is_run neighbours = is_zero (d1 neighbours) && is_zero (d2 neighbours) && is_zero (d3 neighbours)
 
--- a gradient's region, -4 to 4 (A.3.3)
+-- the region of a gradient, -4 to 4 (A.3.3)
 abbrev pub region : Parameters → ℤ → ℤ
 region p gradient =
     if int_le gradient (neg_ℤ (pos p.t3)) then neg_ℤ (pos 4)
@@ -48,12 +48,12 @@ abbrev pub first_negative : ℤ → ℤ → ℤ → Bool
 first_negative q1 q2 q3 =
     if is_zero q1 then (if is_zero q2 then int_lt q3 (pos 0) else int_lt q2 (pos 0)) else int_lt q1 (pos 0)
 
--- z with its sign changed, or left
+-- a number with its sign changed if SIGN is -1
 abbrev pub signed : Bool → ℤ → ℤ
 signed true number = neg_ℤ number
 signed false number = number
 
--- three regions as one number
+-- three regions as one number; T.87 leaves the numbering open (A.3.4)
 abbrev pub context_number : ℤ → ℤ → ℤ → ℤ
 context_number q1 q2 q3 = pos 81 *ℤ q1 +ℤ pos 9 *ℤ q2 +ℤ q3
 

@@ -1,4 +1,4 @@
--- Prediction, the error, and the value that stands for it (T.87 A.4, A.5). With NEAR 0.
+-- Prediction, the error, and the mapped error (T.87 A.4, A.5). With NEAR 0.
 use Rattle.std.specs.Prelude.{ℕ, ◌+◌, ◌-◌, ◌*◌, ◌/◌, ◌==◌, ◌&&◌, min, max, nat_le, Bool, if◌then◌else◌, ℤ, pos, neg_ℤ, ◌+ℤ◌, ◌-ℤ◌, ◌*ℤ◌, int_lt, int_le, ◌<ℤ◌, ◌≤ℤ◌, unsigned_abs}
 use Rattle.ls_frame.specs.Parameters.{Parameters, range_of}
 use Rattle.ls_coding.specs.declared.neighbours.Neighbours.{Neighbours}
@@ -31,8 +31,7 @@ pub record IsReduced (range : ℕ) (e : ℤ) : Type 0 where
 abbrev pub error_of : Parameters → Bool → ℤ → ℕ → ℤ
 error_of p negative prediction sample = reduced (range_of p.maxval) (signed negative (pos sample -ℤ prediction))
 
--- the value of an error (A.5.2). Where k is 0 and the errors so far lean to the negative, the odd values are those of the
--- errors from 0 on
+-- MErrval, the mapped error (A.5.2). If k is 0 and 2 * B is at most -N, the odd numbers stand for the errors from 0 on
 abbrev pub is_inverted : ℕ → ℤ → ℕ → Bool
 is_inverted k b n = k == 0 && int_le (pos 2 *ℤ b) (neg_ℤ (pos n))
 

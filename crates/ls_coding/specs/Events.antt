@@ -18,7 +18,7 @@ pub data Event : Type 0 where
   run : Run → Event
   interruption : Bool → ℤ → Event
 
--- the errors that were coded in a context, no other's among them
+-- the error that an event codes in a context, if it does
 abbrev pub error_of_regular_event : ℕ → Event → Option ℤ
 error_of_regular_event number (regular other e) = if number == other then Some e else None
 error_of_regular_event number (run r) = None
@@ -66,7 +66,7 @@ broken_after_events events = fold (λ broken event. is_broken event) false event
 abbrev pub golomb_bits : Parameters → Word → List Bool
 golomb_bits p word = code_word word.k word.glimit (qbpp_of p.maxval) word.value
 
--- of a sample of regular mode
+-- of a sample of regular mode: its error, and the word of its mapped error (A.4, A.5)
 abbrev pub regular_error_of : Parameters → Context → Stats → Neighbours → ℕ → ℤ
 regular_error_of p context stats neighbours sample = error_of p context.negative (predicted p context.negative stats.c neighbours) sample
 
@@ -77,7 +77,7 @@ regular_word p stats e = let k = golomb_parameter stats.n stats.a in record {
   value = mapped_error (is_inverted k stats.b stats.n) e;
 }
 
--- of an interruption sample, behind its run's bits at this RUNindex
+-- of a run interruption sample, at the RUNindex that its run left (A.7.2)
 abbrev pub interruption_word : Parameters → ℕ → Bool → Counts → ℤ → Word
 interruption_word p index ri_type counts e = record {
   k = interruption_k ri_type counts;

@@ -1,4 +1,4 @@
--- The sample that interrupts a run (T.87 A.7.2). With NEAR 0.
+-- The run interruption sample (T.87 A.7.2). With NEAR 0.
 use Rattle.std.specs.Prelude.{ℕ, ◌+◌, ◌-◌, ◌*◌, ◌/◌, ◌==◌, ◌&&◌, ◌||◌, ◌<◌, ◌≤◌, nat_lt, nat_le, not, Bool, if◌then◌else◌, ℤ, pos, ◌-ℤ◌, int_lt, unsigned_abs, List, fold}
 use Rattle.ls_frame.specs.Parameters.{Parameters, range_of}
 use Rattle.ls_coding.specs.declared.neighbours.Neighbours.{Neighbours}
@@ -26,18 +26,18 @@ pub record AreSoundCounts (reset bound : ℕ) (counters : Counts) : Type 0 where
 abbrev pub first_counts : Parameters → Counts
 first_counts p = record { a = first_a p; n = 1; nn = 0 }
 
--- RItype is 1 where Ra and Rb are equal
+-- RItype is 1 if Ra and Rb are equal
 abbrev pub ri_type_of : Neighbours → Bool
 ri_type_of neighbours = neighbours.a == neighbours.b
 
 abbrev pub ri_value : Bool → ℕ
 ri_value ri_type = if ri_type then 1 else 0
 
--- the prediction is Ra where they are equal, else Rb
+-- the prediction is Ra if they are equal, else Rb
 abbrev pub interruption_prediction : Neighbours → ℕ
 interruption_prediction neighbours = if ri_type_of neighbours then neighbours.a else neighbours.b
 
--- the error changes its sign where RItype is 0 and Ra is over Rb
+-- the error has its sign changed if RItype is 0 and Ra is over Rb
 abbrev pub interruption_negative : Neighbours → Bool
 interruption_negative neighbours = not (ri_type_of neighbours) && nat_lt neighbours.b neighbours.a
 
@@ -56,11 +56,11 @@ map_of k counters e =
     || (int_lt e (pos 0) && not (k == 0))
     then 1 else 0
 
--- EMErrval
+-- EMErrval, the mapped error of a run interruption sample
 abbrev pub interruption_value : Bool → Counts → ℤ → ℕ
 interruption_value ri_type counters e = 2 * unsigned_abs e - ri_value ri_type - map_of (interruption_k ri_type counters) counters e
 
--- the counters with one error more: added, halved where N is RESET, and counted
+-- the counters with one error more: added, halved if N is RESET, and counted
 abbrev pub counts_added : Bool → Counts → ℤ → Counts
 counts_added ri_type before e = record {
   a = before.a + (interruption_value ri_type before e + 1 - ri_value ri_type) / 2;

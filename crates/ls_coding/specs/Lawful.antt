@@ -10,8 +10,8 @@ use Rattle.ls_coding.specs.Events.{Event, regular, run, interruption, stats_afte
 use Rattle.ls_coding.specs.View.States.{Coding, state_of, context_in, regular_error_in, regular_after, run_after, interruption_after}
 use Rattle.ls_coding.specs.View.Plans.{Interrupts}
 
--- an event that may come behind these: that of a sample of regular mode, or of a run, where no run was broken last; that of
--- a sample that isn't the run's, where one was
+-- an event that may come after these: a sample of regular mode or a run, unless a run was broken last; then, a sample that
+-- isn't the run's
 pub data MayComeNext (p : Parameters) (events : List Event) (event : Event) : Type 0 where
   by_sample : (neighbours : Neighbours) (sample : ℕ) → AreSamples p.maxval neighbours → sample ≤ p.maxval → is_run neighbours ≡ false → broken_after_events events ≡ false
       → event ≡ regular (context_of p neighbours).number (regular_error_of p (context_of p neighbours) (stats_after_events p (context_of p neighbours).number events) neighbours sample)

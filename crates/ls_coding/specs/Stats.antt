@@ -17,7 +17,7 @@ stats a b c n = record { a = a; b = b; c = c; n = n }
 abbrev pub error_bound : ℕ → ℕ
 error_bound maxval = max 2 (range_of maxval / 2)
 
--- what counters keep to: N errors of a size of at most `bound` in A, B near 0, C in a signed byte
+-- what counters keep to: N errors of a size of at most `bound` in A, B over -N and at most 0, C in a signed byte
 pub record AreSound (reset bound : ℕ) (counters : Stats) : Type 0 where
   pub some : 1 ≤ counters.n
   pub few : counters.n ≤ reset
@@ -38,7 +38,7 @@ first_stats p = record { a = first_a p; b = pos 0; c = pos 0; n = 1 }
 abbrev pub added : Stats → ℤ → Stats
 added before e = record { a = before.a + unsigned_abs e; b = before.b +ℤ e; c = before.c; n = before.n }
 
--- halved where so many errors are in them as RESET says, and one error more counted (A.6.1)
+-- halved if N is RESET, and one error more counted (A.6.1)
 abbrev pub counted : ℕ → Stats → Stats
 counted reset before =
     if before.n == reset

@@ -18,7 +18,7 @@ pub fn lawful_events_are_reached()
     ensures { (p : Parameters) (events : List Event) → IsLawful p events → IsReached p (state_of p events) }
 {}
 
-/// Behind lawful events, one of m samples takes at most LIMIT * m bits: a sample of regular mode, a run up to the line's
+/// After lawful events, one of m samples takes at most LIMIT * m bits: a sample of regular mode, a run up to the line's
 /// end, and a run with the sample that interrupts it.
 pub fn lawful_events_are_short()
     ensures sample { (p : Parameters) (events : List Event) → IsLegal p → IsLawful p events
@@ -40,7 +40,7 @@ pub fn golomb_parameter_is_least()
     ensures least { (n a k : ℕ) → a ≤ n * 2 ^ k → golomb_parameter n a ≤ k }
 {}
 
-/// A run's bits, one by one: a 1 for 2^J samples, behind which the rest of the run stands at the next RUNindex; a 1 for
+/// A run's bits, one by one: a 1 for 2^J samples, after which the rest of the run stands at the next RUNindex; a 1 for
 /// what is left in the line; a 0, and the samples that are left in J bits, before the sample that interrupts it.
 pub fn runs_are_read_bit_by_bit()
     ensures one { (index count : ℕ) (broken : Bool) → 2 ^ order index ≤ count

@@ -1,4 +1,4 @@
--- What a sample's word is read by, and which sample a value stands for.
+-- What a sample's word is read by, and which sample a mapped error stands for.
 use Rattle.std.specs.Prelude.{◌≡◌, ◌≢◌, ℕ, ◌-◌, ◌≤◌, Bool, ℤ, pos}
 use Rattle.ls_frame.specs.Parameters.{Parameters, limit_of}
 use Rattle.ls_coding.specs.declared.neighbours.Neighbours.{Neighbours}
@@ -58,12 +58,12 @@ pub record Interrupts (maxval left sample : ℕ) : Type 0 where
   pub within : sample ≤ maxval
   pub other : sample ≢ left
 
--- the one sample that has this value
+-- the one sample whose word has this value, its mapped error
 pub record IsTheSample (IsSample : ℕ → Type 0) (value_of : ℕ → ℕ) (value sample : ℕ) : Type 0 where
   pub is_sample : IsSample sample
   pub has_value : value_of sample ≡ value
   pub only : (other : ℕ) → IsSample other → value_of other ≡ value → other ≡ sample
 
--- no sample has it
+-- no sample's word has it
 abbrev pub NoSample : (ℕ → Type 0) → (ℕ → ℕ) → ℕ → Type 0
 NoSample IsSample value_of value = (sample : ℕ) → IsSample sample → value_of sample ≡ value → ⊥

@@ -14,7 +14,7 @@ pub record Coding : Type 0 where
   pub parameters : Parameters
   -- the counters of the regular contexts, by their numbers
   pub contexts : List Stats
-  -- those of the samples that interrupt a run, where Ra and Rb differ (365 in T.87) and where they are equal (366)
+  -- those of the samples that interrupt a run: if Ra and Rb differ (365 in T.87), and if they are equal (366)
   pub ri_type_0 : Counts
   pub ri_type_1 : Counts
   pub run_index : ℕ
@@ -62,7 +62,7 @@ regular_after state number e = record {
   broken = state.broken;
 }
 
--- a sample of regular mode that comes behind these events, its word, and the state behind it
+-- a sample of regular mode that comes after these events, its word, and the state after it
 pub record IsRegularEvent (p : Parameters) (events : List Event) (neighbours : Neighbours) (sample : ℕ) (word : Word) (after : Coding) : Type 0 where
   pub word_is : word ≡ regular_word p (stats_after_events p (context_of p neighbours).number events)
       (regular_error_of p (context_of p neighbours) (stats_after_events p (context_of p neighbours).number events) neighbours sample)
@@ -99,7 +99,7 @@ interruption_after state ri_type e = record {
   broken = false;
 }
 
--- the sample that interrupts a run behind these events, its word, and the state behind it
+-- the sample that interrupts a run after these events, its word, and the state after it
 pub record IsInterruptionEvent (p : Parameters) (events : List Event) (neighbours : Neighbours) (sample : ℕ) (word : Word) (after : Coding) : Type 0 where
   pub word_is : word ≡ interruption_word p (run_index_after_events events) (ri_type_of neighbours) (counts_after_events p (ri_type_of neighbours) events) (interruption_error p neighbours sample)
   pub after_is : after ≡ state_of p (events ++ interruption (ri_type_of neighbours) (interruption_error p neighbours sample) ∷ [])
