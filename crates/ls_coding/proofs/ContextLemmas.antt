@@ -51,8 +51,8 @@ sign_1 (negsuc n) q2 q3 s t =
     below_zero (context_number (negsuc n) q2 q3) sum
 
 -- changing all three signs changes the number's
-turned : (q1 q2 q3 : ℤ) → context_number (neg_ℤ q1) (neg_ℤ q2) (neg_ℤ q3) ≡ neg_ℤ (context_number q1 q2 q3)
-turned q1 q2 q3 = omega (arith, ints)
+negated : (q1 q2 q3 : ℤ) → context_number (neg_ℤ q1) (neg_ℤ q2) (neg_ℤ q3) ≡ neg_ℤ (context_number q1 q2 q3)
+negated q1 q2 q3 = omega (arith, ints)
 
 size_neg : (z : ℤ) → unsigned_abs (neg_ℤ z) ≡ unsigned_abs z
 size_neg (pos zero) = refl
@@ -60,7 +60,7 @@ size_neg (pos (suc n)) = refl
 size_neg (negsuc n) = refl
 
 size_signed : (negative : Bool) (q1 q2 q3 : ℤ) → unsigned_abs (context_number (signed negative q1) (signed negative q2) (signed negative q3)) ≡ unsigned_abs (context_number q1 q2 q3)
-size_signed true q1 q2 q3 = ap unsigned_abs (turned q1 q2 q3) ∙ size_neg (context_number q1 q2 q3)
+size_signed true q1 q2 q3 = ap unsigned_abs (negated q1 q2 q3) ∙ size_neg (context_number q1 q2 q3)
 size_signed false q1 q2 q3 = refl
 
 pub merged-number : (q1 q2 q3 : ℤ) → (merged q1 q2 q3).number ≡ unsigned_abs (context_number q1 q2 q3)
@@ -118,9 +118,9 @@ signed_range p n =
     (omega (arith, ints, a.low, b.low, c.low), omega (arith, ints, a.high, b.high, c.high))
 
 -- the context that it stands for
-pub signed_place : (p : Parameters) (n : Neighbours) → ((context_of p n).number ≡ unsigned_abs (signed_context p n)) × ((context_of p n).negative ≡ int_lt (signed_context p n) (pos 0))
+pub signed_splits : (p : Parameters) (n : Neighbours) → ((context_of p n).number ≡ unsigned_abs (signed_context p n)) × ((context_of p n).negative ≡ int_lt (signed_context p n) (pos 0))
 unfolding context_of signed_context
-signed_place p n = (
+signed_splits p n = (
   merged-number (region p (d1 n)) (region p (d2 n)) (region p (d3 n)),
   merged-negative (region p (d1 n)) (region p (d2 n)) (region p (d3 n)) (region_range p (d2 n)) (region_range p (d3 n)),
 )

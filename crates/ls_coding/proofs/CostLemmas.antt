@@ -17,7 +17,7 @@ use Rattle.ls_coding.specs.Events.{Event, regular, interruption, stats_after_eve
 use Rattle.ls_coding.specs.Lawful.{MayComeNext, by_sample, by_run, by_interruption, IsLawful, none, more}
 use Rattle.ls_coding.specs.View.Plans.{Interrupts}
 use Rattle.ls_coding.proofs.ErrorLemmas.{error_of-reduced, interruption_prediction_small}
-use Rattle.ls_coding.proofs.EventLemmas.{stats_after_events-own, stats_after_events-other, stats_after_events-interruption, counts_after_events-own, counts_after_events-regular, flat_kept, steep_kept}
+use Rattle.ls_coding.proofs.EventLemmas.{stats_after_events-own, stats_after_events-other, stats_after_events-interruption, counts_after_events-own, counts_after_events-regular, ri_type_1_kept, ri_type_0_kept}
 use Rattle.ls_coding.proofs.FieldLemmas.{same_or_not, first_stats_sound, first_counts_sound}
 use Rattle.ls_coding.proofs.InterruptionLemmas.{sound_counts, counts_step_is}
 use Rattle.ls_coding.proofs.RunLemmas.{full_cost, broken_cost}
@@ -134,8 +134,8 @@ counts_kept-interruption : (p : Parameters) (events : List Event) (ri_type own :
     → AreSoundCounts p.reset (error_bound p.maxval) (counts_after_events p ri_type (events ++ interruption own e ∷ []))
 counts_kept-interruption p events true true e legal error sound =
     subst (AreSoundCounts p.reset (error_bound p.maxval)) (sym (counts_after_events-own p events true e)) (counts_step_sound true p.reset p.maxval (counts_after_events p true events) e legal.some_reset sound error)
-counts_kept-interruption p events true false e legal error sound = subst (AreSoundCounts p.reset (error_bound p.maxval)) (flat_kept p events e) sound
-counts_kept-interruption p events false true e legal error sound = subst (AreSoundCounts p.reset (error_bound p.maxval)) (steep_kept p events e) sound
+counts_kept-interruption p events true false e legal error sound = subst (AreSoundCounts p.reset (error_bound p.maxval)) (ri_type_1_kept p events e) sound
+counts_kept-interruption p events false true e legal error sound = subst (AreSoundCounts p.reset (error_bound p.maxval)) (ri_type_0_kept p events e) sound
 counts_kept-interruption p events false false e legal error sound =
     subst (AreSoundCounts p.reset (error_bound p.maxval)) (sym (counts_after_events-own p events false e)) (counts_step_sound false p.reset p.maxval (counts_after_events p false events) e legal.some_reset sound error)
 

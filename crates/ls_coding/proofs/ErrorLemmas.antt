@@ -76,9 +76,9 @@ reduced_is range d e low high h alike =
 modulo_range : ℕ → ℤ → ℤ
 modulo_range range z = cond (int_lt z (pos 0)) (z +ℤ pos range) (cond (int_le (pos range) z) (z -ℤ pos range) z)
 
-brought_alike : (range : ℕ) (z : ℤ) → IsAlike range z (modulo_range range z)
+modulo_alike : (range : ℕ) (z : ℤ) → IsAlike range z (modulo_range range z)
 unfolding modulo_range
-brought_alike range z =
+modulo_alike range z =
     choose (int_lt z (pos 0)) (z +ℤ pos range) (cond (int_le (pos range) z) (z -ℤ pos range) z) (IsAlike range z)
     (λ e. below (omega (arith, ints)))
     (λ e. choose (int_le (pos range) z) (z -ℤ pos range) z (IsAlike range z) (λ f. above (omega (arith, ints))) (λ f. here refl))
@@ -106,7 +106,7 @@ pub sample_has : (range px x : ℕ) (negative : Bool) (e z : ℤ) → px < range
 unfolding modulo_range
 sample_has range px x negative e z h k error sum back =
     reduced_is range (signed negative (pos x -ℤ pos px)) e (difference_low range px x negative h k) (difference_high range px x negative h k) error
-    (has_error range px x negative e z sum (subst (IsAlike range z) (sym back) (brought_alike range z)))
+    (has_error range px x negative e z sum (subst (IsAlike range z) (sym back) (modulo_alike range z)))
 
 -- no other sample has it
 same_sample : (range px x y : ℕ) (negative : Bool) (e : ℤ) → x < range → y < range
@@ -138,7 +138,7 @@ sample_once range px x y negative e z h k l sum back same =
     same_sample range px y x negative e l k
     (subst (IsAlike range (signed negative (pos y -ℤ pos px))) same
     (reduced_alike range (signed negative (pos y -ℤ pos px)) (difference_low range px y negative h l) (difference_high range px y negative h l)))
-    (has_error range px x negative e z sum (subst (IsAlike range z) (sym back) (brought_alike range z)))
+    (has_error range px x negative e z sum (subst (IsAlike range z) (sym back) (modulo_alike range z)))
 
 -- ---- as the code passes numbers
 

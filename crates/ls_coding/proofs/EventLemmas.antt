@@ -14,7 +14,7 @@ use Rattle.ls_coding.specs.Interruptions.{Counts, counts_step, counts_after, fir
 use Rattle.ls_coding.specs.Events.{Event, regular, interruption, error_of_regular_event, error_of_interruption_event, stats_after_events, counts_after_events, run_index_after_events, broken_after_events, index_step, is_broken, regular_error_of, regular_word, interruption_word}
 use Rattle.ls_coding.specs.View.States.{Coding, state_of, stats_in, counts_in, context_in, regular_error_in, regular_word_in, regular_after, interruption_word_in, interruption_after}
 use Rattle.ls_coding.proofs.FieldLemmas.{map_set}
-use Rattle.ls_coding.proofs.RegularLemmas.{place_small}
+use Rattle.ls_coding.proofs.RegularLemmas.{context_small}
 use Rattle.ls_coding.proofs.StateLemmas.{alike, fold-push, map_same}
 
 -- ---- an error more in one context, and none in the others
@@ -55,12 +55,12 @@ pub counts_after_events-own : (p : Parameters) (events : List Event) (ri_type : 
 counts_after_events-own p events true e = ap (counts_after p true) (filter_push (error_of_interruption_event true) events (interruption true e)) ∙ counts_push p true (filter_map (error_of_interruption_event true) events) e
 counts_after_events-own p events false e = ap (counts_after p false) (filter_push (error_of_interruption_event false) events (interruption false e)) ∙ counts_push p false (filter_map (error_of_interruption_event false) events) e
 
-pub flat_kept : (p : Parameters) (events : List Event) (e : ℤ) → counts_after_events p true events ≡ counts_after_events p true (events ++ interruption false e ∷ [])
-flat_kept p events e =
+pub ri_type_1_kept : (p : Parameters) (events : List Event) (e : ℤ) → counts_after_events p true events ≡ counts_after_events p true (events ++ interruption false e ∷ [])
+ri_type_1_kept p events e =
     sym (ap (counts_after p true) (filter_push (error_of_interruption_event true) events (interruption false e) ∙ append-nil (filter_map (error_of_interruption_event true) events)))
 
-pub steep_kept : (p : Parameters) (events : List Event) (e : ℤ) → counts_after_events p false events ≡ counts_after_events p false (events ++ interruption true e ∷ [])
-steep_kept p events e =
+pub ri_type_0_kept : (p : Parameters) (events : List Event) (e : ℤ) → counts_after_events p false events ≡ counts_after_events p false (events ++ interruption true e ∷ [])
+ri_type_0_kept p events e =
     sym (ap (counts_after p false) (filter_push (error_of_interruption_event false) events (interruption true e) ∙ append-nil (filter_map (error_of_interruption_event false) events)))
 
 -- ---- a sample of regular mode
@@ -95,11 +95,11 @@ unfolding regular_error_in
 state_after_regular before after x sample whole step events e =
     let p : Parameters = before.parameters in
     let number : ℕ = (context_of p x).number in
-    let known : stats_in before number ≡ stats_after_events p number events = ap (λ (s : Coding). stats_in s number) e ∙ stats_in-state p events number (place_small p x) in
+    let known : stats_in before number ≡ stats_after_events p number events = ap (λ (s : Coding). stats_in s number) e ∙ stats_in-state p events number (context_small p x) in
     step
     ∙ ap (λ (t : Stats). regular_after before number (regular_error_of p (context_of p x) t x sample)) known
     ∙ ap (λ (s : Coding). regular_after s number (regular_error_of p (context_of p x) (stats_after_events p number events) x sample)) e
-    ∙ state_of-regular p events number (regular_error_of p (context_of p x) (stats_after_events p number events) x sample) (place_small p x) (sym (broken_of-state p events) ∙ sym (ap (λ (s : Coding). s.broken) e) ∙ whole)
+    ∙ state_of-regular p events number (regular_error_of p (context_of p x) (stats_after_events p number events) x sample) (context_small p x) (sym (broken_of-state p events) ∙ sym (ap (λ (s : Coding). s.broken) e) ∙ whole)
 
 pub word_of_regular : (before : Coding) (x : Neighbours) (sample : ℕ) (events : List Event) → before ≡ state_of before.parameters events
     → regular_word_in before x sample ≡ regular_word before.parameters (stats_after_events before.parameters (context_in before x).number events)
@@ -108,7 +108,7 @@ unfolding regular_error_in regular_word_in
 word_of_regular before x sample events e =
     let p : Parameters = before.parameters in
     let number : ℕ = (context_of p x).number in
-    let known : stats_in before number ≡ stats_after_events p number events = ap (λ (s : Coding). stats_in s number) e ∙ stats_in-state p events number (place_small p x) in
+    let known : stats_in before number ≡ stats_after_events p number events = ap (λ (s : Coding). stats_in s number) e ∙ stats_in-state p events number (context_small p x) in
     ap (λ (t : Stats). regular_word p t (regular_error_of p (context_of p x) t x sample)) known
 
 -- ---- the sample that interrupts a run
@@ -117,12 +117,12 @@ pub state_of-interruption : (p : Parameters) (events : List Event) (ri_type : Bo
 unfolding state_of
 state_of-interruption p events true e =
     alike p _ _ _ _ _ _ _ _ _ _ (map_same _ _ (range_with_len 0 365) (stats_after_events-interruption p events true e))
-    (steep_kept p events e) (sym (counts_after_events-own p events true e))
+    (ri_type_0_kept p events e) (sym (counts_after_events-own p events true e))
     (sym (fold-push index_step 0 events (interruption true e)))
     (sym (fold-push (λ (broken : Bool) (event : Event). is_broken event) false events (interruption true e)))
 state_of-interruption p events false e =
     alike p _ _ _ _ _ _ _ _ _ _ (map_same _ _ (range_with_len 0 365) (stats_after_events-interruption p events false e))
-    (sym (counts_after_events-own p events false e)) (flat_kept p events e)
+    (sym (counts_after_events-own p events false e)) (ri_type_1_kept p events e)
     (sym (fold-push index_step 0 events (interruption false e)))
     (sym (fold-push (λ (broken : Bool) (event : Event). is_broken event) false events (interruption false e)))
 

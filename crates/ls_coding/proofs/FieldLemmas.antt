@@ -1,5 +1,5 @@
 -- The counters of one context, changed among those of all.
-use Rattle.std.proofs.Common.{◌≡◌, ◌≢◌, ℕ, ◌+◌, ◌-◌, ◌*◌, ◌<◌, ◌≤◌, Bool, true, false, cond, eqb, ℤ, pos, List, length, map, get_or, refl, sym, ◌∙◌, ap, subst, arith, ◌⊎◌, inl, inr}
+use Rattle.std.proofs.Common.{◌≡◌, ◌≢◌, ℕ, ◌+◌, ◌-◌, ◌*◌, ◌<◌, ◌≤◌, Bool, true, false, eqb, ℤ, pos, List, length, map, get_or, refl, sym, ◌∙◌, ap, subst, arith, ◌⊎◌, inl, inr}
 use Rattle.std.specs.Prelude.{unsigned_abs}
 use Rattle.std.specs.List.{range_with_len}
 use Rattle.std.proofs.Math.ListN.{set}
@@ -174,17 +174,6 @@ pub contexts_kept : (a n : List ℕ) (b c : List ℤ) (which x y : ℕ) → cont
 unfolding contexts_of
 contexts_kept a n b c which x y =
     map_alike (stats_at a b c n) (stats_at (set a (365 + which) x) b c (set n (365 + which) y)) 365 (stats 0 (pos 0) (pos 0) 0) (regular_kept a n b c which x y)
-
--- the counters of both, one of them with an error more
-pub ri_type_0_after : (ri_type : Bool) (a n nn : List ℕ) (x y z : ℕ) (s : Counts) → AreWholeCounts a n nn → (ri_type ≡ false → counts x y z ≡ s)
-    → counts_at (set a (365 + ri_value ri_type) x) (set n (365 + ri_value ri_type) y) (set nn (ri_value ri_type) z) 0 ≡ cond ri_type (counts_at a n nn 0) s
-ri_type_0_after true a n nn x y z s whole e = counts_other a n nn 1 0 x y z (omega arith)
-ri_type_0_after false a n nn x y z s whole e = counts_own a n nn 0 x y z whole (omega arith) ∙ e refl
-
-pub ri_type_1_after : (ri_type : Bool) (a n nn : List ℕ) (x y z : ℕ) (s : Counts) → AreWholeCounts a n nn → (ri_type ≡ true → counts x y z ≡ s)
-    → counts_at (set a (365 + ri_value ri_type) x) (set n (365 + ri_value ri_type) y) (set nn (ri_value ri_type) z) 1 ≡ cond ri_type s (counts_at a n nn 1)
-ri_type_1_after true a n nn x y z s whole e = counts_own a n nn 1 x y z whole (omega arith) ∙ e refl
-ri_type_1_after false a n nn x y z s whole e = counts_other a n nn 0 1 x y z (omega arith)
 
 pub interruption_sound : (ri_type : Bool) (reset bound : ℕ) (a n : List ℕ) (b c : List ℤ) (nn : List ℕ) (x y z : ℕ) → AreWholeCounts a n nn
     → AreAllSound reset bound a b c n nn → AreSoundCounts reset bound (counts x y z)

@@ -1,12 +1,12 @@
 -- A sample of regular mode, in a state's view.
 use Rattle.std.proofs.Common.{◌≡◌, ℕ, ◌<◌, ◌≤◌, Bool, List, get_or, ℤ, pos, neg_ℤ, ◌+ℤ◌, ◌≤ℤ◌, refl, sym, ◌∙◌, ap, subst, arith}
-use Rattle.std.specs.Prelude.{int_le, int_lt, unsigned_abs, if◌then◌else◌, Result, Ok, Err, IfOk, IfErr}
+use Rattle.std.specs.Prelude.{int_lt, unsigned_abs, if◌then◌else◌, Result, Ok, Err, IfOk, IfErr}
 use Rattle.std.proofs.Math.ListN.{set}
 use Rattle.std.proofs.lemmas.Int.{ints}
 use Rattle.std.proofs.lemmas.List.FromFn.{get_or-map-range_with_len}
 use Rattle.ls_frame.specs.Parameters.{Parameters}
 use Rattle.ls_coding.specs.declared.neighbours.Neighbours.{Neighbours}
-use Rattle.ls_coding.specs.Contexts.{IsRegion, region, context_of, context_number, signed, d1, d2, d3}
+use Rattle.ls_coding.specs.Contexts.{context_of, signed_context, signed}
 use Rattle.ls_coding.specs.Numbers.{clamped}
 use Rattle.ls_coding.specs.Errors.{median, error_of, is_inverted, mapped_error}
 use Rattle.ls_coding.specs.Stats.{Stats, stats, stats_step}
@@ -15,36 +15,19 @@ use Rattle.ls_coding.specs.Events.{regular_error_of, regular_word}
 use Rattle.ls_coding.specs.View.States.{Coding, stats_in, context_in, regular_error_in, regular_word_in, regular_after}
 use Rattle.ls_coding.specs.View.Fields.{stats_at, contexts_of}
 use Rattle.ls_coding.specs.View.Plans.{Planned, regular_plan_by, regular_plan, IsReadBy, IsTheSample, NoSample}
-use Rattle.ls_coding.proofs.ContextLemmas.{merged-number}
+use Rattle.ls_coding.proofs.ContextLemmas.{signed_range, signed_splits}
 use Rattle.ls_coding.proofs.StatsLemmas.{choose, lt_false}
 use Rattle.ls_coding.proofs.StateLemmas.{made}
 
 -- ---- a context's number is below 365
 
-region_is : (p : Parameters) (d : ℤ) → IsRegion (region p d)
-region_is p d =
-    choose (int_le d (neg_ℤ (pos p.t3))) _ _ IsRegion (λ e. record { low = omega (arith, ints); high = omega (arith, ints) })
-    (λ e. choose (int_le d (neg_ℤ (pos p.t2))) _ _ IsRegion (λ e. record { low = omega (arith, ints); high = omega (arith, ints) })
-    (λ e. choose (int_le d (neg_ℤ (pos p.t1))) _ _ IsRegion (λ e. record { low = omega (arith, ints); high = omega (arith, ints) })
-    (λ e. choose (int_lt d (pos 0)) _ _ IsRegion (λ e. record { low = omega (arith, ints); high = omega (arith, ints) })
-    (λ e. choose (int_le d (pos 0)) _ _ IsRegion (λ e. record { low = omega (arith, ints); high = omega (arith, ints) })
-    (λ e. choose (int_lt d (pos p.t1)) _ _ IsRegion (λ e. record { low = omega (arith, ints); high = omega (arith, ints) })
-    (λ e. choose (int_lt d (pos p.t2)) _ _ IsRegion (λ e. record { low = omega (arith, ints); high = omega (arith, ints) })
-    (λ e. choose (int_lt d (pos p.t3)) _ _ IsRegion (λ e. record { low = omega (arith, ints); high = omega (arith, ints) })
-    (λ e. record { low = omega (arith, ints); high = omega (arith, ints) }))))))))
-
 size_small : (z : ℤ) → neg_ℤ (pos 364) ≤ℤ z → z ≤ℤ pos 364 → unsigned_abs z < 365
 size_small z low high = grind (arith, ints)
 
-number_small : (q1 q2 q3 : ℤ) → IsRegion q1 → IsRegion q2 → IsRegion q3 → unsigned_abs (context_number q1 q2 q3) < 365
-number_small q1 q2 q3 a b c =
-    size_small (context_number q1 q2 q3) (omega (arith, ints, a.low, b.low, c.low)) (omega (arith, ints, a.high, b.high, c.high))
-
-pub place_small : (p : Parameters) (n : Neighbours) → (context_of p n).number < 365
-unfolding context_of
-place_small p n =
-    let small = number_small (region p (d1 n)) (region p (d2 n)) (region p (d3 n)) (region_is p (d1 n)) (region_is p (d2 n)) (region_is p (d3 n)) in
-    omega (arith, merged-number (region p (d1 n)) (region p (d2 n)) (region p (d3 n)))
+pub context_small : (p : Parameters) (n : Neighbours) → (context_of p n).number < 365
+context_small p n =
+    let small : unsigned_abs (signed_context p n) < 365 = size_small (signed_context p n) (signed_range p n).0 (signed_range p n).1 in
+    omega (arith, (signed_splits p n).0)
 
 -- ---- the counters in a view
 
@@ -52,25 +35,25 @@ pub stats_in_view : (a n : List ℕ) (b c : List ℤ) (number : ℕ) → number 
 unfolding contexts_of
 stats_in_view a n b c number h = get_or-map-range_with_len (stats_at a b c n) 0 365 number number (stats 0 (pos 0) (pos 0) 0) h (omega arith)
 
-pub word_in_view : (p : Parameters) (a n : List ℕ) (b c : List ℤ) (steep ri_type : Counts) (index : ℕ) (broken : Bool) (x : Neighbours) (sample : ℕ)
+pub word_in_view : (p : Parameters) (a n : List ℕ) (b c : List ℤ) (ri_type_0 ri_type_1 : Counts) (index : ℕ) (broken : Bool) (x : Neighbours) (sample : ℕ)
     → regular_word p (stats_at a b c n (context_of p x).number) (regular_error_of p (context_of p x) (stats_at a b c n (context_of p x).number) x sample)
-    ≡ regular_word_in (made p (contexts_of a b c n) steep ri_type index broken) x sample
+    ≡ regular_word_in (made p (contexts_of a b c n) ri_type_0 ri_type_1 index broken) x sample
 unfolding regular_word_in regular_error_in
-word_in_view p a n b c steep ri_type index broken x sample =
-    ap (λ (t : Stats). regular_word p t (regular_error_of p (context_of p x) t x sample)) (sym (stats_in_view a n b c (context_of p x).number (place_small p x)))
+word_in_view p a n b c ri_type_0 ri_type_1 index broken x sample =
+    ap (λ (t : Stats). regular_word p t (regular_error_of p (context_of p x) t x sample)) (sym (stats_in_view a n b c (context_of p x).number (context_small p x)))
 
-pub step_in_view : (p : Parameters) (a n : List ℕ) (b c : List ℤ) (steep ri_type : Counts) (index : ℕ) (broken : Bool) (x : Neighbours) (sample : ℕ)
+pub step_in_view : (p : Parameters) (a n : List ℕ) (b c : List ℤ) (ri_type_0 ri_type_1 : Counts) (index : ℕ) (broken : Bool) (x : Neighbours) (sample : ℕ)
     → stats_step p.reset (stats_at a b c n (context_of p x).number) (regular_error_of p (context_of p x) (stats_at a b c n (context_of p x).number) x sample)
-    ≡ stats_step p.reset (stats_in (made p (contexts_of a b c n) steep ri_type index broken) (context_of p x).number)
-    (regular_error_in (made p (contexts_of a b c n) steep ri_type index broken) x sample)
+    ≡ stats_step p.reset (stats_in (made p (contexts_of a b c n) ri_type_0 ri_type_1 index broken) (context_of p x).number)
+    (regular_error_in (made p (contexts_of a b c n) ri_type_0 ri_type_1 index broken) x sample)
 unfolding regular_error_in
-step_in_view p a n b c steep ri_type index broken x sample =
-    ap (λ (t : Stats). stats_step p.reset t (regular_error_of p (context_of p x) t x sample)) (sym (stats_in_view a n b c (context_of p x).number (place_small p x)))
+step_in_view p a n b c ri_type_0 ri_type_1 index broken x sample =
+    ap (λ (t : Stats). stats_step p.reset t (regular_error_of p (context_of p x) t x sample)) (sym (stats_in_view a n b c (context_of p x).number (context_small p x)))
 
-pub plan_in_view : (p : Parameters) (a n : List ℕ) (b c : List ℤ) (steep ri_type : Counts) (index : ℕ) (broken : Bool) (x : Neighbours)
-    → regular_plan_by p (context_of p x) (stats_at a b c n (context_of p x).number) x ≡ regular_plan (made p (contexts_of a b c n) steep ri_type index broken) x
-plan_in_view p a n b c steep ri_type index broken x =
-    ap (λ (t : Stats). regular_plan_by p (context_of p x) t x) (sym (stats_in_view a n b c (context_of p x).number (place_small p x)))
+pub plan_in_view : (p : Parameters) (a n : List ℕ) (b c : List ℤ) (ri_type_0 ri_type_1 : Counts) (index : ℕ) (broken : Bool) (x : Neighbours)
+    → regular_plan_by p (context_of p x) (stats_at a b c n (context_of p x).number) x ≡ regular_plan (made p (contexts_of a b c n) ri_type_0 ri_type_1 index broken) x
+plan_in_view p a n b c ri_type_0 ri_type_1 index broken x =
+    ap (λ (t : Stats). regular_plan_by p (context_of p x) t x) (sym (stats_in_view a n b c (context_of p x).number (context_small p x)))
 
 pub neighbours_of_regular : (s : Coding) (x : Neighbours) → (regular_plan s x).neighbours ≡ x
 unfolding regular_plan_by
@@ -86,14 +69,14 @@ read_regular s x sample = record { same_k = refl; same_limit = refl }
 abbrev value_by : Parameters → Planned → Stats → ℕ → ℕ
 value_by p plan t sample = mapped_error (is_inverted plan.k t.b t.n) (error_of p plan.negative plan.prediction sample)
 
-pub value_same : (p : Parameters) (a n : List ℕ) (b c : List ℤ) (steep ri_type : Counts) (index : ℕ) (broken : Bool) (x : Neighbours) (plan : Planned)
-    → plan ≡ regular_plan (made p (contexts_of a b c n) steep ri_type index broken) x → (sample : ℕ)
+pub value_same : (p : Parameters) (a n : List ℕ) (b c : List ℤ) (ri_type_0 ri_type_1 : Counts) (index : ℕ) (broken : Bool) (x : Neighbours) (plan : Planned)
+    → plan ≡ regular_plan (made p (contexts_of a b c n) ri_type_0 ri_type_1 index broken) x → (sample : ℕ)
     → mapped_error (is_inverted plan.k (stats_at a b c n plan.number).b (stats_at a b c n plan.number).n) (error_of p plan.negative plan.prediction sample)
-    ≡ (regular_word_in (made p (contexts_of a b c n) steep ri_type index broken) x sample).value
+    ≡ (regular_word_in (made p (contexts_of a b c n) ri_type_0 ri_type_1 index broken) x sample).value
 unfolding regular_plan_by regular_word_in regular_error_in
-value_same p a n b c steep ri_type index broken x plan e sample =
+value_same p a n b c ri_type_0 ri_type_1 index broken x plan e sample =
     ap (λ (q : Planned). value_by p q (stats_at a b c n q.number) sample) e
-    ∙ ap (λ (t : Stats). value_by p (regular_plan (made p (contexts_of a b c n) steep ri_type index broken) x) t sample) (sym (stats_in_view a n b c (context_of p x).number (place_small p x)))
+    ∙ ap (λ (t : Stats). value_by p (regular_plan (made p (contexts_of a b c n) ri_type_0 ri_type_1 index broken) x) t sample) (sym (stats_in_view a n b c (context_of p x).number (context_small p x)))
 
 pub error_same : (s : Coding) (x : Neighbours) (plan : Planned) → plan ≡ regular_plan s x → (sample : ℕ) → error_of s.parameters plan.negative plan.prediction sample ≡ regular_error_in s x sample
 unfolding regular_plan_by regular_error_in
@@ -103,14 +86,14 @@ pub number_same : (s : Coding) (x : Neighbours) (plan : Planned) → plan ≡ re
 unfolding regular_plan_by
 number_same s x plan e = ap (λ (q : Planned). q.number) e
 
-pub stepped_same : (p : Parameters) (a n : List ℕ) (b c : List ℤ) (steep ri_type : Counts) (index : ℕ) (broken : Bool) (x : Neighbours) (plan : Planned)
-    → plan ≡ regular_plan (made p (contexts_of a b c n) steep ri_type index broken) x → (sample : ℕ)
+pub stepped_same : (p : Parameters) (a n : List ℕ) (b c : List ℤ) (ri_type_0 ri_type_1 : Counts) (index : ℕ) (broken : Bool) (x : Neighbours) (plan : Planned)
+    → plan ≡ regular_plan (made p (contexts_of a b c n) ri_type_0 ri_type_1 index broken) x → (sample : ℕ)
     → set (contexts_of a b c n) plan.number (stats_step p.reset (stats_at a b c n plan.number) (error_of p plan.negative plan.prediction sample))
-    ≡ (regular_after (made p (contexts_of a b c n) steep ri_type index broken) (context_of p x).number (regular_error_in (made p (contexts_of a b c n) steep ri_type index broken) x sample)).contexts
-stepped_same p a n b c steep ri_type index broken x plan e sample =
-    let s : Coding = made p (contexts_of a b c n) steep ri_type index broken in
+    ≡ (regular_after (made p (contexts_of a b c n) ri_type_0 ri_type_1 index broken) (context_of p x).number (regular_error_in (made p (contexts_of a b c n) ri_type_0 ri_type_1 index broken) x sample)).contexts
+stepped_same p a n b c ri_type_0 ri_type_1 index broken x plan e sample =
+    let s : Coding = made p (contexts_of a b c n) ri_type_0 ri_type_1 index broken in
     ap (λ number. set (contexts_of a b c n) number (stats_step p.reset (stats_at a b c n number) (error_of p plan.negative plan.prediction sample))) (number_same s x plan e)
-    ∙ ap (λ (t : Stats). set (contexts_of a b c n) (context_of p x).number (stats_step p.reset t (error_of p plan.negative plan.prediction sample))) (sym (stats_in_view a n b c (context_of p x).number (place_small p x)))
+    ∙ ap (λ (t : Stats). set (contexts_of a b c n) (context_of p x).number (stats_step p.reset t (error_of p plan.negative plan.prediction sample))) (sym (stats_in_view a n b c (context_of p x).number (context_small p x)))
     ∙ ap (λ (z : ℤ). set (contexts_of a b c n) (context_of p x).number (stats_step p.reset (stats_in s (context_of p x).number) z)) (error_same s x plan e sample)
 
 pub prediction_small : (s : Coding) (x : Neighbours) (plan : Planned) (prediction : ℕ) → plan ≡ regular_plan s x → plan.prediction ≡ pos prediction → prediction ≤ s.parameters.maxval

@@ -10,10 +10,10 @@ use Rattle.ls_coding.specs.View.States.{Coding, state_of, run_after}
 use Rattle.ls_coding.proofs.RunLemmas.{at, further, some_samples, walk-more, walk-stop, walk-on, walked_one, walked_part}
 use Rattle.ls_coding.proofs.StateLemmas.{made, state_of-run}
 
-abbrev bits_behind : Bool → Walk → List Bool
-bits_behind broken w = replicate w.ones true ++ tail_bits (tail_of broken w)
+abbrev bits_after : Bool → Walk → List Bool
+bits_after broken w = replicate w.ones true ++ tail_bits (tail_of broken w)
 
-run_bits-is : (index count : ℕ) (broken : Bool) → run_bits index (run_of count broken) ≡ bits_behind broken (walked index count)
+run_bits-is : (index count : ℕ) (broken : Bool) → run_bits index (run_of count broken) ≡ bits_after broken (walked index count)
 unfolding run_word
 run_bits-is index count broken = refl
 
@@ -36,26 +36,26 @@ walked_on index count h = walk-on 0 index count h ∙ walk-one_more (count - 2 ^
 add_one : (n : ℕ) → n + 1 ≡ suc n
 add_one n = omega arith
 
-bits_more : (broken : Bool) (w : Walk) → bits_behind broken (one_more w) ≡ true ∷ bits_behind broken w
+bits_more : (broken : Bool) (w : Walk) → bits_after broken (one_more w) ≡ true ∷ bits_after broken w
 bits_more true w = ap (λ n. replicate n true ++ tail_bits (tail_of true w)) (add_one w.ones)
 bits_more false w = ap (λ n. replicate n true ++ tail_bits (tail_of false w)) (add_one w.ones)
 
 pub one_bit_more : (index count : ℕ) (broken : Bool) → 2 ^ order index ≤ count
     → run_bits index (run_of count broken) ≡ true ∷ run_bits (min (index + 1) 31) (run_of (count - 2 ^ order index) broken)
 one_bit_more index count broken h =
-    run_bits-is index count broken ∙ ap (bits_behind broken) (walked_on index count h) ∙ bits_more broken (walked (min (index + 1) 31) (count - 2 ^ order index))
+    run_bits-is index count broken ∙ ap (bits_after broken) (walked_on index count h) ∙ bits_more broken (walked (min (index + 1) 31) (count - 2 ^ order index))
     ∙ ap (λ bits. true ∷ bits) (sym (run_bits-is (min (index + 1) 31) (count - 2 ^ order index) broken))
 
 pub one_bit_left : (index count : ℕ) → 0 < count → count < 2 ^ order index → run_bits index (run_of count false) ≡ true ∷ []
 one_bit_left index count some few =
-    run_bits-is index count false ∙ ap (bits_behind false) (walked_part index count few)
+    run_bits-is index count false ∙ ap (bits_after false) (walked_part index count few)
     ∙ ap tail_bits (cond-false (eqb count 0) LineFull LinePart (ne_eqb count 0 (λ e. absurd (omega arith))))
 
 pub no_bit_left : (index : ℕ) → run_bits index (run_of 0 false) ≡ []
-no_bit_left index = run_bits-is index 0 false ∙ ap (bits_behind false) (walked_part index 0 (some_samples index))
+no_bit_left index = run_bits-is index 0 false ∙ ap (bits_after false) (walked_part index 0 (some_samples index))
 
 pub bits_of_break : (index count : ℕ) → count < 2 ^ order index → run_bits index (run_of count true) ≡ false ∷ bits_of (order index) count
-bits_of_break index count few = run_bits-is index count true ∙ ap (bits_behind true) (walked_part index count few)
+bits_of_break index count few = run_bits-is index count true ∙ ap (bits_after true) (walked_part index count few)
 
 -- ---- joined
 

@@ -5,33 +5,33 @@ use Rattle.ls_coding.specs.declared.neighbours.Neighbours.{Neighbours}
 
 -- the local gradients D1, D2 and D3 (A.3.1)
 abbrev pub d1 : Neighbours → ℤ
-d1 n = pos n.d -ℤ pos n.b
+d1 neighbours = pos neighbours.d -ℤ pos neighbours.b
 
 abbrev pub d2 : Neighbours → ℤ
-d2 n = pos n.b -ℤ pos n.c
+d2 neighbours = pos neighbours.b -ℤ pos neighbours.c
 
 abbrev pub d3 : Neighbours → ℤ
-d3 n = pos n.c -ℤ pos n.a
+d3 neighbours = pos neighbours.c -ℤ pos neighbours.a
 
 abbrev pub is_zero : ℤ → Bool
-is_zero (pos n) = n == 0
-is_zero (negsuc n) = false
+is_zero (pos number) = number == 0
+is_zero (negsuc number) = false
 
 -- run mode where all three are 0 (A.3.2)
 abbrev pub is_run : Neighbours → Bool
-is_run n = is_zero (d1 n) && is_zero (d2 n) && is_zero (d3 n)
+is_run neighbours = is_zero (d1 neighbours) && is_zero (d2 neighbours) && is_zero (d3 neighbours)
 
--- a gradient's region, -4 to 4 (A.3.3)
+-- the region of a gradient, -4 to 4 (A.3.3)
 abbrev pub region : Parameters → ℤ → ℤ
-region p d =
-    if int_le d (neg_ℤ (pos p.t3)) then neg_ℤ (pos 4)
-    else (if int_le d (neg_ℤ (pos p.t2)) then neg_ℤ (pos 3)
-    else (if int_le d (neg_ℤ (pos p.t1)) then neg_ℤ (pos 2)
-    else (if int_lt d (pos 0) then neg_ℤ (pos 1)
-    else (if int_le d (pos 0) then pos 0
-    else (if int_lt d (pos p.t1) then pos 1
-    else (if int_lt d (pos p.t2) then pos 2
-    else (if int_lt d (pos p.t3) then pos 3
+region p gradient =
+    if int_le gradient (neg_ℤ (pos p.t3)) then neg_ℤ (pos 4)
+    else (if int_le gradient (neg_ℤ (pos p.t2)) then neg_ℤ (pos 3)
+    else (if int_le gradient (neg_ℤ (pos p.t1)) then neg_ℤ (pos 2)
+    else (if int_lt gradient (pos 0) then neg_ℤ (pos 1)
+    else (if int_le gradient (pos 0) then pos 0
+    else (if int_lt gradient (pos p.t1) then pos 1
+    else (if int_lt gradient (pos p.t2) then pos 2
+    else (if int_lt gradient (pos p.t3) then pos 3
     else pos 4)))))))
 
 pub record IsRegion (q : ℤ) : Type 0 where
@@ -48,12 +48,12 @@ abbrev pub first_negative : ℤ → ℤ → ℤ → Bool
 first_negative q1 q2 q3 =
     if is_zero q1 then (if is_zero q2 then int_lt q3 (pos 0) else int_lt q2 (pos 0)) else int_lt q1 (pos 0)
 
--- z with its sign changed, or left
+-- a number with its sign changed if SIGN is -1
 abbrev pub signed : Bool → ℤ → ℤ
-signed true z = neg_ℤ z
-signed false z = z
+signed true number = neg_ℤ number
+signed false number = number
 
--- three regions as one number
+-- three regions as one number; T.87 leaves the numbering open (A.3.4)
 abbrev pub context_number : ℤ → ℤ → ℤ → ℤ
 context_number q1 q2 q3 = pos 81 *ℤ q1 +ℤ pos 9 *ℤ q2 +ℤ q3
 
@@ -66,7 +66,7 @@ merged q1 q2 q3 = let negative = first_negative q1 q2 q3 in record {
 
 -- the regions of a sample's gradients as one number, before any changes its sign
 unfoldable pub signed_context : Parameters → Neighbours → ℤ
-signed_context p n = context_number (region p (d1 n)) (region p (d2 n)) (region p (d3 n))
+signed_context p neighbours = context_number (region p (d1 neighbours)) (region p (d2 neighbours)) (region p (d3 neighbours))
 
 unfoldable pub context_of : Parameters → Neighbours → Context
-context_of p n = merged (region p (d1 n)) (region p (d2 n)) (region p (d3 n))
+context_of p neighbours = merged (region p (d1 neighbours)) (region p (d2 neighbours)) (region p (d3 neighbours))

@@ -18,7 +18,7 @@ pub data Event : Type 0 where
   run : Run → Event
   interruption : Bool → ℤ → Event
 
--- the errors that were coded in a context, no other's among them
+-- the error that an event codes in a context, if it does
 abbrev pub error_of_regular_event : ℕ → Event → Option ℤ
 error_of_regular_event number (regular other e) = if number == other then Some e else None
 error_of_regular_event number (run r) = None
@@ -64,23 +64,23 @@ broken_after_events events = fold (λ broken event. is_broken event) false event
 
 -- the bits of a code word
 abbrev pub golomb_bits : Parameters → Word → List Bool
-golomb_bits p w = code_word w.k w.glimit (qbpp_of p.maxval) w.value
+golomb_bits p word = code_word word.k word.glimit (qbpp_of p.maxval) word.value
 
--- of a sample of regular mode
+-- of a sample of regular mode: its error, and the word of its mapped error (A.4, A.5)
 abbrev pub regular_error_of : Parameters → Context → Stats → Neighbours → ℕ → ℤ
-regular_error_of p x s n sample = error_of p x.negative (predicted p x.negative s.c n) sample
+regular_error_of p context stats neighbours sample = error_of p context.negative (predicted p context.negative stats.c neighbours) sample
 
 abbrev pub regular_word : Parameters → Stats → ℤ → Word
-regular_word p s e = let k = golomb_parameter s.n s.a in record {
+regular_word p stats e = let k = golomb_parameter stats.n stats.a in record {
   k = k;
   glimit = limit_of p.maxval;
-  value = mapped_error (is_inverted k s.b s.n) e;
+  value = mapped_error (is_inverted k stats.b stats.n) e;
 }
 
--- of an interruption sample, behind its run's bits at this RUNindex
+-- of a run interruption sample, at the RUNindex that its run left (A.7.2)
 abbrev pub interruption_word : Parameters → ℕ → Bool → Counts → ℤ → Word
-interruption_word p index ri_type s e = record {
-  k = interruption_k ri_type s;
+interruption_word p index ri_type counts e = record {
+  k = interruption_k ri_type counts;
   glimit = limit_of p.maxval - order index - 1;
-  value = interruption_value ri_type s e;
+  value = interruption_value ri_type counts e;
 }

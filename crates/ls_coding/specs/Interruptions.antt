@@ -1,4 +1,4 @@
--- The sample that interrupts a run (T.87 A.7.2). With NEAR 0.
+-- The run interruption sample (T.87 A.7.2). With NEAR 0.
 use Rattle.std.specs.Prelude.{ℕ, ◌+◌, ◌-◌, ◌*◌, ◌/◌, ◌==◌, ◌&&◌, ◌||◌, ◌<◌, ◌≤◌, nat_lt, nat_le, not, Bool, if◌then◌else◌, ℤ, pos, ◌-ℤ◌, int_lt, unsigned_abs, List, fold}
 use Rattle.ls_frame.specs.Parameters.{Parameters, range_of}
 use Rattle.ls_coding.specs.declared.neighbours.Neighbours.{Neighbours}
@@ -17,65 +17,65 @@ abbrev pub counts : ℕ → ℕ → ℕ → Counts
 counts a n nn = record { a = a; n = n; nn = nn }
 
 -- what they keep to: N errors of a size of at most `bound` in A, fewer than N of them negative
-pub record AreSoundCounts (reset bound : ℕ) (s : Counts) : Type 0 where
-  pub some : 1 ≤ s.n
-  pub few : s.n ≤ reset
-  pub sum : s.a ≤ s.n * bound
-  pub negative : s.nn < s.n
+pub record AreSoundCounts (reset bound : ℕ) (counters : Counts) : Type 0 where
+  pub some : 1 ≤ counters.n
+  pub few : counters.n ≤ reset
+  pub sum : counters.a ≤ counters.n * bound
+  pub negative : counters.nn < counters.n
 
 abbrev pub first_counts : Parameters → Counts
 first_counts p = record { a = first_a p; n = 1; nn = 0 }
 
--- RItype is 1 where Ra and Rb are equal
+-- RItype is 1 if Ra and Rb are equal
 abbrev pub ri_type_of : Neighbours → Bool
-ri_type_of n = n.a == n.b
+ri_type_of neighbours = neighbours.a == neighbours.b
 
 abbrev pub ri_value : Bool → ℕ
 ri_value ri_type = if ri_type then 1 else 0
 
--- the prediction is Ra where they are equal, else Rb
+-- the prediction is Ra if they are equal, else Rb
 abbrev pub interruption_prediction : Neighbours → ℕ
-interruption_prediction n = if ri_type_of n then n.a else n.b
+interruption_prediction neighbours = if ri_type_of neighbours then neighbours.a else neighbours.b
 
--- the error changes its sign where RItype is 0 and Ra is over Rb
+-- the error has its sign changed if RItype is 0 and Ra is over Rb
 abbrev pub interruption_negative : Neighbours → Bool
-interruption_negative n = not (ri_type_of n) && nat_lt n.b n.a
+interruption_negative neighbours = not (ri_type_of neighbours) && nat_lt neighbours.b neighbours.a
 
 abbrev pub interruption_error : Parameters → Neighbours → ℕ → ℤ
-interruption_error p n sample = reduced (range_of p.maxval) (signed (interruption_negative n) (pos sample -ℤ pos (interruption_prediction n)))
+interruption_error p neighbours sample = reduced (range_of p.maxval) (signed (interruption_negative neighbours) (pos sample -ℤ pos (interruption_prediction neighbours)))
 
 -- the Golomb parameter, from TEMP
 abbrev pub interruption_k : Bool → Counts → ℕ
-interruption_k ri_type s = golomb_parameter s.n (if ri_type then s.a + s.n / 2 else s.a)
+interruption_k ri_type counters = golomb_parameter counters.n (if ri_type then counters.a + counters.n / 2 else counters.a)
 
 -- map
 abbrev pub map_of : ℕ → Counts → ℤ → ℕ
-map_of k s e =
-    if (k == 0 && int_lt (pos 0) e && nat_lt (2 * s.nn) s.n)
-    || (int_lt e (pos 0) && nat_le s.n (2 * s.nn))
+map_of k counters e =
+    if (k == 0 && int_lt (pos 0) e && nat_lt (2 * counters.nn) counters.n)
+    || (int_lt e (pos 0) && nat_le counters.n (2 * counters.nn))
     || (int_lt e (pos 0) && not (k == 0))
     then 1 else 0
 
--- EMErrval
+-- EMErrval, the mapped error of a run interruption sample
 abbrev pub interruption_value : Bool → Counts → ℤ → ℕ
-interruption_value ri_type s e = 2 * unsigned_abs e - ri_value ri_type - map_of (interruption_k ri_type s) s e
+interruption_value ri_type counters e = 2 * unsigned_abs e - ri_value ri_type - map_of (interruption_k ri_type counters) counters e
 
--- the counters with one error more: added, halved where N is RESET, and counted
+-- the counters with one error more: added, halved if N is RESET, and counted
 abbrev pub counts_added : Bool → Counts → ℤ → Counts
-counts_added ri_type s e = record {
-  a = s.a + (interruption_value ri_type s e + 1 - ri_value ri_type) / 2;
-  n = s.n;
-  nn = if int_lt e (pos 0) then s.nn + 1 else s.nn;
+counts_added ri_type before e = record {
+  a = before.a + (interruption_value ri_type before e + 1 - ri_value ri_type) / 2;
+  n = before.n;
+  nn = if int_lt e (pos 0) then before.nn + 1 else before.nn;
 }
 
 abbrev pub counts_counted : ℕ → Counts → Counts
-counts_counted reset s =
-    if s.n == reset
-    then record { a = s.a / 2; n = s.n / 2 + 1; nn = s.nn / 2 }
-    else record { a = s.a; n = s.n + 1; nn = s.nn }
+counts_counted reset before =
+    if before.n == reset
+    then record { a = before.a / 2; n = before.n / 2 + 1; nn = before.nn / 2 }
+    else record { a = before.a; n = before.n + 1; nn = before.nn }
 
 unfoldable pub counts_step : Bool → ℕ → Counts → ℤ → Counts
-counts_step ri_type reset s e = counts_counted reset (counts_added ri_type s e)
+counts_step ri_type reset before e = counts_counted reset (counts_added ri_type before e)
 
 -- a context after the errors that were coded in it
 abbrev pub counts_after : Parameters → Bool → List ℤ → Counts

@@ -10,16 +10,16 @@ use Rattle.ls_coding.specs.Events.{Event, regular, run, interruption, stats_afte
 use Rattle.ls_coding.specs.View.States.{Coding, state_of, context_in, regular_error_in, regular_after, run_after, interruption_after}
 use Rattle.ls_coding.specs.View.Plans.{Interrupts}
 
--- an event that may come behind these: that of a sample of regular mode, or of a run, where no run was broken last; that of
--- a sample that isn't the run's, where one was
+-- an event that may come after these: a sample of regular mode or a run, unless a run was broken last; then, a sample that
+-- isn't the run's
 pub data MayComeNext (p : Parameters) (events : List Event) (event : Event) : Type 0 where
-  by_sample : (n : Neighbours) (sample : ℕ) → AreSamples p.maxval n → sample ≤ p.maxval → is_run n ≡ false → broken_after_events events ≡ false
-      → event ≡ regular (context_of p n).number (regular_error_of p (context_of p n) (stats_after_events p (context_of p n).number events) n sample)
+  by_sample : (neighbours : Neighbours) (sample : ℕ) → AreSamples p.maxval neighbours → sample ≤ p.maxval → is_run neighbours ≡ false → broken_after_events events ≡ false
+      → event ≡ regular (context_of p neighbours).number (regular_error_of p (context_of p neighbours) (stats_after_events p (context_of p neighbours).number events) neighbours sample)
       → MayComeNext p events event
   by_run : (count : ℕ) (broken : Bool) → (broken ≡ false → 0 < count) → broken_after_events events ≡ false
       → event ≡ run (run_of count broken) → MayComeNext p events event
-  by_interruption : (n : Neighbours) (sample : ℕ) → AreSamples p.maxval n → Interrupts p.maxval n.a sample → broken_after_events events ≡ true
-      → event ≡ interruption (ri_type_of n) (interruption_error p n sample) → MayComeNext p events event
+  by_interruption : (neighbours : Neighbours) (sample : ℕ) → AreSamples p.maxval neighbours → Interrupts p.maxval neighbours.a sample → broken_after_events events ≡ true
+      → event ≡ interruption (ri_type_of neighbours) (interruption_error p neighbours sample) → MayComeNext p events event
 
 -- a list of events, each of which may follow those before it
 pub data IsLawful (p : Parameters) : List Event → Type 0 where
@@ -28,13 +28,13 @@ pub data IsLawful (p : Parameters) : List Event → Type 0 where
 
 -- one call that codes: what it requires of the state before it, and the state that it leaves
 pub data IsCall (before after : Coding) : Type 0 where
-  code_regular : (n : Neighbours) (sample : ℕ) → AreSamples before.parameters.maxval n → sample ≤ before.parameters.maxval
-      → is_run n ≡ false → before.broken ≡ false → after ≡ regular_after before (context_in before n).number (regular_error_in before n sample)
+  code_regular : (neighbours : Neighbours) (sample : ℕ) → AreSamples before.parameters.maxval neighbours → sample ≤ before.parameters.maxval
+      → is_run neighbours ≡ false → before.broken ≡ false → after ≡ regular_after before (context_in before neighbours).number (regular_error_in before neighbours sample)
       → IsCall before after
   code_run : (count : ℕ) (broken : Bool) → (broken ≡ false → 0 < count) → before.broken ≡ false
       → after ≡ run_after before (run_of count broken) → IsCall before after
-  code_interruption : (n : Neighbours) (sample : ℕ) → AreSamples before.parameters.maxval n → Interrupts before.parameters.maxval n.a sample
-      → before.broken ≡ true → after ≡ interruption_after before (ri_type_of n) (interruption_error before.parameters n sample)
+  code_interruption : (neighbours : Neighbours) (sample : ℕ) → AreSamples before.parameters.maxval neighbours → Interrupts before.parameters.maxval neighbours.a sample
+      → before.broken ≡ true → after ≡ interruption_after before (ri_type_of neighbours) (interruption_error before.parameters neighbours sample)
       → IsCall before after
 
 -- a state that calls come to from a scan's start

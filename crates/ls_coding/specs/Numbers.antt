@@ -3,12 +3,12 @@ use Rattle.std.specs.Prelude.{ℕ, zero, suc, ◌*◌, ◌/◌, ◌^◌, nat_le,
 
 -- half of a number, towards minus infinity
 abbrev pub halved : ℤ → ℤ
-halved (pos n) = pos (n / 2)
-halved (negsuc n) = negsuc (n / 2)
+halved (pos number) = pos (number / 2)
+halved (negsuc number) = negsuc (number / 2)
 
 -- z, or the bound that it is past
 abbrev pub clamped : ℤ → ℤ → ℤ → ℤ
-clamped low high z = if int_lt z low then low else (if int_lt high z then high else z)
+clamped low high number = if int_lt number low then low else (if int_lt high number then high else number)
 
 -- the first exponent k, of tries of them from k on, with n * 2^k at least a
 abbrev pub first_scaling : ℕ → ℕ → ℕ → ℕ → ℕ

@@ -32,19 +32,19 @@ pub record Walk : Type 0 where
 
 -- a bit 1 for each 2^J samples, which raises RUNindex (A.7.1.2); `most` bounds the bits
 abbrev pub walk : ℕ → Walk → Walk
-walk zero w = w
-walk (suc most) w =
-    if nat_le (2 ^ order w.index) w.left
-    then walk most (record { ones = w.ones + 1; index = min (w.index + 1) last_index; left = w.left - 2 ^ order w.index })
-    else w
+walk zero so_far = so_far
+walk (suc most) so_far =
+    if nat_le (2 ^ order so_far.index) so_far.left
+    then walk most (record { ones = so_far.ones + 1; index = min (so_far.index + 1) last_index; left = so_far.left - 2 ^ order so_far.index })
+    else so_far
 
 unfoldable pub walked : ℕ → ℕ → Walk
 walked index count = walk count (record { ones = 0; index = index; left = count })
 
--- how a run ends behind its ones: broken, with the samples left in J bits; at the line's end with samples left, or none
+-- how a run ends after its bits 1: broken, with the samples left in J bits; at the line's end with samples left, or none
 abbrev pub tail_of : Bool → Walk → Tail
-tail_of true w = Broken (order w.index) w.left
-tail_of false w = if w.left == 0 then LineFull else LinePart
+tail_of true so_far = Broken (order so_far.index) so_far.left
+tail_of false so_far = if so_far.left == 0 then LineFull else LinePart
 
 -- its bits: a 0 and those J bits; a further 1; nothing
 abbrev pub tail_bits : Tail → List Bool
@@ -52,7 +52,7 @@ tail_bits LineFull = []
 tail_bits LinePart = true ∷ []
 tail_bits (Broken width rest) = false ∷ bits_of width rest
 
--- what stands behind the 0 fits into its bits
+-- what stands after the 0 fits into its bits
 abbrev pub TailFits : Tail → Type 0
 TailFits LineFull = Unit {0}
 TailFits LinePart = Unit {0}
@@ -68,6 +68,6 @@ word_bits word = replicate word.ones true ++ tail_bits word.tail
 abbrev pub run_bits : ℕ → Run → List Bool
 run_bits index run = word_bits (run_word index run)
 
--- RUNindex behind a run's bits, at which the sample that interrupts it is coded
+-- RUNindex after a run's bits, at which the sample that interrupts it is coded
 abbrev pub index_at : ℕ → Run → ℕ
 index_at index run = (walked index run.count).index

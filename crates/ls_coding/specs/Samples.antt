@@ -3,8 +3,8 @@ use Rattle.std.specs.Prelude.{ℕ, ◌≤◌}
 use Rattle.ls_coding.specs.declared.neighbours.Neighbours.{Neighbours}
 
 -- each is a sample
-pub record AreSamples (maxval : ℕ) (n : Neighbours) : Type 0 where
-  pub left : n.a ≤ maxval
-  pub above : n.b ≤ maxval
-  pub above_left : n.c ≤ maxval
-  pub above_right : n.d ≤ maxval
+pub record AreSamples (maxval : ℕ) (neighbours : Neighbours) : Type 0 where
+  pub left : neighbours.a ≤ maxval
+  pub above : neighbours.b ≤ maxval
+  pub above_left : neighbours.c ≤ maxval
+  pub above_right : neighbours.d ≤ maxval

@@ -17,15 +17,15 @@ stats a b c n = record { a = a; b = b; c = c; n = n }
 abbrev pub error_bound : ℕ → ℕ
 error_bound maxval = max 2 (range_of maxval / 2)
 
--- what counters keep to: N errors of a size of at most `bound` in A, B near 0, C in a signed byte
-pub record AreSound (reset bound : ℕ) (s : Stats) : Type 0 where
-  pub some : 1 ≤ s.n
-  pub few : s.n ≤ reset
-  pub sum : s.a ≤ s.n * bound
-  pub mean_low : neg_ℤ (pos s.n) <ℤ s.b
-  pub mean_high : s.b ≤ℤ pos 0
-  pub bias_low : neg_ℤ (pos 128) ≤ℤ s.c
-  pub bias_high : s.c ≤ℤ pos 127
+-- what counters keep to: N errors of a size of at most `bound` in A, B over -N and at most 0, C in a signed byte
+pub record AreSound (reset bound : ℕ) (counters : Stats) : Type 0 where
+  pub some : 1 ≤ counters.n
+  pub few : counters.n ≤ reset
+  pub sum : counters.a ≤ counters.n * bound
+  pub mean_low : neg_ℤ (pos counters.n) <ℤ counters.b
+  pub mean_high : counters.b ≤ℤ pos 0
+  pub bias_low : neg_ℤ (pos 128) ≤ℤ counters.c
+  pub bias_high : counters.c ≤ℤ pos 127
 
 -- A at a scan's start (A.2.1)
 abbrev pub first_a : Parameters → ℕ
@@ -36,14 +36,14 @@ first_stats p = record { a = first_a p; b = pos 0; c = pos 0; n = 1 }
 
 -- the sums with one error more (A.6.1)
 abbrev pub added : Stats → ℤ → Stats
-added s e = record { a = s.a + unsigned_abs e; b = s.b +ℤ e; c = s.c; n = s.n }
+added before e = record { a = before.a + unsigned_abs e; b = before.b +ℤ e; c = before.c; n = before.n }
 
--- halved where so many errors are in them as RESET says, and one error more counted (A.6.1)
+-- halved if N is RESET, and one error more counted (A.6.1)
 abbrev pub counted : ℕ → Stats → Stats
-counted reset s =
-    if s.n == reset
-    then record { a = s.a / 2; b = halved s.b; c = s.c; n = s.n / 2 + 1 }
-    else record { a = s.a; b = s.b; c = s.c; n = s.n + 1 }
+counted reset before =
+    if before.n == reset
+    then record { a = before.a / 2; b = halved before.b; c = before.c; n = before.n / 2 + 1 }
+    else record { a = before.a; b = before.b; c = before.c; n = before.n + 1 }
 
 -- C follows the mean error, which B then stands for again (A.6.2)
 abbrev pub least_c : ℤ
@@ -53,27 +53,27 @@ abbrev pub most_c : ℤ
 most_c = pos 127
 
 abbrev pub lowered : Stats → Stats
-lowered s = let b = s.b +ℤ pos s.n in record {
-  a = s.a;
-  b = if int_le b (neg_ℤ (pos s.n)) then pos 1 -ℤ pos s.n else b;
-  c = if int_lt least_c s.c then s.c -ℤ pos 1 else s.c;
-  n = s.n;
+lowered before = let b = before.b +ℤ pos before.n in record {
+  a = before.a;
+  b = if int_le b (neg_ℤ (pos before.n)) then pos 1 -ℤ pos before.n else b;
+  c = if int_lt least_c before.c then before.c -ℤ pos 1 else before.c;
+  n = before.n;
 }
 
 abbrev pub raised : Stats → Stats
-raised s = let b = s.b -ℤ pos s.n in record {
-  a = s.a;
+raised before = let b = before.b -ℤ pos before.n in record {
+  a = before.a;
   b = if int_lt (pos 0) b then pos 0 else b;
-  c = if int_lt s.c most_c then s.c +ℤ pos 1 else s.c;
-  n = s.n;
+  c = if int_lt before.c most_c then before.c +ℤ pos 1 else before.c;
+  n = before.n;
 }
 
 abbrev pub bias_corrected : Stats → Stats
-bias_corrected s = if int_le s.b (neg_ℤ (pos s.n)) then lowered s else (if int_lt (pos 0) s.b then raised s else s)
+bias_corrected before = if int_le before.b (neg_ℤ (pos before.n)) then lowered before else (if int_lt (pos 0) before.b then raised before else before)
 
 -- a context after one error more
 unfoldable pub stats_step : ℕ → Stats → ℤ → Stats
-stats_step reset s e = bias_corrected (counted reset (added s e))
+stats_step reset before e = bias_corrected (counted reset (added before e))
 
 -- a context after the errors that were coded in it
 abbrev pub stats_after : Parameters → List ℤ → Stats

@@ -7,15 +7,11 @@ ghost use Rattle.ls_coding.specs.View.Sizes.{size_region};
 use crate::neighbours::Neighbours;
 use ls_frame::Presets;
 
-/// A context: its number, 0 to 364, and whether SIGN is -1.
-#[derive(Clone, Copy, Debug, PartialEq, Eq)]
-pub struct Context {
-    pub number: usize,
-    pub negative: bool,
-}
-
-/// The context of a sample with these neighbours as one number, -364 to 364: SIGN times the context's number, and 0 exactly
-/// where they call for run mode.
+/// The context of a sample with these neighbours and its sign, as one number (A.3.3, A.3.4): -364 to 364, negative if SIGN
+/// is -1, and in size the context's number. It is 0 exactly if the neighbours call for run mode.
+///
+/// The number is 81 * Q1 + 9 * Q2 + Q3 of the regions; T.87 leaves the numbering open. `code_regular_at` of `State` takes it.
+/// Requires neighbours of at most the presets' `maxval`. Allocates nothing and cannot fail.
 pub fn signed_context(presets: &Presets, neighbours: &Neighbours) -> i16
     requires { AreSamples presets.now.maxval neighbours.now }
     ensures value { result ≡ signed_context presets.now neighbours.now }
@@ -30,7 +26,14 @@ pub fn signed_context(presets: &Presets, neighbours: &Neighbours) -> i16
     context_number(q1, q2, q3)
 }
 
-/// The context that such a number stands for.
+/// A context: its number, 0 to 364, and whether SIGN is -1.
+#[derive(Clone, Copy, Debug, PartialEq, Eq)]
+pub struct Context {
+    pub number: usize,
+    pub negative: bool,
+}
+
+/// The context that a number of `signed_context` stands for.
 pub fn context_of_signed(context: i16) -> Context
     requires low { neg_ℤ (pos 364) ≤ℤ context }
     requires high { context ≤ℤ pos 364 }

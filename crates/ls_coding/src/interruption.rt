@@ -1,4 +1,4 @@
-//! The sample that interrupts a run: its Golomb parameter, its value, and its counters (T.87 A.7.2).
+//! The sample that interrupts a run: its Golomb parameter, its mapped error, and its counters (T.87 A.7.2).
 //!
 //! `ri_type` is RItype: whether Ra equals Rb.
 ghost use Rattle.std.specs.Prelude.{◌≡◌, ◌+◌, ◌-◌, ◌*◌, ◌/◌, ◌%◌, ◌==◌, ◌||◌, ◌<◌, ◌≤◌, nat_le, not, int_lt, if◌then◌else◌, ℤ, pos, neg_ℤ, ◌≤ℤ◌, unsigned_abs, IsTrue};
@@ -11,7 +11,14 @@ use crate::error::golomb_parameter;
 use crate::neighbours::Neighbours;
 use ls_frame::Presets;
 
-/// RItype, as the place of its counters: 1 where Ra and Rb are equal.
+/// RItype: whether Ra and Rb are equal.
+pub fn ri_type_of(neighbours: &Neighbours) -> bool
+    ensures { result ≡ ri_type_of neighbours.now }
+{
+    neighbours.a == neighbours.b
+}
+
+/// RItype as a number: 1 if Ra and Rb are equal, else 0.
 pub fn ri_value(ri_type: bool) -> usize
     ensures value { result ≡ ri_value ri_type }
     ensures within { result < 2 }
@@ -19,14 +26,7 @@ pub fn ri_value(ri_type: bool) -> usize
     usize::from(ri_type)
 }
 
-/// Whether Ra and Rb are equal.
-pub fn ri_type_of(neighbours: &Neighbours) -> bool
-    ensures { result ≡ ri_type_of neighbours.now }
-{
-    neighbours.a == neighbours.b
-}
-
-/// The prediction: Ra where Ra and Rb are equal, else Rb.
+/// The prediction: Ra if Ra and Rb are equal, else Rb.
 pub fn interruption_prediction(neighbours: &Neighbours) -> u16
     ensures { result ≡ interruption_prediction neighbours.now }
 {
@@ -53,7 +53,7 @@ pub fn interruption_k(ri_type: bool, a: u32, n: u32) -> u32
     golomb_parameter(n, a)
 }
 
-/// EMErrval: the value that stands for an error. A sample with `ri_type` has no error of 0, whose value is 0 here.
+/// EMErrval, the mapped error. A sample with `ri_type` has no error of 0, for which it is 0 here.
 pub fn interruption_value(ri_type: bool, k: u32, n: u32, nn: u32, error: i32) -> u32
     requires few { n ≤ 65535 }
     requires negative { nn < n }
@@ -65,25 +65,7 @@ pub fn interruption_value(ri_type: bool, k: u32, n: u32, nn: u32, error: i32) ->
     (2 * error.unsigned_abs()).saturating_sub(u32::from(ri_type) + map)
 }
 
-/// Whether map is 1 for negative errors; else it is 1 for positive ones.
-fn maps_negative(k: u32, n: u32, nn: u32) -> bool
-    requires { nn ≤ 65535 }
-    ensures { result ≡ (not (k == 0) || nat_le n (2 * nn)) }
-{
-    k != 0 || n <= 2 * nn
-}
-
-/// Whether map is 1 for an error.
-fn map_is_one(maps_negative: bool, error: i32) -> bool
-    ensures { result ≡ (if maps_negative then int_lt error (pos 0) else int_lt (pos 0) error) }
-{
-    if maps_negative {
-        return error < 0;
-    }
-    error > 0
-}
-
-/// The one error that a value stands for, which with `ri_type` isn't 0.
+/// The one error whose EMErrval this is; with `ri_type` it isn't 0.
 pub fn interruption_error_of(ri_type: bool, k: u32, n: u32, nn: u32, value: u32) -> i32
     requires few { n ≤ 65535 }
     requires negative { nn < n }
@@ -98,21 +80,7 @@ pub fn interruption_error_of(ri_type: bool, k: u32, n: u32, nn: u32, value: u32)
     signed_half(maps_negative(k, n, nn), value + u32::from(ri_type))
 }
 
-/// The error whose size is half of `twice` and map, which is 1 where `twice` is odd.
-fn signed_half(maps_negative: bool, twice: u32) -> i32
-    requires { twice ≤ 65537 }
-    ensures { result ≡ (if if maps_negative then twice % 2 == 1 else not (twice % 2 == 1)
-        then neg_ℤ (pos ((twice + 1) / 2)) else pos ((twice + 1) / 2)) }
-{
-    let size = (twice + 1) / 2;
-    let map = twice % 2 == 1;
-    if map == maps_negative {
-        return -(size as i32);
-    }
-    size as i32
-}
-
-/// One error more, and its value, in each of the counters.
+/// One error more, and its EMErrval, in each of the counters.
 pub fn count_interruption(
     presets: Presets,
     ri_type: bool,
@@ -134,7 +102,39 @@ pub fn count_interruption(
     count_interruption_error(a, n, nn, reset);
 }
 
-/// Halves the counters where `reset` errors are in them, and counts one more.
+/// Whether map is 1 for negative errors; else it is 1 for positive ones.
+fn maps_negative(k: u32, n: u32, nn: u32) -> bool
+    requires { nn ≤ 65535 }
+    ensures { result ≡ (not (k == 0) || nat_le n (2 * nn)) }
+{
+    k != 0 || n <= 2 * nn
+}
+
+/// Whether map is 1 for an error.
+fn map_is_one(maps_negative: bool, error: i32) -> bool
+    ensures { result ≡ (if maps_negative then int_lt error (pos 0) else int_lt (pos 0) error) }
+{
+    if maps_negative {
+        return error < 0;
+    }
+    error > 0
+}
+
+/// The error whose size is half of `twice` and map, which is 1 if `twice` is odd.
+fn signed_half(maps_negative: bool, twice: u32) -> i32
+    requires { twice ≤ 65537 }
+    ensures { result ≡ (if if maps_negative then twice % 2 == 1 else not (twice % 2 == 1)
+        then neg_ℤ (pos ((twice + 1) / 2)) else pos ((twice + 1) / 2)) }
+{
+    let size = (twice + 1) / 2;
+    let map = twice % 2 == 1;
+    if map == maps_negative {
+        return -(size as i32);
+    }
+    size as i32
+}
+
+/// Halves the counters if N is RESET, and counts one error more.
 fn count_interruption_error(a: &mut u32, n: &mut u32, nn: &mut u32, reset: u32)
     requires { n.old ≤ 65535 }
     ensures a { a.new ≡ (if n.old == reset then a.old / 2 else a.old) }

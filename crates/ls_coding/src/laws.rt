@@ -18,20 +18,20 @@ pub fn lawful_events_are_reached()
     ensures { (p : Parameters) (events : List Event) → IsLawful p events → IsReached p (state_of p events) }
 {}
 
-/// Behind lawful events, one of m samples takes at most LIMIT * m bits: a sample of regular mode, a run up to the line's
+/// After lawful events, one of m samples takes at most LIMIT * m bits: a sample of regular mode, a run up to the line's
 /// end, and a run with the sample that interrupts it.
 pub fn lawful_events_are_short()
     ensures sample { (p : Parameters) (events : List Event) → IsLegal p → IsLawful p events
-        → (n : Neighbours) (sample : ℕ) → AreSamples p.maxval n → sample ≤ p.maxval
-        → length (golomb_bits p (regular_word p (stats_after_events p (context_of p n).number events)
-        (regular_error_of p (context_of p n) (stats_after_events p (context_of p n).number events) n sample))) ≤ limit_of p.maxval }
+        → (neighbours : Neighbours) (sample : ℕ) → AreSamples p.maxval neighbours → sample ≤ p.maxval
+        → length (golomb_bits p (regular_word p (stats_after_events p (context_of p neighbours).number events)
+        (regular_error_of p (context_of p neighbours) (stats_after_events p (context_of p neighbours).number events) neighbours sample))) ≤ limit_of p.maxval }
     ensures full_run { (p : Parameters) (events : List Event) → IsLegal p → IsLawful p events → (count : ℕ) → 0 < count
         → length (run_bits (run_index_after_events events) (run_of count false)) ≤ limit_of p.maxval * count }
     ensures broken_run { (p : Parameters) (events : List Event) → IsLegal p → IsLawful p events
-        → (count : ℕ) (n : Neighbours) (sample : ℕ) → AreSamples p.maxval n → Interrupts p.maxval n.a sample
+        → (count : ℕ) (neighbours : Neighbours) (sample : ℕ) → AreSamples p.maxval neighbours → Interrupts p.maxval neighbours.a sample
         → length (run_bits (run_index_after_events events) (run_of count true)
-        ++ golomb_bits p (interruption_word p (index_at (run_index_after_events events) (run_of count true)) (ri_type_of n)
-        (counts_after_events p (ri_type_of n) events) (interruption_error p n sample))) ≤ limit_of p.maxval * (count + 1) }
+        ++ golomb_bits p (interruption_word p (index_at (run_index_after_events events) (run_of count true)) (ri_type_of neighbours)
+        (counts_after_events p (ri_type_of neighbours) events) (interruption_error p neighbours sample))) ≤ limit_of p.maxval * (count + 1) }
 {}
 
 /// The Golomb parameter is the least exponent that brings N to A.
@@ -40,7 +40,7 @@ pub fn golomb_parameter_is_least()
     ensures least { (n a k : ℕ) → a ≤ n * 2 ^ k → golomb_parameter n a ≤ k }
 {}
 
-/// A run's bits, one by one: a 1 for 2^J samples, behind which the rest of the run stands at the next RUNindex; a 1 for
+/// A run's bits, one by one: a 1 for 2^J samples, after which the rest of the run stands at the next RUNindex; a 1 for
 /// what is left in the line; a 0, and the samples that are left in J bits, before the sample that interrupts it.
 pub fn runs_are_read_bit_by_bit()
     ensures one { (index count : ℕ) (broken : Bool) → 2 ^ order index ≤ count

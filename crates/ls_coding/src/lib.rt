@@ -1,8 +1,9 @@
-//! The events of T.87's Annex A, coded and read back: one sample, one run, or the sample that interrupts one, at a time.
+//! The events of T.87's Annex A, coded and read back one at a time: a sample of regular mode, a run, or the sample that
+//! interrupts a run.
 //!
-//! A `State` is what a scan's samples are coded by. It is seen as what the definitions (`specs/`) say after a list of
-//! events: each call is one event, and leaves the state of the list with that event behind it (`specs/States.antt`).
-//! What comes out are code words and runs; `ls_bits` makes bits of them.
+//! A `State` is what one scan's samples are coded or read by. It is seen as what the definitions say after a list of events
+//! (`specs/Events.antt`, `specs/View/States.antt`): each call is one event, and leaves the state of the list with that event
+//! after it. What comes out are code words and runs; `ls_bits` makes bits of them.
 //!
 //! ```
 //! let mut state = State::new(&presets);
@@ -13,18 +14,19 @@
 //!     }
 //!     Mode::Run => {
 //!         let run = state.code_run(count, false);
-//!         // its bits, and then
+//!         // its bits 1 and its tail, and then the neighbours and the word of the sample that interrupts it
 //!         let word = state.code_interruption(&neighbours, sample);
+//!         sink.put_golomb(word.k, word.glimit, presets.qbpp(), word.value)?;
 //!     }
 //! }
 //! ```
 //!
 //! Reading goes the same way: `plan_regular` says by which code the next word is read, and `accept_regular` which sample
-//! its value stands for; a run is read by `accept_one`, `break_width` and `accept_break`, the sample that interrupts it
-//! by `plan_interruption` and `accept_interruption`.
+//! has its value; a run is read by `accept_one`, `break_width` and `accept_break`, the sample that interrupts it by
+//! `plan_interruption` and `accept_interruption`. A reading call that is refused leaves the state unchanged.
 //!
-//! A sample's context may be found ahead of the sample (`signed_context`), a line at a time, and handed to
-//! `code_regular_at`.
+//! The samples and neighbours that are handed to a state are at most MAXVAL. A sample's context may be found ahead of the
+//! sample (`signed_context`), a line at a time, and handed to `code_regular_at`. Nothing in this crate allocates.
 //!
 //! In reading order: `neighbours` (the samples around one, and the mode that they call for), `state` (all calls), `word`,
 //! `plan`, `run` (what they answer), `counters` (the counters of all contexts), and below these `context`, `error`,

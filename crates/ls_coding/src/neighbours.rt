@@ -1,8 +1,10 @@
-//! The samples around the one that is coded, and the mode that they call for (T.87 A.3).
+//! The samples around the one that is coded, and the mode that they call for (T.87 A.3.1, A.3.2).
 ghost use Rattle.std.specs.Prelude.{◌≡◌, if◌then◌else◌};
 ghost use Rattle.ls_coding.specs.Contexts.{is_run};
 
-/// The samples around the one that is coded (T.87 Figure A.1), each at most MAXVAL.
+/// The samples around the one that is coded (T.87 Figure A.1). The calls of `State` want each of them at most MAXVAL.
+///
+/// At the edges of a plane, where there is no such sample, the caller gives the value that T.87 A.2.1 puts there.
 #[derive(Clone, Copy, Debug, PartialEq, Eq)]
 pub struct Neighbours {
     /// Ra, to the left.
@@ -15,16 +17,17 @@ pub struct Neighbours {
     pub d: u16,
 }
 
-/// How a sample is coded (A.3.2).
+/// How a sample is coded (A.3.2): `mode_of` says it.
 #[derive(Clone, Copy, Debug, PartialEq, Eq)]
 pub enum Mode {
-    /// As part of a run, or as what interrupts one.
+    /// As part of a run (`code_run`), or as the sample that interrupts one (`code_interruption`).
     Run,
-    /// By itself.
+    /// By itself (`code_regular`).
     Regular,
 }
 
-/// Run mode exactly where all gradients are 0.
+/// The mode that these neighbours call for (A.3.2): run mode exactly if the gradients D1, D2 and D3 are 0, so if all four
+/// are equal. They may have any values. Allocates nothing and cannot fail.
 pub fn mode_of(neighbours: &Neighbours) -> Mode
     ensures { result ≡ (if is_run neighbours.now then Mode.Run else Mode.Regular) }
 {

@@ -1,23 +1,27 @@
-//! What a sample's word is read by.
+//! What a sample's word is read by (T.87 A.5.3).
 ghost use Rattle.std.specs.Prelude.{◌≡◌};
 
 use crate::neighbours::Neighbours;
 use std::marker::Model;
 
-/// What a sample's word is read by: k and the limit of its code, and what its value then is taken for.
+/// By which code a sample's word is read, and what its value then stands for: `plan_regular` and `plan_interruption` of
+/// `State` make it.
 ///
-/// It is of use only on the state that made it, and before that state changes.
+/// Read a word of LG(k, glimit) with the scan's qbpp, by `take_golomb` of `ls_bits`, whose requirements the two numbers
+/// meet; then hand the plan and the word's value to `accept_regular` or `accept_interruption`, of the same kind as the call
+/// that made it. A plan is good only for the state that made it, and only until that state changes.
 #[derive(Drop)]
 pub struct Plan {
     pub(crate) neighbours: Neighbours,
     /// The Golomb parameter.
     pub(crate) k: u32,
-    /// The most bits of the word.
+    /// The most bits that the word may have.
     pub(crate) glimit: u32,
-    /// The context: its number in regular mode; of a sample that interrupts a run, RItype.
+    /// The context's number in regular mode; of a sample that interrupts a run, RItype.
     pub(crate) number: usize,
-    /// Whether the error has its sign changed.
+    /// Whether the error has its sign changed: SIGN is -1, or A.7.2 changes it.
     pub(crate) negative: bool,
+    /// Px.
     pub(crate) prediction: u16,
 }
 
@@ -27,25 +31,25 @@ impl Model for Plan {
 
     ghost Value = { Planned };
 
-    ghost view = { λ p. record {
-      neighbours = p.neighbours;
-      k = p.k;
-      glimit = p.glimit;
-      number = p.number;
-      negative = p.negative;
-      prediction = pos p.prediction;
+    ghost view = { λ plan. record {
+      neighbours = plan.neighbours;
+      k = plan.k;
+      glimit = plan.glimit;
+      number = plan.number;
+      negative = plan.negative;
+      prediction = pos plan.prediction;
     } };
 }
 
 impl Plan {
-    /// The Golomb parameter: how many low bits of the value stand behind the one.
+    /// The Golomb parameter of the word (A.5.1), at most qbpp + 1.
     pub fn k(&self) -> u32
         ensures { result ≡ self.now.k }
     {
         self.k
     }
 
-    /// The most bits that the word may have.
+    /// The most bits that the word may have: LIMIT, or LIMIT - J - 1 if the sample interrupts a run (A.7.2).
     pub fn glimit(&self) -> u32
         ensures { result ≡ self.now.glimit }
     {

@@ -2,30 +2,26 @@
 ghost use Rattle.std.specs.Prelude.{◌≡◌, ◌^◌, ◌≤◌};
 ghost use Rattle.ls_coding.specs.Runs.{order, walked};
 
-/// How a run ends behind its bits 1.
-#[derive(Clone, Copy, Debug, PartialEq, Eq)]
-pub enum Tail {
-    /// At the line's end, with no samples left: no further bit.
-    LineFull,
-    /// At the line's end, with samples left: a further bit 1.
-    LinePart,
-    /// Before a sample that interrupts it: a bit 0, and the samples that are left, `rest`, in `width` bits.
-    Broken { width: u32, rest: u32 },
-}
-
-/// The bits of a run.
+/// The bits of a run (A.7.1.2): `ones` bits 1, each for 2^J samples at the RUNindex where it stands, and then its tail.
 #[derive(Clone, Copy, Debug, PartialEq, Eq)]
 pub struct RunWord {
     /// How many bits 1 come first.
     pub ones: u32,
+    /// What comes after them.
     pub tail: Tail,
 }
 
-/// J (A.2.1): at each RUNindex a bit 1 stands for 2^J samples.
-const RUN_ORDERS: [u32; 32] = [
-    0, 0, 0, 0, 1, 1, 1, 1, 2, 2, 2, 2, 3, 3, 3, 3, 4, 4, 5, 5, 6, 6, 7, 7, 8, 9, 10, 11, 12, 13,
-    14, 15,
-];
+/// How a run ends after its bits 1 (A.7.1.2).
+#[derive(Clone, Copy, Debug, PartialEq, Eq)]
+pub enum Tail {
+    /// At the line's end, with no samples left: no further bit.
+    LineFull,
+    /// At the line's end, with samples left, fewer than 2^J: one further bit 1.
+    LinePart,
+    /// Before a sample that interrupts it: a bit 0, and the samples that are left, `rest`, in `width` bits, the most
+    /// significant first; `width` is J, at most 15, and `rest` is below 2^J.
+    Broken { width: u32, rest: u32 },
+}
 
 /// J at a RUNindex.
 pub fn order(index: u32) -> u32
@@ -44,7 +40,7 @@ pub fn samples_of_one(index: u32) -> u32
     1 << order(index)
 }
 
-/// How far a run comes.
+/// How far the bits 1 of a run come: how many they are, RUNindex after them, and the samples that are left.
 #[derive(Clone, Copy, Debug, PartialEq, Eq)]
 pub struct Walked {
     pub ones: u32,
@@ -52,7 +48,7 @@ pub struct Walked {
     pub left: u32,
 }
 
-/// A run of `count` samples from a RUNindex on: its bits 1, RUNindex behind them, and the samples that are left.
+/// A run of `count` samples from a RUNindex on: its bits 1, RUNindex after them, and the samples that are left.
 pub fn walk(index: u32, count: u32) -> Walked
     requires { index ≤ 31 }
     ensures ones { result.ones ≡ (walked index count).ones }
@@ -78,3 +74,9 @@ pub fn walk(index: u32, count: u32) -> Walked
         left,
     }
 }
+
+/// J (A.2.1): at each RUNindex a bit 1 stands for 2^J samples.
+const RUN_ORDERS: [u32; 32] = [
+    0, 0, 0, 0, 1, 1, 1, 1, 2, 2, 2, 2, 3, 3, 3, 3, 4, 4, 5, 5, 6, 6, 7, 7, 8, 9, 10, 11, 12, 13,
+    14, 15,
+];

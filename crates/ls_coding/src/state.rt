@@ -1,4 +1,4 @@
-//! The counters that a scan is coded by, and the runs (T.87 A.2.1, A.6, A.7).
+//! What a scan is coded and read by, an event at a time (T.87 A.2.1 to A.7).
 ghost use Rattle.std.specs.Prelude.{◌≡◌, ◌+◌, ◌-◌, ◌*◌, ◌^◌, ◌<◌, ◌≤◌, ◌++◌, ◌∷◌, [], List, length, min, ℕ, true, false, not, IsTrue, IfOk, IfErr};
 ghost use Rattle.ls_frame.specs.Parameters.{qbpp_of, limit_of};
 ghost use Rattle.ls_bits.specs.Golomb.{IsGolomb, most_value};
@@ -20,14 +20,18 @@ use ls_bits::CodeFault;
 use ls_frame::Presets;
 use std::marker::Model;
 
-/// What a scan's samples are coded by: the counters of each context, and RUNindex.
+/// What one scan's samples are coded or read by: the counters of each context, and RUNindex (T.87 A.2.1).
+///
+/// A state is for one scan, from its first sample to its last, and codes it or reads it. Each call is one event: a sample of
+/// regular mode, a run, or the sample that interrupts a run; `broken` says whether that last one comes next. Samples and
+/// neighbours are at most MAXVAL, the presets' `maxval`. No call allocates.
 #[derive(Drop)]
 pub struct State {
     presets: Presets,
-    /// LIMIT.
+    /// LIMIT: the most bits of a code word.
     limit: u32,
     counters: Counters,
-    /// RUNindex.
+    /// RUNindex, 0 to 31.
     run_index: u32,
     /// Whether the sample that interrupts a run is to come next.
     broken: bool,
@@ -40,20 +44,21 @@ impl Model for State {
 
     ghost Value = { Coding };
 
-    ghost view = { λ s. record {
-      parameters = s.presets;
-      contexts = all_regular s.counters;
-      ri_type_0 = interrupting_at s.counters 0;
-      ri_type_1 = interrupting_at s.counters 1;
-      run_index = s.run_index;
-      broken = s.broken;
+    ghost view = { λ state. record {
+      parameters = state.presets;
+      contexts = all_regular state.counters;
+      ri_type_0 = interrupting_at state.counters 0;
+      ri_type_1 = interrupting_at state.counters 1;
+      run_index = state.run_index;
+      broken = state.broken;
     } };
 
-    ghost invariant = { λ s. IsSoundState s.presets s.limit s.run_index s.counters };
+    ghost invariant = { λ state. IsSoundState state.presets state.limit state.run_index state.counters };
 }
 
 impl State {
-    /// The state at a scan's start.
+    /// The state at a scan's start (A.2.1): every context's counters as they begin, RUNindex 0, and no sample awaited that
+    /// interrupts a run. Any presets will do, since they are legal. Allocates nothing and cannot fail.
     pub fn new(presets: &Presets) -> State
         ensures { result ≡ state_of presets.now [] }
     {
@@ -67,7 +72,11 @@ impl State {
         }
     }
 
-    /// Codes a sample of regular mode, whose word takes at most LIMIT bits.
+    /// Codes a sample of regular mode (A.3 to A.6): its word is LG(k, LIMIT) of its mapped error, MErrval, in at most LIMIT
+    /// bits, and its error is then counted in its context.
+    ///
+    /// Requires neighbours that call for regular mode (`mode_of`), these and the sample at most MAXVAL, and that `broken` is
+    /// false, which it is afterwards too. Cannot fail.
     pub fn code_regular(&mut self, neighbours: &Neighbours, sample: u16) -> Word
         requires samples { AreSamples self.old.parameters.maxval neighbours.now }
         requires sample { sample ≤ self.old.parameters.maxval }
@@ -86,7 +95,8 @@ impl State {
         self.code_regular_at(context, neighbours, sample)
     }
 
-    /// Codes a sample of regular mode whose context, as `signed_context` has it, is known.
+    /// `code_regular` of a sample whose context was found before, for example a line at a time: `context` is what
+    /// `signed_context` answers for this scan's presets and these neighbours. All else is as there.
     pub fn code_regular_at(&mut self, context: i16, neighbours: &Neighbours, sample: u16) -> Word
         requires context { context ≡ signed_context self.old.parameters neighbours.now }
         requires samples { AreSamples self.old.parameters.maxval neighbours.now }
@@ -107,7 +117,9 @@ impl State {
             .code(self.presets, self.limit, split, neighbours, sample)
     }
 
-    /// What the word of a sample of regular mode is read by.
+    /// By which code the word of the next sample of regular mode is read, and what its value then stands for (A.3 to A.5).
+    ///
+    /// Requires what `code_regular` does of the neighbours and of `broken`. Changes nothing and cannot fail.
     pub fn plan_regular(&self, neighbours: &Neighbours) -> Plan
         requires samples { AreSamples self.now.parameters.maxval neighbours.now }
         requires regular { is_run neighbours.now ≡ false }
@@ -121,8 +133,11 @@ impl State {
         self.counters.plan(self.presets, self.limit, neighbours)
     }
 
-    /// The sample of regular mode whose value this is, by a plan of this very state. NotCanonical exactly where no sample
-    /// has the value; the state is as it was then.
+    /// The one sample of regular mode whose word has this value, MErrval; the state is then as if it had been coded.
+    ///
+    /// Requires the plan that `plan_regular` made of this state, which hasn't changed since; a value of at most 2^qbpp, as
+    /// `take_golomb` answers; and that `broken` is false. NotCanonical exactly if no sample of at most MAXVAL has the value:
+    /// its error isn't one that A.4.5 leaves. The state is then unchanged.
     pub fn accept_regular(&mut self, plan: Plan, value: u32) -> Result<u16, CodeFault>
         requires plan { plan ≡ regular_plan self.old plan.neighbours }
         requires samples { AreSamples self.old.parameters.maxval plan.neighbours }
@@ -150,9 +165,12 @@ impl State {
         )
     }
 
-    /// Codes a run of `count` samples, up to the line's end or up to a sample that interrupts it, which comes next then.
+    /// Codes a run of `count` samples that are equal to Ra (A.7.1): to the line's end (`eol`), or to a sample that interrupts
+    /// it, which then comes next (`broken` is true).
     ///
-    /// Its bits are at most LIMIT for each of its samples, with those of the sample that interrupts it.
+    /// Requires at least one sample if it ends with the line (a run that is interrupted may have none), and that `broken`
+    /// is false. RUNindex rises by 1 for each bit 1 that stands for 2^J samples, to at most 31. The run's bits, with those
+    /// of the sample that interrupts it, are at most LIMIT for each of these samples. Cannot fail.
     pub fn code_run(&mut self, count: u32, eol: bool) -> RunWord
         requires whole { self.old.broken ≡ false }
         requires some { IsTrue eol → 0 < count }
@@ -175,7 +193,11 @@ impl State {
         }
     }
 
-    /// Codes the sample that interrupts a run, whose word takes at most LIMIT - J - 1 bits; RUNindex is one lower then.
+    /// Codes the sample that interrupts a run (A.7.2): its word, which comes after the run's bits, is LG(k, LIMIT - J - 1) of
+    /// EMErrval, in at most so many bits, with J at the RUNindex that the run left.
+    ///
+    /// Requires the neighbours of this very sample, these and the sample at most MAXVAL, the sample other than Ra, and that
+    /// `broken` is true. Afterwards RUNindex is 1 lower unless it was 0, and `broken` is false. Cannot fail.
     pub fn code_interruption(&mut self, neighbours: &Neighbours, sample: u16) -> Word
         requires samples { AreSamples self.old.parameters.maxval neighbours.now }
         requires sample { Interrupts self.old.parameters.maxval neighbours.now.a sample }
@@ -202,8 +224,11 @@ impl State {
         word
     }
 
-    /// How many samples a bit 1 of a run stands for, where `left` are left in the line: 2^J, or fewer at the line's end.
-    /// RUNindex rises only where it stands for 2^J.
+    /// How many samples a bit 1 of a run stands for, with `left` samples left in the line (A.7.1.2): 2^J, or `left` if these
+    /// are fewer, which ends the run with the line.
+    ///
+    /// Requires at least one sample left, and that `broken` is false. RUNindex rises by 1, to at most 31, if the bit stands
+    /// for 2^J samples, and else stays. Cannot fail.
     pub fn accept_one(&mut self, left: u32) -> u32
         requires whole { self.old.broken ≡ false }
         requires some { 0 < left }
@@ -220,7 +245,8 @@ impl State {
         samples
     }
 
-    /// J: how many bits say the samples that are left of a run that a sample interrupts.
+    /// J at this RUNindex, 0 to 15 (A.2.1): after a run's bit 0 so many bits say how many of its samples are left
+    /// (A.7.1.2). Changes nothing and cannot fail.
     pub fn break_width(&self) -> u32
         ensures value { result ≡ order self.now.run_index }
         ensures small { result ≤ 15 }
@@ -228,8 +254,11 @@ impl State {
         order(self.run_index)
     }
 
-    /// Takes the end of a run that a sample interrupts, which comes next: `rest` samples, where `left` are left in the
-    /// line. NotCanonical exactly where `rest` leaves no sample to interrupt it; the state is as it was then.
+    /// Takes the end of a run that a sample interrupts (A.7.1.2): the `rest` samples that the bits after its bit 0 say, with
+    /// `left` samples left in the line. The sample that interrupts it comes next (`broken` is true).
+    ///
+    /// Requires `rest` below 2^J, so a number of `break_width` bits, and that `broken` is false. NotCanonical exactly if
+    /// `rest` is `left` or more, which leaves no sample to interrupt the run; the state is then unchanged.
     pub fn accept_break(&mut self, rest: u32, left: u32) -> Result<(), CodeFault>
         requires whole { self.old.broken ≡ false }
         requires rest { rest < 2 ^ order self.old.run_index }
@@ -247,7 +276,10 @@ impl State {
         Ok(())
     }
 
-    /// What the word of the sample that interrupts a run is read by.
+    /// By which code the word of the sample that interrupts a run is read, and what its value then stands for (A.7.2).
+    ///
+    /// Requires the neighbours of that sample, each at most MAXVAL, and that `broken` is true. Changes nothing and cannot
+    /// fail.
     pub fn plan_interruption(&self, neighbours: &Neighbours) -> Plan
         requires samples { AreSamples self.now.parameters.maxval neighbours.now }
         requires broken { self.now.broken ≡ true }
@@ -261,8 +293,12 @@ impl State {
             .plan_interruption(self.presets, self.limit, self.run_index, neighbours)
     }
 
-    /// The sample that interrupts a run and whose value this is, by a plan of this very state; it isn't the run's.
-    /// NotCanonical exactly where no such sample has the value; the state is as it was then.
+    /// The one sample that interrupts a run and whose word has this value, EMErrval; the state is then as if it had been
+    /// coded: RUNindex is 1 lower unless it was 0, and `broken` is false.
+    ///
+    /// Requires the plan that `plan_interruption` made of this state, which hasn't changed since; a value of at most 2^qbpp,
+    /// as `take_golomb` answers; and that `broken` is true. NotCanonical exactly if no sample of at most MAXVAL, other than
+    /// Ra, has the value. The state is then unchanged.
     pub fn accept_interruption(&mut self, plan: Plan, value: u32) -> Result<u16, CodeFault>
         requires plan { plan ≡ interruption_plan self.old plan.neighbours }
         requires samples { AreSamples self.old.parameters.maxval plan.neighbours }
@@ -288,7 +324,8 @@ impl State {
         Ok(sample)
     }
 
-    /// Whether the sample that interrupts a run is to come next.
+    /// Whether the sample that interrupts a run comes next: after `code_run` of a run that doesn't end with its line, and
+    /// after `accept_break`.
     pub fn broken(&self) -> bool
         ensures { result ≡ self.now.broken }
     {
@@ -296,7 +333,7 @@ impl State {
     }
 }
 
-/// How a run ends that has come so far.
+/// How a run ends after its bits 1.
 fn tail(walked: Walked, eol: bool) -> Tail
     requires { walked.index ≤ 31 }
     ensures { result ≡ tail_of (not eol) (record { ones = walked.ones; index = walked.index; left = walked.left }) }

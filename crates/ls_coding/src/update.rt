@@ -21,7 +21,7 @@ pub fn update(presets: Presets, a: &mut u32, b: &mut i32, c: &mut i32, n: &mut u
     correct_bias(b, c, *n);
 }
 
-/// Halves the sums where `reset` errors are in them, and counts one more (A.6.1).
+/// Halves the sums if N is RESET, and counts one error more (A.6.1).
 fn count_error(a: &mut u32, b: &mut i32, n: &mut u32, reset: u32)
     requires { n.old ≤ 65535 }
     ensures a { a.new ≡ (if n.old == reset then a.old / 2 else a.old) }
@@ -58,7 +58,7 @@ fn correct_bias(b: &mut i32, c: &mut i32, n: u32)
     }
 }
 
-/// B with N added, where it is at most -N (A.6.2).
+/// B with N added, for a B of at most -N (A.6.2).
 fn lowered_mean(b: i32, n: i32) -> i32
     requires low { neg_ℤ (pos 131072) ≤ℤ b }
     requires high { b ≤ℤ pos 131072 }
@@ -72,7 +72,7 @@ fn lowered_mean(b: i32, n: i32) -> i32
     b + n
 }
 
-/// B with N taken off, where it is over 0 (A.6.2).
+/// B with N taken off, for a B over 0 (A.6.2).
 fn raised_mean(b: i32, n: i32) -> i32
     requires low { neg_ℤ (pos 131072) ≤ℤ b }
     requires high { b ≤ℤ pos 131072 }
@@ -86,7 +86,7 @@ fn raised_mean(b: i32, n: i32) -> i32
     b - n
 }
 
-/// C one lower, or as it is where it is the least.
+/// C one lower, or as it is if it is the least.
 fn lowered_bias(c: i32) -> i32
     requires low { neg_ℤ (pos 128) ≤ℤ c }
     requires high { c ≤ℤ pos 127 }
@@ -100,7 +100,7 @@ fn lowered_bias(c: i32) -> i32
     c
 }
 
-/// C one higher, or as it is where it is the greatest.
+/// C one higher, or as it is if it is the greatest.
 fn raised_bias(c: i32) -> i32
     requires low { neg_ℤ (pos 128) ≤ℤ c }
     requires high { c ≤ℤ pos 127 }

@@ -1,11 +1,15 @@
-//! A code word of a sample (T.87 A.5.3).
+//! The code word of a sample (T.87 A.5.3).
 
-/// A code word: LG(k, glimit) of a value, of 0 to 2^qbpp.
+/// The code word of one sample: LG(k, glimit) of a value (T.87 A.5.3), with the qbpp of the scan's MAXVAL.
+///
+/// Its bits are put by `put_golomb` of `ls_bits`, whose requirements it meets as it is.
 #[derive(Clone, Copy, Debug, PartialEq, Eq)]
 pub struct Word {
-    /// The Golomb parameter: how many low bits of the value stand behind the one.
+    /// The Golomb parameter, at most qbpp + 1: how many low bits of the value stand after the bit 1.
     pub k: u32,
-    /// The most bits that the word may have.
+    /// The most bits that the word may have: LIMIT, and of a sample that interrupts a run LIMIT - J - 1.
     pub glimit: u32,
+    /// The mapped error, 0 to 2^qbpp: MErrval of a sample of regular mode (A.5.2), EMErrval of one that interrupts a run
+    /// (A.7.2).
     pub value: u32,
 }

@@ -33,19 +33,19 @@ pub record AreAllSound (reset bound : ℕ) (a : List ℕ) (b c : List ℤ) (n nn
 -- ---- the same, of the arrays together
 
 abbrev pub regular_at : Counters → ℕ → Stats
-regular_at s number = stats_at s.a s.b s.c s.n number
+regular_at counters number = stats_at counters.a counters.b counters.c counters.n number
 
 abbrev pub all_regular : Counters → List Stats
-all_regular s = contexts_of s.a s.b s.c s.n
+all_regular counters = contexts_of counters.a counters.b counters.c counters.n
 
 abbrev pub interrupting_at : Counters → ℕ → Counts
-interrupting_at s which = counts_at s.a s.n s.nn which
+interrupting_at counters which = counts_at counters.a counters.n counters.nn which
 
 abbrev pub IsSound : Parameters → Counters → Type 0
-IsSound p s = AreAllSound p.reset (error_bound p.maxval) s.a s.b s.c s.n s.nn
+IsSound p counters = AreAllSound p.reset (error_bound p.maxval) counters.a counters.b counters.c counters.n counters.nn
 
 -- what a state keeps to
-pub record IsSoundState (p : Parameters) (limit run_index : ℕ) (s : Counters) : Type 0 where
+pub record IsSoundState (p : Parameters) (limit run_index : ℕ) (counters : Counters) : Type 0 where
   pub limit_is : limit ≡ limit_of p.maxval
   pub index : run_index ≤ 31
-  pub sound : IsSound p s
+  pub sound : IsSound p counters

@@ -1,4 +1,4 @@
--- What a sample's word is read by, and which sample a value stands for.
+-- What a sample's word is read by, and which sample a mapped error stands for.
 use Rattle.std.specs.Prelude.{◌≡◌, ◌≢◌, ℕ, ◌-◌, ◌≤◌, Bool, ℤ, pos}
 use Rattle.ls_frame.specs.Parameters.{Parameters, limit_of}
 use Rattle.ls_coding.specs.declared.neighbours.Neighbours.{Neighbours}
@@ -22,31 +22,31 @@ pub record Planned : Type 0 where
 
 -- of a sample of regular mode, by its context and the context's counters
 unfoldable pub regular_plan_by : Parameters → Context → Stats → Neighbours → Planned
-regular_plan_by p x t n = record {
-  neighbours = n;
-  k = golomb_parameter t.n t.a;
+regular_plan_by p context stats neighbours = record {
+  neighbours = neighbours;
+  k = golomb_parameter stats.n stats.a;
   glimit = limit_of p.maxval;
-  number = x.number;
-  negative = x.negative;
-  prediction = predicted p x.negative t.c n;
+  number = context.number;
+  negative = context.negative;
+  prediction = predicted p context.negative stats.c neighbours;
 }
 
 abbrev pub regular_plan : Coding → Neighbours → Planned
-regular_plan s n = regular_plan_by s.parameters (context_in s n) (stats_in s (context_in s n).number) n
+regular_plan state neighbours = regular_plan_by state.parameters (context_in state neighbours) (stats_in state (context_in state neighbours).number) neighbours
 
 -- of the sample that interrupts a run, by RUNindex and its context's counters; its context is 0 or 1
 unfoldable pub interruption_plan_by : Parameters → ℕ → Counts → Neighbours → Planned
-interruption_plan_by p index t n = record {
-  neighbours = n;
-  k = interruption_k (ri_type_of n) t;
+interruption_plan_by p index counts neighbours = record {
+  neighbours = neighbours;
+  k = interruption_k (ri_type_of neighbours) counts;
   glimit = limit_of p.maxval - order index - 1;
-  number = ri_value (ri_type_of n);
-  negative = interruption_negative n;
-  prediction = pos (interruption_prediction n);
+  number = ri_value (ri_type_of neighbours);
+  negative = interruption_negative neighbours;
+  prediction = pos (interruption_prediction neighbours);
 }
 
 abbrev pub interruption_plan : Coding → Neighbours → Planned
-interruption_plan s n = interruption_plan_by s.parameters s.run_index (counts_in s (ri_type_of n)) n
+interruption_plan state neighbours = interruption_plan_by state.parameters state.run_index (counts_in state (ri_type_of neighbours)) neighbours
 
 -- the word is one of the plan's code
 pub record IsReadBy (plan : Planned) (word : Word) : Type 0 where
@@ -58,12 +58,12 @@ pub record Interrupts (maxval left sample : ℕ) : Type 0 where
   pub within : sample ≤ maxval
   pub other : sample ≢ left
 
--- the one sample that has this value
+-- the one sample whose word has this value, its mapped error
 pub record IsTheSample (IsSample : ℕ → Type 0) (value_of : ℕ → ℕ) (value sample : ℕ) : Type 0 where
   pub is_sample : IsSample sample
   pub has_value : value_of sample ≡ value
   pub only : (other : ℕ) → IsSample other → value_of other ≡ value → other ≡ sample
 
--- no sample has it
+-- no sample's word has it
 abbrev pub NoSample : (ℕ → Type 0) → (ℕ → ℕ) → ℕ → Type 0
 NoSample IsSample value_of value = (sample : ℕ) → IsSample sample → value_of sample ≡ value → ⊥

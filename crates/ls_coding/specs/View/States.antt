@@ -14,7 +14,7 @@ pub record Coding : Type 0 where
   pub parameters : Parameters
   -- the counters of the regular contexts, by their numbers
   pub contexts : List Stats
-  -- those of the samples that interrupt a run, where Ra and Rb differ (365 in T.87) and where they are equal (366)
+  -- those of the samples that interrupt a run: if Ra and Rb differ (365 in T.87), and if they are equal (366)
   pub ri_type_0 : Counts
   pub ri_type_1 : Counts
   pub run_index : ℕ
@@ -39,73 +39,67 @@ state_of p events = record {
 -- ---- a sample of regular mode
 
 abbrev pub stats_in : Coding → ℕ → Stats
-stats_in s number = slice_index_or s.contexts number (stats 0 (pos 0) (pos 0) 0)
+stats_in state number = slice_index_or state.contexts number (stats 0 (pos 0) (pos 0) 0)
 
 abbrev pub context_in : Coding → Neighbours → Context
-context_in s n = context_of s.parameters n
+context_in state neighbours = context_of state.parameters neighbours
 
--- its error, its word and its event
+-- its error and its word
 unfoldable pub regular_error_in : Coding → Neighbours → ℕ → ℤ
-regular_error_in s n sample = regular_error_of s.parameters (context_in s n) (stats_in s (context_in s n).number) n sample
+regular_error_in state neighbours sample = regular_error_of state.parameters (context_in state neighbours) (stats_in state (context_in state neighbours).number) neighbours sample
 
 unfoldable pub regular_word_in : Coding → Neighbours → ℕ → Word
-regular_word_in s n sample = regular_word s.parameters (stats_in s (context_in s n).number) (regular_error_in s n sample)
-
-abbrev pub regular_event_in : Coding → Neighbours → ℕ → Event
-regular_event_in s n sample = regular (context_in s n).number (regular_error_in s n sample)
+regular_word_in state neighbours sample = regular_word state.parameters (stats_in state (context_in state neighbours).number) (regular_error_in state neighbours sample)
 
 -- the state with it coded
 abbrev pub regular_after : Coding → ℕ → ℤ → Coding
-regular_after s number e = record {
-  parameters = s.parameters;
-  contexts = slice_set s.contexts number (stats_step s.parameters.reset (stats_in s number) e);
-  ri_type_0 = s.ri_type_0;
-  ri_type_1 = s.ri_type_1;
-  run_index = s.run_index;
-  broken = s.broken;
+regular_after state number e = record {
+  parameters = state.parameters;
+  contexts = slice_set state.contexts number (stats_step state.parameters.reset (stats_in state number) e);
+  ri_type_0 = state.ri_type_0;
+  ri_type_1 = state.ri_type_1;
+  run_index = state.run_index;
+  broken = state.broken;
 }
 
--- a sample of regular mode that comes behind these events, its word, and the state behind it
-pub record IsRegularEvent (p : Parameters) (events : List Event) (n : Neighbours) (sample : ℕ) (word : Word) (after : Coding) : Type 0 where
-  pub word_is : word ≡ regular_word p (stats_after_events p (context_of p n).number events)
-      (regular_error_of p (context_of p n) (stats_after_events p (context_of p n).number events) n sample)
-  pub after_is : after ≡ state_of p (events ++ regular (context_of p n).number
-      (regular_error_of p (context_of p n) (stats_after_events p (context_of p n).number events) n sample) ∷ [])
+-- a sample of regular mode that comes after these events, its word, and the state after it
+pub record IsRegularEvent (p : Parameters) (events : List Event) (neighbours : Neighbours) (sample : ℕ) (word : Word) (after : Coding) : Type 0 where
+  pub word_is : word ≡ regular_word p (stats_after_events p (context_of p neighbours).number events)
+      (regular_error_of p (context_of p neighbours) (stats_after_events p (context_of p neighbours).number events) neighbours sample)
+  pub after_is : after ≡ state_of p (events ++ regular (context_of p neighbours).number
+      (regular_error_of p (context_of p neighbours) (stats_after_events p (context_of p neighbours).number events) neighbours sample) ∷ [])
 
 -- ---- a run
 
 abbrev pub run_after : Coding → Run → Coding
-run_after s r = record {
-  parameters = s.parameters;
-  contexts = s.contexts;
-  ri_type_0 = s.ri_type_0;
-  ri_type_1 = s.ri_type_1;
-  run_index = index_at s.run_index r;
-  broken = r.broken;
+run_after state run = record {
+  parameters = state.parameters;
+  contexts = state.contexts;
+  ri_type_0 = state.ri_type_0;
+  ri_type_1 = state.ri_type_1;
+  run_index = index_at state.run_index run;
+  broken = run.broken;
 }
 
 -- ---- the sample that interrupts a run
 
 abbrev pub counts_in : Coding → Bool → Counts
-counts_in s ri_type = if ri_type then s.ri_type_1 else s.ri_type_0
+counts_in state ri_type = if ri_type then state.ri_type_1 else state.ri_type_0
 
 unfoldable pub interruption_word_in : Coding → Neighbours → ℕ → Word
-interruption_word_in s n sample = interruption_word s.parameters s.run_index (ri_type_of n) (counts_in s (ri_type_of n)) (interruption_error s.parameters n sample)
-
-abbrev pub interruption_event_in : Coding → Neighbours → ℕ → Event
-interruption_event_in s n sample = interruption (ri_type_of n) (interruption_error s.parameters n sample)
+interruption_word_in state neighbours sample = interruption_word state.parameters state.run_index (ri_type_of neighbours) (counts_in state (ri_type_of neighbours)) (interruption_error state.parameters neighbours sample)
 
 abbrev pub interruption_after : Coding → Bool → ℤ → Coding
-interruption_after s ri_type e = record {
-  parameters = s.parameters;
-  contexts = s.contexts;
-  ri_type_0 = if ri_type then s.ri_type_0 else counts_step false s.parameters.reset s.ri_type_0 e;
-  ri_type_1 = if ri_type then counts_step true s.parameters.reset s.ri_type_1 e else s.ri_type_1;
-  run_index = s.run_index - 1;
+interruption_after state ri_type e = record {
+  parameters = state.parameters;
+  contexts = state.contexts;
+  ri_type_0 = if ri_type then state.ri_type_0 else counts_step false state.parameters.reset state.ri_type_0 e;
+  ri_type_1 = if ri_type then counts_step true state.parameters.reset state.ri_type_1 e else state.ri_type_1;
+  run_index = state.run_index - 1;
   broken = false;
 }
 
--- the sample that interrupts a run behind these events, its word, and the state behind it
-pub record IsInterruptionEvent (p : Parameters) (events : List Event) (n : Neighbours) (sample : ℕ) (word : Word) (after : Coding) : Type 0 where
-  pub word_is : word ≡ interruption_word p (run_index_after_events events) (ri_type_of n) (counts_after_events p (ri_type_of n) events) (interruption_error p n sample)
-  pub after_is : after ≡ state_of p (events ++ interruption (ri_type_of n) (interruption_error p n sample) ∷ [])
+-- the sample that interrupts a run after these events, its word, and the state after it
+pub record IsInterruptionEvent (p : Parameters) (events : List Event) (neighbours : Neighbours) (sample : ℕ) (word : Word) (after : Coding) : Type 0 where
+  pub word_is : word ≡ interruption_word p (run_index_after_events events) (ri_type_of neighbours) (counts_after_events p (ri_type_of neighbours) events) (interruption_error p neighbours sample)
+  pub after_is : after ≡ state_of p (events ++ interruption (ri_type_of neighbours) (interruption_error p neighbours sample) ∷ [])

@@ -34,10 +34,10 @@ returns-then-sample-neighbours-clause-none c sample may same =
     let value = value_is s.a s.n s.nn (ri_type_of x) c.ri_type_of-ri_type.result c.ri_value-which.result c.args.k e c.ri_type_of-ri_type.ensures c.ri_value-which.ensures.value c.requires.k in
     let found : e ≡ c.interruption_error_of-error.result =
     c.interruption_error_of-error.ensures.only e (λ ri_type zero. interrupting_error p x sample c.requires.samples may (sym c.ri_type_of-ri_type.ensures ∙ ri_type) zero) (value ∙ same) in
-    let turned : error_of p c.interruption_negative.result (pos c.interruption_prediction.result) sample ≡ e =
+    let same_error : error_of p c.interruption_negative.result (pos c.interruption_prediction.result) sample ≡ e =
     ap (λ t. error_of p t (pos c.interruption_prediction.result) sample) c.interruption_negative.ensures ∙ ap (λ m. error_of p (interruption_negative x) (pos m) sample) c.interruption_prediction.ensures in
     let one : sample ≡ c.sample_of-sample.result =
-    c.sample_of-sample.ensures.only sample may.within (turned ∙ found ∙ sym (through c.interruption_error_of-error.result c.interruption_error_of-error.type_inv)) in
+    c.sample_of-sample.ensures.only sample may.within (same_error ∙ found ∙ sym (through c.interruption_error_of-error.result c.interruption_error_of-error.type_inv)) in
     may.other (omega arith)
 
 pub add_interruption-requires-clause-error : goal.add_interruption-requires-clause-error
@@ -49,15 +49,15 @@ returns-clause-ok c =
     let x = c.args.neighbours.now in
     let s = c.args.self.now in
     let value : (e : ℤ) → _ = λ (e : ℤ). value_is s.a s.n s.nn (ri_type_of x) c.ri_type_of-ri_type.result c.ri_value-which.result c.args.k e c.ri_type_of-ri_type.ensures c.ri_value-which.ensures.value c.requires.k in
-    let turned : (sample : ℕ) → error_of p c.interruption_negative.result (pos c.interruption_prediction.result) sample ≡ interruption_error p x sample =
+    let same_error : (sample : ℕ) → error_of p c.interruption_negative.result (pos c.interruption_prediction.result) sample ≡ interruption_error p x sample =
     λ sample. ap (λ t. error_of p t (pos c.interruption_prediction.result) sample) c.interruption_negative.ensures ∙ ap (λ m. error_of p (interruption_negative x) (pos m) sample) c.interruption_prediction.ensures in
     let passed = through c.interruption_error_of-error.result c.interruption_error_of-error.type_inv in
     record {
       is_sample = record { within = c.sample_of-sample.ensures.within; other = omega arith };
-      has_value = ap (interruption_value (ri_type_of x) (counts_at s.a s.n s.nn (ri_value (ri_type_of x)))) (sym (turned c.sample_of-sample.result) ∙ c.sample_of-sample.ensures.error ∙ passed)
+      has_value = ap (interruption_value (ri_type_of x) (counts_at s.a s.n s.nn (ri_value (ri_type_of x)))) (sym (same_error c.sample_of-sample.result) ∙ c.sample_of-sample.ensures.error ∙ passed)
           ∙ sym (value c.interruption_error_of-error.result) ∙ c.interruption_error_of-error.ensures.value;
       only = λ sample may same. c.sample_of-sample.ensures.only sample may.within
-          (turned sample
+          (same_error sample
           ∙ c.interruption_error_of-error.ensures.only (interruption_error p x sample) (λ ri_type zero. interrupting_error p x sample c.requires.samples may (sym c.ri_type_of-ri_type.ensures ∙ ri_type) zero) (value (interruption_error p x sample) ∙ same)
           ∙ sym passed);
     }

@@ -8,7 +8,7 @@ use Rattle.ls_coding.specs.View.Plans.{regular_plan, IsTheSample, NoSample}
 use Rattle.ls_coding.specs.contracts.state.State as state
 use Rattle.ls_coding.specs.contracts.plan.Plan as plan
 use Rattle.ls_coding.proofs.EventLemmas.{state_after_regular, word_of_regular}
-use Rattle.ls_coding.proofs.RegularLemmas.{place_small, number_same, prediction_small, value_same, stepped_same, ok_map, err_map, sample_by, no_sample_by}
+use Rattle.ls_coding.proofs.RegularLemmas.{context_small, number_same, prediction_small, value_same, stepped_same, ok_map, err_map, sample_by, no_sample_by}
 use Rattle.ls_coding.proofs.StateLemmas.{alike}
 use Rattle.ls_coding.proofs.WordLemmas.{value_small}
 use Rattle.ls_coding.proofs.state.State.accept_regular.Goals as goal
@@ -18,7 +18,7 @@ made_by c = c.plan.view_is ∙ c.requires.plan ∙ ap (λ (t : Coding). regular_
 
 pub accept-requires-clause-number : goal.accept-requires-clause-number
 accept-requires-clause-number c =
-    let small : (context_in (state.the_view c.self.inside) c.args.plan.neighbours).number < 365 = place_small c.self.inside.presets c.args.plan.neighbours in
+    let small : (context_in (state.the_view c.self.inside) c.args.plan.neighbours).number < 365 = context_small c.self.inside.presets c.args.plan.neighbours in
     subst (λ number. number < 365) (sym (number_same (state.the_view c.self.inside) c.args.plan.neighbours (plan.the_view c.plan.inside) (made_by c))) small
 
 pub accept-requires-clause-prediction : goal.accept-requires-clause-prediction

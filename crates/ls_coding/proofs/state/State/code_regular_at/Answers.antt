@@ -8,7 +8,7 @@ use Rattle.ls_coding.specs.Contexts.{context_of}
 use Rattle.ls_coding.specs.View.States.{Coding, context_in, regular_error_in, regular_word_in, regular_after}
 use Rattle.ls_coding.specs.View.Fields.{contexts_of}
 use Rattle.ls_coding.specs.Events.{golomb_bits}
-use Rattle.ls_coding.proofs.ContextLemmas.{signed_range, signed_place, context_through}
+use Rattle.ls_coding.proofs.ContextLemmas.{signed_range, signed_splits, context_through}
 use Rattle.ls_coding.proofs.EventLemmas.{word_of_regular, state_after_regular}
 use Rattle.ls_coding.proofs.StateLemmas.{alike}
 use Rattle.ls_coding.proofs.RegularLemmas.{word_in_view, step_in_view}
@@ -57,10 +57,10 @@ context_of_signed-split-requires-clause-high c =
 
 pub code-requires-clause-number : goal.code-requires-clause-number
 code-requires-clause-number c =
-    c.context_of_signed-split.ensures.number ∙ ap unsigned_abs (context_through _ _ c.args.context c.requires.context) ∙ sym (signed_place c.args.self.now.parameters c.args.neighbours.now).0
+    c.context_of_signed-split.ensures.number ∙ ap unsigned_abs (context_through _ _ c.args.context c.requires.context) ∙ sym (signed_splits c.args.self.now.parameters c.args.neighbours.now).0
     ∙ ap (λ (t : Coding). (context_of t.parameters c.args.neighbours.now).number) (sym c.self.view_is)
 
 pub code-requires-clause-negative : goal.code-requires-clause-negative
 code-requires-clause-negative c =
-    c.context_of_signed-split.ensures.negative ∙ ap (λ z. int_lt z (pos 0)) (context_through _ _ c.args.context c.requires.context) ∙ sym (signed_place c.args.self.now.parameters c.args.neighbours.now).1
+    c.context_of_signed-split.ensures.negative ∙ ap (λ z. int_lt z (pos 0)) (context_through _ _ c.args.context c.requires.context) ∙ sym (signed_splits c.args.self.now.parameters c.args.neighbours.now).1
     ∙ ap (λ (t : Coding). (context_of t.parameters c.args.neighbours.now).negative) (sym c.self.view_is)

@@ -27,9 +27,9 @@ returns-clause-broken_cost c broken =
     let index : ℕ = c.args.self.now.run_index in
     let limit : ℕ = limit_of c.args.self.now.parameters.maxval in
     let large = limit_large c.args.self.now.parameters.maxval (qbpp_of c.args.self.now.parameters.maxval) refl in
-    let behind : c.walk-walked.result.index ≡ (walked index c.args.count).index = c.walk-walked.ensures.index ∙ ap (λ (s : Coding). (walked s.run_index c.args.count).index) c.self.view_is in
+    let after : c.walk-walked.result.index ≡ (walked index c.args.count).index = c.walk-walked.ensures.index ∙ ap (λ (s : Coding). (walked s.run_index c.args.count).index) c.self.view_is in
     let word : RunWord = record { ones = c.walk-walked.result.ones; tail = c.tail.result } in
-    subst (λ i. length (word_bits word) + (limit - order i - 1) ≤ limit * (c.args.count + 1)) (sym behind)
+    subst (λ i. length (word_bits word) + (limit - order i - 1) ≤ limit * (c.args.count + 1)) (sym after)
     (subst (λ (w : RunWord). length (word_bits w) + (limit - order (walked index c.args.count).index - 1) ≤ limit * (c.args.count + 1)) (sym (returns-clause-word c))
     (subst (λ (b : Bool). length (word_bits (run_word index (run_of c.args.count b))) + (limit - order (walked index c.args.count).index - 1) ≤ limit * (c.args.count + 1)) (sym broken)
     (broken_cost index c.args.count limit (omega (arith, large)))))

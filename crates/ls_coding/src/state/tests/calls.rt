@@ -1,0 +1,159 @@
+//! Calls that meet what `State` requires, and what they are to answer.
+ghost use Rattle.std.specs.Prelude.{◌≡◌, ◌≤◌, true, false};
+ghost use Rattle.ls_frame.specs.Parameters.{qbpp_of};
+ghost use Rattle.ls_bits.specs.Golomb.{most_value};
+ghost use Rattle.ls_coding.specs.Samples.{AreSamples};
+ghost use Rattle.ls_coding.specs.Contexts.{is_run};
+
+use super::*;
+
+/// The samples around one: a, b, c and d.
+pub type Around = (u16, u16, u16, u16);
+
+/// k, limit and value of a word.
+pub type Numbers = (u32, u32, u32);
+
+pub fn neighbours_of(around: Around) -> Neighbours {
+    let (a, b, c, d) = around;
+    Neighbours { a, b, c, d }
+}
+
+pub fn word_of(numbers: Numbers) -> Word {
+    let (k, glimit, value) = numbers;
+    Word { k, glimit, value }
+}
+
+/// A new state of samples of 8 bits.
+pub fn fresh() -> State {
+    State::new(&Presets::default_of(255))
+}
+
+// ---- what is to hold
+
+pub fn check(rt: &impl Abort, holds: bool)
+    ensures { holds ≡ true }
+{
+    assert!(rt; holds);
+}
+
+pub fn check_number(rt: &impl Abort, got: u32, want: u32) {
+    assert_eq!(rt; got, want);
+}
+
+pub fn check_word(rt: &impl Abort, got: Word, want: Numbers) {
+    assert_eq!(rt; got, word_of(want));
+}
+
+pub fn check_run(rt: &impl Abort, got: RunWord, ones: u32, tail: Tail) {
+    assert_eq!(rt; got, RunWord { ones, tail });
+}
+
+pub fn check_sample(rt: &impl Abort, got: Result<u16, CodeFault>, want: Result<u16, CodeFault>) {
+    assert_eq!(rt; got, want);
+}
+
+pub fn check_break(rt: &impl Abort, got: Result<(), CodeFault>, want: Result<(), CodeFault>) {
+    assert_eq!(rt; got, want);
+}
+
+fn check_samples(rt: &impl Abort, state: &State, neighbours: &Neighbours)
+    ensures { AreSamples state.now.parameters.maxval neighbours.now }
+{
+    let maxval = state.presets.maxval();
+    check(rt, neighbours.a <= maxval);
+    check(rt, neighbours.b <= maxval);
+    check(rt, neighbours.c <= maxval);
+    check(rt, neighbours.d <= maxval);
+}
+
+fn check_regular(rt: &impl Abort, neighbours: &Neighbours)
+    ensures { is_run neighbours.now ≡ false }
+{
+    check(rt, mode_of(neighbours) == Mode::Regular);
+}
+
+fn check_value(rt: &impl Abort, state: &State, value: u32)
+    ensures { value ≤ most_value (qbpp_of state.now.parameters.maxval) }
+{
+    check(rt, value <= 1 << state.presets.qbpp());
+}
+
+// ---- the calls
+
+pub fn code_regular(rt: &impl Abort, state: &mut State, around: Around, sample: u16) -> Word {
+    let neighbours = neighbours_of(around);
+    check_samples(rt, state, &neighbours);
+    check(rt, sample <= state.presets.maxval());
+    check_regular(rt, &neighbours);
+    check(rt, !state.broken());
+    state.code_regular(&neighbours, sample)
+}
+
+/// By a plan that has this k and this limit.
+pub fn accept_regular(
+    rt: &impl Abort,
+    state: &mut State,
+    around: Around,
+    (k, glimit, value): Numbers,
+) -> Result<u16, CodeFault> {
+    let neighbours = neighbours_of(around);
+    check_samples(rt, state, &neighbours);
+    check_regular(rt, &neighbours);
+    check(rt, !state.broken());
+    let plan = state.plan_regular(&neighbours);
+    check_number(rt, plan.k(), k);
+    check_number(rt, plan.glimit(), glimit);
+    check_value(rt, state, value);
+    state.accept_regular(plan, value)
+}
+
+pub fn code_run(rt: &impl Abort, state: &mut State, count: u32, eol: bool) -> RunWord {
+    check(rt, !state.broken());
+    check(rt, count > 0 || !eol);
+    state.code_run(count, eol)
+}
+
+pub fn accept_one(rt: &impl Abort, state: &mut State, left: u32) -> u32
+    ensures { result ≤ left }
+{
+    check(rt, !state.broken());
+    check(rt, left > 0);
+    state.accept_one(left)
+}
+
+pub fn accept_break(
+    rt: &impl Abort,
+    state: &mut State,
+    rest: u32,
+    left: u32,
+) -> Result<(), CodeFault> {
+    check(rt, !state.broken());
+    check(rt, rest < 1 << state.break_width());
+    state.accept_break(rest, left)
+}
+
+pub fn code_interruption(rt: &impl Abort, state: &mut State, around: Around, sample: u16) -> Word {
+    let neighbours = neighbours_of(around);
+    check_samples(rt, state, &neighbours);
+    check(rt, sample <= state.presets.maxval());
+    check(rt, sample != neighbours.a);
+    check(rt, state.broken());
+    state.code_interruption(&neighbours, sample)
+}
+
+/// By a plan that has this k and this limit.
+pub fn accept_interruption(
+    rt: &impl Abort,
+    state: &mut State,
+    around: Around,
+    (k, glimit, value): Numbers,
+) -> Result<u16, CodeFault> {
+    let neighbours = neighbours_of(around);
+    check_samples(rt, state, &neighbours);
+    check(rt, state.broken());
+    let plan = state.plan_interruption(&neighbours);
+    check_number(rt, plan.k(), k);
+    check_number(rt, plan.glimit(), glimit);
+    check_value(rt, state, value);
+    state.accept_interruption(plan, value)
+}
