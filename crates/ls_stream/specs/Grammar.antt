@@ -43,13 +43,13 @@ pub record Scan : Type 0 where
   pub after : List Miscellaneous
 
 abbrev pub scan_bytes : Component → Scan → List ℕ
-scan_bytes c s = filled s.fill (segment StartOfScan (scan_contents c.id)) ++ s.stuffed ++ miscellaneous_bytes s.after
+scan_bytes component scan = filled scan.fill (segment StartOfScan (scan_contents component.id)) ++ scan.stuffed ++ miscellaneous_bytes scan.after
 
 -- a scan for each component, in the order of the frame header
 abbrev pub scans_bytes : List Component → List Scan → List ℕ
 scans_bytes [] scans = []
-scans_bytes (c ∷ cs) [] = []
-scans_bytes (c ∷ cs) (s ∷ ss) = scan_bytes c s ++ scans_bytes cs ss
+scans_bytes (component ∷ later) [] = []
+scans_bytes (component ∷ later) (scan ∷ scans) = scan_bytes component scan ++ scans_bytes later scans
 
 pub record Codestream : Type 0 where
   -- the miscellaneous segments before the frame header, and its fill bytes
@@ -63,9 +63,9 @@ pub record Codestream : Type 0 where
   pub last_fill : ℕ
 
 unfoldable pub codestream_bytes : Codestream → List ℕ
-codestream_bytes c =
-    marker StartOfImage ++ miscellaneous_bytes c.before ++ filled c.fill (segment StartOfFrame (header_contents c.header))
-    ++ miscellaneous_bytes c.between ++ scans_bytes c.header.components c.scans ++ filled c.last_fill (marker EndOfImage)
+codestream_bytes whole =
+    marker StartOfImage ++ miscellaneous_bytes whole.before ++ filled whole.fill (segment StartOfFrame (header_contents whole.header))
+    ++ miscellaneous_bytes whole.between ++ scans_bytes whole.header.components whole.scans ++ filled whole.last_fill (marker EndOfImage)
 
 -- ---- what may stand where
 
@@ -124,13 +124,13 @@ AreApart [] = Unit {0}
 AreApart (id ∷ ids) = AllByRecursion (λ other. other ≢ id) ids × AreApart ids
 
 -- a frame header of this picture
-pub record IsHeaderOf (f : Picture) (h : Header) : Type 0 where
-  pub some_bits : 2 ≤ h.precision
-  pub bits : h.precision ≤ 16
-  pub height : h.height ≡ f.height
-  pub width : h.width ≡ f.width
-  pub count : length h.components ≡ components f.kind
-  pub apart : AreApart (map (λ c. c.id) h.components)
+pub record IsHeaderOf (f : Picture) (header : Header) : Type 0 where
+  pub some_bits : 2 ≤ header.precision
+  pub bits : header.precision ≤ 16
+  pub height : header.height ≡ f.height
+  pub width : header.width ≡ f.width
+  pub count : length header.components ≡ components f.kind
+  pub apart : AreApart (map (λ component. component.id) header.components)
 
 -- data whose bits are those of a plane, and fewer than 16 more
 pub record IsCoded (p : Parameters) (plane : Plane) (bytes : List ℕ) : Type 0 where
@@ -142,18 +142,18 @@ pub record IsCoded (p : Parameters) (plane : Plane) (bytes : List ℕ) : Type 0 
 -- the scans of the picture's components from one on
 abbrev pub AreCoded : Parameters → Picture → ℕ → List Scan → Type 0
 AreCoded p f component [] = Unit {0}
-AreCoded p f component (s ∷ ss) = IsCoded p (plane_of f component) s.stuffed × AreCoded p f (suc component) ss
+AreCoded p f component (scan ∷ scans) = IsCoded p (plane_of f component) scan.stuffed × AreCoded p f (suc component) scans
 
 -- a codestream that says this picture, coded with these parameters
-pub record Says (c : Codestream) (p : Parameters) (f : Picture) : Type 0 where
-  pub before : AllByRecursion MayPrecedeScans c.before
-  pub header : IsHeaderOf f c.header
-  pub between : AllByRecursion MayPrecedeScans c.between
-  pub parameters_are : parameters_of c.header.precision (last_presets no_presets (c.before ++ c.between)) ≡ Ok p
+pub record Says (whole : Codestream) (p : Parameters) (f : Picture) : Type 0 where
+  pub before : AllByRecursion MayPrecedeScans whole.before
+  pub header : IsHeaderOf f whole.header
+  pub between : AllByRecursion MayPrecedeScans whole.between
+  pub parameters_are : parameters_of whole.header.precision (last_presets no_presets (whole.before ++ whole.between)) ≡ Ok p
   pub maxval : p.maxval ≡ f.maxval
-  pub count : length c.scans ≡ components f.kind
-  pub coded : AreCoded p f 0 c.scans
-  pub after : AllByRecursion (λ s. AllByRecursion MayFollowScan s.after) c.scans
+  pub count : length whole.scans ≡ components f.kind
+  pub coded : AreCoded p f 0 whole.scans
+  pub after : AllByRecursion (λ scan. AllByRecursion MayFollowScan scan.after) whole.scans
 
 -- the most bytes of a codestream
 abbrev pub most_bytes : ℕ

@@ -25,10 +25,11 @@ pub record Header : Type 0 where
 
 -- a component with its sampling factors, both 1, in one byte
 abbrev pub component_bytes : Component → List ℕ
-component_bytes c = c.id ∷ 17 ∷ c.table ∷ []
+component_bytes component = component.id ∷ 17 ∷ component.table ∷ []
 
 unfoldable pub header_contents : Header → List ℕ
-header_contents h = h.precision ∷ (two_bytes h.height ++ two_bytes h.width ++ length h.components ∷ flat_map component_bytes h.components)
+header_contents header =
+    header.precision ∷ (two_bytes header.height ++ two_bytes header.width ++ length header.components ∷ flat_map component_bytes header.components)
 
 -- ---- preset coding parameters (LSE with ID 1; T.87 C.2.4.1.1)
 

@@ -8,36 +8,36 @@ use Rattle.ls_stream.specs.Planes.{Plane, at, around, Span, sample_span, run_spa
 
 -- a sample of regular mode, and the sample that interrupts a run, of a row and a column
 abbrev pub sample_bits_in : Plane → ℕ → ℕ → Coding → List Bool
-sample_bits_in plane i j s = golomb_bits s.parameters (regular_word_in s (around plane i j) (at plane i j))
+sample_bits_in plane i j state = golomb_bits state.parameters (regular_word_in state (around plane i j) (at plane i j))
 
 abbrev pub sample_after : Plane → ℕ → ℕ → Coding → Coding
-sample_after plane i j s = regular_after s (context_in s (around plane i j)).number (regular_error_in s (around plane i j) (at plane i j))
+sample_after plane i j state = regular_after state (context_in state (around plane i j)).number (regular_error_in state (around plane i j) (at plane i j))
 
 abbrev pub interrupting_sample_bits_in : Plane → ℕ → ℕ → Coding → List Bool
-interrupting_sample_bits_in plane i j s = golomb_bits s.parameters (interruption_word_in s (around plane i j) (at plane i j))
+interrupting_sample_bits_in plane i j state = golomb_bits state.parameters (interruption_word_in state (around plane i j) (at plane i j))
 
 abbrev pub interrupting_sample_after : Plane → ℕ → ℕ → Coding → Coding
-interrupting_sample_after plane i j s = interruption_after s (ri_type_of (around plane i j)) (interruption_error s.parameters (around plane i j) (at plane i j))
+interrupting_sample_after plane i j state = interruption_after state (ri_type_of (around plane i j)) (interruption_error state.parameters (around plane i j) (at plane i j))
 
 -- a span
 abbrev pub span_bits_in : Plane → Span → Coding → List Bool
-span_bits_in plane (sample_span i j) s = sample_bits_in plane i j s
-span_bits_in plane (run_span i j count true) s = run_bits s.run_index (run_of count true) ++ interrupting_sample_bits_in plane i (j + count) (run_after s (run_of count true))
-span_bits_in plane (run_span i j count false) s = run_bits s.run_index (run_of count false)
+span_bits_in plane (sample_span i j) state = sample_bits_in plane i j state
+span_bits_in plane (run_span i j count true) state = run_bits state.run_index (run_of count true) ++ interrupting_sample_bits_in plane i (j + count) (run_after state (run_of count true))
+span_bits_in plane (run_span i j count false) state = run_bits state.run_index (run_of count false)
 
 abbrev pub span_after : Plane → Span → Coding → Coding
-span_after plane (sample_span i j) s = sample_after plane i j s
-span_after plane (run_span i j count true) s = interrupting_sample_after plane i (j + count) (run_after s (run_of count true))
-span_after plane (run_span i j count false) s = run_after s (run_of count false)
+span_after plane (sample_span i j) state = sample_after plane i j state
+span_after plane (run_span i j count true) state = interrupting_sample_after plane i (j + count) (run_after state (run_of count true))
+span_after plane (run_span i j count false) state = run_after state (run_of count false)
 
 -- spans
 unfoldable pub bits_from : Plane → List Span → Coding → List Bool
-bits_from plane [] s = []
-bits_from plane (span ∷ more) s = span_bits_in plane span s ++ bits_from plane more (span_after plane span s)
+bits_from plane [] state = []
+bits_from plane (span ∷ more) state = span_bits_in plane span state ++ bits_from plane more (span_after plane span state)
 
 -- the bits so far, and those of the spans to come
 abbrev pub all_from : Plane → List Bool → Coding → List Span → List Bool
-all_from plane bits s more = bits ++ bits_from plane more s
+all_from plane bits state more = bits ++ bits_from plane more state
 
 -- a scan that is being written: the state of its coding, the bytes in front of it, how many more there was room for, and its bits
 -- so far
