@@ -1,3 +1,4 @@
 -- How the values of the code are seen as what the standard says.
 pub mod Packing
+pub mod Room
 pub mod Taking

@@ -3,7 +3,7 @@
 //! A sink is a list of bits, and finishes as those bits stuffed (`specs/Stuffing.antt`); a source is the bits of stuffed
 //! bytes; a word is that of the standard (`specs/Golomb.antt`); `data_of` is the data at the front of bytes
 //! (`specs/Data.antt`). `specs/Bits.antt` has the words for bits, bytes and numbers that the crates above use;
-//! `specs/View` and `specs/Room.antt` say how the code's values are seen as these.
+//! `specs/View` says how the code's values are seen as these.
 //!
 //! ```
 //! let mut sink = BitSink::new(alloc);

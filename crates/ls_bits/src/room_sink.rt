@@ -3,7 +3,7 @@ ghost use Rattle.std.specs.Prelude.{◌≡◌, ◌+◌, ◌-◌, ◌^◌, ◌<�
 ghost use Rattle.ls_bits.specs.Bits.{bits_of};
 ghost use Rattle.ls_bits.specs.Stuffing.{stuff};
 ghost use Rattle.ls_bits.specs.Golomb.{IsGolomb, code_word, most_value};
-ghost use Rattle.ls_bits.specs.Room.{Fits};
+ghost use Rattle.ls_bits.specs.View.Room.{Fits};
 
 use crate::packer::Packer;
 use std::marker::Model;
@@ -17,7 +17,7 @@ pub struct RoomSink {
 
 impl Model for RoomSink {
     ghost use Rattle.std.specs.Prelude.{ℕ, ◌+◌, ◌-◌, ◌*◌, ◌≤◌, ◌<◌, length};
-    ghost use Rattle.ls_bits.specs.Room.{Filled, Fits};
+    ghost use Rattle.ls_bits.specs.View.Room.{Filled, Fits};
 
     ghost Value = { Filled };
 

@@ -1,7 +1,7 @@
 //! What the tests share: words and their bytes, and calls that meet what the sinks and the source require.
 ghost use Rattle.std.specs.Prelude.{◌≤◌, length};
 ghost use Rattle.ls_bits.specs.Golomb.{IsGolomb};
-ghost use Rattle.ls_bits.specs.Room.{Fits};
+ghost use Rattle.ls_bits.specs.View.Room.{Fits};
 
 use crate::data::data_of;
 use crate::laws::words_keep_their_limit;

@@ -8,7 +8,7 @@ use Rattle.ls_frame.specs.declared.frame.Kind.{Kind}
 use Rattle.ls_frame.specs.declared.frame.Kind.TheVariants.{Gray, Color}
 use Rattle.ls_frame.specs.Picture.{Picture, IsFrame, components}
 use Rattle.ls_frame.specs.Parameters.{Parameters, limit_of}
-use Rattle.ls_bits.specs.Room.{Fits}
+use Rattle.ls_bits.specs.View.Room.{Fits}
 use Rattle.ls_coding.specs.View.States.{Coding, state_of}
 use Rattle.ls_stream.specs.Planes.{Plane, rows_from, spans, plane_bits}
 use Rattle.ls_stream.specs.View.Coded.{bits_from, all_from}

@@ -3,7 +3,7 @@ ghost use Rattle.std.specs.Prelude.{◌≡◌, ◌+◌, ◌-◌, ◌*◌, ◌<�
 ghost use Rattle.ls_frame.specs.Parameters.{qbpp_of, limit_of};
 ghost use Rattle.ls_bits.specs.Stuffing.{stuff};
 ghost use Rattle.ls_bits.specs.Golomb.{IsGolomb, code_word, most_value};
-ghost use Rattle.ls_bits.specs.Room.{Fits};
+ghost use Rattle.ls_bits.specs.View.Room.{Fits};
 ghost use Rattle.ls_coding.specs.Samples.{AreSamples};
 ghost use Rattle.ls_coding.specs.Contexts.{is_run, signed_context};
 ghost use Rattle.ls_coding.specs.Interruptions.{ri_type_of, interruption_error};

@@ -1,7 +1,7 @@
 //! A row of a plane, from left to right (T.87 Annex A).
 ghost use Rattle.std.specs.Prelude.{◌≡◌, ◌+◌, ◌-◌, ◌*◌, ◌<◌, ◌≤◌, ◌++◌, ℕ, false, IsTrue, List, length, slice_index};
 ghost use Rattle.ls_frame.specs.Parameters.{limit_of};
-ghost use Rattle.ls_bits.specs.Room.{Fits};
+ghost use Rattle.ls_bits.specs.View.Room.{Fits};
 ghost use Rattle.ls_coding.specs.Contexts.{is_zero, is_run, signed_context};
 ghost use Rattle.ls_stream.specs.Planes.{Plane, Span, row_from};
 ghost use Rattle.ls_stream.specs.View.Coded.{all_from};

@@ -2,7 +2,7 @@
 ghost use Rattle.std.specs.Prelude.{◌≡◌, ◌+◌, ◌*◌, ◌/◌, ◌^◌, ◌<◌, ◌≤◌, ◌++◌, ℕ, false, [], List, length, slice_index, vec_len, vec_capacity};
 ghost use Rattle.ls_frame.specs.Picture.{components};
 ghost use Rattle.ls_frame.specs.Parameters.{limit_of};
-ghost use Rattle.ls_bits.specs.Room.{Fits};
+ghost use Rattle.ls_bits.specs.View.Room.{Fits};
 ghost use Rattle.ls_bits.specs.Stuffing.{stuff};
 ghost use Rattle.ls_coding.specs.View.States.{state_of};
 ghost use Rattle.ls_stream.specs.Planes.{Span, rows_from, plane_bits};

@@ -1,6 +1,6 @@
 use Rattle.std.proofs.Common.{◌≡◌, ◌+◌, length, ap, ◌∙◌, arith, length-append}
 use Rattle.ls_bits.specs.Bits.{bits_of}
-use Rattle.ls_bits.specs.Room.{Filled}
+use Rattle.ls_bits.specs.View.Room.{Filled}
 use Rattle.ls_bits.proofs.BitLemmas.{length-bits_of}
 use Rattle.ls_bits.proofs.room_sink.RoomSink.put.Goals as goal
 

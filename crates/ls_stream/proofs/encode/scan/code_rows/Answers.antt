@@ -1,7 +1,7 @@
 use Rattle.std.proofs.Common.{◌≡◌, ℕ, suc, ◌+◌, ◌-◌, ◌*◌, ◌<◌, ◌≤◌, ◌++◌, List, length, get_or, refl, sym, ◌∙◌, ap, subst, append_assoc, arith}
 use Rattle.std.proofs.lemmas.Nat.{mul-le, mul-add-lt}
 use Rattle.ls_frame.specs.Parameters.{Parameters, limit_of}
-use Rattle.ls_bits.specs.Room.{Fits}
+use Rattle.ls_bits.specs.View.Room.{Fits}
 use Rattle.ls_stream.specs.Planes.{Plane, Span, at, row_spans, rows_from}
 use Rattle.ls_stream.specs.View.Coded.{all_from}
 use Rattle.ls_stream.specs.Components.{component_plane}

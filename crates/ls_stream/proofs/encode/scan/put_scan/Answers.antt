@@ -1,6 +1,6 @@
 use Rattle.std.proofs.Common.{◌+◌, ◌*◌, ◌/◌, ◌≤◌, ◌++◌, [], length, sym, ap, subst, ◌∙◌, arith}
 use Rattle.ls_frame.specs.Parameters.{Parameters, limit_of}
-use Rattle.ls_bits.specs.Room.{Fits}
+use Rattle.ls_bits.specs.View.Room.{Fits}
 use Rattle.ls_bits.specs.Stuffing.{stuff}
 use Rattle.ls_coding.specs.View.States.{state_of}
 use Rattle.ls_stream.specs.Planes.{plane_bits}
