@@ -149,7 +149,7 @@ cost_of-broken_run p plane i j count later rest legal small other cost events la
 less : (p : Parameters) (plane : Plane) (list : List Span) (a b : ℕ) → a ≤ b → Cost p plane list a → Cost p plane list b
 less p plane list a b h cost events lawful whole = omega (arith, cost events lawful whole)
 
--- some samples of a row, and those behind them
+-- some samples of a row, and those after them
 spent : (limit a b c rest : ℕ) → a + b ≡ c → limit * a + (limit * b + rest) ≤ limit * c + rest
 spent limit a b c rest e =
     let sum : limit * a + limit * b ≡ limit * (a + b) = omega arith in
@@ -176,13 +176,13 @@ cost_of-cut p plane i zero j later rest legal small cost = less p plane later re
 cost_of-cut p plane i (suc most) j later rest legal small cost =
     let limit : ℕ = limit_of p.maxval in
     let count : ℕ = run_length plane i j in
-    let behind : List Span = run_span i j count (ltb (j + count) plane.width) ∷ cut plane i most (j + count + 1) in
+    let later_runs : List Span = run_span i j count (ltb (j + count) plane.width) ∷ cut plane i most (j + count + 1) in
     let one : List Span = sample_span i j ∷ cut plane i most (j + 1) in
-    choose (leb plane.width j) [] (cond (is_run (around plane i j)) behind one) (λ list. Cost p plane (list ++ later) (limit * (plane.width - j) + rest))
+    choose (leb plane.width j) [] (cond (is_run (around plane i j)) later_runs one) (λ list. Cost p plane (list ++ later) (limit * (plane.width - j) + rest))
     (λ e. less p plane later rest _ (omega arith) cost)
     (λ e.
     let inside : j < plane.width = leb-false plane.width j e in
-    choose (is_run (around plane i j)) behind one (λ list. Cost p plane (list ++ later) (limit * (plane.width - j) + rest))
+    choose (is_run (around plane i j)) later_runs one (λ list. Cost p plane (list ++ later) (limit * (plane.width - j) + rest))
     (λ f. cost_of-run_span p plane i j count (ltb (j + count) plane.width) (cut plane i most (j + count + 1) ++ later) rest legal small inside
     (longest plane i (left plane i j) (plane.width - j) j) refl (cost_of-cut p plane i most (j + count + 1) later rest legal small cost))
     (λ f. less p plane (one ++ later) _ _ (let sum = spent limit 1 (plane.width - (j + 1)) (plane.width - j) rest (omega arith) in omega arith)

@@ -21,7 +21,7 @@ length_row plane i h =
 row_before : (plane : Plane) (i : ℕ) → HasRow plane (suc i) → HasRow plane i
 row_before plane i h = omega (arith, mul-le (i + 1) plane.width (suc i + 1) plane.width (omega arith) (omega arith))
 
--- a place of a line behind the first
+-- a place of a line after the first
 line_sample : (plane : Plane) (i j : ℕ) → HasRow plane i → j < plane.width → get_or (line_of plane (suc i)) (j + 1) 0 ≡ at plane i j
 line_sample plane i j h k =
     let next : j + 1 ≡ suc j = omega arith in
@@ -85,9 +85,6 @@ near_is plane i j h k =
     ∙ ap (λ n. neighbours (left plane i j) n (get_or (line_of plane i) j 0) (get_or (line_of plane i) (j + 2) 0)) (over plane i j h k)
     ∙ ap (λ n. neighbours (left plane i j) (above plane i j) n (get_or (line_of plane i) (j + 2) 0)) (over_left plane i j h k)
     ∙ ap (λ n. neighbours (left plane i j) (above plane i j) (above_left plane i j) n) (over_right plane i j h k)
-
-pub are_lines : (plane : Plane) (i : ℕ) → HasRow plane i → AreLines plane i (line_of plane i) (line_of plane (suc i))
-are_lines plane i h = record { neighbours = λ j k. near_is plane i j h k; samples = λ j k. line_sample plane i j h k }
 
 -- ---- in buffers
 

@@ -9,16 +9,6 @@ use Rattle.ls_stream.specs.Planes.{Plane, at, around, left, equal_from, run_leng
 room : (width j : ℕ) → j < width → width - j ≡ suc (width - (j + 1))
 room width j h = omega arith
 
-pub equal_from-more : (plane : Plane) (i value j : ℕ) → j < plane.width → at plane i j ≡ value
-    → equal_from plane i value (plane.width - j) j ≡ 1 + equal_from plane i value (plane.width - (j + 1)) (j + 1)
-equal_from-more plane i value j h e =
-    let next : suc j ≡ j + 1 = omega arith in
-    let count : suc (equal_from plane i value (plane.width - (j + 1)) (j + 1)) ≡ 1 + equal_from plane i value (plane.width - (j + 1)) (j + 1) = omega arith in
-    ap (λ most. equal_from plane i value most j) (room plane.width j h)
-    ∙ cond-true _ _ _ (eq-eqb (at plane i j) value e)
-    ∙ ap (λ n. suc (equal_from plane i value (plane.width - (j + 1)) n)) next
-    ∙ count
-
 -- ---- spans
 
 -- once enough spans are allowed, more change nothing
