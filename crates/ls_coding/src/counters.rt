@@ -2,13 +2,13 @@
 ghost use Rattle.std.specs.Prelude.{◌≡◌, ◌<◌, ◌≤◌, ℕ, pos, true, false, slice_set, IfOk, IfErr, if◌then◌else◌};
 ghost use Rattle.ls_frame.specs.Parameters.{range_of, qbpp_of, limit_of};
 ghost use Rattle.ls_bits.specs.Golomb.{IsGolomb, most_value};
-ghost use Rattle.ls_coding.specs.Samples.{AreSamples};
+ghost use Rattle.ls_coding.specs.Samples.{AreSamples, Interrupts};
 ghost use Rattle.ls_coding.specs.Contexts.{context_of};
 ghost use Rattle.ls_coding.specs.Errors.{IsReduced, error_of, is_inverted, mapped_error};
 ghost use Rattle.ls_coding.specs.Events.{regular_error_of, regular_word, interruption_word};
 ghost use Rattle.ls_coding.specs.Stats.{first_a, first_stats, stats_step};
 ghost use Rattle.ls_coding.specs.Interruptions.{first_counts, counts_step, ri_value, ri_type_of, interruption_error, interruption_k, interruption_value};
-ghost use Rattle.ls_coding.specs.View.Plans.{regular_plan_by, interruption_plan_by, Interrupts, IsTheSample, NoSample};
+ghost use Rattle.ls_coding.specs.View.Plans.{regular_plan_by, interruption_plan_by, IsTheSample, NoSample};
 ghost use Rattle.ls_coding.specs.View.Fields.{regular_at, all_regular, interrupting_at, IsSound};
 
 use crate::context::{Context, context_of};

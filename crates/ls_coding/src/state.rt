@@ -2,13 +2,14 @@
 ghost use Rattle.std.specs.Prelude.{◌≡◌, ◌+◌, ◌-◌, ◌*◌, ◌^◌, ◌<◌, ◌≤◌, ◌++◌, ◌∷◌, [], List, length, min, ℕ, true, false, not, IsTrue, IfOk, IfErr};
 ghost use Rattle.ls_frame.specs.Parameters.{qbpp_of, limit_of};
 ghost use Rattle.ls_bits.specs.Golomb.{IsGolomb, most_value};
-ghost use Rattle.ls_coding.specs.Samples.{AreSamples};
+ghost use Rattle.ls_coding.specs.Samples.{AreSamples, Interrupts};
 ghost use Rattle.ls_coding.specs.Contexts.{is_run, signed_context};
 ghost use Rattle.ls_coding.specs.Runs.{order, run_of, run_word, word_bits, tail_of, TailFits};
 ghost use Rattle.ls_coding.specs.Interruptions.{ri_type_of, interruption_error};
 ghost use Rattle.ls_coding.specs.Events.{Event, run, golomb_bits};
 ghost use Rattle.ls_coding.specs.View.States.{Coding, state_of, context_in, regular_error_in, regular_word_in, interruption_word_in, regular_after, run_after, interruption_after, IsRegularEvent, IsInterruptionEvent};
-ghost use Rattle.ls_coding.specs.View.Plans.{regular_plan, interruption_plan, IsReadBy, Interrupts, IsTheSample, NoSample};
+ghost use Rattle.ls_coding.specs.View.Plans.{regular_plan, interruption_plan, IsReadBy, IsTheSample, NoSample};
+ghost use Rattle.ls_coding.specs.View.Calls.{MayCodeRegular, MayCodeRun, MayCodeInterruption};
 
 use crate::context::{context_of_signed, signed_context};
 use crate::counters::Counters;
@@ -78,10 +79,7 @@ impl State {
     /// Requires neighbours that call for regular mode (`mode_of`), these and the sample at most MAXVAL, and that `broken` is
     /// false, which it is afterwards too. Cannot fail.
     pub fn code_regular(&mut self, neighbours: &Neighbours, sample: u16) -> Word
-        requires samples { AreSamples self.old.parameters.maxval neighbours.now }
-        requires sample { sample ≤ self.old.parameters.maxval }
-        requires regular { is_run neighbours.now ≡ false }
-        requires whole { self.old.broken ≡ false }
+        requires may { MayCodeRegular self.old neighbours.now sample }
         ensures word { result ≡ regular_word_in self.old neighbours.now sample }
         ensures golomb { IsGolomb result.k result.glimit (qbpp_of self.old.parameters.maxval) }
         ensures value { result.value ≤ most_value (qbpp_of self.old.parameters.maxval) }
@@ -99,10 +97,7 @@ impl State {
     /// `signed_context` answers for this scan's presets and these neighbours. All else is as there.
     pub fn code_regular_at(&mut self, context: i16, neighbours: &Neighbours, sample: u16) -> Word
         requires context { context ≡ signed_context self.old.parameters neighbours.now }
-        requires samples { AreSamples self.old.parameters.maxval neighbours.now }
-        requires sample { sample ≤ self.old.parameters.maxval }
-        requires regular { is_run neighbours.now ≡ false }
-        requires whole { self.old.broken ≡ false }
+        requires may { MayCodeRegular self.old neighbours.now sample }
         ensures word { result ≡ regular_word_in self.old neighbours.now sample }
         ensures golomb { IsGolomb result.k result.glimit (qbpp_of self.old.parameters.maxval) }
         ensures value { result.value ≤ most_value (qbpp_of self.old.parameters.maxval) }
@@ -172,8 +167,7 @@ impl State {
     /// is false. RUNindex rises by 1 for each bit 1 that stands for 2^J samples, to at most 31. The run's bits, with those
     /// of the sample that interrupts it, are at most LIMIT for each of these samples. Cannot fail.
     pub fn code_run(&mut self, count: u32, eol: bool) -> RunWord
-        requires whole { self.old.broken ≡ false }
-        requires some { IsTrue eol → 0 < count }
+        requires may { MayCodeRun self.old (run_of count (not eol)) }
         ensures word { result ≡ run_word self.old.run_index (run_of count (not eol)) }
         ensures tail { TailFits result.tail }
         ensures full_cost { IsTrue eol → length (word_bits result) ≤ limit_of self.old.parameters.maxval * count }
@@ -199,9 +193,7 @@ impl State {
     /// Requires the neighbours of this very sample, these and the sample at most MAXVAL, the sample other than Ra, and that
     /// `broken` is true. Afterwards RUNindex is 1 lower unless it was 0, and `broken` is false. Cannot fail.
     pub fn code_interruption(&mut self, neighbours: &Neighbours, sample: u16) -> Word
-        requires samples { AreSamples self.old.parameters.maxval neighbours.now }
-        requires sample { Interrupts self.old.parameters.maxval neighbours.now.a sample }
-        requires broken { self.old.broken ≡ true }
+        requires may { MayCodeInterruption self.old neighbours.now sample }
         ensures word { result ≡ interruption_word_in self.old neighbours.now sample }
         ensures golomb { IsGolomb result.k result.glimit (qbpp_of self.old.parameters.maxval) }
         ensures value { result.value ≤ most_value (qbpp_of self.old.parameters.maxval) }

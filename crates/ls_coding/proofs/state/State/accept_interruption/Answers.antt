@@ -4,7 +4,8 @@ use Rattle.ls_coding.specs.declared.neighbours.Neighbours.{Neighbours}
 use Rattle.ls_coding.specs.Interruptions.{ri_type_of, ri_value, interruption_value, interruption_error}
 use Rattle.ls_coding.specs.View.States.{Coding, interruption_word_in}
 use Rattle.ls_coding.specs.View.Fields.{contexts_of, counts_at}
-use Rattle.ls_coding.specs.View.Plans.{Planned, interruption_plan, Interrupts, IsTheSample, NoSample}
+use Rattle.ls_coding.specs.Samples.{Interrupts}
+use Rattle.ls_coding.specs.View.Plans.{Planned, interruption_plan, IsTheSample, NoSample}
 use Rattle.ls_coding.specs.contracts.state.State as state
 use Rattle.ls_coding.specs.contracts.plan.Plan as plan
 use Rattle.ls_coding.proofs.EventLemmas.{word_of_interruption, state_after_interruption}

@@ -42,7 +42,7 @@ returns-clause-cost c =
 pub returns-clause-events : goal.returns-clause-events
 returns-clause-events c events same = record {
   word_is = returns-clause-word c ∙ word_of_regular c.args.self.now c.args.neighbours.now c.args.sample events same;
-  after_is = state_after_regular c.args.self.now _ c.args.neighbours.now c.args.sample c.requires.whole (returns-clause-state c) events same;
+  after_is = state_after_regular c.args.self.now _ c.args.neighbours.now c.args.sample c.requires.may.whole (returns-clause-state c) events same;
 }
 
 pub context_of_signed-split-requires-clause-low : goal.context_of_signed-split-requires-clause-low
