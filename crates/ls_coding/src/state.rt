@@ -28,9 +28,6 @@ use std::marker::Model;
 /// neighbours are at most MAXVAL, the presets' `maxval`. No call allocates.
 #[derive(Drop)]
 pub struct State {
-    presets: Presets,
-    /// LIMIT: the most bits of a code word.
-    limit: u32,
     counters: Counters,
     /// RUNindex, 0 to 31.
     run_index: u32,
@@ -46,7 +43,7 @@ impl Model for State {
     ghost Value = { Coding };
 
     ghost view = { λ state. record {
-      parameters = state.presets;
+      parameters = state.counters.presets;
       contexts = all_regular state.counters;
       ri_type_0 = interrupting_at state.counters 0;
       ri_type_1 = interrupting_at state.counters 1;
@@ -54,7 +51,7 @@ impl Model for State {
       broken = state.broken;
     } };
 
-    ghost invariant = { λ state. IsSoundState state.presets state.limit state.run_index state.counters };
+    ghost invariant = { λ state. IsSoundState state.run_index state.counters };
 }
 
 impl State {
@@ -63,11 +60,8 @@ impl State {
     pub fn new(presets: &Presets) -> State
         ensures { result ≡ state_of presets.now [] }
     {
-        let presets = *presets;
         State {
-            presets,
-            limit: presets.limit(),
-            counters: Counters::new(presets),
+            counters: Counters::new(*presets),
             run_index: 0,
             broken: false,
         }
@@ -89,7 +83,7 @@ impl State {
         ensures events { (events : List Event) → self.old ≡ state_of self.old.parameters events
             → IsRegularEvent self.old.parameters events neighbours.now sample result self.new }
     {
-        let context = signed_context(&self.presets, neighbours);
+        let context = signed_context(&self.counters.presets, neighbours);
         self.code_regular_at(context, neighbours, sample)
     }
 
@@ -108,8 +102,7 @@ impl State {
             → IsRegularEvent self.old.parameters events neighbours.now sample result self.new }
     {
         let split = context_of_signed(context);
-        self.counters
-            .code(self.presets, self.limit, split, neighbours, sample)
+        self.counters.code(split, neighbours, sample)
     }
 
     /// By which code the word of the next sample of regular mode is read, and what its value then stands for (A.3 to A.5).
@@ -125,7 +118,7 @@ impl State {
         ensures golomb { IsGolomb result.k result.glimit (qbpp_of self.now.parameters.maxval) }
         ensures word { (sample : ℕ) → IsReadBy result (regular_word_in self.now neighbours.now sample) }
     {
-        self.counters.plan(self.presets, self.limit, neighbours)
+        self.counters.plan(neighbours)
     }
 
     /// The one sample of regular mode whose word has this value, MErrval; the state is then as if it had been coded.
@@ -150,14 +143,8 @@ impl State {
         ensures none { IfErr result (λ fault. NoSample (λ one. one ≤ self.old.parameters.maxval)
             (λ one. (regular_word_in self.old plan.neighbours one).value) value) }
     {
-        self.counters.accept(
-            self.presets,
-            plan.number,
-            plan.negative,
-            plan.prediction,
-            plan.k,
-            value,
-        )
+        self.counters
+            .accept(plan.number, plan.negative, plan.prediction, plan.k, value)
     }
 
     /// Codes a run of `count` samples that are equal to Ra (A.7.1): to the line's end (`eol`), or to a sample that interrupts
@@ -204,13 +191,9 @@ impl State {
         ensures events { (events : List Event) → self.old ≡ state_of self.old.parameters events
             → IsInterruptionEvent self.old.parameters events neighbours.now sample result self.new }
     {
-        let word = self.counters.code_interruption(
-            self.presets,
-            self.limit,
-            self.run_index,
-            neighbours,
-            sample,
-        );
+        let word = self
+            .counters
+            .code_interruption(self.run_index, neighbours, sample);
         self.run_index = self.run_index.saturating_sub(1);
         self.broken = false;
         word
@@ -281,8 +264,7 @@ impl State {
         ensures golomb { IsGolomb result.k result.glimit (qbpp_of self.now.parameters.maxval) }
         ensures word { (sample : ℕ) → IsReadBy result (interruption_word_in self.now neighbours.now sample) }
     {
-        self.counters
-            .plan_interruption(self.presets, self.limit, self.run_index, neighbours)
+        self.counters.plan_interruption(self.run_index, neighbours)
     }
 
     /// The one sample that interrupts a run and whose word has this value, EMErrval; the state is then as if it had been
@@ -310,7 +292,7 @@ impl State {
     {
         let sample = self
             .counters
-            .accept_interruption(self.presets, &plan.neighbours, plan.k, value)?;
+            .accept_interruption(&plan.neighbours, plan.k, value)?;
         self.run_index = self.run_index.saturating_sub(1);
         self.broken = false;
         Ok(sample)
