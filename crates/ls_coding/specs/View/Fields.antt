@@ -41,6 +41,7 @@ all_regular counters = contexts_of counters.a counters.b counters.c counters.n
 abbrev pub interrupting_at : Counters → ℕ → Counts
 interrupting_at counters which = counts_at counters.a counters.n counters.nn which
 
+-- what counters keep to, with the parameters and LIMIT that they hold
 pub record IsSound (counters : Counters) : Type 0 where
   pub legal : IsLegal counters.presets
   pub limit_is : counters.limit ≡ limit_of counters.presets.maxval
