@@ -6,7 +6,7 @@ use mir.Val.{bool_byte}
 use Rattle.ls_frame.specs.Parameters.{Parameters, IsLegal, range_of, qbpp_of, limit_of}
 use Rattle.ls_bits.proofs.GolombLemmas.{length-code_word}
 use Rattle.ls_coding.specs.declared.neighbours.Neighbours.{Neighbours}
-use Rattle.ls_coding.specs.Samples.{AreSamples}
+use Rattle.ls_coding.specs.Samples.{AreSamples, Interrupts}
 use Rattle.ls_coding.specs.Numbers.{halved, clamped}
 use Rattle.ls_coding.specs.Contexts.{context_of, signed}
 use Rattle.ls_coding.specs.Errors.{IsReduced, error_of, predicted, median}
@@ -15,7 +15,6 @@ use Rattle.ls_coding.specs.Interruptions.{Counts, AreSoundCounts, counts_step, r
 use Rattle.ls_coding.specs.Runs.{order, run_of, run_bits, index_at}
 use Rattle.ls_coding.specs.Events.{Event, regular, interruption, stats_after_events, counts_after_events, run_index_after_events, regular_error_of, regular_word, interruption_word, golomb_bits}
 use Rattle.ls_coding.specs.Lawful.{MayComeNext, by_sample, by_run, by_interruption, IsLawful, none, more}
-use Rattle.ls_coding.specs.View.Plans.{Interrupts}
 use Rattle.ls_coding.proofs.ErrorLemmas.{error_of-reduced, interruption_prediction_small}
 use Rattle.ls_coding.proofs.EventLemmas.{stats_after_events-own, stats_after_events-other, stats_after_events-interruption, counts_after_events-own, counts_after_events-regular, ri_type_1_kept, ri_type_0_kept}
 use Rattle.ls_coding.proofs.FieldLemmas.{same_or_not, first_stats_sound, first_counts_sound}

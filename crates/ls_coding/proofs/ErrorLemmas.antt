@@ -7,10 +7,9 @@ use mir.Syntax.{w32}
 use mir.Val.{to_z, of_z}
 use Rattle.std.proofs.lemmas.Bool.{cond-true}
 use Rattle.ls_coding.specs.declared.neighbours.Neighbours.{Neighbours}
-use Rattle.ls_coding.specs.Samples.{AreSamples}
+use Rattle.ls_coding.specs.Samples.{AreSamples, Interrupts}
 use Rattle.ls_coding.specs.Contexts.{signed}
 use Rattle.ls_coding.specs.Interruptions.{ri_type_of, interruption_negative, interruption_prediction, interruption_error}
-use Rattle.ls_coding.specs.View.Plans.{Interrupts}
 use Rattle.ls_coding.specs.Errors.{IsReduced, reduced, error_of}
 use Rattle.ls_coding.proofs.StatsLemmas.{choose, le_true, le_false, lt_true, lt_false, mean_through}
 

@@ -7,7 +7,8 @@ use Rattle.ls_coding.specs.Interruptions.{ri_type_of, interruption_error}
 use Rattle.ls_coding.specs.Runs.{run_of}
 use Rattle.ls_coding.specs.Events.{Event, regular, stats_after_events, regular_error_of}
 use Rattle.ls_coding.specs.View.States.{state_of, context_in, regular_error_in, regular_after}
-use Rattle.ls_coding.specs.Lawful.{MayComeNext, by_sample, by_run, by_interruption, IsLawful, none, more, IsCall, code_regular, code_run, code_interruption, IsReached, start, called}
+use Rattle.ls_coding.specs.Lawful.{MayComeNext, by_sample, by_run, by_interruption, IsLawful, none, more}
+use Rattle.ls_coding.specs.View.Reached.{IsCall, code_regular, code_run, code_interruption, IsReached, start, called}
 use Rattle.ls_coding.proofs.EventLemmas.{state_after_regular, state_of-interruption}
 use Rattle.ls_coding.proofs.StateLemmas.{state_of-run}
 
@@ -20,11 +21,11 @@ regular_reached p events n sample whole = sym (state_after_regular (state_of p e
 one_more : (p : Parameters) (events : List Event) (event : Event) → MayComeNext p events event → IsCall (state_of p events) (state_of p (events ++ event ∷ []))
 unfolding state_of
 one_more p events event (by_sample n sample samples within mode whole e) =
-    code_regular n sample samples within mode whole (ap (λ (v : Event). state_of p (events ++ v ∷ [])) e ∙ regular_reached p events n sample whole)
+    code_regular n sample (record { samples = samples; within = within; regular = mode; whole = whole }) (ap (λ (v : Event). state_of p (events ++ v ∷ [])) e ∙ regular_reached p events n sample whole)
 one_more p events event (by_run count broken some whole e) =
-    code_run count broken some whole (ap (λ (v : Event). state_of p (events ++ v ∷ [])) e ∙ sym (state_of-run p events (run_of count broken)))
+    code_run (run_of count broken) (record { whole = whole; some = some }) (ap (λ (v : Event). state_of p (events ++ v ∷ [])) e ∙ sym (state_of-run p events (run_of count broken)))
 one_more p events event (by_interruption n sample samples other broken e) =
-    code_interruption n sample samples other broken (ap (λ (v : Event). state_of p (events ++ v ∷ [])) e ∙ sym (state_of-interruption p events (ri_type_of n) (interruption_error p n sample)))
+    code_interruption n sample (record { samples = samples; interrupts = other; broken = broken }) (ap (λ (v : Event). state_of p (events ++ v ∷ [])) e ∙ sym (state_of-interruption p events (ri_type_of n) (interruption_error p n sample)))
 
 pub reached : (p : Parameters) (events : List Event) → IsLawful p events → IsReached p (state_of p events)
 reached p _ none = start

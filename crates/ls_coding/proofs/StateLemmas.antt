@@ -30,6 +30,11 @@ walk_is w ones index left a b c =
 abbrev pub made : Parameters → List Stats → Counts → Counts → ℕ → Bool → Coding
 made p contexts ri_type_0 ri_type_1 run_index broken = record { parameters = p; contexts = contexts; ri_type_0 = ri_type_0; ri_type_1 = ri_type_1; run_index = run_index; broken = broken }
 
+-- the same, by other parameters that are equal to these
+pub alike_parameters : (p q : Parameters) (contexts : List Stats) (ri_type_0 ri_type_1 : Counts) (index : ℕ) (broken : Bool) → p ≡ q
+    → made p contexts ri_type_0 ri_type_1 index broken ≡ made q contexts ri_type_0 ri_type_1 index broken
+alike_parameters p q contexts ri_type_0 ri_type_1 index broken same = ap (λ (r : Parameters). made r contexts ri_type_0 ri_type_1 index broken) same
+
 -- the same, part by part
 pub alike : (p : Parameters) (contexts others : List Stats) (ri_type_0 ri_type_0' ri_type_1 ri_type_1' : Counts) (index index' : ℕ) (broken broken' : Bool)
     → contexts ≡ others → ri_type_0 ≡ ri_type_0' → ri_type_1 ≡ ri_type_1' → index ≡ index' → broken ≡ broken'

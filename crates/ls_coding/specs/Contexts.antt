@@ -17,7 +17,7 @@ abbrev pub is_zero : ℤ → Bool
 is_zero (pos number) = number == 0
 is_zero (negsuc number) = false
 
--- run mode where all three are 0 (A.3.2)
+-- run mode if all three are 0 (A.3.2)
 abbrev pub is_run : Neighbours → Bool
 is_run neighbours = is_zero (d1 neighbours) && is_zero (d2 neighbours) && is_zero (d3 neighbours)
 
@@ -57,7 +57,7 @@ signed false number = number
 abbrev pub context_number : ℤ → ℤ → ℤ → ℤ
 context_number q1 q2 q3 = pos 81 *ℤ q1 +ℤ pos 9 *ℤ q2 +ℤ q3
 
--- the context of three regions: all three change their sign where the first that isn't 0 is negative (A.3.4)
+-- the context of three regions: all three change their sign if the first that isn't 0 is negative (A.3.4)
 abbrev pub merged : ℤ → ℤ → ℤ → Context
 merged q1 q2 q3 = let negative = first_negative q1 q2 q3 in record {
   number = unsigned_abs (context_number (signed negative q1) (signed negative q2) (signed negative q3));

@@ -1,14 +1,12 @@
--- Which lists of events a scan may have, and which states calls come to.
+-- Which lists of events a scan may have.
 use Rattle.std.specs.Prelude.{◌≡◌, ℕ, ◌<◌, ◌≤◌, Bool, true, false, List, [], ◌∷◌, ◌++◌}
 use Rattle.ls_frame.specs.Parameters.{Parameters}
 use Rattle.ls_coding.specs.declared.neighbours.Neighbours.{Neighbours}
-use Rattle.ls_coding.specs.Samples.{AreSamples}
+use Rattle.ls_coding.specs.Samples.{AreSamples, Interrupts}
 use Rattle.ls_coding.specs.Contexts.{is_run, context_of}
 use Rattle.ls_coding.specs.Interruptions.{ri_type_of, interruption_error}
 use Rattle.ls_coding.specs.Runs.{run_of}
 use Rattle.ls_coding.specs.Events.{Event, regular, run, interruption, stats_after_events, broken_after_events, regular_error_of}
-use Rattle.ls_coding.specs.View.States.{Coding, state_of, context_in, regular_error_in, regular_after, run_after, interruption_after}
-use Rattle.ls_coding.specs.View.Plans.{Interrupts}
 
 -- an event that may come after these: a sample of regular mode or a run, unless a run was broken last; then, a sample that
 -- isn't the run's
@@ -25,19 +23,3 @@ pub data MayComeNext (p : Parameters) (events : List Event) (event : Event) : Ty
 pub data IsLawful (p : Parameters) : List Event → Type 0 where
   none : IsLawful p []
   more : (events : List Event) (event : Event) → IsLawful p events → MayComeNext p events event → IsLawful p (events ++ event ∷ [])
-
--- one call that codes: what it requires of the state before it, and the state that it leaves
-pub data IsCall (before after : Coding) : Type 0 where
-  code_regular : (neighbours : Neighbours) (sample : ℕ) → AreSamples before.parameters.maxval neighbours → sample ≤ before.parameters.maxval
-      → is_run neighbours ≡ false → before.broken ≡ false → after ≡ regular_after before (context_in before neighbours).number (regular_error_in before neighbours sample)
-      → IsCall before after
-  code_run : (count : ℕ) (broken : Bool) → (broken ≡ false → 0 < count) → before.broken ≡ false
-      → after ≡ run_after before (run_of count broken) → IsCall before after
-  code_interruption : (neighbours : Neighbours) (sample : ℕ) → AreSamples before.parameters.maxval neighbours → Interrupts before.parameters.maxval neighbours.a sample
-      → before.broken ≡ true → after ≡ interruption_after before (ri_type_of neighbours) (interruption_error before.parameters neighbours sample)
-      → IsCall before after
-
--- a state that calls come to from a scan's start
-pub data IsReached (p : Parameters) : Coding → Type 0 where
-  start : IsReached p (state_of p [])
-  called : (before after : Coding) → IsReached p before → IsCall before after → IsReached p after

@@ -1,4 +1,6 @@
+pub mod Calls
 pub mod Fields
 pub mod Plans
+pub mod Reached
 pub mod Sizes
 pub mod States

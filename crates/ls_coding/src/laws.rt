@@ -3,15 +3,15 @@ ghost use Rattle.std.specs.Prelude.{◌≡◌, ◌+◌, ◌-◌, ◌*◌, ◌^�
 ghost use Rattle.ls_frame.specs.Parameters.{Parameters, IsLegal, limit_of};
 ghost use Rattle.ls_bits.specs.Bits.{bits_of};
 ghost use Rattle.ls_coding.specs.declared.neighbours.Neighbours.{Neighbours};
-ghost use Rattle.ls_coding.specs.Samples.{AreSamples};
+ghost use Rattle.ls_coding.specs.Samples.{AreSamples, Interrupts};
 ghost use Rattle.ls_coding.specs.Numbers.{golomb_parameter};
 ghost use Rattle.ls_coding.specs.Contexts.{context_of};
 ghost use Rattle.ls_coding.specs.Interruptions.{ri_type_of, interruption_error};
 ghost use Rattle.ls_coding.specs.Runs.{order, run_of, run_bits, index_at};
 ghost use Rattle.ls_coding.specs.Events.{Event, run, stats_after_events, counts_after_events, run_index_after_events, regular_error_of, regular_word, interruption_word, golomb_bits};
+ghost use Rattle.ls_coding.specs.Lawful.{IsLawful};
 ghost use Rattle.ls_coding.specs.View.States.{state_of};
-ghost use Rattle.ls_coding.specs.View.Plans.{Interrupts};
-ghost use Rattle.ls_coding.specs.Lawful.{IsLawful, IsReached};
+ghost use Rattle.ls_coding.specs.View.Reached.{IsReached};
 
 /// Every list of events that a scan may have is reached by calls from `State::new`.
 pub fn lawful_events_are_reached()

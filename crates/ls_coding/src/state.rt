@@ -2,13 +2,14 @@
 ghost use Rattle.std.specs.Prelude.{◌≡◌, ◌+◌, ◌-◌, ◌*◌, ◌^◌, ◌<◌, ◌≤◌, ◌++◌, ◌∷◌, [], List, length, min, ℕ, true, false, not, IsTrue, IfOk, IfErr};
 ghost use Rattle.ls_frame.specs.Parameters.{qbpp_of, limit_of};
 ghost use Rattle.ls_bits.specs.Golomb.{IsGolomb, most_value};
-ghost use Rattle.ls_coding.specs.Samples.{AreSamples};
+ghost use Rattle.ls_coding.specs.Samples.{AreSamples, Interrupts};
 ghost use Rattle.ls_coding.specs.Contexts.{is_run, signed_context};
 ghost use Rattle.ls_coding.specs.Runs.{order, run_of, run_word, word_bits, tail_of, TailFits};
 ghost use Rattle.ls_coding.specs.Interruptions.{ri_type_of, interruption_error};
 ghost use Rattle.ls_coding.specs.Events.{Event, run, golomb_bits};
 ghost use Rattle.ls_coding.specs.View.States.{Coding, state_of, context_in, regular_error_in, regular_word_in, interruption_word_in, regular_after, run_after, interruption_after, IsRegularEvent, IsInterruptionEvent};
-ghost use Rattle.ls_coding.specs.View.Plans.{regular_plan, interruption_plan, IsReadBy, Interrupts, IsTheSample, NoSample};
+ghost use Rattle.ls_coding.specs.View.Plans.{regular_plan, interruption_plan, IsReadBy, IsTheSample, NoSample};
+ghost use Rattle.ls_coding.specs.View.Calls.{MayCodeRegular, MayCodeRun, MayCodeInterruption};
 
 use crate::context::{context_of_signed, signed_context};
 use crate::counters::Counters;
@@ -27,9 +28,6 @@ use std::marker::Model;
 /// neighbours are at most MAXVAL, the presets' `maxval`. No call allocates.
 #[derive(Drop)]
 pub struct State {
-    presets: Presets,
-    /// LIMIT: the most bits of a code word.
-    limit: u32,
     counters: Counters,
     /// RUNindex, 0 to 31.
     run_index: u32,
@@ -45,7 +43,7 @@ impl Model for State {
     ghost Value = { Coding };
 
     ghost view = { λ state. record {
-      parameters = state.presets;
+      parameters = state.counters.presets;
       contexts = all_regular state.counters;
       ri_type_0 = interrupting_at state.counters 0;
       ri_type_1 = interrupting_at state.counters 1;
@@ -53,7 +51,7 @@ impl Model for State {
       broken = state.broken;
     } };
 
-    ghost invariant = { λ state. IsSoundState state.presets state.limit state.run_index state.counters };
+    ghost invariant = { λ state. IsSoundState state.run_index state.counters };
 }
 
 impl State {
@@ -62,11 +60,8 @@ impl State {
     pub fn new(presets: &Presets) -> State
         ensures { result ≡ state_of presets.now [] }
     {
-        let presets = *presets;
         State {
-            presets,
-            limit: presets.limit(),
-            counters: Counters::new(presets),
+            counters: Counters::new(*presets),
             run_index: 0,
             broken: false,
         }
@@ -78,10 +73,7 @@ impl State {
     /// Requires neighbours that call for regular mode (`mode_of`), these and the sample at most MAXVAL, and that `broken` is
     /// false, which it is afterwards too. Cannot fail.
     pub fn code_regular(&mut self, neighbours: &Neighbours, sample: u16) -> Word
-        requires samples { AreSamples self.old.parameters.maxval neighbours.now }
-        requires sample { sample ≤ self.old.parameters.maxval }
-        requires regular { is_run neighbours.now ≡ false }
-        requires whole { self.old.broken ≡ false }
+        requires may { MayCodeRegular self.old neighbours.now sample }
         ensures word { result ≡ regular_word_in self.old neighbours.now sample }
         ensures golomb { IsGolomb result.k result.glimit (qbpp_of self.old.parameters.maxval) }
         ensures value { result.value ≤ most_value (qbpp_of self.old.parameters.maxval) }
@@ -91,7 +83,7 @@ impl State {
         ensures events { (events : List Event) → self.old ≡ state_of self.old.parameters events
             → IsRegularEvent self.old.parameters events neighbours.now sample result self.new }
     {
-        let context = signed_context(&self.presets, neighbours);
+        let context = signed_context(&self.counters.presets, neighbours);
         self.code_regular_at(context, neighbours, sample)
     }
 
@@ -99,10 +91,7 @@ impl State {
     /// `signed_context` answers for this scan's presets and these neighbours. All else is as there.
     pub fn code_regular_at(&mut self, context: i16, neighbours: &Neighbours, sample: u16) -> Word
         requires context { context ≡ signed_context self.old.parameters neighbours.now }
-        requires samples { AreSamples self.old.parameters.maxval neighbours.now }
-        requires sample { sample ≤ self.old.parameters.maxval }
-        requires regular { is_run neighbours.now ≡ false }
-        requires whole { self.old.broken ≡ false }
+        requires may { MayCodeRegular self.old neighbours.now sample }
         ensures word { result ≡ regular_word_in self.old neighbours.now sample }
         ensures golomb { IsGolomb result.k result.glimit (qbpp_of self.old.parameters.maxval) }
         ensures value { result.value ≤ most_value (qbpp_of self.old.parameters.maxval) }
@@ -113,8 +102,7 @@ impl State {
             → IsRegularEvent self.old.parameters events neighbours.now sample result self.new }
     {
         let split = context_of_signed(context);
-        self.counters
-            .code(self.presets, self.limit, split, neighbours, sample)
+        self.counters.code(split, neighbours, sample)
     }
 
     /// By which code the word of the next sample of regular mode is read, and what its value then stands for (A.3 to A.5).
@@ -130,7 +118,7 @@ impl State {
         ensures golomb { IsGolomb result.k result.glimit (qbpp_of self.now.parameters.maxval) }
         ensures word { (sample : ℕ) → IsReadBy result (regular_word_in self.now neighbours.now sample) }
     {
-        self.counters.plan(self.presets, self.limit, neighbours)
+        self.counters.plan(neighbours)
     }
 
     /// The one sample of regular mode whose word has this value, MErrval; the state is then as if it had been coded.
@@ -155,14 +143,8 @@ impl State {
         ensures none { IfErr result (λ fault. NoSample (λ one. one ≤ self.old.parameters.maxval)
             (λ one. (regular_word_in self.old plan.neighbours one).value) value) }
     {
-        self.counters.accept(
-            self.presets,
-            plan.number,
-            plan.negative,
-            plan.prediction,
-            plan.k,
-            value,
-        )
+        self.counters
+            .accept(plan.number, plan.negative, plan.prediction, plan.k, value)
     }
 
     /// Codes a run of `count` samples that are equal to Ra (A.7.1): to the line's end (`eol`), or to a sample that interrupts
@@ -172,8 +154,7 @@ impl State {
     /// is false. RUNindex rises by 1 for each bit 1 that stands for 2^J samples, to at most 31. The run's bits, with those
     /// of the sample that interrupts it, are at most LIMIT for each of these samples. Cannot fail.
     pub fn code_run(&mut self, count: u32, eol: bool) -> RunWord
-        requires whole { self.old.broken ≡ false }
-        requires some { IsTrue eol → 0 < count }
+        requires may { MayCodeRun self.old (run_of count (not eol)) }
         ensures word { result ≡ run_word self.old.run_index (run_of count (not eol)) }
         ensures tail { TailFits result.tail }
         ensures full_cost { IsTrue eol → length (word_bits result) ≤ limit_of self.old.parameters.maxval * count }
@@ -199,9 +180,7 @@ impl State {
     /// Requires the neighbours of this very sample, these and the sample at most MAXVAL, the sample other than Ra, and that
     /// `broken` is true. Afterwards RUNindex is 1 lower unless it was 0, and `broken` is false. Cannot fail.
     pub fn code_interruption(&mut self, neighbours: &Neighbours, sample: u16) -> Word
-        requires samples { AreSamples self.old.parameters.maxval neighbours.now }
-        requires sample { Interrupts self.old.parameters.maxval neighbours.now.a sample }
-        requires broken { self.old.broken ≡ true }
+        requires may { MayCodeInterruption self.old neighbours.now sample }
         ensures word { result ≡ interruption_word_in self.old neighbours.now sample }
         ensures golomb { IsGolomb result.k result.glimit (qbpp_of self.old.parameters.maxval) }
         ensures value { result.value ≤ most_value (qbpp_of self.old.parameters.maxval) }
@@ -212,13 +191,9 @@ impl State {
         ensures events { (events : List Event) → self.old ≡ state_of self.old.parameters events
             → IsInterruptionEvent self.old.parameters events neighbours.now sample result self.new }
     {
-        let word = self.counters.code_interruption(
-            self.presets,
-            self.limit,
-            self.run_index,
-            neighbours,
-            sample,
-        );
+        let word = self
+            .counters
+            .code_interruption(self.run_index, neighbours, sample);
         self.run_index = self.run_index.saturating_sub(1);
         self.broken = false;
         word
@@ -289,8 +264,7 @@ impl State {
         ensures golomb { IsGolomb result.k result.glimit (qbpp_of self.now.parameters.maxval) }
         ensures word { (sample : ℕ) → IsReadBy result (interruption_word_in self.now neighbours.now sample) }
     {
-        self.counters
-            .plan_interruption(self.presets, self.limit, self.run_index, neighbours)
+        self.counters.plan_interruption(self.run_index, neighbours)
     }
 
     /// The one sample that interrupts a run and whose word has this value, EMErrval; the state is then as if it had been
@@ -318,7 +292,7 @@ impl State {
     {
         let sample = self
             .counters
-            .accept_interruption(self.presets, &plan.neighbours, plan.k, value)?;
+            .accept_interruption(&plan.neighbours, plan.k, value)?;
         self.run_index = self.run_index.saturating_sub(1);
         self.broken = false;
         Ok(sample)

@@ -3,12 +3,11 @@ use Rattle.std.proofs.Common.{◌≡◌, ◌≢◌, ℕ, zero, suc, ◌+◌, ◌
 use Rattle.std.proofs.lemmas.Bool.{false≢true, ltb-true, ltb-false, leb-false, cond-true, cond-false, ne_eqb}
 use Rattle.std.proofs.lemmas.Nat.{mul-le}
 use Rattle.ls_frame.specs.Parameters.{Parameters, IsLegal, limit_of}
-use Rattle.ls_coding.specs.Samples.{AreSamples}
+use Rattle.ls_coding.specs.Samples.{AreSamples, Interrupts}
 use Rattle.ls_coding.specs.Contexts.{is_run}
 use Rattle.ls_coding.specs.Runs.{run_of}
 use Rattle.ls_coding.specs.Events.{Event, run, broken_after_events}
 use Rattle.ls_coding.specs.Lawful.{by_sample, by_run, by_interruption, IsLawful, none, more}
-use Rattle.ls_coding.specs.View.Plans.{Interrupts}
 use Rattle.ls_coding.proofs.CostLemmas.{sample_cost, full_run_cost, broken_run_cost}
 use Rattle.ls_coding.proofs.FieldLemmas.{same_or_not}
 use Rattle.ls_coding.proofs.StatsLemmas.{choose}

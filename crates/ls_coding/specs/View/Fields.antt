@@ -1,7 +1,7 @@
--- How a state's arrays are read as counters.
+-- How a state's arrays are read as counters, and what they keep to.
 use Rattle.std.specs.Prelude.{◌≡◌, ℕ, ◌+◌, ◌<◌, ◌≤◌, ℤ, pos, List, map, slice_index, slice_index_or}
 use Rattle.std.specs.List.{range_with_len}
-use Rattle.ls_frame.specs.Parameters.{Parameters, limit_of}
+use Rattle.ls_frame.specs.Parameters.{IsLegal, limit_of}
 use Rattle.ls_coding.specs.declared.counters.Counters.{Counters}
 use Rattle.ls_coding.specs.Stats.{Stats, AreSound, error_bound}
 use Rattle.ls_coding.specs.Interruptions.{Counts, AreSoundCounts}
@@ -41,11 +41,13 @@ all_regular counters = contexts_of counters.a counters.b counters.c counters.n
 abbrev pub interrupting_at : Counters → ℕ → Counts
 interrupting_at counters which = counts_at counters.a counters.n counters.nn which
 
-abbrev pub IsSound : Parameters → Counters → Type 0
-IsSound p counters = AreAllSound p.reset (error_bound p.maxval) counters.a counters.b counters.c counters.n counters.nn
+-- what counters keep to, with the parameters and LIMIT that they hold
+pub record IsSound (counters : Counters) : Type 0 where
+  pub legal : IsLegal counters.presets
+  pub limit_is : counters.limit ≡ limit_of counters.presets.maxval
+  pub all : AreAllSound counters.presets.reset (error_bound counters.presets.maxval) counters.a counters.b counters.c counters.n counters.nn
 
 -- what a state keeps to
-pub record IsSoundState (p : Parameters) (limit run_index : ℕ) (counters : Counters) : Type 0 where
-  pub limit_is : limit ≡ limit_of p.maxval
+pub record IsSoundState (run_index : ℕ) (counters : Counters) : Type 0 where
   pub index : run_index ≤ 31
-  pub sound : IsSound p counters
+  pub sound : IsSound counters

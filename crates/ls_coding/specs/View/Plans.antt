@@ -1,5 +1,5 @@
 -- What a sample's word is read by, and which sample a mapped error stands for.
-use Rattle.std.specs.Prelude.{◌≡◌, ◌≢◌, ℕ, ◌-◌, ◌≤◌, Bool, ℤ, pos}
+use Rattle.std.specs.Prelude.{◌≡◌, ℕ, ◌-◌, Bool, ℤ, pos}
 use Rattle.ls_frame.specs.Parameters.{Parameters, limit_of}
 use Rattle.ls_coding.specs.declared.neighbours.Neighbours.{Neighbours}
 use Rattle.ls_coding.specs.declared.word.Word.{Word}
@@ -52,11 +52,6 @@ interruption_plan state neighbours = interruption_plan_by state.parameters state
 pub record IsReadBy (plan : Planned) (word : Word) : Type 0 where
   pub same_k : word.k ≡ plan.k
   pub same_limit : word.glimit ≡ plan.glimit
-
--- a sample that may interrupt a run of the value that is to its left
-pub record Interrupts (maxval left sample : ℕ) : Type 0 where
-  pub within : sample ≤ maxval
-  pub other : sample ≢ left
 
 -- the one sample whose word has this value, its mapped error
 pub record IsTheSample (IsSample : ℕ → Type 0) (value_of : ℕ → ℕ) (value sample : ℕ) : Type 0 where

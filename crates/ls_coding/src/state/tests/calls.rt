@@ -59,7 +59,7 @@ pub fn check_break(rt: &impl Abort, got: Result<(), CodeFault>, want: Result<(),
 fn check_samples(rt: &impl Abort, state: &State, neighbours: &Neighbours)
     ensures { AreSamples state.now.parameters.maxval neighbours.now }
 {
-    let maxval = state.presets.maxval();
+    let maxval = state.counters.presets.maxval();
     check(rt, neighbours.a <= maxval);
     check(rt, neighbours.b <= maxval);
     check(rt, neighbours.c <= maxval);
@@ -75,7 +75,7 @@ fn check_regular(rt: &impl Abort, neighbours: &Neighbours)
 fn check_value(rt: &impl Abort, state: &State, value: u32)
     ensures { value ≤ most_value (qbpp_of state.now.parameters.maxval) }
 {
-    check(rt, value <= 1 << state.presets.qbpp());
+    check(rt, value <= 1 << state.counters.presets.qbpp());
 }
 
 // ---- the calls
@@ -83,7 +83,7 @@ fn check_value(rt: &impl Abort, state: &State, value: u32)
 pub fn code_regular(rt: &impl Abort, state: &mut State, around: Around, sample: u16) -> Word {
     let neighbours = neighbours_of(around);
     check_samples(rt, state, &neighbours);
-    check(rt, sample <= state.presets.maxval());
+    check(rt, sample <= state.counters.presets.maxval());
     check_regular(rt, &neighbours);
     check(rt, !state.broken());
     state.code_regular(&neighbours, sample)
@@ -135,7 +135,7 @@ pub fn accept_break(
 pub fn code_interruption(rt: &impl Abort, state: &mut State, around: Around, sample: u16) -> Word {
     let neighbours = neighbours_of(around);
     check_samples(rt, state, &neighbours);
-    check(rt, sample <= state.presets.maxval());
+    check(rt, sample <= state.counters.presets.maxval());
     check(rt, sample != neighbours.a);
     check(rt, state.broken());
     state.code_interruption(&neighbours, sample)

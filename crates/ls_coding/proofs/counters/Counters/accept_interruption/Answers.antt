@@ -13,7 +13,7 @@ use Rattle.ls_coding.proofs.counters.Counters.accept_interruption.Goals as goal
 
 pub returns-then-not-is_reduced-clause-none : goal.returns-then-not-is_reduced-clause-none
 returns-then-not-is_reduced-clause-none c sample may same =
-    let p = c.args.presets in
+    let p = c.args.self.now.presets in
     let x = c.args.neighbours.now in
     let s = c.args.self.now in
     let e : ℤ = interruption_error p x sample in
@@ -27,7 +27,7 @@ returns-then-not-is_reduced-clause-none c sample may same =
 
 pub returns-then-sample-neighbours-clause-none : goal.returns-then-sample-neighbours-clause-none
 returns-then-sample-neighbours-clause-none c sample may same =
-    let p = c.args.presets in
+    let p = c.args.self.now.presets in
     let x = c.args.neighbours.now in
     let s = c.args.self.now in
     let e : ℤ = interruption_error p x sample in
@@ -45,7 +45,7 @@ add_interruption-requires-clause-error c = rw c.range.ensures at (c.is_reduced.e
 
 pub returns-clause-ok : goal.returns-clause-ok
 returns-clause-ok c =
-    let p = c.args.presets in
+    let p = c.args.self.now.presets in
     let x = c.args.neighbours.now in
     let s = c.args.self.now in
     let value : (e : ℤ) → _ = λ (e : ℤ). value_is s.a s.n s.nn (ri_type_of x) c.ri_type_of-ri_type.result c.ri_value-which.result c.args.k e c.ri_type_of-ri_type.ensures c.ri_value-which.ensures.value c.requires.k in

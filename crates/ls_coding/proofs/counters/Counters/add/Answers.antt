@@ -12,7 +12,11 @@ pub returns-clause-contexts : goal.returns-clause-contexts
 returns-clause-contexts c =
     contexts_set _ _ _ _ c.args.number _ _ _ _ _ (whole c) c.requires.number
     (c.update.ensures.step
-    ∙ ap (stats_step c.args.presets.reset (stats_at c.args.self.now.a c.args.self.now.b c.args.self.now.c c.args.self.now.n c.args.number)) (through c.args.error c.ranges.error.sfits))
+    ∙ ap (stats_step c.args.self.now.presets.reset (stats_at c.args.self.now.a c.args.self.now.b c.args.self.now.c c.args.self.now.n c.args.number)) (through c.args.error c.ranges.error.sfits))
 
 pub returns-clause-sound : goal.returns-clause-sound
-returns-clause-sound c = regular_sound _ _ _ _ _ _ _ c.args.number _ _ _ _ (whole c) c.requires.number c.requires.sound c.update.ensures.sound
+returns-clause-sound c = record {
+  legal = c.requires.sound.legal;
+  limit_is = c.requires.sound.limit_is;
+  all = regular_sound _ _ _ _ _ _ _ c.args.number _ _ _ _ (whole c) c.requires.number c.requires.sound.all c.update.ensures.sound;
+}

@@ -9,6 +9,9 @@ pub returns-clause-contexts : goal.returns-clause-contexts
 returns-clause-contexts c = contexts_kept _ _ _ _ c.ri_value-which.result _ _
 
 pub returns-clause-sound : goal.returns-clause-sound
-returns-clause-sound c =
-    rw c.ri_value-which.ensures.value
-    (interruption_sound c.args.ri_type _ _ _ _ _ _ _ _ _ _ (whole c) c.requires.sound c.count_interruption.ensures.sound)
+returns-clause-sound c = record {
+  legal = c.requires.sound.legal;
+  limit_is = c.requires.sound.limit_is;
+  all = rw c.ri_value-which.ensures.value
+      (interruption_sound c.args.ri_type _ _ _ _ _ _ _ _ _ _ (whole c) c.requires.sound.all c.count_interruption.ensures.sound);
+}

@@ -1,14 +1,14 @@
-use Rattle.std.proofs.Common.{ℕ, ℤ, pos, List, replicate, ◌∙◌, arith, rules}
+use Rattle.std.proofs.Common.{ℕ, ℤ, pos, List, replicate, refl, ◌∙◌, arith, rules}
 use Rattle.std.proofs.lemmas.List.{get_or-replicate}
 use Rattle.ls_frame.specs.Parameters.{IsLegal}
 use Rattle.ls_coding.specs.Stats.{first_a}
 use Rattle.ls_coding.proofs.FieldLemmas.{AllAre, first_at, first_counts_at, first_sound}
 use Rattle.ls_coding.proofs.counters.Counters.new.Goals as goal
 
-sums : (c : goal.After-first_a-first) → List ℕ
+sums : (c : goal.After-limit) → List ℕ
 sums c = replicate 367 c.first_a-first.result
 
-all_sums : (c : goal.After-first_a-first) → AllAre (sums c) 367 0 (first_a c.args.presets)
+all_sums : (c : goal.After-limit) → AllAre (sums c) 367 0 (first_a c.args.presets)
 unfolding sums
 all_sums c i h = get_or-replicate 367 i c.first_a-first.result 0 h ∙ c.first_a-first.ensures
 
@@ -33,7 +33,7 @@ all_two : AllAre two 2 0 0
 unfolding two
 all_two i h = get_or-replicate 2 i 0 0 h
 
-legal : (c : goal.After-first_a-first) → IsLegal c.args.presets
+legal : (c : goal.After-limit) → IsLegal c.args.presets
 legal c = search rules
 
 pub returns : goal.returns
@@ -42,5 +42,6 @@ returns c = record {
   contexts = first_at (sums c) ones none none c.args.presets (all_sums c) all_none all_none all_ones;
   ri_type_0 = first_counts_at (sums c) ones two c.args.presets 0 (all_sums c) all_ones all_two (omega arith);
   ri_type_1 = first_counts_at (sums c) ones two c.args.presets 1 (all_sums c) all_ones all_two (omega arith);
-  sound = first_sound (sums c) ones two none none c.args.presets (legal c) (all_sums c) all_none all_none all_ones all_two;
+  parameters = refl;
+  sound = record { legal = legal c; limit_is = search rules; all = first_sound (sums c) ones two none none c.args.presets (legal c) (all_sums c) all_none all_none all_ones all_two };
 }

@@ -15,16 +15,16 @@ pub returns-clause-word : goal.returns-clause-word
 returns-clause-word c =
     let s = c.self.inside in
     c.code_interruption-word.ensures.word
-    ∙ word_in_view s.presets (contexts_of s.counters.a s.counters.b s.counters.c s.counters.n) s.counters.a s.counters.n s.counters.nn s.run_index s.broken c.args.neighbours.now c.args.sample
+    ∙ word_in_view s.counters.presets (contexts_of s.counters.a s.counters.b s.counters.c s.counters.n) s.counters.a s.counters.n s.counters.nn s.run_index s.broken c.args.neighbours.now c.args.sample
     ∙ ap (λ (t : Coding). interruption_word_in t c.args.neighbours.now c.args.sample) c.self.view_is
 
 pub returns-clause-cost : goal.returns-clause-cost
 returns-clause-cost c =
     let s = c.self.inside in
-    let limit : c.code_interruption-word.result.glimit ≡ limit_of s.presets.maxval - order s.run_index - 1 = ap (λ (w : Word). w.glimit) c.code_interruption-word.ensures.word in
+    let limit : c.code_interruption-word.result.glimit ≡ limit_of s.counters.presets.maxval - order s.run_index - 1 = ap (λ (w : Word). w.glimit) c.code_interruption-word.ensures.word in
     subst (λ (t : Coding). length (golomb_bits t.parameters c.code_interruption-word.result) ≤ limit_of t.parameters.maxval - order t.run_index - 1) c.self.view_is
-    (subst (λ most. length (golomb_bits s.presets c.code_interruption-word.result) ≤ most) limit
-    (length-code_word c.code_interruption-word.result.k c.code_interruption-word.result.glimit (qbpp_of s.presets.maxval) c.code_interruption-word.result.value c.code_interruption-word.ensures.golomb))
+    (subst (λ most. length (golomb_bits s.counters.presets c.code_interruption-word.result) ≤ most) limit
+    (length-code_word c.code_interruption-word.result.k c.code_interruption-word.result.glimit (qbpp_of s.counters.presets.maxval) c.code_interruption-word.result.value c.code_interruption-word.ensures.golomb))
 
 pub returns-clause-state : goal.returns-clause-state
 returns-clause-state c = search rules
