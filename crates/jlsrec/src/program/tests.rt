@@ -86,7 +86,7 @@ fn said(rt: &impl Abort, file: &str, text: &str) -> Sink {
     errors
 }
 
-/// The same where the command is to fail with this text, and with this output before.
+/// The same of a command that is to fail with this text, and with this output before.
 fn check_fault<R: Files + Abort + AllocGlobal>(
     rt: &R,
     memory: Memory,
