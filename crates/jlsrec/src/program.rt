@@ -141,7 +141,7 @@ fn answer<W: Outlet, E: Outlet>(
     }
 }
 
-/// Flushes `output`, unless a write to it has failed, and says the status to end with: that of a failure where the
+/// Flushes `output`, unless a write to it has failed, and says the status to end with: that of a failure if the
 /// flush is refused.
 fn finish<W: Outlet, E: Outlet>(alloc: Global, status: u8, output: &mut W, errors: &mut E) -> u8 {
     if Outlet::failures(output) > 0 {

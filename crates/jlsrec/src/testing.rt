@@ -7,7 +7,7 @@ use std::io;
 use std::io::Write;
 use std::process::Abort;
 
-/// Where memory may be refused, the want of it is an answer too.
+/// If memory may be refused, the want of it is an answer too.
 #[derive(Clone, Copy, Debug, PartialEq, Eq)]
 pub enum Memory {
     Ample,

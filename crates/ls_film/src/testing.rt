@@ -7,7 +7,7 @@ use std::io;
 use std::io::{Read, Write};
 use std::process::Abort;
 
-/// Where memory may be refused, the want of it is an answer too.
+/// If memory may be refused, the want of it is an answer too.
 #[derive(Clone, Copy, Debug, PartialEq, Eq)]
 pub enum Memory {
     Ample,
@@ -57,7 +57,7 @@ pub const TWO_CODESTREAMS: &[u8] = b"\xff\xd8\
 /// What an engine answered, and the text that it wrote.
 pub type Outcome<'a> = (Result<u64, FilmFault>, &'a [u8]);
 
-/// That an engine ended so. Or, where memory may be refused, that it says so and wrote the first pieces of the
+/// That an engine ended so. Or, if memory may be refused, that it says so and wrote the first pieces of the
 /// text, each of which ends in `mark`.
 pub fn check_outcome(
     rt: &impl Abort,

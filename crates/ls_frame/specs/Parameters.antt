@@ -36,7 +36,7 @@ bpp_of maxval = max 2 (ceil_log2 (maxval + 1))
 abbrev pub limit_of : ℕ → ℕ
 limit_of maxval = 2 * (bpp_of maxval + max 8 (bpp_of maxval))
 
--- CLAMP_i of C.2.4.1.1.1: v, or low where v is outside of low to maxval
+-- CLAMP_i of C.2.4.1.1.1: v, or low if v is outside of low to maxval
 abbrev pub clamped_threshold : ℕ → ℕ → ℕ → ℕ
 clamped_threshold v low maxval = if nat_lt maxval v || nat_lt v low then low else v
 
@@ -68,7 +68,7 @@ default_t3 maxval = clamped_threshold (unclamped_thresholds maxval).2 (default_t
 abbrev pub default_reset : ℕ
 default_reset = 64
 
--- the parameters where a codestream says nothing of them
+-- the parameters of a codestream that says nothing of them
 unfoldable pub default_parameters : ℕ → Parameters
 default_parameters maxval = record {
   maxval = maxval;
@@ -101,7 +101,7 @@ preset_fault p =
     else (if nat_lt p.reset 3 || nat_lt (max 255 p.maxval) p.reset then Some ResetRange
     else None))))
 
--- the parameters where no fault was found
+-- the parameters if no fault was found
 abbrev pub unless_fault : Option PresetFault → Parameters → Result Parameters PresetFault
 unless_fault None p = Ok p
 unless_fault (Some fault) p = Err fault

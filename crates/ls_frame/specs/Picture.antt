@@ -52,7 +52,7 @@ frame_fault f =
     else (if f.maxval == 0 then Some ZeroMaxval
     else option_map SampleTooLarge (position (λ sample. nat_lt f.maxval sample) f.samples))))
 
--- pictures are equal where they are alike in all five
+-- pictures are equal if they are alike in all five
 abbrev pub same_kind : Kind → Kind → Bool
 same_kind Gray Gray = true
 same_kind Gray Color = false

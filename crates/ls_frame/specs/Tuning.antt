@@ -3,7 +3,7 @@ use Rattle.std.specs.Prelude.{ℕ, ◌==◌, if◌then◌else◌}
 use Rattle.ls_frame.specs.declared.tuning.Tuning.{Tuning}
 use Rattle.ls_frame.specs.Parameters.{Parameters, default_parameters}
 
--- what was chosen, or the default where that is 0
+-- what was chosen, or the default if that is 0
 abbrev pub or_default : ℕ → ℕ → ℕ
 or_default chosen default = if chosen == 0 then default else chosen
 

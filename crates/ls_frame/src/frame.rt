@@ -77,7 +77,8 @@ pub(crate) fn sample_count(kind: Kind, width: u16, height: u16) -> u64
 impl Frame {
     ghost use Rattle.ls_frame.specs.Picture.{Picture, IsFrame};
 
-    /// A frame of these samples, which come back where they make none.
+    /// A frame of this kind, size and maxval with these samples, row by row from the top, pixel by pixel, component by
+    /// component. If they make none, the first fault in `FrameFault`'s order is answered, and the samples come back.
     pub fn new(
         kind: Kind,
         width: u16,
@@ -210,7 +211,7 @@ impl PartialEq for Frame {
     }
 }
 
-/// Where the first sample over `maxval` is.
+/// The place of the first sample over `maxval`.
 fn first_above(samples: &[u16], maxval: u16) -> Option<usize>
     ensures { result ≡ position (λ sample. nat_lt maxval sample) samples.now }
 {

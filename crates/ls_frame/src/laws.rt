@@ -39,7 +39,7 @@ pub fn ceil_log2_is_least()
     ensures least { (n exponent : ℕ) → n ≤ 2 ^ exponent → ceil_log2 n ≤ exponent }
 {}
 
-/// Parameters are within Table C.2 exactly where nothing is found that keeps them from it.
+/// Parameters are within Table C.2 exactly if nothing is found that keeps them from it.
 pub fn parameters_are_legal_or_at_fault()
     ensures legal { (p : Parameters) → p.maxval ≤ 65535 → preset_fault p ≡ None → IsLegal p }
     ensures none { (p : Parameters) → IsLegal p → preset_fault p ≡ None }

@@ -4,7 +4,8 @@
 //! What it hands on: a `Frame` keeps its ranges, whoever made it; reading is the grammar of the pgm and ppm pages,
 //! fault by fault (`specs/Netpbm.antt`, `specs/Faults.antt`); what is written of a frame is one spelling of it
 //! (`specs/Canonical.antt`); `Presets` are the formulas of T.87 (A.2.1, C.2.4.1), by default, explicit, or chosen in
-//! part by a `Tuning`. Bytes come by a `Feed` and go by an `Outlet`, which count the calls that failed.
+//! part by a `Tuning`. Bytes come by a `Feed` and go by an `Outlet`, which count the calls that failed. How readers,
+//! writers and frames are seen as what these definitions speak of is in `specs/View`.
 //!
 //! ```
 //! let mut reader = Counted::new(BufReader::new(alloc, file)?);

@@ -45,7 +45,7 @@ pub enum NetpbmFault {
     /// A read failed.
     #[error("read failed")]
     Io,
-    /// The room for the raster was refused.
+    /// The room for the raster was refused, when exactly the header had been read.
     #[error("no memory")]
     NoMemory,
 }

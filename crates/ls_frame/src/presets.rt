@@ -231,7 +231,7 @@ fn bits_up_to(greatest: u16) -> u32
     u16::BITS - greatest.leading_zeros()
 }
 
-/// `value`, or `low` where `value` is outside of `low` to `maxval`.
+/// `value`, or `low` if `value` is outside of `low` to `maxval` (C.2.4.1.1.1).
 fn clamped_threshold(value: u16, low: u16, maxval: u16) -> u16
     ensures { result ≡ clamped_threshold value low maxval }
 {

@@ -34,7 +34,7 @@ impl Tuning {
     }
 }
 
-/// What was chosen, or the default where that is 0.
+/// What was chosen, or the default if that is 0.
 fn or_default(chosen: u16, default: u16) -> u16
     ensures { result ≡ or_default chosen default }
 {

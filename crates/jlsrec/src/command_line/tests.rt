@@ -2,7 +2,7 @@ use super::*;
 use crate::testing::{Memory, check, words_of};
 use std::process::Abort;
 
-/// The words, or nothing where memory may be refused and was.
+/// The words, or nothing if memory may be refused and was.
 fn fixture(rt: &impl Abort, alloc: Global, memory: Memory, line: &[&str]) -> Option<Vec<String>> {
     let words = words_of(alloc, line).ok();
     let may_lack = words.is_some() || memory == Memory::Refusable;
@@ -10,7 +10,7 @@ fn fixture(rt: &impl Abort, alloc: Global, memory: Memory, line: &[&str]) -> Opt
     words
 }
 
-/// That memory was refused where it may be.
+/// That memory was refused, and may be.
 fn check_refusal(rt: &impl Abort, memory: Memory, error: &Error) {
     check(rt, "an error", error.kind() == ErrorKind::OutOfMemory);
     check(rt, "no memory", memory == Memory::Refusable);

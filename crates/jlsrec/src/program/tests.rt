@@ -8,7 +8,7 @@ use std::io::Write;
 use std::process::Abort;
 
 /// A status, and what was written to output and to errors.
-type Ending<'a> = (u8, &'a [u8], &'a [u8]);
+type Ending<'a, 'b> = (u8, &'a [u8], &'b [u8]);
 
 const FAILED_OUTPUT: &[u8] = b"jlsrec: output failed\n";
 
@@ -32,7 +32,13 @@ fn run_words<R: Files + Abort + AllocGlobal>(
 
 /// That a run ended so. Or, if memory may be refused, that it failed, says so, and wrote a part of
 /// the output.
-fn check_ending(rt: &impl Abort, memory: Memory, got: Ending<'_>, want: Ending<'_>, case: &str) {
+fn check_ending(
+    rt: &impl Abort,
+    memory: Memory,
+    got: Ending<'_, '_>,
+    want: Ending<'_, '_>,
+    case: &str,
+) {
     let (status, output, errors) = got;
     if memory == Memory::Refusable && errors.ends_with(b"no memory\n") {
         check_status(rt, case, status, 1);
@@ -51,7 +57,7 @@ fn check_file<R: Files + Abort + AllocGlobal>(
     memory: Memory,
     words: [&str; 2],
     mishap: Mishap,
-    want: Ending<'_>,
+    want: Ending<'_, '_>,
 ) {
     let mishaps = (mishap, Mishap::Nothing);
     let Some((status, output, errors)) = run_words(rt, memory, &words, mishaps) else {
@@ -68,7 +74,7 @@ fn check_film<R: Files + Abort + AllocGlobal>(
     words: [&str; 2],
     film: &[u8],
     mishap: Mishap,
-    want: Ending<'_>,
+    want: Ending<'_, '_>,
 ) {
     let [_, file] = words;
     if fs::write(rt, file, film).is_ok() {
@@ -86,7 +92,7 @@ fn said(rt: &impl Abort, file: &str, text: &str) -> Sink {
     errors
 }
 
-/// The same where the command is to fail with this text, and with this output before.
+/// The same of a command that is to fail with this text, and with this output before.
 fn check_fault<R: Files + Abort + AllocGlobal>(
     rt: &R,
     memory: Memory,
@@ -105,6 +111,18 @@ fn check_fault<R: Files + Abort + AllocGlobal>(
         mishap,
         (1, output, errors.written()),
     );
+}
+
+/// That a command fails with this text where there is no film to read.
+fn check_unread<R: Files + Abort + AllocGlobal>(
+    rt: &R,
+    memory: Memory,
+    words: [&str; 2],
+    text: &str,
+) {
+    let errors = said(rt, words[1], text);
+    let want = (1, b"".as_slice(), errors.written());
+    check_file(rt, memory, words, Mishap::Nothing, want);
 }
 
 /// Films whose first frame is bad.
@@ -139,11 +157,8 @@ fn check_command<R: Files + Abort + AllocGlobal>(
     check_fault(rt, memory, words, &endless_header(), nothing, b"", long);
     let second = "frame 1: sample too large";
     check_fault(rt, memory, words, BAD_SECOND_FRAME, nothing, first, second);
-    let unopened = said(rt, words[1], "can't open");
-    check_file(rt, memory, words, nothing, (1, b"", unopened.written()));
-    let unread = said(rt, ".", "frame 0: read failed");
-    let folder = [words[0], "."];
-    check_file(rt, memory, folder, nothing, (1, b"", unread.written()));
+    check_unread(rt, memory, words, "can't open");
+    check_unread(rt, memory, [words[0], "."], "frame 0: read failed");
 }
 
 /// A listing goes by way of a buffer, so that a write fails when that is flushed.
@@ -224,7 +239,7 @@ const ANSWERED: [(&[&str], u8); 16] = [
 ];
 
 /// That this is a usage fault, or what was asked for.
-fn check_answer(rt: &impl Abort, memory: Memory, got: Ending<'_>, want: u8) {
+fn check_answer(rt: &impl Abort, memory: Memory, got: Ending<'_, '_>, want: u8) {
     let (status, output, errors) = got;
     if memory == Memory::Refusable && status == 1 {
         check_bytes(rt, "no memory", output, b"");

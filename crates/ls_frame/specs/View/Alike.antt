@@ -1,4 +1,4 @@
--- Two frames are `==` exactly where their pictures are equal. The proof stands here since the language takes the law that
+-- Two frames are `==` exactly if their pictures are equal. The proof stands here since the language takes the law that
 -- an `impl` of `PartialEq` owes from specs/ alone.
 use Rattle.std.specs.Prelude.{◌≡◌, true, refl, Decides}
 use Rattle.std.specs.Cmp.{IsPartialEquivalence, first_so, second_so, decided, partial_equiv_from_equiv}

@@ -6,7 +6,7 @@ use Rattle.ls_frame.specs.declared.device.Counted.{Counted}
 abbrev pub risen : ℕ → ℕ
 risen count = min (count + 1) (2 ^ 64 - 1)
 
--- the count after a call: risen where the call failed, else as it was
+-- the count after a call: risen if the call failed, else as it was
 abbrev pub count_after : Bool → ℕ → ℕ
 count_after failed count = if failed then risen count else count
 

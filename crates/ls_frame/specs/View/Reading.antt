@@ -22,7 +22,7 @@ abbrev pub ◌>>=◌ : {A B : Type 0} → Result A NetpbmFault → (A → Result
 abbrev pub Step : Type 0 → Type 0
 Step X = Result (X × ℕ × List ℕ) NetpbmFault
 
--- the fault where a test fails
+-- the fault if a test fails
 abbrev pub wanted : Bool → NetpbmFault → Result (Unit {0}) NetpbmFault
 wanted true fault = Ok tt
 wanted false fault = Err fault
@@ -46,7 +46,7 @@ digits_at n (suc room) (c ∷ bytes) =
     if is_digit c then digits_at (with_digit n c) room bytes
     else (if is_white c then Ok (n, room, bytes) else Err BadHeader)
 
--- the rest of a gap, in a comment where it is open, and the digit after it
+-- the rest of a gap, in a comment if one is open, and the digit after it
 unfoldable pub gap_at : Bool → ℕ → List ℕ → Step ℕ
 gap_at in_comment zero bytes = Err HeaderTooLong
 gap_at in_comment (suc room) [] = Err Truncated

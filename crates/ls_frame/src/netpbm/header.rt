@@ -129,7 +129,7 @@ fn read_number<R: Feed>(reader: &mut R, room: &mut u32) -> Result<u32, NetpbmFau
     read_digits(reader, room, u32::from(digit - b'0'))
 }
 
-/// The number after the rest of a gap, and the white space character after it; `fault` where it
+/// The number after the rest of a gap, and the white space character after it; `fault` if it
 /// isn't 1 to 65535.
 fn read_in_range<R: Feed>(
     reader: &mut R,

@@ -120,8 +120,8 @@ fn feed_after<R: Feed>(
     }
 }
 
-/// Brings the byte of a sample begun, where the `filled` bytes end in one, to the front of `piece`, and
-/// says how many there are.
+/// Brings the byte of a sample begun, if the `filled` bytes end in one, to the front of `piece`, and says how
+/// many there are.
 fn keep_begun(piece: &mut [u8], wide: bool, filled: usize) -> usize
     requires some { 0 < filled }
     requires within { filled ≤ length piece.old }

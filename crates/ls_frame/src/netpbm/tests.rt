@@ -12,7 +12,7 @@ use std::process::Abort;
 /// Kind, width, height, maxval, samples.
 type Parts<'a> = (Kind, u16, u16, u16, &'a [u16]);
 
-/// Where memory may be refused, the want of it is an answer too.
+/// If memory may be refused, the want of it is an answer too.
 #[derive(Clone, Copy, Debug, PartialEq, Eq)]
 enum Memory {
     Ample,

@@ -18,7 +18,7 @@ const PIECE: usize = 8192;
 
 /// Writes the canonical text of a frame: magic, LF, width, blank, height, LF, maxval, LF, raster.
 ///
-/// It takes no memory.
+/// It allocates nothing. On a fault exactly the first `written` bytes of the text went out.
 pub fn write_frame<W: Outlet>(writer: &mut W, frame: &Frame) -> Result<(), WriteFault>
     ensures ok { OnOk result (Appends (W.contents writer.old) (W.contents writer.new) (canonical frame.now)) }
     ensures fault { IfErr result

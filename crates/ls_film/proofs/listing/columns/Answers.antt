@@ -3,7 +3,7 @@ use Rattle.ls_frame.specs.Parameters.{Parameters, default_parameters, bpp_of, li
 use Rattle.ls_film.specs.Listing.{columns}
 use Rattle.ls_film.proofs.listing.columns.Goals as goal
 
--- the list is equal where each of its numbers is
+-- lists of equal numbers are equal
 nine : (a b c d e f g h i a' b' c' d' e' f' g' h' i' : ℕ) → a ≡ a' → b ≡ b' → c ≡ c' → d ≡ d' → e ≡ e' → f ≡ f' → g ≡ g' → h ≡ h' → i ≡ i'
     → ◌≡◌ {A = List ℕ} (a ∷ b ∷ c ∷ d ∷ e ∷ f ∷ g ∷ h ∷ i ∷ []) (a' ∷ b' ∷ c' ∷ d' ∷ e' ∷ f' ∷ g' ∷ h' ∷ i' ∷ [])
 nine a b c d e f g h i a' b' c' d' e' f' g' h' i' pa pb pc pd pe pf pg ph pi = cc
