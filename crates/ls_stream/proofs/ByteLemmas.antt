@@ -1,13 +1,12 @@
 -- What is written of a frame are bytes.
-use Rattle.std.proofs.Common.{◌≡◌, ℕ, zero, suc, ◌+◌, ◌*◌, ◌/◌, ◌%◌, ◌^◌, ◌<◌, ◌≤◌, ◌++◌, [], ◌∷◌, Bool, true, false, cond, List, length, map, flat_map, inr, refl, sym, subst, arith}
-use Rattle.std.specs.List.{range_with_len, AllByRecursion}
+use Rattle.std.proofs.Common.{ℕ, zero, suc, ◌+◌, ◌^◌, ◌<◌, ◌≤◌, ◌++◌, [], ◌∷◌, Bool, true, false, cond, List, length, map, flat_map, inr, refl, sym, subst, arith}
+use Rattle.std.specs.List.{range_with_len}
 use Rattle.ls_frame.specs.declared.frame.Kind.{Kind}
 use Rattle.ls_frame.specs.declared.frame.Kind.TheVariants.{Gray, Color}
 use Rattle.ls_frame.specs.Picture.{Picture, IsFrame, components}
-use Rattle.ls_frame.specs.Parameters.{Parameters, IsLegal, bpp_of, ceil_log2}
+use Rattle.ls_frame.specs.Parameters.{Parameters, bpp_of}
 use Rattle.ls_frame.proofs.ExponentLemmas.{ceil_log2-least}
 use Rattle.ls_bits.specs.Bits.{AreBytes, two_bytes}
-use Rattle.ls_bits.specs.Stuffing.{stuff}
 use Rattle.ls_bits.proofs.StuffingLemmas.{groups-bytes}
 use Rattle.ls_stream.specs.declared.marker.Marker.TheVariants.{StartOfImage, EndOfImage, StartOfFrame}
 use Rattle.ls_stream.specs.Markers.{marker}

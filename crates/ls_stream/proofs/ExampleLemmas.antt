@@ -3,7 +3,7 @@ use Rattle.std.proofs.Common.{◌≡◌, ℕ, ◌<◌, ◌≤◌, ◌++◌, Bool
 use Rattle.std.specs.Prelude.{◌&&◌, Ok}
 use Rattle.std.proofs.lemmas.Bool.{ltb-true, and_parts}
 use Rattle.std.specs.List.{AllByRecursion}
-use Rattle.ls_frame.specs.Picture.{Picture, IsFrame}
+use Rattle.ls_frame.specs.Picture.{IsFrame}
 use Rattle.ls_frame.specs.Parameters.{Parameters, default_parameters, explicit_parameters, ceil_log2}
 use Rattle.ls_frame.specs.Tuning.{tuned}
 use Rattle.ls_bits.specs.Bits.{AreBytes}
@@ -18,7 +18,7 @@ use Rattle.ls_stream.specs.declared.marker.Marker.TheVariants.{Application, Comm
 use Rattle.ls_stream.specs.Planes.{around, row_spans, spans, sample_event, sample_bits, interrupting_sample_event, interrupting_sample_bits, coded, plane_bits}
 use Rattle.ls_stream.specs.Components.{component_of, plane_of}
 use Rattle.ls_stream.specs.Segments.{header_contents, presets_contents, scan_contents, AreTwoByteFields}
-use Rattle.ls_stream.specs.Grammar.{Miscellaneous, skipped, presets, Scan, Codestream, codestream_bytes, MayPrecedeScans, MayFollowScan, IsHeaderOf, IsCoded, parameters_of, last_presets, no_presets, Says, Spells}
+use Rattle.ls_stream.specs.Grammar.{Miscellaneous, skipped, presets, Scan, Codestream, codestream_bytes, MayPrecedeScans, MayFollowScan, IsCoded, parameters_of, last_presets, no_presets, Says, Spells}
 use Rattle.ls_stream.specs.Examples.{lone_zero, lone_grammar, lone_data, lone_scan, lone_header, lone_reset, soi, comment_a, empty_app8, last_marker}
 
 all_bytes : List ℕ → Bool

@@ -14,7 +14,6 @@ use Rattle.ls_stream.specs.Planes.{plane_bits}
 use Rattle.ls_stream.specs.Components.{plane_of}
 use Rattle.ls_stream.specs.Grammar.{miscellaneous_bytes, scan_bytes, scans_bytes, codestream_bytes}
 use Rattle.ls_stream.specs.Layout.{written_component, written_header, written_presets, presets_length, written_scan, codestream, scan_of, scans_up_to, headers_length, scan_bound, bound}
-use Rattle.ls_stream.proofs.FrameLemmas.{some_components}
 
 range_push : (a count : ℕ) → range_with_len a (count + 1) ≡ range_with_len a count ++ (a + count) ∷ []
 range_push a zero = let same : a ≡ a + 0 = omega arith in ap (λ n. n ∷ []) same

@@ -1,8 +1,8 @@
 -- The spans of a row, from left to right.
-use Rattle.std.proofs.Common.{◌≡◌, ℕ, zero, suc, ◌+◌, ◌-◌, ◌<◌, ◌≤◌, Bool, true, false, cond, leb, ltb, [], ◌∷◌, ◌++◌, refl, sym, ◌∙◌, ap, eq-eqb, arith}
+use Rattle.std.proofs.Common.{◌≡◌, ℕ, zero, suc, ◌+◌, ◌-◌, ◌<◌, ◌≤◌, Bool, true, false, cond, leb, ltb, [], ◌∷◌, ◌++◌, refl, sym, ◌∙◌, ap, arith}
 use Rattle.std.proofs.lemmas.Bool.{le-leb, lt-leb, cond-true, cond-false}
 use Rattle.ls_coding.specs.Contexts.{is_run}
-use Rattle.ls_stream.specs.Planes.{Plane, at, around, left, equal_from, run_length, Span, sample_span, run_span, span_columns, cut, row_spans, row_from, rows_from}
+use Rattle.ls_stream.specs.Planes.{Plane, around, run_length, Span, sample_span, run_span, cut, row_spans, row_from, rows_from}
 
 -- ---- the samples of a run
 

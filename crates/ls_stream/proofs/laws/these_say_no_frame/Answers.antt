@@ -1,4 +1,4 @@
-use Rattle.std.proofs.Common.{◌≡◌, ◌++◌, length, length-append, refl, ap, arith}
+use Rattle.std.proofs.Common.{length, length-append, refl, ap, arith}
 use Rattle.std.proofs.lemmas.Bool.{false≢true}
 use Rattle.ls_stream.specs.Planes.{plane_bits}
 use Rattle.ls_stream.proofs.laws.these_say_no_frame.Goals as goal
