@@ -1,5 +1,5 @@
 -- What an engine's clauses say when reader and writer are in memory.
-use Rattle.std.proofs.Common.{◌≡◌, ℕ, Bool, true, false, inl, inr, List, [], ◌∷◌, ◌++◌, Option, Some, Result, Ok, Err, IfErr, IsTrue, refl, sym, ap, ◌∙◌, arith, append_assoc}
+use Rattle.std.proofs.Common.{◌≡◌, ℕ, Bool, true, false, inl, inr, List, [], ◌∷◌, ◌++◌, Option, Some, Result, Ok, Err, IfErr, IsTrue, refl, ap, ◌∙◌, arith, append_assoc}
 use Rattle.ls_frame.specs.declared.netpbm.NetpbmFault.{NetpbmFault}
 use Rattle.ls_frame.specs.declared.netpbm.NetpbmFault.TheVariants as netpbm
 use Rattle.ls_frame.specs.Picture.{Picture}
@@ -12,7 +12,7 @@ use Rattle.ls_film.specs.View.Engine.{IsHeadingOrImage, Completes}
 use Rattle.ls_film.specs.declared.faults.FilmFault.{FilmFault}
 use Rattle.ls_film.specs.declared.faults.FilmFault.TheVariants.{Input, Output, NoMemory, TooMany}
 use Rattle.ls_film.specs.View.Stopping.{Stops, blames_reader, failed_reader}
-use Rattle.ls_film.specs.View.Memory.{IsTextOf, BeginsFilm, IsTextBefore, AnyBytes, StopsOver}
+use Rattle.ls_film.specs.View.Memory.{IsTextOf, BeginsFilm, AnyBytes, StopsOver}
 
 -- a count that stays at 0 says that no call failed
 no_failure : (failed : Bool) → 0 ≡ count_after failed 0 → failed ≡ false
