@@ -16,10 +16,11 @@ median neighbours =
 abbrev pub predicted : Parameters → Bool → ℤ → Neighbours → ℤ
 predicted p negative c neighbours = clamped (pos 0) (pos p.maxval) (pos (median neighbours) +ℤ signed negative c)
 
--- an error modulo RANGE (A.4.5): from -RANGE / 2 to (RANGE - 1) / 2, both rounded down in size
+-- an error with RANGE added if it is negative (A.4.5)
 abbrev pub nonnegative : ℕ → ℤ → ℤ
 nonnegative range e = if int_lt e (pos 0) then e +ℤ pos range else e
 
+-- an error modulo RANGE (A.4.5): from -RANGE / 2 to (RANGE - 1) / 2, both rounded down in size
 abbrev pub reduced : ℕ → ℤ → ℤ
 reduced range e = let residue = nonnegative range e in if int_le (pos ((range + 1) / 2)) residue then residue -ℤ pos range else residue
 

@@ -5,19 +5,19 @@ ghost use Rattle.ls_stream.specs.Markers.{code_of, is_application, marker_of};
 /// The markers that a reader of codestreams meets. Each is FF and a code.
 #[derive(Clone, Copy, Debug, PartialEq, Eq)]
 pub enum Marker {
-    /// SOI, D8.
+    /// SOI: code `0xD8`.
     StartOfImage,
-    /// EOI, D9.
+    /// EOI: code `0xD9`.
     EndOfImage,
-    /// SOS, DA.
+    /// SOS: code `0xDA`.
     StartOfScan,
-    /// SOF55, F7: the frame header of JPEG-LS.
+    /// SOF55, the frame header of JPEG-LS: code `0xF7`.
     StartOfFrame,
-    /// LSE, F8.
+    /// LSE: code `0xF8`.
     PresetParameters,
-    /// APP0 to APP15, by their codes E0 to EF.
+    /// APP0 to APP15, by their codes `0xE0` to `0xEF`.
     Application(u8),
-    /// COM, FE.
+    /// COM: code `0xFE`.
     Comment,
     /// Any other, by its code.
     Other(u8),

@@ -1,7 +1,7 @@
 -- What is known of a reader's bytes, and what it gave.
 use Rattle.std.specs.Prelude.{◌≡◌, ℕ, IsSome, List, [], ◌++◌, Option, unwrap_or}
 
--- A reader tells its bytes, as one over memory does and a file doesn't.
+-- The bytes of a reader are known, as those of one over memory are and those of a file aren't.
 abbrev pub Tells : Option (List ℕ) → Type 0
 Tells bytes = IsSome bytes
 
