@@ -40,7 +40,7 @@ fn check_ending(
     case: &str,
 ) {
     let (status, output, errors) = got;
-    if memory == Memory::Refusable && errors.ends_with(b"no memory\n") {
+    if memory == Memory::Refusable && is_memory_wanting(errors) {
         check_status(rt, case, status, 1);
         check(rt, case, want.1.starts_with(output));
         check(rt, case, errors.starts_with(b"jlsrec: "));
@@ -49,6 +49,11 @@ fn check_ending(
         check_bytes(rt, case, output, want.1);
         check_bytes(rt, case, errors, want.2);
     }
+}
+
+/// Whether memory was wanting, by what was said; that the output failed after that may be said too.
+fn is_memory_wanting(errors: &[u8]) -> bool {
+    errors.ends_with(b"no memory\n") || errors.ends_with(b"no memory\njlsrec: output failed\n")
 }
 
 /// Runs a command over a file, and compares.
