@@ -1,6 +1,10 @@
 // Compares codestreams with what CharLS makes of them, and of the same pictures.
 //
 //     charls FILM FILE [FILM FILE]..
+//     charls code FILM
+//
+// The second form compares nothing, but writes what CharLS makes of a film's images to standard output, joined: with its own
+// headers, and an LSE of its own where P is over 12.
 //
 // FILM is joined binary Netpbm images, and FILE the codestreams of its images, joined too. Prints a line for each
 // comparison that fails, and at the end how many passed and failed. Sections are those of T.87.
@@ -190,7 +194,7 @@ std::string decoding_fault(const Image &image, const Bytes &codestream) {
     return decoded == flattened(image) ? "" : "CharLS decodes other samples";
 }
 
-std::vector<Bytes> scans_by_charls(const Image &image) {
+Bytes coded_by_charls(const Image &image) {
     charls::jpegls_encoder encoder;
     encoder.frame_info({static_cast<uint32_t>(image.width), static_cast<uint32_t>(image.height), image.bits(),
                         static_cast<int32_t>(image.planes.size())});
@@ -200,8 +204,12 @@ std::vector<Bytes> scans_by_charls(const Image &image) {
     Bytes coded(image.planes.size() * image.width * image.height * 10 + 4096);
     encoder.destination(coded);
     coded.resize(encoder.encode(flattened(image)));
+    return coded;
+}
+
+std::vector<Bytes> scans_by_charls(const Image &image) {
     size_t at = 0;
-    return codestream_at(coded, at).scans;
+    return codestream_at(coded_by_charls(image), at).scans;
 }
 
 // Why CharLS's scans aren't those of the codestream, or nothing.
@@ -247,6 +255,15 @@ public:
     }
 };
 
+void code_film(const char *name) {
+    for (const Image &image : images_of(read_file(name))) {
+        if (!image.has_greatest_maxval()) refuse("the maxval isn't 2^P - 1");
+        const Bytes coded = coded_by_charls(image);
+        if (std::fwrite(coded.data(), 1, coded.size(), stdout) != coded.size()) refuse("can't write");
+    }
+    if (std::fflush(stdout) != 0) refuse("can't write");
+}
+
 void compare_film(Tally &tally, const char *film_name, const char *file_name) {
     std::vector<Image> images;
     std::vector<Codestream> streams;
@@ -272,8 +289,17 @@ void compare_film(Tally &tally, const char *film_name, const char *file_name) {
 
 int main(int argc, char **argv) {
     if (argc < 3 || argc % 2 == 0) {
-        std::fprintf(stderr, "charls FILM FILE [FILM FILE]..\n");
+        std::fprintf(stderr, "charls FILM FILE [FILM FILE]..\ncharls code FILM\n");
         return 2;
+    }
+    if (argc == 3 && std::string(argv[1]) == "code") {
+        try {
+            code_film(argv[2]);
+            return 0;
+        } catch (const std::exception &error) {
+            std::fprintf(stderr, "charls: %s: %s\n", argv[2], error.what());
+            return 1;
+        }
     }
     Tally tally;
     for (int at = 1; at + 1 < argc; at += 2) compare_film(tally, argv[at], argv[at + 1]);

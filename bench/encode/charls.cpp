@@ -2,13 +2,14 @@
 // interleaving.
 //
 //     charls TIMES FILM..
+//     charls code FILM
 //
 // FILM is joined binary Netpbm images. Each is coded TIMES times, into memory that is there. Prints to standard output
 // of each film its name and how many bytes the codestreams of its images have, and to standard error how many
 // nanoseconds a sample took, and how many bits it has on average. In colour a pixel has three samples.
 //
 // Before the clock starts, each component's samples stand one behind the other in the machine's own order of bytes, as
-// CharLS wants them.
+// CharLS wants them. The second form writes the codestreams of a film's images to standard output, joined, and measures nothing.
 #include <charls/charls.h>
 
 #include <chrono>
@@ -98,6 +99,18 @@ size_t encode(const Image &image, Bytes &room) {
     return encoder.encode(image.samples);
 }
 
+// A word has 64 bits at most (A.2.1), and a stuffed bit follows after 15 others at the soonest. All of the room is written to.
+Bytes room_for(const Image &image) { return Bytes(image.count() * 9 + 4096, 1); }
+
+void code(const char *name) {
+    for (const Image &image : read_film(name)) {
+        Bytes room = room_for(image);
+        const size_t size = encode(image, room);
+        if (std::fwrite(room.data(), 1, size, stdout) != size) throw std::runtime_error("can't write");
+    }
+    if (std::fflush(stdout) != 0) throw std::runtime_error("can't write");
+}
+
 void measure(const char *name, size_t times) {
     using Clock = std::chrono::steady_clock;
     const std::vector<Image> images = read_film(name);
@@ -105,9 +118,7 @@ void measure(const char *name, size_t times) {
     size_t samples = 0, bytes = 0;
     for (const Image &image : images) {
         samples += image.count();
-        // A word has 64 bits at most (A.2.1), and a stuffed bit follows after 15 others at the soonest. All of the room
-        // is written to before the clock starts.
-        Bytes room(image.count() * 9 + 4096, 1);
+        Bytes room = room_for(image);
         size_t size = 0;
         const auto start = Clock::now();
         for (size_t time = 0; time < times; ++time) size = encode(image, room);
@@ -125,14 +136,16 @@ void measure(const char *name, size_t times) {
 } // namespace
 
 int main(int argc, char **argv) {
+    const bool is_to_code = argc == 3 && std::string(argv[1]) == "code";
     const size_t times = argc > 2 ? std::strtoull(argv[1], nullptr, 10) : 0;
-    if (times == 0) {
-        std::fprintf(stderr, "charls TIMES FILM..\n");
+    if (times == 0 && !is_to_code) {
+        std::fprintf(stderr, "charls TIMES FILM..\ncharls code FILM\n");
         return 2;
     }
     for (int at = 2; at < argc; ++at) {
         try {
-            measure(argv[at], times);
+            if (is_to_code) code(argv[at]);
+            else measure(argv[at], times);
         } catch (const std::exception &error) {
             std::fprintf(stderr, "charls: %s: %s\n", argv[at], error.what());
             return 1;

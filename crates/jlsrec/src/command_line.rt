@@ -1,15 +1,29 @@
 //! The words of the command line, read by `clap`.
 use clap::error::ErrorKind;
-use clap::{Arg, Command, Error};
+use clap::{Arg, ArgMatches, Command, Error, value_parser};
 use std::alloc::{AllocError, Global};
 
 /// What the words ask for.
 #[derive(Clone, Copy, Debug, PartialEq, Eq)]
 pub enum Request<'a> {
     /// The lines of a film's frames.
-    List { file: &'a str },
+    List {
+        file: &'a str,
+    },
     /// The codestreams of a film's frames.
-    Code { file: &'a str },
+    Code {
+        file: &'a str,
+    },
+    /// The frames of a recording.
+    Play {
+        file: &'a str,
+    },
+    /// The replies of a queue to the steps of a file.
+    Replay {
+        sources: u8,
+        capacity: u32,
+        file: &'a str,
+    },
 }
 
 const LIST_HELP: &str = "\
@@ -40,34 +54,113 @@ sample: 3, 7, 15, .., 255, 1023, 4095, .., 65535; ffmpeg reads few others. Codes
 maxvals are right by T.87 all the same. If one of these tools is to read them, first scale the film
 to such a maxval, as with Netpbm's pamdepth.";
 
+const PLAY_HELP: &str = "\
+Writes the frames of FILE to standard output: of each codestream of JPEG-LS (ITU-T T.87) its frame as a
+binary Netpbm image, PGM or PPM.
+
+FILE is codestreams that follow one another with nothing between, as `code` writes them. The images
+follow one another likewise, and each is written before the next codestream is read. If a codestream
+is at fault, the images of exactly the frames before it are written.
+
+  jlsrec code film.pgm > film.jls
+  jlsrec play film.jls | cmp - film.pgm
+
+The film comes back byte for byte if its headers are as play writes them: P5 or P6, width and height,
+and maxval, each on a line of its own, with no comment. Other programs take the images from a pipe, as
+in `jlsrec play film.jls | ffmpeg -f image2pipe -i - film.mkv`.
+
+A codestream of another program is read if it is lossless, and each component has a scan of its own.";
+
+const RECORDING_HELP: &str = "\
+The recording to read: lossless codestreams of JPEG-LS one after the other";
+
+const REPLAY_HELP: &str = "\
+Writes the replies of a bounded queue to the steps of FILE to standard output, a line a step.
+
+The lines of FILE, in which S is a source (0 to 255) and ITEM a number (0 to 2^64 - 1):
+  put S ITEM   source S puts ITEM
+  close S      source S closes
+  take         the job that was held longest is taken
+There are one or more blanks between words. Blanks at either end of a line, and lines without words,
+are skipped. Lines end with LF, which the last one may lack. FILE has at most 16,777,216 bytes.
+
+The lines that are written:
+  taken N        the item was taken in; it is number N of its source
+  closed         it wasn't: its source was closed before
+  spent          it wasn't: its source has no number left
+  full           it wasn't: as many jobs are held as the capacity
+  now N          the source is closed from now on; N of its items were taken in
+  already N      the source was closed before
+  job S N ITEM   the job that was held longest: item number N of source S
+  empty          no job is held, and some source is open
+  done           no job is held, and all sources are closed
+
+Nothing is written if a line is no step or a step names a source that isn't there.
+
+  $ printf 'put 0 7\\nput 1 8\\nclose 0\\ntake\\n' > steps.txt
+  $ jlsrec replay --sources 2 --capacity 1 steps.txt
+  taken 0
+  full
+  now 1
+  job 0 0 7";
+
+const STEPS_HELP: &str = "The steps file to read";
+
 const FILM_HELP: &str = "\
 The film to read: binary Netpbm images (PGM, PPM; 1 to 16 bits a sample) one after the other";
 
 /// The program's commands, options and help.
 pub fn command<'a>(alloc: Global) -> Result<Command<'a>, AllocError> {
-    let list = film_command(alloc, "list", "Lists the frames of a film", LIST_HELP)?;
-    let code = film_command(alloc, "code", "Codes the frames of a film", CODE_HELP)?;
+    let list = "Lists the frames of a film";
+    let code = "Codes the frames of a film";
+    let play = "Plays a recording";
     Command::new(alloc, "jlsrec")
         .version("0.1.0")
         .about("A lossless recorder of image sequences: JPEG-LS, ITU-T T.87")
         .bin_name("jlsrec")?
         .no_binary_name(true)
         .subcommand_required(true)
-        .subcommand(list)?
-        .subcommand(code)
+        .subcommand(file_command(alloc, "list", list, LIST_HELP, FILM_HELP)?)?
+        .subcommand(file_command(alloc, "code", code, CODE_HELP, FILM_HELP)?)?
+        .subcommand(file_command(alloc, "play", play, PLAY_HELP, RECORDING_HELP)?)?
+        .subcommand(replay_command(alloc)?)
 }
 
-/// A command that reads a film.
-fn film_command<'a>(
+/// A command that reads a file.
+fn file_command<'a>(
     alloc: Global,
     name: &'a str,
     about: &'a str,
     help: &'a str,
+    file_help: &'a str,
 ) -> Result<Command<'a>, AllocError> {
-    let file = Arg::new(alloc, "FILE").required(true).help(FILM_HELP);
+    let file = Arg::new(alloc, "FILE").required(true).help(file_help);
     Command::new(alloc, name)
         .about(about)
         .long_about(help)
+        .arg(file)
+}
+
+/// The command that replays steps.
+fn replay_command<'a>(alloc: Global) -> Result<Command<'a>, AllocError> {
+    let sources = Arg::new(alloc, "sources")
+        .long("sources")
+        .value_name("N")
+        .required(true)
+        .value_parser(value_parser!(u8))
+        .help("How many sources the queue has, 1 to 16");
+    let capacity = Arg::new(alloc, "capacity")
+        .long("capacity")
+        .value_name("N")
+        .required(true)
+        .value_parser(value_parser!(u32))
+        .help("How many jobs it may hold, 1 to 256");
+    let file = Arg::new(alloc, "FILE").required(true).help(STEPS_HELP);
+    Command::new(alloc, "replay")
+        .about("Replays the steps of a queue")
+        .long_about(REPLAY_HELP)
+        .arg(sources)?
+        .arg(capacity)?
         .arg(file)
 }
 
@@ -79,12 +172,23 @@ pub fn read_words<'a>(alloc: Global, words: &'a [String]) -> Result<Request<'a>,
     let request = match matches.subcommand() {
         Some(("list", list)) => list.get_str("FILE").map(|file| Request::List { file }),
         Some(("code", code)) => code.get_str("FILE").map(|file| Request::Code { file }),
+        Some(("play", play)) => play.get_str("FILE").map(|file| Request::Play { file }),
+        Some(("replay", replay)) => replay_request(replay),
         _ => None,
     };
     match request {
         Some(request) => Ok(request),
         None => Err(usage_fault(alloc, "a command is wanted")?),
     }
+}
+
+/// What the words of `replay` ask for, which `clap` has looked at.
+fn replay_request<'a>(words: &ArgMatches<'a>) -> Option<Request<'a>> {
+    Some(Request::Replay {
+        sources: words.get_one("sources")?,
+        capacity: words.get_one("capacity")?,
+        file: words.get_str("FILE")?,
+    })
 }
 
 /// A usage fault that `clap` doesn't find by itself.

@@ -1,13 +1,17 @@
 //! The whole program over its words, its files and its two streams.
 use crate::command_line::{Request, read_words, usage_fault};
+use crate::replies::print_replies;
+use crate::steps_file::{read_steps, read_text};
 use clap::Error;
 use clap::error::ErrorKind;
-use ls_film::{FilmFault, code_film, list_film};
-use ls_frame::{Counted, Outlet, write_bytes};
+use ls_film::{code_film, list_film};
+use ls_frame::{Buffered, Counted, Feed, Outlet, write_bytes};
+use ls_queue::{QueueFault, Reply, replay};
+use ls_recorder::{PlayFault, play};
 use std::alloc::Global;
 use std::fmt::Display;
 use std::fs::File;
-use std::io::{BufReader, BufWriter};
+use std::io::BufWriter;
 use std::rt::{Env, Files};
 use std::{env, io};
 
@@ -40,7 +44,7 @@ where
 /// The program over the words after its name: writes to `output` and `errors` what goes to standard
 /// output and standard error, and answers the status.
 ///
-/// `code` writes each codestream to `output` itself, so that what was written is out. `list` writes by way of a
+/// `code` writes each codestream to `output` itself, and `play` each image, so that what was written is out. `list` and `replay` write by way of a
 /// buffer, which is flushed at the end.
 pub fn run<R, W, E>(rt: &R, words: &[String], output: &mut W, errors: &mut E) -> u8
 where
@@ -52,8 +56,21 @@ where
     match read_words(alloc, words) {
         Ok(Request::List { file }) => list(rt, file, output, errors),
         Ok(Request::Code { file }) => {
-            read_film(rt, file, errors, |film| code_film(alloc, film, output))
+            read_file(rt, file, errors, |film| code_film(alloc, film, output))
         }
+        Ok(Request::Play { file }) => {
+            read_file(rt, file, errors, |recording| show(alloc, recording, output))
+        }
+        Ok(
+            Request::Replay {
+                sources,
+                capacity,
+                file,
+            },
+        ) => match replies_to(rt, sources, capacity, file, errors) {
+            Ok(replies) => write_replies(alloc, file, &replies, output, errors),
+            Err(status) => status,
+        },
         Err(error) => answer(alloc, &error, output, errors),
     }
 }
@@ -70,19 +87,32 @@ where
         return no_memory(alloc, errors);
     };
     let mut lines = Counted::new(buffered);
-    let status = read_film(rt, file, errors, |film| list_film(alloc, film, &mut lines));
+    let status = read_file(rt, file, errors, |film| list_film(alloc, film, &mut lines));
     let status = finish(alloc, status, &mut lines, errors);
     // A buffer that is dropped writes again what couldn't be written.
     let (_output, _unwritten) = lines.into_inner().into_parts();
     status
 }
 
-/// Opens a film, has an engine read it, says why either failed, and answers the status.
-fn read_film<R, E, F>(rt: &R, file: &str, errors: &mut E, engine: F) -> u8
+/// Plays a recording to a writer that is lent.
+fn show<R: Feed, W: Outlet>(
+    alloc: Global,
+    recording: &mut R,
+    output: &mut W,
+) -> Result<u64, PlayFault> {
+    match play(alloc, recording, output) {
+        Ok((frames, _, _)) => Ok(frames),
+        Err((fault, _, _)) => Err(fault),
+    }
+}
+
+/// Opens a file, has an engine read it, says why either failed, and answers the status.
+fn read_file<R, E, X, F>(rt: &R, file: &str, errors: &mut E, engine: F) -> u8
 where
     R: Files + AllocGlobal,
     E: Outlet,
-    F: FnOnce(&mut Counted<BufReader<R::File>>) -> Result<u64, FilmFault> + Drop,
+    X: Display + Drop,
+    F: FnOnce(&mut Counted<Buffered<R::File>>) -> Result<u64, X> + Drop,
     requires { F.IsAlwaysCallable engine }
 {
     let alloc = rt.alloc();
@@ -93,7 +123,7 @@ where
             return FAILED;
         }
     };
-    let Ok(buffered) = BufReader::new(alloc, opened) else {
+    let Ok(buffered) = Buffered::new(alloc, opened) else {
         say(alloc, errors, format_args!("{file}: no memory"));
         return FAILED;
     };
@@ -104,6 +134,87 @@ where
             FAILED
         }
     }
+}
+
+/// The replies to the steps of a file; or says why there are none, and gives the status. The file is read before the
+/// numbers are looked at.
+fn replies_to<R, E>(
+    rt: &R,
+    sources: u8,
+    capacity: u32,
+    file: &str,
+    errors: &mut E,
+) -> Result<Vec<Reply>, u8>
+where
+    R: Files + AllocGlobal,
+    E: Outlet,
+{
+    let alloc = rt.alloc();
+    let opened = match File::open(rt, file) {
+        Ok(opened) => opened,
+        Err(fault) => {
+            say_unopened(alloc, errors, file, &fault);
+            return Err(FAILED);
+        }
+    };
+    let text = match read_text(alloc, &mut Counted::new(opened)) {
+        Ok(text) => text,
+        Err(fault) => {
+            say(alloc, errors, format_args!("{file}: {fault}"));
+            return Err(FAILED);
+        }
+    };
+    let steps = match read_steps(alloc, &text) {
+        Ok(steps) => steps,
+        Err(fault) => {
+            say(alloc, errors, format_args!("{file}: {fault}"));
+            return Err(FAILED);
+        }
+    };
+    match replay(alloc, sources, capacity as usize, &steps) {
+        Ok(replies) => Ok(replies),
+        Err(QueueFault::Sources) => Err(misused(errors, b"jlsrec: sources\n")),
+        Err(QueueFault::Capacity) => Err(misused(errors, b"jlsrec: capacity\n")),
+        Err(fault) => {
+            say(alloc, errors, format_args!("{file}: {fault}"));
+            Err(FAILED)
+        }
+    }
+}
+
+/// Says a usage fault that `clap` doesn't know, for which it takes no memory.
+fn misused<E: Outlet>(errors: &mut E, line: &[u8]) -> u8 {
+    let _refused = write_bytes(errors, line);
+    USAGE
+}
+
+/// Writes the lines of replies by way of a buffer.
+fn write_replies<W, E>(
+    alloc: Global,
+    file: &str,
+    replies: &[Reply],
+    output: &mut W,
+    errors: &mut E,
+) -> u8
+where
+    W: Outlet,
+    E: Outlet,
+{
+    let Ok(buffered) = BufWriter::new(alloc, output) else {
+        return no_memory(alloc, errors);
+    };
+    let mut lines = Counted::new(buffered);
+    let status = match print_replies(&mut lines, replies) {
+        Ok(()) => DONE,
+        Err(fault) => {
+            say(alloc, errors, format_args!("{file}: {fault}"));
+            FAILED
+        }
+    };
+    let status = finish(alloc, status, &mut lines, errors);
+    // A buffer that is dropped writes again what couldn't be written.
+    let (_output, _unwritten) = lines.into_inner().into_parts();
+    status
 }
 
 /// Says why a file wasn't opened.

@@ -5,11 +5,10 @@ ghost use Rattle.ls_stream.specs.Layout.{bound};
 
 use crate::tell;
 use anyhow::{Context, Result, bail};
-use ls_frame::{Counted, Feed, Frame, Presets, next_frame};
+use ls_frame::{Buffered, Counted, Feed, Frame, Presets, next_frame};
 use ls_stream::{Lines, code_bound, encode_within};
 use std::alloc::{AllocError, Global};
 use std::fs::File;
-use std::io::BufReader;
 use std::rt::{Clock, Files};
 use std::time::{Duration, Instant};
 
@@ -41,7 +40,7 @@ pub fn measure<R: Files + Clock + Print + Eprint + AllocGlobal>(
 /// The frames of a file.
 fn read_film<R: Files + AllocGlobal>(rt: &R, name: &str) -> Result<Vec<Frame>> {
     let opened = File::open(rt, name).context(format_args!("{name} can't be opened"))?;
-    let mut reader = Counted::new(BufReader::new(rt.alloc(), opened)?);
+    let mut reader = Counted::new(Buffered::new(rt.alloc(), opened)?);
     frames_of(rt.alloc(), &mut reader).context(format_args!("{name} is no film"))
 }
 

@@ -1,14 +1,17 @@
-//! `ls_bench` measures, and does nothing else. Its first word says what:
+//! `ls_bench` measures. Its first word says what:
 //!
 //! - `ls_bench words [TIMES [WORDS]]`: code words, put into stuffed bytes and taken back (`words`).
 //! - `ls_bench events [TIMES [SIDE]]`: the samples of regular mode of a picture of SIDE lines, coded and accepted back
 //!   (`regular`).
 //! - `ls_bench frames TIMES FILM..`: the frames of films in Netpbm's binary forms, encoded whole (`frames`).
+//! - `ls_bench decode TIMES FILE..`: the codestreams of files, which stand one behind the other, decoded whole
+//!   (`codestreams`).
 //!
 //! What it prints to standard output is the same in each run; times go to standard error. `bench/` runs it beside its
 //! twins in C++.
 #![tactic(auto)]
 
+mod codestreams;
 mod events;
 mod frames;
 mod picture;
@@ -39,6 +42,7 @@ fn run<R: Env + Files + Clock + Print + Eprint + AllocGlobal>(rt: &R) -> Result<
             number(&words, 2, picture::USUAL_SIDE)?,
         ),
         Some("frames") => measure_films(rt, &words),
+        Some("decode") => measure_files(rt, &words),
         Some(other) => bail!("{other} can't be measured"),
         None => bail!("what is to be measured?"),
     }
@@ -52,6 +56,18 @@ fn measure_films<R: Files + Clock + Print + Eprint + AllocGlobal>(
     let times = number(words, 1, 1)?;
     for name in words.iter().skip(2) {
         frames::measure(rt, times, name)?;
+    }
+    Ok(())
+}
+
+/// Decodes each file that the words name from the third on.
+fn measure_files<R: Files + Clock + Print + Eprint + AllocGlobal>(
+    rt: &R,
+    words: &[String],
+) -> Result<()> {
+    let times = number(words, 1, 1)?;
+    for name in words.iter().skip(2) {
+        codestreams::measure(rt, times, name)?;
     }
     Ok(())
 }

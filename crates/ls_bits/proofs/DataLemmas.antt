@@ -37,6 +37,14 @@ pub data-more : (bytes : List ℕ) (len : ℕ) → len < length bytes → IsData
 data-more bytes len h so_far other =
     subst IsData (sym (take_more bytes len 0 h)) (data-append (take len bytes) (get_or bytes len 0 ∷ []) so_far (data-other (get_or bytes len 0) other))
 
+pub data-more_many : (bytes : List ℕ) (len count : ℕ) → len + count ≤ length bytes → IsData (take len bytes) → ((k : ℕ) → k < count → get_or bytes (len + k) 0 ≡ 255 → ⊥)
+    → IsData (take (len + count) bytes)
+data-more_many bytes len zero h so_far other = let same : len ≡ len + 0 = omega arith in subst (λ n. IsData (take n bytes)) same so_far
+data-more_many bytes len (suc count) h so_far other =
+    let same : len + count + 1 ≡ len + suc count = omega arith in
+    subst (λ n. IsData (take n bytes)) same
+    (data-more bytes (len + count) (omega arith) (data-more_many bytes len count (omega arith) so_far (λ k below. other k (omega arith))) (other count (omega arith)))
+
 pub data-more_pair : (bytes : List ℕ) (len : ℕ) → len + 1 < length bytes → IsData (take len bytes) → get_or bytes len 0 ≡ 255 → get_or bytes (len + 1) 0 < 128
     → IsData (take (len + 2) bytes)
 data-more_pair bytes len h so_far ff below =

@@ -43,7 +43,7 @@ zeros_alone zero (suc b) x e = cc
 zeros_alone (suc a) (suc b) x e = let rest : zeros a ++ true ∷ x ≡ zeros b = cc in zeros_alone a b x rest
 
 -- the same bits, the same low part
-same_low : (count a b : ℕ) (x y : List Bool) → bits_of count a ++ x ≡ bits_of count b ++ y → (a % 2 ^ count ≡ b % 2 ^ count) × (x ≡ y)
+pub same_low : (count a b : ℕ) (x y : List Bool) → bits_of count a ++ x ≡ bits_of count b ++ y → (a % 2 ^ count ≡ b % 2 ^ count) × (x ≡ y)
 same_low count a b x y e =
     let parts = append_split count (bits_of count a) (bits_of count b) x y (length-bits_of count a) (length-bits_of count b) e in
     (sym (number_of-bits_of count a) ∙ ap number_of parts.0 ∙ number_of-bits_of count b, parts.1)
@@ -227,6 +227,11 @@ pub short_too_large : (k glimit qbpp count low : ℕ) (bits left rest : List Boo
 short_too_large k glimit qbpp count low bits left rest less e f small large =
     let parts = short_parts k count low bits left rest e f small in
     too_large (count * 2 ^ k + low) large (omega (arith, parts.0)) (rest, parts.1)
+
+pub short_word-taken : (k glimit qbpp v : ℕ) (bits rest : List Bool) → v / 2 ^ k < escape_zeros glimit qbpp → v ≤ most_value qbpp → bits ≡ short_word k v ++ rest
+    → TakesWord k glimit qbpp bits v rest
+short_word-taken k glimit qbpp v bits rest less most e =
+    record { value = most; word = e ∙ ap (λ word. word ++ rest) (sym (code_word-small k glimit qbpp v less)) }
 
 escape_parts : (glimit qbpp count low : ℕ) (bits left rest : List Bool) → count ≡ escape_zeros glimit qbpp
     → bits ≡ zeros count ++ true ∷ left → left ≡ bits_of qbpp low ++ rest → bits ≡ escape_word glimit qbpp (low + 1) ++ rest

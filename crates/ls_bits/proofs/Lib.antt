@@ -5,5 +5,6 @@ pub mod GolombLaws
 pub mod GolombLemmas
 pub mod MaskLemmas
 pub mod PackingLemmas
+pub mod ShortWords
 pub mod StuffingLemmas
 pub mod WindowLemmas

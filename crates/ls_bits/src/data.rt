@@ -1,5 +1,5 @@
 //! The data at the front of bytes: what a scan's bits are stuffed into, up to the marker that ends it.
-ghost use Rattle.std.specs.Prelude.{◌≡◌, length, drop};
+ghost use Rattle.std.specs.Prelude.{◌≡◌, ◌+◌, ◌<◌, ◌≤◌, ℕ, IsTrue, length, drop, slice_index};
 ghost use Rattle.ls_bits.specs.Data.{DataAtFront, stop_at};
 
 /// Why data ends.
@@ -27,6 +27,10 @@ pub fn data_of(bytes: &[u8]) -> Data
 {
     let mut len = 0;
     while len < bytes.len() {
+        if has_eight_plain(bytes, len) {
+            len += 8;
+            continue;
+        }
         if bytes[len] != 0xff {
             len += 1;
         } else if len + 1 == bytes.len() {
@@ -47,6 +51,22 @@ pub fn data_of(bytes: &[u8]) -> Data
         len,
         stop: Stop::End,
     }
+}
+
+/// Whether eight bytes are there from a place on, and none of them is FF.
+fn has_eight_plain(bytes: &[u8], place: usize) -> bool
+    requires { place ≤ length bytes.now }
+    ensures whole { IsTrue result → place + 8 ≤ length bytes.now }
+    ensures plain { IsTrue result → (k : ℕ) → k < 8 → slice_index bytes.now (place + k) ≡ 255 → ⊥ }
+{
+    if bytes.len() - place < 8 {
+        return false;
+    }
+    let mut plain = true;
+    for k in 0..8 {
+        plain &= bytes[place + k] != 0xff;
+    }
+    plain
 }
 
 #[cfg(test)]

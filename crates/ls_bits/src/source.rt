@@ -5,7 +5,7 @@ ghost use Rattle.ls_bits.specs.Stuffing.{unstuff};
 ghost use Rattle.ls_bits.specs.Data.{IsData};
 ghost use Rattle.ls_bits.specs.Golomb.{IsGolomb, most_value, TakesWord, GolombFault};
 
-use crate::window::Window;
+use crate::window::{Window, joined};
 use std::marker::Model;
 use thiserror::Error;
 
@@ -90,7 +90,22 @@ impl<'a> BitSource<'a> {
         self.read_golomb(k, glimit, qbpp)
     }
 
+    #[inline(always)]
     fn read_golomb(&mut self, k: u32, glimit: u32, qbpp: u32) -> Result<u32, CodeFault>
+        requires { IsGolomb k glimit qbpp }
+        ensures ok { IfOk result (λ v. TakesWord k glimit qbpp self.old v self.new) }
+        ensures fault { IfErr result (λ fault. GolombFault k glimit qbpp self.old fault) }
+    {
+        if let Some(value) = self.window.take_short(k, glimit - qbpp - 1, most(qbpp)) {
+            return Ok(value);
+        }
+        self.read_any_golomb(k, glimit, qbpp)
+    }
+
+    /// As `read_golomb`, whatever is in front.
+    #[cold]
+    #[inline(never)]
+    fn read_any_golomb(&mut self, k: u32, glimit: u32, qbpp: u32) -> Result<u32, CodeFault>
         requires { IsGolomb k glimit qbpp }
         ensures ok { IfOk result (λ v. TakesWord k glimit qbpp self.old v self.new) }
         ensures fault { IfErr result (λ fault. GolombFault k glimit qbpp self.old fault) }
@@ -112,16 +127,6 @@ impl<'a> BitSource<'a> {
             Ok(value)
         }
     }
-}
-
-/// A number of `high` and the `count` bits of `low` after it.
-fn joined(high: u32, low: u32, count: u32) -> u32
-    requires high { high < 64 }
-    requires count { count ≤ 17 }
-    requires low { low < 2 ^ count }
-    ensures { result ≡ high * 2 ^ count + low }
-{
-    (high << count) | low
 }
 
 /// The greatest value that has a code word.

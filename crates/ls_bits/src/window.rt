@@ -1,8 +1,9 @@
 //! What a source holds: a word of bits, and after them the bytes that aren't taken in yet.
-ghost use Rattle.std.specs.Prelude.{◌≡◌, ◌+◌, ◌-◌, ◌*◌, ◌/◌, ◌%◌, ◌^◌, ◌<◌, ◌≤◌, ◌⊎◌, [], ◌∷◌, ◌++◌, true, length, min, IfOk, IfErr};
+ghost use Rattle.std.specs.Prelude.{◌≡◌, ◌+◌, ◌-◌, ◌*◌, ◌/◌, ◌%◌, ◌^◌, ◌<◌, ◌≤◌, ◌⊎◌, [], ◌∷◌, ◌++◌, true, length, min, IfOk, IfErr, IfSome, IfNone};
 ghost use Rattle.ls_bits.specs.Bits.{bits_of, zeros as zero_bits, BeginsWith};
 ghost use Rattle.ls_bits.specs.Stuffing.{unstuff};
 ghost use Rattle.ls_bits.specs.Data.{IsData};
+ghost use Rattle.ls_bits.specs.Golomb.{short_word};
 ghost use Rattle.ls_bits.specs.View.Taking.{ZerosFault, LeadingZeros};
 
 use crate::packer::byte_bits;
@@ -11,6 +12,9 @@ use std::marker::Model;
 
 /// The word is refilled if it holds fewer bits than this and more are wanted.
 const ENOUGH: u32 = 32;
+
+/// A short word with fewer zeros than this in front has at most 32 bits, so it is whole where `ENOUGH` bits are held.
+const SHORT: u32 = 15;
 
 /// The bits that are left of stuffed bytes.
 #[derive(Drop)]
@@ -61,6 +65,33 @@ impl<'a> Window<'a> {
         }
         self.held -= count;
         Ok(low_bits(self.word >> self.held, count))
+    }
+
+    /// Takes the short code word in front (T.87 A.5.3) if it has fewer than `most` zeros and a value of at most `greatest`, and
+    /// is known to be whole: its value. Else takes nothing.
+    #[inline(always)]
+    pub fn take_short(&mut self, k: u32, most: u32, greatest: u32) -> Option<u32>
+        requires { k ≤ 17 }
+        ensures word { IfSome result (λ value. self.old.bits ≡ short_word k value ++ self.new.bits) }
+        ensures few { IfSome result (λ value. value / 2 ^ k < most) }
+        ensures small { IfSome result (λ value. value ≤ greatest) }
+        ensures none { IfNone result (self.new.bits ≡ self.old.bits) }
+    {
+        self.refill(ENOUGH);
+        if self.held < ENOUGH {
+            return None;
+        }
+        let zeros = leading_zeros(self.word, self.held);
+        if zeros >= SHORT || zeros >= most {
+            return None;
+        }
+        let left = self.held - (zeros + 1) - k;
+        let value = joined(zeros, low_bits(self.word >> left, k), k);
+        if value > greatest {
+            return None;
+        }
+        self.held = left;
+        Some(value)
     }
 
     /// Takes zeros and the one after them: how many zeros. NotCanonical if more than `most` are in front, OutOfBits
@@ -155,6 +186,16 @@ fn low_bits(word: u64, count: u32) -> u32
     ensures { result ≡ word % 2 ^ count }
 {
     (word & ((1 << count) - 1)) as u32
+}
+
+/// A number of `high` and the `count` bits of `low` after it.
+pub fn joined(high: u32, low: u32, count: u32) -> u32
+    requires high { high < 64 }
+    requires count { count ≤ 17 }
+    requires low { low < 2 ^ count }
+    ensures { result ≡ high * 2 ^ count + low }
+{
+    (high << count) | low
 }
 
 /// How many zeros are in front in the lowest `held` bits of `word`; no fewer than `held` if all of them are zeros.

@@ -1,5 +1,5 @@
 -- What lawful events cost: their counters are sound, and so their words are short.
-use Rattle.std.proofs.Common.{ℕ, ◌+◌, ◌-◌, ◌*◌, ◌/◌, ◌<◌, ◌≤◌, Bool, true, false, cond, eqb, List, [], ◌∷◌, ◌++◌, length, length-append, ℤ, pos, negsuc, neg_ℤ, ◌+ℤ◌, ◌-ℤ◌, ◌≤ℤ◌, refl, sym, subst, arith, inl, inr}
+use Rattle.std.proofs.Common.{◌≡◌, ℕ, ◌+◌, ◌-◌, ◌*◌, ◌/◌, ◌<◌, ◌≤◌, Bool, true, false, cond, eqb, List, [], ◌∷◌, ◌++◌, length, length-append, ℤ, pos, negsuc, neg_ℤ, ◌+ℤ◌, ◌-ℤ◌, ◌≤ℤ◌, refl, sym, subst, arith, inl, inr}
 use Rattle.std.specs.Prelude.{int_le, int_lt, unsigned_abs}
 use Rattle.std.proofs.lemmas.Int.{ints}
 use mir.Val.{bool_byte}
@@ -52,6 +52,14 @@ regular_error_of-reduced p n s sample h =
 pub interruption_error-reduced : (p : Parameters) (n : Neighbours) (sample : ℕ) → AreSamples p.maxval n → sample ≤ p.maxval
     → IsReduced (range_of p.maxval) (interruption_error p n sample)
 interruption_error-reduced p n sample samples h = error_of-reduced p (interruption_prediction n) sample (interruption_negative n) (interruption_prediction_small p.maxval n samples) h
+
+-- a prediction is a sample
+prediction_is : (maxval : ℕ) (z : ℤ) → IsWithin maxval z → (px : ℕ) × (px ≤ maxval) × (z ≡ pos px)
+prediction_is maxval (pos px) h = (px, omega (arith, ints, h.within), refl)
+prediction_is maxval (negsuc n) h = absurd (omega (arith, ints, h.from_zero))
+
+pub prediction_of : (p : Parameters) (negative : Bool) (c : ℤ) (n : Neighbours) → (px : ℕ) × (px ≤ p.maxval) × (predicted p negative c n ≡ pos px)
+prediction_of p negative c n = prediction_is p.maxval (predicted p negative c n) (clamped_within p.maxval (pos (median n) +ℤ signed negative c))
 
 -- ---- an error more keeps counters sound
 

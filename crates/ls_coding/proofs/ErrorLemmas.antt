@@ -139,6 +139,19 @@ sample_once range px x y negative e z h k l sum back same =
     (reduced_alike range (signed negative (pos y -ℤ pos px)) (difference_low range px y negative h l) (difference_high range px y negative h l)))
     (has_error range px x negative e z sum (subst (IsAlike range z) (sym back) (modulo_alike range z)))
 
+-- no two samples have one error
+pub error_of-once : (p : Parameters) (px x y : ℕ) (negative : Bool) → px ≤ p.maxval → x ≤ p.maxval → y ≤ p.maxval
+    → error_of p negative (pos px) x ≡ error_of p negative (pos px) y → x ≡ y
+error_of-once p px x y negative h k l e =
+    let range : ℕ = range_of p.maxval in
+    let below : px < range = omega arith in
+    let inside_x : x < range = omega arith in
+    let inside_y : y < range = omega arith in
+    let alike : (one : ℕ) → one < range → IsAlike range (signed negative (pos one -ℤ pos px)) (error_of p negative (pos px) one) =
+    λ one inside. reduced_alike range (signed negative (pos one -ℤ pos px)) (difference_low range px one negative below inside) (difference_high range px one negative below inside) in
+    same_sample range px x y negative (error_of p negative (pos px) y) inside_x inside_y
+    (subst (IsAlike range (signed negative (pos x -ℤ pos px))) e (alike x inside_x)) (alike y inside_y)
+
 -- ---- as the code passes numbers
 
 -- a sum of two numbers that aren't large

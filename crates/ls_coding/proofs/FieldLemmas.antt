@@ -11,7 +11,8 @@ use Rattle.std.proofs.lemmas.List.FromFn.{get_or-map-range_with_len, length-map-
 use Rattle.ls_frame.specs.Parameters.{Parameters, IsLegal}
 use Rattle.ls_coding.specs.Stats.{Stats, stats, error_bound, AreSound, first_a, first_stats}
 use Rattle.ls_coding.specs.Interruptions.{Counts, counts, first_counts, ri_value, map_of, interruption_k, interruption_value, AreSoundCounts}
-use Rattle.ls_coding.specs.View.Fields.{stats_at, contexts_of, counts_at, AreAllSound}
+use Rattle.ls_coding.specs.View.Fields.{stats_at, contexts_of, counts_at, AreAllSound, AreParameters}
+use Rattle.ls_coding.specs.Numbers.{golomb_parameter}
 
 same_or_by : (i j : ℕ) (test : Bool) → eqb i j ≡ test → (i ≡ j) ⊎ (i ≢ j)
 same_or_by i j true e = inl (eqb-true i j e)
@@ -221,3 +222,38 @@ value_is a n nn ri_type code_ri_type which k e same place known =
     ap (λ w. value_at a n nn w k code_ri_type e) (place ∙ ap ri_value same)
     ∙ ap (λ f. value_at a n nn (ri_value ri_type) k f e) same
     ∙ ap (λ m. value_at a n nn (ri_value ri_type) m ri_type e) known
+
+-- ---- the Golomb parameters beside the counters
+
+pub parameters_first : (k n a : List ℕ) (p : Parameters) (first : ℕ) → AllAre k 365 0 first → AllAre n 367 0 1 → AllAre a 367 0 (first_a p) → first ≡ golomb_parameter 1 (first_a p)
+    → AreParameters k n a
+parameters_first k n a p first all_k all_n all_a e number h =
+    all_k number h ∙ e ∙ sym (ap (λ v. golomb_parameter v (get_or a number 0)) (all_n number (omega arith)) ∙ ap (golomb_parameter 1) (all_a number (omega arith)))
+
+pub parameters_set : (k n a : List ℕ) (i x w y : ℕ) → length k ≡ 365 → length n ≡ 367 → length a ≡ 367 → i < 365 → y ≡ golomb_parameter w x → AreParameters k n a
+    → AreParameters (set k i y) (set n i w) (set a i x)
+parameters_set k n a i x w y whole_k whole_n whole_a h e kept j low =
+    let in_k : i < length k = omega arith in
+    let in_n : i < length n = omega arith in
+    let in_a : i < length a = omega arith in
+    elim (same_or_not j i) [
+      | inl same ↦
+          subst (λ m. get_or (set k i y) m 0 ≡ golomb_parameter (get_or (set n i w) m 0) (get_or (set a i x) m 0)) (sym same)
+          (get_or-set_same k i y 0 in_k ∙ e
+          ∙ sym (ap (λ v. golomb_parameter v (get_or (set a i x) i 0)) (get_or-set_same n i w 0 in_n) ∙ ap (golomb_parameter w) (get_or-set_same a i x 0 in_a)))
+      | inr other ↦
+          get_or-set_other k i j y 0 other ∙ kept j low
+          ∙ sym (ap (λ v. golomb_parameter v (get_or (set a i x) j 0)) (get_or-set_other n i j w 0 other) ∙ ap (golomb_parameter (get_or n j 0)) (get_or-set_other a i j x 0 other))
+    ]
+
+pub parameters_kept : (k n a : List ℕ) (which x y : ℕ) → AreParameters k n a → AreParameters k (set n (365 + which) y) (set a (365 + which) x)
+parameters_kept k n a which x y kept number h =
+    let apart : number ≢ 365 + which = omega arith in
+    kept number h
+    ∙ sym (ap (λ v. golomb_parameter v (get_or (set a (365 + which) x) number 0)) (get_or-set_other n (365 + which) number y 0 apart)
+    ∙ ap (golomb_parameter (get_or n number 0)) (get_or-set_other a (365 + which) number x 0 apart))
+
+-- ---- A, where the parameter is found
+
+pub first_few : (p : Parameters) → IsLegal p → (first_a p < 2 ^ 31) × (first_a p ≤ 1 * 65535)
+first_few p legal = (omega (arith, legal.maxval), omega (arith, legal.maxval))

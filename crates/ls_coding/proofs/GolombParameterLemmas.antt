@@ -1,10 +1,13 @@
 -- The least exponent that serves, and how the code finds it.
-use Rattle.std.proofs.Common.{◌≡◌, ℕ, zero, suc, ◌+◌, ◌-◌, ◌*◌, ◌%◌, ◌^◌, ◌<◌, ◌≤◌, Bool, true, false, cond, refl, sym, ◌∙◌, ap, subst, arith, leb, inl, inr}
+use Rattle.std.proofs.Common.{◌≡◌, ℕ, zero, suc, ◌+◌, ◌-◌, ◌*◌, ◌/◌, ◌%◌, ◌^◌, ◌<◌, ◌≤◌, Bool, true, false, cond, refl, sym, ◌∙◌, ap, subst, arith, leb, inl, inr, map, get_or}
 use Rattle.std.proofs.lemmas.Bool.{leb-true, leb-false, cases_lt}
-use Rattle.std.proofs.lemmas.Nat.{leading_le, leading_top, pow-add, shl_below, mul-le}
+use Rattle.std.proofs.lemmas.Nat.{leading_le, leading_top, pow-add, shl_below, mul-le, pow_pos, div-add-mod', mod_below}
 use Rattle.std.proofs.Math.Pow.{pow_mono}
-use Rattle.std.proofs.Math.Nat.{mod-eq_of_lt}
+use Rattle.std.proofs.Math.Nat.{mod-eq_of_lt, pow-suc, zero-div}
 use lib.Count.{count_leading_zeros}
+use Rattle.std.specs.List.{range_with_len}
+use Rattle.std.proofs.lemmas.List.FromFn.{get_or-map-range_with_len}
+use Rattle.ls_coding.specs.declared.error.TheConstants.{RECIPROCALS}
 use Rattle.ls_coding.specs.Numbers.{first_scaling, golomb_parameter}
 
 -- ---- the least
@@ -137,3 +140,74 @@ found_here n a k some small few e more =
     let s = start n a k some small few e in
     let same : n * 2 ^ k % 2 ^ 32 ≡ n * 2 ^ k = mod-eq_of_lt s.fits in
     is_least n a k (far n a some few) (omega (arith, same)) s.before
+
+-- ---- by a quotient
+
+before_quotient : (n a q k : ℕ) → 1 ≤ n → 1 ≤ k → 2 ^ k ≤ 2 * q + 1 → (1 ≤ q → n * q < a) → n * 2 ^ (k - 1) < a
+before_quotient n a q zero some h low below = absurd (omega arith)
+before_quotient n a q (suc k) some h low below =
+    let doubled : 2 ^ suc k ≡ 2 ^ k * 2 = pow-suc 2 k in
+    let positive : 0 < 2 ^ k = pow_pos k in
+    let less : 2 ^ k ≤ q = omega arith in
+    let scaled : n * 2 ^ k ≤ n * q = mul-le n (2 ^ k) n q (omega arith) less in
+    let back : suc k - 1 ≡ k = omega arith in
+    subst (λ m. n * 2 ^ m < a) (sym back) (omega (arith, below (omega arith)))
+
+-- the exponent is the bit length of the quotient below a / n
+pub by_quotient : (n a q k : ℕ) → 1 ≤ n → a < 2 ^ 31 → q < 2 ^ 32 → a ≤ n * (q + 1) → (1 ≤ q → n * q < a) → k ≡ 63 - count_leading_zeros 64 (2 * q + 1)
+    → k ≡ golomb_parameter n a
+by_quotient n a q k some few small above below e =
+    let positive : 0 < 2 * q + 1 = omega arith in
+    let wide : 2 * q + 1 < 2 ^ 64 = omega arith in
+    let top = leading_top 64 (2 * q + 1) positive wide in
+    let same : k ≡ top.0 = omega (arith, top.1) in
+    let low : 2 ^ k ≤ 2 * q + 1 = subst (λ m. 2 ^ m ≤ 2 * q + 1) (sym same) top.2 in
+    let high : 2 * q + 1 < 2 ^ suc k = subst (λ m. 2 * q + 1 < 2 ^ suc m) (sym same) top.3 in
+    let doubled : 2 ^ suc k ≡ 2 ^ k * 2 = pow-suc 2 k in
+    let more : q + 1 ≤ 2 ^ k = omega arith in
+    let scaled : n * (q + 1) ≤ n * 2 ^ k = mul-le n (q + 1) n (2 ^ k) (omega arith) more in
+    is_least n a k (far n a some few) (omega arith) (λ h. before_quotient n a q k some h low below)
+
+-- a quotient by a product with a reciprocal
+quotient_by : (n a whole rest q s : ℕ) → whole * n + rest ≡ 4294967295 → rest < n → q * n + s + 1 ≡ a → s < n → a * n < 4294967296 → a * whole / 4294967296 ≡ q
+quotient_by n a whole rest q s e below f less small =
+    let few : a ≤ whole = elim (cases_lt whole a) [
+      | inl more ↦ absurd (omega (arith, mul-le (whole + 1) n a n (omega arith) (omega arith)))
+      | inr enough ↦ enough
+    ] in
+    let product : (q * n + s + 1) * whole ≡ a * whole = ap (λ x. x * whole) f in
+    let scaled : q * (whole * n + rest) ≡ q * 4294967295 = ap (λ x. q * x) e in
+    let upper : (s + 1) * whole ≤ n * whole = mul-le (s + 1) whole n whole (omega arith) (omega arith) in
+    let lower : q * (rest + 1) ≤ q * n = mul-le q (rest + 1) q n (omega arith) (omega arith) in
+    let low : q * 4294967296 ≤ a * whole = omega arith in
+    let high : a * whole < q * 4294967296 + 4294967296 = omega arith in
+    omega arith
+
+pub quotient_is : (n a : ℕ) → 1 ≤ n → a * n < 4294967296 → a * (4294967295 / n) / 4294967296 ≡ (a - 1) / n
+quotient_is n zero some small =
+    let none : 0 * (4294967295 / n) ≡ 0 = omega arith in
+    let empty : 0 / n ≡ 0 = zero-div n in
+    ap (λ x. x / 4294967296) none ∙ sym empty
+quotient_is n (suc a) some small =
+    let less : suc a - 1 ≡ a = omega arith in
+    let parts : (a / n) * n + a % n ≡ a = div-add-mod' a n in
+    quotient_by n (suc a) (4294967295 / n) (4294967295 % n) (a / n) (a % n) (div-add-mod' 4294967295 n) (mod_below 4294967295 n some) (omega arith) (mod_below a n some) small
+    ∙ ap (λ x. x / n) (sym less)
+
+pub found_by_quotient : (n a q k : ℕ) → 1 ≤ n → a < 2 ^ 31 → q < 2 ^ 32 → q ≡ (a - 1) / n → k ≡ 63 - count_leading_zeros 64 (2 * q + 1) → k ≡ golomb_parameter n a
+found_by_quotient n a q k some few small e f =
+    let parts : (a - 1) / n * n + (a - 1) % n ≡ a - 1 = div-add-mod' (a - 1) n in
+    let rest : (a - 1) % n < n = mod_below (a - 1) n some in
+    let scaled : q * n ≡ (a - 1) / n * n = ap (λ x. x * n) e in
+    by_quotient n a q k some few small (omega arith)
+    (λ h. let product : 1 * 1 ≤ q * n = mul-le 1 1 q n h some in omega arith)
+    f
+
+-- ---- the table of reciprocals
+
+reciprocals-all : map (λ n. 4294967295 / n) (range_with_len 0 257) ≡ RECIPROCALS
+reciprocals-all = refl
+
+pub reciprocal_at : (n : ℕ) → n ≤ 256 → get_or RECIPROCALS n 0 ≡ 4294967295 / n
+reciprocal_at n h =
+    ap (λ list. get_or list n 0) (sym reciprocals-all) ∙ get_or-map-range_with_len (λ n. 4294967295 / n) 0 257 n n 0 (omega arith) (omega arith)

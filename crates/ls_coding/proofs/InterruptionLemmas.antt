@@ -98,6 +98,13 @@ only_stood_for ri_type k n nn value negative type r e p q s some h =
     let whole : 2 * unsigned_abs e - ri_value ri_type - marked negative e ≡ value = ap (λ x. 2 * unsigned_abs e - ri_value ri_type - x) (sym map) ∙ h in
     only_one negative (value + type) (eqb ((value + type) % 2) 1) e refl (put_back ri_type negative e value type q some whole) ∙ sym s
 
+-- no two errors have one value
+pub value_once : (ri_type : Bool) (k n nn : ℕ) (d e : ℤ) → (IsTrue ri_type → d ≡ pos 0 → ⊥) → (IsTrue ri_type → e ≡ pos 0 → ⊥)
+    → 2 * unsigned_abs d - ri_value ri_type - map_of k (counts 0 n nn) d ≡ 2 * unsigned_abs e - ri_value ri_type - map_of k (counts 0 n nn) e → d ≡ e
+value_once ri_type k n nn d e some_d some_e same =
+    let value : ℕ = 2 * unsigned_abs e - ri_value ri_type - map_of k (counts 0 n nn) e in
+    only_stood_for ri_type k n nn value _ _ _ d refl refl refl some_d same ∙ sym (only_stood_for ri_type k n nn value _ _ _ e refl refl refl some_e refl)
+
 -- ---- one error more
 
 -- what is added to A is at most the error's size

@@ -68,7 +68,7 @@ index_joined index rest broken =
     ∙ ap (λ n. (walked (min (index + 1) 31) n).index) (sym back)
     ∙ sym (ap (λ (w : Walk). w.index) (walked_on index (samples + rest) enough))
 
-after_joined : (s : Coding) (rest : ℕ) (broken : Bool) → run_after (run_after s (run_of (2 ^ order s.run_index) false)) (run_of rest broken) ≡ run_after s (run_of (2 ^ order s.run_index + rest) broken)
+pub after_joined : (s : Coding) (rest : ℕ) (broken : Bool) → run_after (run_after s (run_of (2 ^ order s.run_index) false)) (run_of rest broken) ≡ run_after s (run_of (2 ^ order s.run_index + rest) broken)
 after_joined s rest broken = ap (λ i. made s.parameters s.contexts s.ri_type_0 s.ri_type_1 i broken) (index_joined s.run_index rest broken)
 
 index_of-state : (p : Parameters) (events : List Event) → (state_of p events).run_index ≡ run_index_after_events events

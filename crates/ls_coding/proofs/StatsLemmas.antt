@@ -1,9 +1,10 @@
 -- The counters of a context, step by step.
-use Rattle.std.proofs.Common.{◌≡◌, ℕ, ◌+◌, ◌*◌, ◌/◌, ◌<◌, ◌≤◌, Bool, true, false, cond, eqb, ℤ, pos, negsuc, neg_ℤ, ◌+ℤ◌, ◌-ℤ◌, ◌≤ℤ◌, ◌<ℤ◌, refl, sym, ◌∙◌, ap, subst, arith}
+use Rattle.std.proofs.Common.{◌≡◌, ℕ, ◌+◌, ◌*◌, ◌/◌, ◌^◌, ◌<◌, ◌≤◌, Bool, true, false, cond, eqb, ℤ, pos, negsuc, neg_ℤ, ◌+ℤ◌, ◌-ℤ◌, ◌≤ℤ◌, ◌<ℤ◌, refl, sym, ◌∙◌, ap, subst, arith}
 use Rattle.std.specs.Prelude.{int_le, int_lt, unsigned_abs}
-use Rattle.std.proofs.lemmas.Int.{ints, to_z_pos}
+use Rattle.std.specs.Int.{int_max, int_min}
+use Rattle.std.proofs.lemmas.Int.{ints, clamps, to_z_pos}
 use Rattle.std.proofs.lemmas.Nat.{mul-le}
-use Rattle.std.proofs.lemmas.Bool.{cond-true, cond-false, eqb-true, eqb-false}
+use Rattle.std.proofs.lemmas.Bool.{false≢true, cond-true, cond-false, eqb-true, eqb-false}
 use lib.Signed.{mag}
 use mir.Syntax.{w32}
 use mir.Val.{to_z, of_z}
@@ -25,13 +26,6 @@ mean_small (negsuc n) low high = omega (arith, ints)
 pub mean_through : (b : ℤ) → neg_ℤ (pos 131072) ≤ℤ b → b ≤ℤ pos 131072 → to_z w32 (of_z w32 b) ≡ b
 mean_through b low high = through b (mean_small b low high)
 
-pub least_through : (n : ℕ) → n ≤ 65536 → to_z w32 (of_z w32 (pos 0 -ℤ to_z w32 n)) ≡ neg_ℤ (pos n)
-least_through n h =
-    let whole : pos 0 -ℤ pos n ≡ neg_ℤ (pos n) = omega (arith, ints) in
-    let low : neg_ℤ (pos 131072) ≤ℤ neg_ℤ (pos n) = omega (arith, ints) in
-    let high : neg_ℤ (pos n) ≤ℤ pos 131072 = omega (arith, ints) in
-    ap (λ z. to_z w32 (of_z w32 z)) (ap (λ z. pos 0 -ℤ z) (count_through n h) ∙ whole) ∙ mean_through (neg_ℤ (pos n)) low high
-
 -- ---- B and C
 
 lowered_b : ℤ → ℤ → ℤ
@@ -39,35 +33,6 @@ lowered_b b n = cond (int_le (b +ℤ n) (neg_ℤ n)) (pos 1 -ℤ n) (b +ℤ n)
 
 raised_b : ℤ → ℤ → ℤ
 raised_b b n = cond (int_lt (pos 0) (b -ℤ n)) (pos 0) (b -ℤ n)
-
-pub bias_corrected-low : (b c : ℤ) (n : ℕ) → int_le b (neg_ℤ (pos n)) ≡ true → bias_corrected (stats 0 b c n) ≡ lowered (stats 0 b c n)
-bias_corrected-low b c n e = cond-true _ _ _ e
-
-pub bias_corrected-high : (b c : ℤ) (n : ℕ) → int_le b (neg_ℤ (pos n)) ≡ false → int_lt (pos 0) b ≡ true → bias_corrected (stats 0 b c n) ≡ raised (stats 0 b c n)
-bias_corrected-high b c n e f = cond-false _ _ _ e ∙ cond-true _ _ _ f
-
--- the test that the code makes is the definition's
-pub is_low : (b : ℤ) (n : ℕ) (test : Bool) → n ≤ 65536 → neg_ℤ (pos 131072) ≤ℤ b → b ≤ℤ pos 131072
-    → int_le (to_z w32 (of_z w32 b)) (to_z w32 (of_z w32 (pos 0 -ℤ to_z w32 n))) ≡ test → int_le b (neg_ℤ (pos n)) ≡ test
-is_low b n test few low high e =
-    sym (ap (λ z. int_le z (neg_ℤ (pos n))) (mean_through b low high))
-    ∙ sym (ap (λ z. int_le (to_z w32 (of_z w32 b)) z) (least_through n few)) ∙ e
-
-pub is_high : (b : ℤ) (test : Bool) → neg_ℤ (pos 131072) ≤ℤ b → b ≤ℤ pos 131072 → int_lt (pos 0) (to_z w32 (of_z w32 b)) ≡ test → int_lt (pos 0) b ≡ test
-is_high b test low high e = sym (ap (λ z. int_lt (pos 0) z) (mean_through b low high)) ∙ e
-
--- what the code computes is the definition's
-pub lowered_is : (b c r : ℤ) (n : ℕ) → n ≤ 65536 → neg_ℤ (pos 131072) ≤ℤ b → b ≤ℤ pos 131072
-    → r ≡ cond (int_le (to_z w32 (of_z w32 b) +ℤ to_z w32 n) (neg_ℤ (to_z w32 n))) (pos 1 -ℤ to_z w32 n) (to_z w32 (of_z w32 b) +ℤ to_z w32 n)
-    → r ≡ (lowered (stats 0 b c n)).b
-unfolding lowered_b
-lowered_is b c r n few low high e = e ∙ ap (λ z. lowered_b z (to_z w32 n)) (mean_through b low high) ∙ ap (lowered_b b) (count_through n few)
-
-pub raised_is : (b c r : ℤ) (n : ℕ) → n ≤ 65536 → neg_ℤ (pos 131072) ≤ℤ b → b ≤ℤ pos 131072
-    → r ≡ cond (int_lt (pos 0) (to_z w32 (of_z w32 b) -ℤ to_z w32 n)) (pos 0) (to_z w32 (of_z w32 b) -ℤ to_z w32 n)
-    → r ≡ (raised (stats 0 b c n)).b
-unfolding raised_b
-raised_is b c r n few low high e = e ∙ ap (λ z. raised_b z (to_z w32 n)) (mean_through b low high) ∙ ap (raised_b b) (count_through n few)
 
 pub bias_through : (c : ℤ) → neg_ℤ (pos 128) ≤ℤ c → c ≤ℤ pos 127 → to_z w32 (of_z w32 c) ≡ c
 bias_through c low high =
@@ -77,12 +42,6 @@ bias_through c low high =
 
 lowered_c : ℤ → ℤ
 lowered_c c = cond (int_lt (neg_ℤ (pos 128)) c) (c -ℤ pos 1) c
-
-pub lowered_bias_is : (b c r : ℤ) (n : ℕ) → neg_ℤ (pos 128) ≤ℤ c → c ≤ℤ pos 127
-    → r ≡ cond (int_lt (neg_ℤ (pos 128)) (to_z w32 (of_z w32 c))) (to_z w32 (of_z w32 c) -ℤ pos 1) (to_z w32 (of_z w32 c))
-    → r ≡ (lowered (stats 0 b c n)).c
-unfolding lowered_c
-lowered_bias_is b c r n low high e = e ∙ ap lowered_c (bias_through c low high)
 
 -- ---- a whole step
 
@@ -248,6 +207,32 @@ pub counted_sound : (reset bound n a : ℕ) → 3 ≤ reset → n ≤ reset → 
     → AreCounted reset bound (cond (eqb n reset) (n / 2 + 1) (n + 1)) (cond (eqb n reset) (a / 2) a)
 counted_sound reset bound n a least few size = counted_by reset bound n a (eqb n reset) refl least few size
 
+-- N and A once an error was counted, as the code computes them
+pub counted_is : (reset bound a n size a1 n1 : ℕ) (b c : ℤ) → 3 ≤ reset → AreSound reset bound (stats a b c n) → size ≤ bound
+    → a1 ≡ cond (eqb n reset) ((a + size) / 2) (a + size) → n1 ≡ cond (eqb n reset) (n / 2 + 1) (n + 1) → AreCounted reset bound n1 a1
+counted_is reset bound a n size a1 n1 b c least sound small e f =
+    let total : a + size ≤ n * bound + bound = omega (arith, sound.sum) in
+    subst (λ m. AreCounted reset bound m a1) (sym f) (subst (AreCounted reset bound (cond (eqb n reset) (n / 2 + 1) (n + 1))) (sym e) (counted_sound reset bound n (a + size) least sound.few total))
+
+-- what the Golomb parameter is found for
+pub counted_few : (reset maxval n a : ℕ) → reset ≤ 65535 → maxval ≤ 65535 → AreCounted reset (error_bound maxval) n a → (a < 2 ^ 31) × (a ≤ n * 65535)
+counted_few reset maxval n a most wide counted =
+    let bound : error_bound maxval ≤ 32768 = omega arith in
+    let product : n * error_bound maxval ≤ n * 32768 = mul-le n (error_bound maxval) n 32768 (omega arith) bound in
+    (omega (arith, counted.sum, counted.few), omega (arith, counted.sum))
+
+pub counted_by_code : (reset maxval a n size a1 n1 from : ℕ) (b c e : ℤ) → 3 ≤ reset → reset ≤ 65535 → maxval ≤ 65535
+    → AreSound reset (error_bound maxval) (stats a b c n) → IsReduced (range_of maxval) e → size ≡ unsigned_abs (to_z w32 (of_z w32 e)) → from ≡ reset
+    → a1 ≡ cond (eqb n from) ((a + size) / 2) (a + size) → n1 ≡ cond (eqb n from) (n / 2 + 1) (n + 1)
+    → (0 < n1) × (a1 < 2 ^ 31) × (a1 ≤ n1 * 65535)
+counted_by_code reset maxval a n size a1 n1 from b c e least most wide sound error sized same f g =
+    let size_is : size ≡ unsigned_abs e = sized ∙ ap unsigned_abs (error_through e (error_low maxval e wide error) (error_high maxval e wide error)) in
+    let sizes = error_size maxval e error in
+    let counted = counted_is reset (error_bound maxval) a n size a1 n1 b c least sound (omega arith)
+    (f ∙ ap (λ r. cond (eqb n r) ((a + size) / 2) (a + size)) same) (g ∙ ap (λ r. cond (eqb n r) (n / 2 + 1) (n + 1)) same) in
+    let few = counted_few reset maxval n1 a1 most wide counted in
+    (omega (arith, counted.some), few.0, few.1)
+
 -- all that the counters keep to
 pub sound_is : (reset bound a n size a1 n1 : ℕ) (b c b1 b2 c2 : ℤ) → 3 ≤ reset → AreSound reset bound (stats a b c n) → size ≤ bound
     → a1 ≡ cond (eqb n reset) ((a + size) / 2) (a + size) → n1 ≡ cond (eqb n reset) (n / 2 + 1) (n + 1)
@@ -287,3 +272,90 @@ mean_is reset bound s sound most =
     let low : neg_ℤ (pos 131072) ≤ℤ s.b = omega (arith, ints, sound.mean_low, sound.few) in
     let high : s.b ≤ℤ pos 131072 = omega (arith, ints, sound.mean_high) in
     mean_through s.b low high
+
+-- ---- a mean that is corrected by one comparison
+
+nearer_of : ℤ → ℤ → ℤ
+nearer_of b n = cond (int_lt b (pos 0)) (b +ℤ n) (b -ℤ n)
+
+below_is : (b : ℤ) (n : ℕ) → 1 ≤ n → int_le b (neg_ℤ (pos n)) ≡ true → int_lt b (pos 0) ≡ true
+below_is b n some t = let h = le_true b (neg_ℤ (pos n)) t in let less : b <ℤ pos 0 = omega (arith, ints) in grind (arith, ints)
+
+above_is : (b : ℤ) → pos 0 <ℤ b → int_lt b (pos 0) ≡ false
+above_is b h = grind (arith, ints)
+
+corrected_to : ℤ → ℤ → ℤ → ℤ
+corrected_to b n x = int_max (int_min x (pos 0)) (pos 1 -ℤ n)
+
+lowered_to : (b : ℤ) (n : ℕ) → 1 ≤ n → b ≤ℤ neg_ℤ (pos n) → corrected_to b (pos n) (b +ℤ pos n) ≡ lowered_b b (pos n)
+unfolding corrected_to lowered_b
+lowered_to b n some h =
+    choose (int_le (b +ℤ pos n) (neg_ℤ (pos n))) (pos 1 -ℤ pos n) (b +ℤ pos n) (λ v. corrected_to b (pos n) (b +ℤ pos n) ≡ v)
+    (λ t. let u = le_true (b +ℤ pos n) (neg_ℤ (pos n)) t in omega (arith, ints, clamps))
+    (λ t. let u = le_false (b +ℤ pos n) (neg_ℤ (pos n)) t in omega (arith, ints, clamps))
+
+raised_to : (b : ℤ) (n : ℕ) → 1 ≤ n → pos 0 <ℤ b → corrected_to b (pos n) (b -ℤ pos n) ≡ raised_b b (pos n)
+unfolding corrected_to raised_b
+raised_to b n some h =
+    choose (int_lt (pos 0) (b -ℤ pos n)) (pos 0) (b -ℤ pos n) (λ v. corrected_to b (pos n) (b -ℤ pos n) ≡ v)
+    (λ t. let u = lt_true (pos 0) (b -ℤ pos n) t in omega (arith, ints, clamps))
+    (λ t. let u = lt_false (pos 0) (b -ℤ pos n) t in omega (arith, ints, clamps))
+
+mean_corrected : (b : ℤ) (n : ℕ) → 1 ≤ n → (int_le b (neg_ℤ (pos n)) ≡ false → pos 0 <ℤ b)
+    → corrected_to b (pos n) (nearer_of b (pos n)) ≡ cond (int_le b (neg_ℤ (pos n))) (lowered_b b (pos n)) (cond (int_lt (pos 0) b) (raised_b b (pos n)) b)
+unfolding nearer_of corrected_to lowered_b raised_b
+mean_corrected b n some far =
+    choose (int_le b (neg_ℤ (pos n))) (lowered_b b (pos n)) (cond (int_lt (pos 0) b) (raised_b b (pos n)) b) (λ v. corrected_to b (pos n) (nearer_of b (pos n)) ≡ v)
+    (λ t. ap (corrected_to b (pos n)) (cond-true _ _ _ (below_is b n some t)) ∙ lowered_to b n some (le_true b (neg_ℤ (pos n)) t))
+    (λ t. let over = far t in
+    choose (int_lt (pos 0) b) (raised_b b (pos n)) b (λ v. corrected_to b (pos n) (nearer_of b (pos n)) ≡ v)
+    (λ u. ap (corrected_to b (pos n)) (cond-false _ _ _ (above_is b over)) ∙ raised_to b n some over)
+    (λ u. let not_over = lt_false (pos 0) b u in absurd (omega (arith, ints))))
+
+-- as the code computes it
+pub corrected_mean_is : (b n' near least small r : ℤ) (n : ℕ) → 1 ≤ n → n' ≡ pos n → (int_le b (neg_ℤ (pos n)) ≡ false → pos 0 <ℤ b)
+    → near ≡ cond (int_lt b (pos 0)) (b +ℤ n') (b -ℤ n') → least ≡ pos 1 -ℤ n' → small ≡ int_min near (pos 0) → r ≡ int_max small least
+    → r ≡ (bias_corrected (stats 0 b (pos 0) n)).b
+unfolding nearer_of corrected_to lowered_b raised_b
+corrected_mean_is b n' near least small r n some e far f g h i =
+    i ∙ ap (λ z. int_max z least) h ∙ ap (λ z. int_max (int_min z (pos 0)) least) f ∙ ap (int_max (int_min (nearer_of b n') (pos 0))) g
+    ∙ ap (λ z. corrected_to b z (nearer_of b z)) e ∙ mean_corrected b n some far ∙ sym (part_b 0 b (pos 0) n)
+
+pub mean_part : (b c d : ℤ) (n : ℕ) → (bias_corrected (stats 0 b c n)).b ≡ (bias_corrected (stats 0 b d n)).b
+mean_part b c d n = part_b 0 b c n ∙ sym (part_b 0 b d n)
+
+raised_c : ℤ → ℤ
+raised_c c = cond (int_lt c (pos 127)) (c +ℤ pos 1) c
+
+pub corrected_bias_is : (b c : ℤ) (n : ℕ) → 1 ≤ n → (int_le b (neg_ℤ (pos n)) ≡ false → pos 0 <ℤ b)
+    → cond (int_lt b (pos 0)) (cond (int_lt (neg_ℤ (pos 128)) c) (c -ℤ pos 1) c) (cond (int_lt c (pos 127)) (c +ℤ pos 1) c) ≡ (bias_corrected (stats 0 b c n)).c
+unfolding lowered_c raised_c
+corrected_bias_is b c n some far =
+    choose (int_le b (neg_ℤ (pos n))) (lowered_c c) (cond (int_lt (pos 0) b) (raised_c c) c) (λ v. cond (int_lt b (pos 0)) (lowered_c c) (raised_c c) ≡ v)
+    (λ t. cond-true _ _ _ (below_is b n some t))
+    (λ t. let over = far t in
+    choose (int_lt (pos 0) b) (raised_c c) c (λ v. cond (int_lt b (pos 0)) (lowered_c c) (raised_c c) ≡ v)
+    (λ u. cond-false _ _ _ (above_is b over))
+    (λ u. let not_over = lt_false (pos 0) b u in absurd (omega (arith, ints))))
+    ∙ sym (part_c 0 b c n)
+
+pub one_less_through : (n : ℕ) → n ≤ 65536 → to_z w32 (of_z w32 (pos 1 -ℤ to_z w32 n)) ≡ pos 1 -ℤ to_z w32 n
+one_less_through n h =
+    let same : to_z w32 n ≡ pos n = count_through n h in
+    ap (λ z. to_z w32 (of_z w32 (pos 1 -ℤ z))) same ∙ mean_through (pos 1 -ℤ pos n) (omega (arith, ints)) (omega (arith, ints)) ∙ ap (λ z. pos 1 -ℤ z) (sym same)
+
+-- a mean that isn't over -N and at most 0 is over 0, if it isn't at most -N
+over_by : (b : ℤ) (n : ℕ) (test over : Bool) → int_lt (pos 0) b ≡ over → ((pos 0 ≤ℤ (pos 0 -ℤ b)) × ((pos 0 -ℤ b) <ℤ pos n) → test ≡ true) → test ≡ false
+    → int_le b (neg_ℤ (pos n)) ≡ false → pos 0 <ℤ b
+over_by b n test true u f g t = lt_true (pos 0) b u
+over_by b n test false u f g t =
+    let low = lt_false (pos 0) b u in
+    let high = le_false b (neg_ℤ (pos n)) t in
+    absurd (false≢true (sym g ∙ f (omega (arith, ints), omega (arith, ints))))
+
+pub over_zero : (b minus : ℤ) (n : ℕ) (test : Bool) → neg_ℤ (pos 131072) ≤ℤ b → b ≤ℤ pos 131072 → minus ≡ to_z w32 (of_z w32 (pos 0 -ℤ to_z w32 (of_z w32 b)))
+    → ((pos 0 ≤ℤ minus) × (minus <ℤ pos n) → test ≡ true) → test ≡ false → int_le b (neg_ℤ (pos n)) ≡ false → pos 0 <ℤ b
+over_zero b minus n test low high e f g t =
+    let whole : minus ≡ pos 0 -ℤ b =
+    e ∙ ap (λ z. to_z w32 (of_z w32 (pos 0 -ℤ z))) (mean_through b low high) ∙ mean_through (pos 0 -ℤ b) (omega (arith, ints)) (omega (arith, ints)) in
+    over_by b n test (int_lt (pos 0) b) refl (λ h. f (subst (λ z. pos 0 ≤ℤ z) (sym whole) h.0, subst (λ z. z <ℤ pos n) (sym whole) h.1)) g t

@@ -2,5 +2,6 @@ pub mod Calls
 pub mod Fields
 pub mod Plans
 pub mod Reached
+pub mod RegionTables
 pub mod Sizes
 pub mod States

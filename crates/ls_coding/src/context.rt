@@ -1,6 +1,6 @@
 //! Contexts of regular mode (T.87 A.3).
-ghost use Rattle.std.specs.Prelude.{◌≡◌, ◌<◌, pos, neg_ℤ, ◌-ℤ◌, ◌≤ℤ◌, int_lt, unsigned_abs};
-ghost use Rattle.ls_coding.specs.Contexts.{region, IsRegion, is_zero, is_run, context_of, context_number, signed_context};
+ghost use Rattle.std.specs.Prelude.{◌≡◌, ◌<◌, pos, neg_ℤ, ◌+ℤ◌, ◌-ℤ◌, ◌*ℤ◌, ◌≤ℤ◌, int_lt, unsigned_abs};
+ghost use Rattle.ls_coding.specs.Contexts.{region, IsRegion, is_zero, is_run, context_number, signed_context, half_context};
 ghost use Rattle.ls_coding.specs.Samples.{AreSamples};
 ghost use Rattle.ls_coding.specs.View.Sizes.{size_region};
 
@@ -26,6 +26,22 @@ pub fn signed_context(presets: &Presets, neighbours: &Neighbours) -> i16
     context_number(q1, q2, q3)
 }
 
+/// The part of a sample's context that the line above decides: 81 * Q1 + 9 * Q2, -360 to 360, of the regions of the gradients
+/// D1 = Rd - Rb and D2 = Rb - Rc (A.3.1, A.3.3).
+///
+/// It can be found a line at a time before the line's samples are known; `whole_context` adds the rest of `signed_context`.
+/// The samples may have any values. Allocates nothing and cannot fail.
+pub fn half_context(presets: &Presets, b: u16, c: u16, d: u16) -> i16
+    ensures value { result ≡ half_context presets.now b c d }
+    ensures low { neg_ℤ (pos 360) ≤ℤ result }
+    ensures high { result ≤ℤ pos 360 }
+{
+    let presets = *presets;
+    let q1 = region_of(presets, d, b);
+    let q2 = region_of(presets, b, c);
+    half_number(q1, q2)
+}
+
 /// A context: its number, 0 to 364, and whether SIGN is -1.
 #[derive(Clone, Copy, Debug, PartialEq, Eq)]
 pub struct Context {
@@ -47,16 +63,6 @@ pub fn context_of_signed(context: i16) -> Context
     }
 }
 
-/// The context of a sample with these neighbours.
-pub fn context_of(presets: Presets, neighbours: &Neighbours) -> Context
-    requires { AreSamples presets.maxval neighbours.now }
-    ensures number { result.number ≡ (context_of presets neighbours.now).number }
-    ensures negative { result.negative ≡ (context_of presets neighbours.now).negative }
-    ensures within { result.number < 365 }
-{
-    context_of_signed(signed_context(&presets, neighbours))
-}
-
 /// Three regions as one number.
 fn context_number(q1: i16, q2: i16, q3: i16) -> i16
     requires first { IsRegion q1 }
@@ -69,8 +75,19 @@ fn context_number(q1: i16, q2: i16, q3: i16) -> i16
     81 * q1 + 9 * q2 + q3
 }
 
+/// The first two regions as one number.
+fn half_number(q1: i16, q2: i16) -> i16
+    requires first { IsRegion q1 }
+    requires second { IsRegion q2 }
+    ensures value { result ≡ pos 81 *ℤ q1 +ℤ pos 9 *ℤ q2 }
+    ensures low { neg_ℤ (pos 360) ≤ℤ result }
+    ensures high { result ≤ℤ pos 360 }
+{
+    81 * q1 + 9 * q2
+}
+
 /// The region of the gradient from one sample to another that is so much over it, -4 to 4 (A.3.3).
-fn region_of(presets: Presets, over: u16, other: u16) -> i16
+pub fn region_of(presets: Presets, over: u16, other: u16) -> i16
     ensures value { result ≡ region presets (pos over -ℤ pos other) }
     ensures region { IsRegion result }
     ensures zero { is_zero result ≡ is_zero (pos over -ℤ pos other) }

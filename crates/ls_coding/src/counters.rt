@@ -6,12 +6,13 @@ ghost use Rattle.ls_coding.specs.Samples.{AreSamples, Interrupts};
 ghost use Rattle.ls_coding.specs.Contexts.{context_of};
 ghost use Rattle.ls_coding.specs.Errors.{IsReduced, error_of, is_inverted, mapped_error};
 ghost use Rattle.ls_coding.specs.Events.{regular_error_of, regular_word, interruption_word};
+ghost use Rattle.ls_coding.specs.Numbers.{golomb_parameter};
 ghost use Rattle.ls_coding.specs.Stats.{first_a, first_stats, stats_step};
 ghost use Rattle.ls_coding.specs.Interruptions.{first_counts, counts_step, ri_value, ri_type_of, interruption_error, interruption_k, interruption_value};
 ghost use Rattle.ls_coding.specs.View.Plans.{regular_plan_by, interruption_plan_by, IsTheSample, NoSample};
 ghost use Rattle.ls_coding.specs.View.Fields.{regular_at, all_regular, interrupting_at, IsSound};
 
-use crate::context::{Context, context_of};
+use crate::context::Context;
 use crate::error::{
     error_of, golomb_parameter, is_inverted, is_reduced, mapped_error, predicted, sample_of,
     unmapped_error,
@@ -49,6 +50,8 @@ pub struct Counters {
     pub c: [i32; REGULAR],
     /// N: how many errors were counted, since they were last halved.
     pub n: [u32; CONTEXTS],
+    /// The Golomb parameter of N and A, in each context of regular mode.
+    pub k: [u32; REGULAR],
     /// Nn: how many of them were negative, in the two contexts of the samples that interrupt a run.
     pub nn: [u32; 2],
 }
@@ -70,6 +73,7 @@ impl Counters {
             b: [0; REGULAR],
             c: [0; REGULAR],
             n: [1; CONTEXTS],
+            k: [golomb_parameter(1, first); REGULAR],
             nn: [0; 2],
         }
     }
@@ -100,20 +104,19 @@ impl Counters {
         let number = context.number;
         let prediction = predicted(self.presets, context.negative, self.c[number], neighbours);
         let error = error_of(self.presets, context.negative, prediction, sample);
-        let k = golomb_parameter(self.n[number], self.a[number]);
-        let inverted = is_inverted(k, self.b[number], self.n[number]);
+        let k = self.parameter(number);
+        let value = mapped_error(k, self.b[number], self.n[number], error);
         let glimit = self.limit;
         self.add(number, error);
-        Word {
-            k,
-            glimit,
-            value: mapped_error(inverted, error),
-        }
+        Word { k, glimit, value }
     }
 
     /// What the word of a sample of regular mode is read by.
     #[tactic(auto, unfolding(crate::specs::View::Plans::regular_plan_by))]
-    pub fn plan(&self, neighbours: &Neighbours) -> Plan
+    pub fn plan(&self, context: Context, neighbours: &Neighbours) -> Plan
+        requires number { context.number ≡ (context_of self.now.presets neighbours.now).number }
+        requires negative { context.negative ≡ (context_of self.now.presets neighbours.now).negative }
+        requires within { context.number < 365 }
         requires samples { AreSamples self.now.presets.maxval neighbours.now }
         requires sound { IsSound self.now }
         ensures plan { let context = context_of self.now.presets neighbours.now in
@@ -121,11 +124,10 @@ impl Counters {
             result ≡ regular_plan_by self.now.presets context counters neighbours.now }
         ensures golomb { IsGolomb result.k result.glimit (qbpp_of self.now.presets.maxval) }
     {
-        let context = context_of(self.presets, neighbours);
         let number = context.number;
         Plan {
             neighbours: *neighbours,
-            k: golomb_parameter(self.n[number], self.a[number]),
+            k: self.parameter(number),
             glimit: self.limit,
             number,
             negative: context.negative,
@@ -300,6 +302,15 @@ impl Counters {
         Ok(sample)
     }
 
+    /// The Golomb parameter of a context of regular mode.
+    fn parameter(&self, number: usize) -> u32
+        requires number { number < 365 }
+        requires sound { IsSound self.now }
+        ensures { let counters = regular_at self.now number in result ≡ golomb_parameter counters.n counters.a }
+    {
+        self.k[number]
+    }
+
     /// Counts one error more in a context of regular mode.
     fn add(&mut self, number: usize, error: i32)
         requires number { number < 365 }
@@ -319,6 +330,7 @@ impl Counters {
             &mut self.b[number],
             &mut self.c[number],
             &mut self.n[number],
+            &mut self.k[number],
             error,
         );
     }

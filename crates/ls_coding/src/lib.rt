@@ -26,11 +26,13 @@
 //! `plan_interruption` and `accept_interruption`. A reading call that is refused leaves the state unchanged.
 //!
 //! The samples and neighbours that are handed to a state are at most MAXVAL. A sample's context may be found ahead of the
-//! sample (`signed_context`), a line at a time, and handed to `code_regular_at`. Nothing in this crate allocates.
+//! sample (`signed_context`), a line at a time, and handed to `code_regular_at`. A reader knows only the line above so far: it may find
+//! that line's part of each context ahead (`half_context`), and at each sample the rest (`whole_context`, by a table,
+//! `Regions`) for `plan_regular_at`. Only the making of that table allocates.
 //!
 //! In reading order: `neighbours` (the samples around one, and the mode that they call for), `state` (all calls), `word`,
 //! `plan`, `run` (what they answer), `counters` (the counters of all contexts), and below these `context`, `error`,
-//! `update` (a sample of regular mode), `interruption`; `laws` (what follows from the definitions alone).
+//! `update` (a sample of regular mode), `regions` (a table for `context`), `interruption`; `laws` (what follows from the definitions alone).
 #![tactic(auto)]
 
 mod context;
@@ -40,14 +42,16 @@ mod interruption;
 pub mod laws;
 pub mod neighbours;
 pub mod plan;
+pub mod regions;
 mod run;
 pub mod state;
 mod update;
 pub mod word;
 
-pub use context::signed_context;
+pub use context::{half_context, signed_context};
 pub use neighbours::{Mode, Neighbours, mode_of};
 pub use plan::Plan;
+pub use regions::{Regions, whole_context};
 pub use run::{RunWord, Tail};
 pub use state::State;
 pub use word::Word;

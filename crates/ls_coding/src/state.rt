@@ -118,7 +118,24 @@ impl State {
         ensures golomb { IsGolomb result.k result.glimit (qbpp_of self.now.parameters.maxval) }
         ensures word { (sample : ℕ) → IsReadBy result (regular_word_in self.now neighbours.now sample) }
     {
-        self.counters.plan(neighbours)
+        let context = signed_context(&self.counters.presets, neighbours);
+        self.plan_regular_at(context, neighbours)
+    }
+
+    /// `plan_regular` of a sample whose context was found before: `context` is what `signed_context` answers for this scan's
+    /// presets and these neighbours, or `whole_context`. All else is as there.
+    pub fn plan_regular_at(&self, context: i16, neighbours: &Neighbours) -> Plan
+        requires context { context ≡ signed_context self.now.parameters neighbours.now }
+        requires samples { AreSamples self.now.parameters.maxval neighbours.now }
+        requires regular { is_run neighbours.now ≡ false }
+        requires whole { self.now.broken ≡ false }
+        ensures plan { result ≡ regular_plan self.now neighbours.now }
+        ensures neighbours { result.neighbours ≡ neighbours.now }
+        ensures own { result ≡ regular_plan self.now result.neighbours }
+        ensures golomb { IsGolomb result.k result.glimit (qbpp_of self.now.parameters.maxval) }
+        ensures word { (sample : ℕ) → IsReadBy result (regular_word_in self.now neighbours.now sample) }
+    {
+        self.counters.plan(context_of_signed(context), neighbours)
     }
 
     /// The one sample of regular mode whose word has this value, MErrval; the state is then as if it had been coded.

@@ -1,23 +1,34 @@
 //! The counters of a context with one error more (T.87 A.6).
-ghost use Rattle.std.specs.Prelude.{◌≡◌, ◌+◌, ◌/◌, ◌==◌, ◌≤◌, pos, neg_ℤ, ◌+ℤ◌, ◌-ℤ◌, ◌≤ℤ◌, int_le, int_lt, if◌then◌else◌};
-ghost use Rattle.ls_coding.specs.Numbers.{halved};
+ghost use Rattle.std.specs.Prelude.{◌≡◌, ◌+◌, ◌/◌, ◌==◌, ◌<◌, ◌≤◌, pos, neg_ℤ, ◌+ℤ◌, ◌-ℤ◌, ◌≤ℤ◌, ◌<ℤ◌, int_le, int_lt, false, if◌then◌else◌};
+ghost use Rattle.ls_coding.specs.Numbers.{halved, golomb_parameter};
 ghost use Rattle.ls_frame.specs.Parameters.{range_of};
 ghost use Rattle.ls_coding.specs.Errors.{IsReduced};
 ghost use Rattle.ls_coding.specs.Stats.{stats, bias_corrected, stats_step, error_bound, AreSound};
 
+use crate::error::{golomb_parameter, is_below};
 use ls_frame::Presets;
 
-/// One error more, in each of a context's counters.
-pub fn update(presets: Presets, a: &mut u32, b: &mut i32, c: &mut i32, n: &mut u32, error: i32)
+/// One error more, in each of a context's counters, and the Golomb parameter that they then have.
+pub fn update(
+    presets: Presets,
+    a: &mut u32,
+    b: &mut i32,
+    c: &mut i32,
+    n: &mut u32,
+    k: &mut u32,
+    error: i32,
+)
     requires sound { AreSound presets.reset (error_bound presets.maxval) (stats a.old b.old c.old n.old) }
     requires error { IsReduced (range_of presets.maxval) error }
     ensures step { stats a.new b.new c.new n.new ≡ stats_step presets.reset (stats a.old b.old c.old n.old) error }
     ensures sound { AreSound presets.reset (error_bound presets.maxval) (stats a.new b.new c.new n.new) }
+    ensures parameter { k.new ≡ golomb_parameter n.new a.new }
 {
     let reset = u32::from(presets.reset());
     *a += error.unsigned_abs();
     *b += error;
     count_error(a, b, n, reset);
+    *k = golomb_parameter(*n, *a);
     correct_bias(b, c, *n);
 }
 
@@ -38,6 +49,7 @@ fn count_error(a: &mut u32, b: &mut i32, n: &mut u32, reset: u32)
 
 /// Lets C follow the mean error, which B then stands for again (A.6.2).
 fn correct_bias(b: &mut i32, c: &mut i32, n: u32)
+    requires some { 0 < n }
     requires n { n ≤ 65536 }
     requires low { neg_ℤ (pos 131072) ≤ℤ b.old }
     requires high { b.old ≤ℤ pos 131072 }
@@ -48,68 +60,61 @@ fn correct_bias(b: &mut i32, c: &mut i32, n: u32)
     ensures low { neg_ℤ (pos 128) ≤ℤ c.new }
     ensures high { c.new ≤ℤ pos 127 }
 {
+    if is_below(-*b, n) {
+        return;
+    }
+    let low = *b < 0;
+    *b = corrected_mean(*b, n);
+    *c = corrected_bias(*c, low);
+}
+
+/// B with N added or taken off, whichever brings it nearer to 0, and then over -N and at most 0 (A.6.2). B isn't so before.
+fn corrected_mean(b: i32, n: u32) -> i32
+    requires low { neg_ℤ (pos 131072) ≤ℤ b }
+    requires high { b ≤ℤ pos 131072 }
+    requires some { 0 < n }
+    requires few { n ≤ 65536 }
+    requires far { int_le b (neg_ℤ (pos n)) ≡ false → pos 0 <ℤ b }
+    ensures { result ≡ (bias_corrected (stats 0 b (pos 0) n)).b }
+{
     let n = n as i32;
-    if *b <= -n {
-        *b = lowered_mean(*b, n);
-        *c = lowered_bias(*c);
-    } else if *b > 0 {
-        *b = raised_mean(*b, n);
-        *c = raised_bias(*c);
-    }
+    nearer(b, n).min(0).max(1 - n)
 }
 
-/// B with N added, for a B of at most -N (A.6.2).
-fn lowered_mean(b: i32, n: i32) -> i32
-    requires low { neg_ℤ (pos 131072) ≤ℤ b }
-    requires high { b ≤ℤ pos 131072 }
-    requires some { pos 0 ≤ℤ n }
-    requires few { n ≤ℤ pos 65536 }
-    ensures { result ≡ (if int_le (b +ℤ n) (neg_ℤ n) then pos 1 -ℤ n else b +ℤ n) }
+/// A number that is so much nearer to 0, or past it.
+fn nearer(number: i32, by: i32) -> i32
+    requires low { neg_ℤ (pos 131072) ≤ℤ number }
+    requires high { number ≤ℤ pos 131072 }
+    requires some { pos 0 ≤ℤ by }
+    requires few { by ≤ℤ pos 65536 }
+    ensures { result ≡ (if int_lt number (pos 0) then number +ℤ by else number -ℤ by) }
 {
-    if b + n <= -n {
-        return 1 - n;
+    if number < 0 {
+        return number + by;
     }
-    b + n
+    number - by
 }
 
-/// B with N taken off, for a B over 0 (A.6.2).
-fn raised_mean(b: i32, n: i32) -> i32
-    requires low { neg_ℤ (pos 131072) ≤ℤ b }
-    requires high { b ≤ℤ pos 131072 }
-    requires some { pos 0 ≤ℤ n }
-    requires few { n ≤ℤ pos 65536 }
-    ensures { result ≡ (if int_lt (pos 0) (b -ℤ n) then pos 0 else b -ℤ n) }
-{
-    if b - n > 0 {
-        return 0;
-    }
-    b - n
-}
-
-/// C one lower, or as it is if it is the least.
-fn lowered_bias(c: i32) -> i32
+/// C one lower, or else one higher, within a signed byte.
+fn corrected_bias(c: i32, low: bool) -> i32
     requires low { neg_ℤ (pos 128) ≤ℤ c }
     requires high { c ≤ℤ pos 127 }
-    ensures value { result ≡ (if int_lt (neg_ℤ (pos 128)) c then c -ℤ pos 1 else c) }
+    ensures value { result ≡ (if low then (if int_lt (neg_ℤ (pos 128)) c then c -ℤ pos 1 else c)
+        else (if int_lt c (pos 127) then c +ℤ pos 1 else c)) }
     ensures low { neg_ℤ (pos 128) ≤ℤ result }
     ensures high { result ≤ℤ pos 127 }
 {
-    if c > -128 {
-        return c - 1;
-    }
-    c
+    moved(c, low).min(127).max(-128)
 }
 
-/// C one higher, or as it is if it is the greatest.
-fn raised_bias(c: i32) -> i32
-    requires low { neg_ℤ (pos 128) ≤ℤ c }
-    requires high { c ≤ℤ pos 127 }
-    ensures value { result ≡ (if int_lt c (pos 127) then c +ℤ pos 1 else c) }
-    ensures low { neg_ℤ (pos 128) ≤ℤ result }
-    ensures high { result ≤ℤ pos 127 }
+/// A number less 1, or else and 1.
+fn moved(number: i32, lower: bool) -> i32
+    requires low { neg_ℤ (pos 128) ≤ℤ number }
+    requires high { number ≤ℤ pos 127 }
+    ensures { result ≡ (if lower then number -ℤ pos 1 else number +ℤ pos 1) }
 {
-    if c < 127 {
-        return c + 1;
+    if lower {
+        return number - 1;
     }
-    c
+    number + 1
 }

@@ -8,10 +8,10 @@ use Rattle.ls_frame.specs.Faults.{blames_bytes, blames_device}
 use Rattle.ls_frame.specs.View.Devices.{count_after}
 use Rattle.ls_frame.specs.View.Known.{known}
 use Rattle.ls_film.specs.View.Given.{GaveFrames}
-use Rattle.ls_film.specs.View.Engine.{IsHeadingOrImage, Completes}
+use Rattle.ls_film.specs.View.Engine.{Completes}
 use Rattle.ls_film.specs.declared.faults.FilmFault.{FilmFault}
 use Rattle.ls_film.specs.declared.faults.FilmFault.TheVariants.{Input, Output, NoMemory, TooMany}
-use Rattle.ls_film.specs.View.Stopping.{Stops, blames_reader, failed_reader}
+use Rattle.ls_film.specs.View.Stopping.{IsHeadingOrImage, Stops, blames_reader, failed_reader}
 use Rattle.ls_film.specs.View.Memory.{IsTextOf, BeginsFilm, AnyBytes, StopsOver}
 
 -- a count that stays at 0 says that no call failed
@@ -27,7 +27,7 @@ begins_with_heading last rest (inr image) =
     (front, image.1.raster ++ rest, ap (λ s. s ++ rest) image.1.whole ∙ append_assoc front image.1.raster rest, (image.1.heading, image.1.lawful, refl))
 
 module _ (text : List Picture → List ℕ) (film out : List ℕ) (left : Option (List ℕ)) where
-  pub completes-over : (n : ℕ) → Completes text (Some film) left (Some []) (Some out) n → IsTextOf text film out n
+  pub completes-over : (n : ℕ) → Completes IsImageOf text (Some film) left (Some []) (Some out) n → IsTextOf text film out n
   completes-over n run = record { frames = run.frames; count = run.count; few = run.few; whole = (run.gave refl).2; wrote = run.wrote }
 
   -- the film begins with these frames
@@ -50,11 +50,11 @@ module _ (text : List Picture → List ℕ) (film out : List ℕ) (left : Option
 
   pub stops-over : (fault : FilmFault) → blames_reader fault ≡ false → Stops text (Some film) left (Some []) (Some out) fault → StopsOver text film out fault
   stops-over (Input m fault) device run =
-      let broken = run.0.broken (of_bytes fault run.1 device) refl in (
+      let broken = run.0.broken refl in (
         record {
           frames = run.0.frames;
           few = run.0.few;
-          begins = record { front = broken.0; rest = broken.1; whole = broken.2; begins = broken.3; follows = broken.4 };
+          begins = record { front = broken.0; rest = broken.1; whole = broken.2; begins = broken.3; follows = broken.4 (of_bytes fault run.1 device) };
           wrote = run.0.wrote;
         },
         run.0.count,

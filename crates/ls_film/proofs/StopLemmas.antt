@@ -1,30 +1,98 @@
--- What stops an engine that reads a film and writes a text of its frames.
-use Rattle.std.proofs.Common.{◌≡◌, ℕ, ◌<◌, List, [], ◌∷◌, ◌++◌, Option}
+-- What stops an engine that reads frames and writes a text of them; and what that is to a film of Netpbm images.
+use Rattle.std.proofs.Common.{◌≡◌, ℕ, ◌<◌, true, false, inl, inr, List, [], ◌∷◌, ◌++◌, Option, refl, ap, IsTrue}
+use Rattle.ls_frame.specs.declared.netpbm.NetpbmFault.{NetpbmFault}
+use Rattle.ls_frame.specs.declared.netpbm.NetpbmFault.TheVariants as netpbm
 use Rattle.ls_frame.specs.Picture.{Picture}
-use Rattle.ls_frame.specs.Netpbm.{IsImageOf}
+use Rattle.ls_frame.specs.Netpbm.{IsImageOf, IsWholeHeading}
+use Rattle.ls_frame.specs.Faults.{IsBroken, blames_bytes, blames_memory}
 use Rattle.ls_frame.specs.View.Known.{Gave}
 use Rattle.ls_film.specs.Film.{most_frames}
-use Rattle.ls_film.specs.View.Engine.{HasRun}
-use Rattle.ls_film.proofs.EngineLemmas.{HasRun-input, HasRun-output, HasRun-no_memory}
-use Rattle.ls_film.specs.declared.faults.FilmFault.{FilmFault}
-use Rattle.ls_film.specs.declared.faults.FilmFault.TheVariants.{Input, Output, NoMemory, TooMany}
-use Rattle.ls_film.specs.View.Stopping.{Stops, StopsNext, StopsPiece}
+use Rattle.ls_film.specs.View.Engine.{HasRun, StopsAtInput, StopsForMemory}
+use Rattle.ls_film.specs.View.Steps.{IsSomeImage, HasStopped, StopsNext, StopsPiece}
+use Rattle.ls_film.specs.View.Stopping.{IsUnread, IsHeadingOrImage, Stops, film_fault}
+use Rattle.ls_film.specs.declared.engine.Stopped.{Stopped}
+use Rattle.ls_film.specs.declared.engine.Stopped.TheVariants.{Input, Output, NoMemory, TooMany}
+use Rattle.ls_film.proofs.EngineLemmas.{HasRun-output}
+use Rattle.ls_film.proofs.FilmLemmas.{GaveFrames-and, IsBrokenAfter-next, BeginsWithFrames-gave}
 
--- a fault of the next frame
-pub stops-next : (text : List Picture → List ℕ) (read mid new written out : Option (List ℕ)) (n bytes : ℕ) (fault : FilmFault) → HasRun text read mid written out n bytes
-    → StopsNext mid new n fault → Stops text read new written out fault
-stops-next text read mid new written out n bytes (Input m fault) run why =
-    (rw why.0 (HasRun-input text read mid new written out n bytes fault run why.2), why.1)
-stops-next text read mid new written out n bytes (Output count) run why = absurd why
-stops-next text read mid new written out n bytes NoMemory run why = HasRun-no_memory text read mid new written out n bytes run why
-stops-next text read mid new written out n bytes TooMany run why = absurd why
+-- ---- the engine
 
--- a fault of the piece of a frame
-pub stops-piece : (text : List Picture → List ℕ) (read mid new written midway out : Option (List ℕ)) (n bytes : ℕ) (f : Picture) (piece : List ℕ) (fault : FilmFault)
-    (run : HasRun text read mid written midway n bytes) → n < most_frames → Gave mid new (λ image. IsImageOf image f) → text (run.frames ++ f ∷ []) ≡ text run.frames ++ piece
-    → StopsPiece midway out bytes piece fault → Stops text read new written out fault
-stops-piece text read mid new written midway out n bytes f piece (Input m fault) run room next grows why = absurd why
-stops-piece text read mid new written midway out n bytes f piece (Output count) run room next grows why =
-    rw why.1 (HasRun-output text read mid new written midway out n bytes why.0 f piece run room next grows why.2 why.3)
-stops-piece text read mid new written midway out n bytes f piece NoMemory run room next grows why = absurd why
-stops-piece text read mid new written midway out n bytes f piece TooMany run room next grows why = absurd why
+module _ {E : Type 0} (IsImage : List ℕ → Picture → Type 0) (Unread : E → Option (List ℕ) → Option (List ℕ) → Type 0) (text : List Picture → List ℕ) where
+  -- an end at the next frame
+  pub stops-next : (read mid new written out : Option (List ℕ)) (n bytes : ℕ) (stopped : Stopped E) → HasRun IsImage text read mid written out n bytes
+      → StopsNext Unread mid new n stopped → HasStopped IsImage Unread text read new written out stopped
+  stops-next read mid new written out n bytes (Input m fault) run why = (mid, bytes, rw why.0 run, why.1)
+  stops-next read mid new written out n bytes (Output count) run why = absurd why
+  stops-next read mid new written out n bytes NoMemory run why = absurd why
+  stops-next read mid new written out n bytes TooMany run why = absurd why
+
+  -- an end at the piece of a frame
+  pub stops-piece : (read mid new written midway out : Option (List ℕ)) (n bytes : ℕ) (f : Picture) (piece : List ℕ) (stopped : Stopped E)
+      (run : HasRun IsImage text read mid written midway n bytes) → n < most_frames → Gave mid new (λ image. IsImage image f) → text (run.frames ++ f ∷ []) ≡ text run.frames ++ piece
+      → StopsPiece midway out bytes piece stopped → HasStopped IsImage Unread text read new written out stopped
+  stops-piece read mid new written midway out n bytes f piece (Input m fault) run room next grows why = absurd why
+  stops-piece read mid new written midway out n bytes f piece (Output count) run room next grows why =
+      rw why.1 (HasRun-output IsImage text read mid new written midway out n bytes why.0 f piece run room next grows why.2 why.3)
+  stops-piece read mid new written midway out n bytes f piece NoMemory run room next grows why = absurd why
+  stops-piece read mid new written midway out n bytes f piece TooMany run room next grows why = absurd why
+
+-- ---- Netpbm images
+
+other_than_memory : (fault : NetpbmFault) → blames_memory fault ≡ false → fault ≡ netpbm.NoMemory → ⊥
+other_than_memory fault other is = let memory : blames_memory fault ≡ true = ap blames_memory is in let clash : ⊥ = cc in absurd clash
+
+module _ (text : List Picture → List ℕ) (read read' written written' : Option (List ℕ)) where
+  -- an image can't be read, for another cause than memory
+  at_input : (m : ℕ) (fault : NetpbmFault) → blames_memory fault ≡ false → HasStopped IsImageOf IsUnread text read read' written written' (Input m fault)
+      → StopsAtInput IsImageOf text read read' written written' m (λ rest. IsTrue (blames_bytes fault) → IsBroken rest fault) × (fault ≡ netpbm.NoMemory → ⊥)
+  at_input m fault other stopped =
+      let run = stopped.2 in (
+        record {
+          frames = run.frames;
+          count = run.count;
+          few = run.few;
+          begins = BeginsWithFrames-gave IsImageOf read stopped.0 run.frames run.gave;
+          broken = IsBrokenAfter-next IsImageOf read stopped.0 run.frames (λ rest. IsTrue (blames_bytes fault) → IsBroken rest fault) run.gave
+              (λ told blamed. stopped.3.broken blamed told);
+          wrote = run.wrote;
+        },
+        other_than_memory fault other,
+      )
+
+  -- memory was refused for an image, when its header had been read
+  at_heading : (m : ℕ) → HasStopped IsImageOf IsUnread text read read' written written' (Input m netpbm.NoMemory)
+      → StopsForMemory IsImageOf text read read' written written' IsHeadingOrImage
+  at_heading m stopped =
+      let run = stopped.2 in
+      record {
+        frames = run.frames;
+        few = run.few;
+        gave = GaveFrames-and IsImageOf read stopped.0 read' run.frames IsWholeHeading IsHeadingOrImage run.gave (stopped.3.memory refl) (λ last heading. inl heading);
+        wrote = run.wrote;
+      }
+
+  -- memory was refused for the piece of a frame
+  at_piece : StopsForMemory IsImageOf text read read' written written' (IsSomeImage IsImageOf)
+      → StopsForMemory IsImageOf text read read' written written' IsHeadingOrImage
+  at_piece run = record {
+    frames = run.frames;
+    few = run.few;
+    gave = λ told. let front = run.gave told in let last = front.3 in (front.0, front.1, front.2, (last.0, last.1, last.2, last.3, inr last.4));
+    wrote = run.wrote;
+  }
+
+  -- the engine's end, to a film
+  pub film-stops : (stopped : Stopped NetpbmFault) → HasStopped IsImageOf IsUnread text read read' written written' stopped
+      → Stops text read read' written written' (film_fault stopped)
+  film-stops (Input m netpbm.BadMagic) why = at_input m netpbm.BadMagic refl why
+  film-stops (Input m netpbm.BadHeader) why = at_input m netpbm.BadHeader refl why
+  film-stops (Input m netpbm.HeaderTooLong) why = at_input m netpbm.HeaderTooLong refl why
+  film-stops (Input m netpbm.SizeOutOfRange) why = at_input m netpbm.SizeOutOfRange refl why
+  film-stops (Input m netpbm.MaxvalOutOfRange) why = at_input m netpbm.MaxvalOutOfRange refl why
+  film-stops (Input m netpbm.SampleTooLarge) why = at_input m netpbm.SampleTooLarge refl why
+  film-stops (Input m netpbm.Truncated) why = at_input m netpbm.Truncated refl why
+  film-stops (Input m netpbm.Io) why = at_input m netpbm.Io refl why
+  film-stops (Input m netpbm.NoMemory) why = at_heading m why
+  film-stops (Output bytes) why = why
+  film-stops NoMemory why = at_piece why
+  film-stops TooMany why = why

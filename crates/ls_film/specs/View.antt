@@ -2,5 +2,6 @@
 pub mod Engine
 pub mod Given
 pub mod Memory
+pub mod Steps
 pub mod Stopping
 pub mod Texts

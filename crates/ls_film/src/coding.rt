@@ -1,13 +1,15 @@
 //! The codestreams of a film's frames, one after the other.
 ghost use Rattle.std.specs.Prelude.{◌≡◌, IfOk, IfErr, refl};
+ghost use Rattle.ls_frame.specs.Netpbm.{IsImageOf};
 ghost use Rattle.ls_frame.specs.View.Devices.{count_after};
 ghost use Rattle.ls_film.specs.Coding.{default_file};
 ghost use Rattle.ls_film.specs.View.Engine.{Completes};
 ghost use Rattle.ls_film.specs.View.Memory.{IsTextOf, StopsOver};
 ghost use Rattle.ls_film.specs.View.Stopping.{Stops, failed_reader, failed_writer};
 
-use crate::engine::{Text, text_of_bytes, write_text};
+use crate::engine::Text;
 use crate::faults::FilmFault;
+use crate::film::{text_of_bytes, write_film};
 use ls_frame::{Feed, Frame, Outlet};
 use ls_stream::encode_frame;
 use std::alloc::{AllocError, Global};
@@ -22,14 +24,14 @@ pub fn code_film<R: Feed, W: Outlet>(
     reader: &mut R,
     writer: &mut W,
 ) -> Result<u64, FilmFault>
-    ensures completes { IfOk result (Completes default_file
+    ensures completes { IfOk result (Completes IsImageOf default_file
         (R.remaining reader.old) (R.remaining reader.new) (W.contents writer.old) (W.contents writer.new)) }
     ensures stops { IfErr result (Stops default_file
         (R.remaining reader.old) (R.remaining reader.new) (W.contents writer.old) (W.contents writer.new)) }
     ensures reads { R.failed_reads reader.new ≡ count_after (failed_reader result) (R.failed_reads reader.old) }
     ensures writes { W.failed_writes writer.new ≡ count_after (failed_writer result) (W.failed_writes writer.old) }
 {
-    write_text::<Codestreams, R, W>(alloc, reader, writer)
+    write_film::<Codestreams, R, W>(alloc, reader, writer)
 }
 
 /// The codestreams of a film in memory, as far as they were written, and how the coding ended.

@@ -1,20 +1,42 @@
-//! The engine that reads a film and writes a text of its frames, a piece for each, and its steps.
-ghost use Rattle.std.specs.Prelude.{◌≡◌, ℕ, ◌+◌, ◌<◌, ◌^◌, IfOk, IfErr, OnOk, IfSome, IfNone, List, [], length};
+//! The engine that reads frames and writes a text of them, a piece for each, and its steps. What the frames are read from, and what is
+//! written of them, are parameters.
+ghost use Rattle.std.specs.Prelude.{◌≡◌, ℕ, ◌+◌, ◌<◌, ◌^◌, Bool, IfOk, IfErr, OnOk, IfSome, IfNone, List, [], length, Option};
 ghost use Rattle.std.specs.Io.KnownBytes.{Appends};
-ghost use Rattle.ls_frame.specs.Netpbm.{IsImageOf};
 ghost use Rattle.ls_frame.specs.Picture.{Picture};
 ghost use Rattle.ls_frame.specs.View.Devices.{count_after};
 ghost use Rattle.ls_frame.specs.View.Known.{Gave, WasAtEnd};
 ghost use Rattle.ls_film.specs.View.Engine.{Completes};
-ghost use Rattle.ls_film.specs.View.Memory.{IsTextOf, StopsOver};
-ghost use Rattle.ls_film.specs.View.Stopping.{Stops, StopsNext, StopsPiece, failed_reader, failed_writer};
+ghost use Rattle.ls_film.specs.View.Steps.{HasStopped, StopsNext, StopsPiece, failed_input, failed_reader, failed_writer};
 ghost use Rattle.ls_film.specs.View.Texts.{GrowsBy};
 
-use crate::faults::{FilmFault, MOST_FRAMES};
-use ls_frame::{Counted, Feed, Frame, Outlet, next_frame, write_bytes};
+use crate::faults::MOST_FRAMES;
+use ls_frame::{Feed, Frame, Outlet, write_bytes};
 use std::alloc::{AllocError, Global};
 
-/// What an engine writes for a film: one piece per frame.
+/// What frames are read from: images of them, one after the other.
+pub trait Images {
+    /// Why an image can't be read.
+    type Fault;
+
+    /// What an image is of a frame.
+    ghost image: { List ℕ → Picture → Type 0 };
+
+    /// What a fault says of the reader's known bytes before the call that answers it and after.
+    ghost unread: { Self.Fault → Option (List ℕ) → Option (List ℕ) → Type 0 };
+
+    /// Whether a fault is of the reader's device.
+    ghost of_device: { Self.Fault → Bool };
+
+    /// Reads the next image and not a byte more; `None` exactly at the end.
+    fn next<R: Feed>(alloc: Global, reader: &mut R) -> Result<Option<Frame>, Self::Fault>
+        ensures frame { IfOk result (λ next. IfSome next
+            (λ f. Gave (R.remaining reader.old) (R.remaining reader.new) (λ bytes. image bytes f))) }
+        ensures end { IfOk result (λ next. IfNone next (WasAtEnd (R.remaining reader.old) (R.remaining reader.new))) }
+        ensures stops { IfErr result (λ fault. unread fault (R.remaining reader.old) (R.remaining reader.new)) }
+        ensures failures { R.failed_reads reader.new ≡ count_after (failed_input of_device result) (R.failed_reads reader.old) };
+}
+
+/// What is written of frames: a piece for each.
 pub trait Text {
     /// The text of these frames.
     ghost text: { List Picture → List ℕ };
@@ -30,67 +52,83 @@ pub trait Text {
     ghost empty: { text [] ≡ [] };
 }
 
-/// Writes the text of a film, frame by frame, and says how many frames there were.
+/// Why the engine stopped.
 ///
-/// If the bytes of reader and writer are known (as in memory), the clauses say which were read and written. After
-/// `FilmFault::Input` nothing is said of the reader's place.
-pub fn write_text<T: Text, R: Feed, W: Outlet>(
+/// The text of exactly the frames before the one at fault was written, except after `Output`. No more than
+/// `MOST_FRAMES` frames were.
+#[derive(Drop)]
+pub enum Stopped<E> {
+    /// The image of this number, from 0, can't be read.
+    Input(u64, E),
+    /// A write failed when exactly so many bytes of the text had gone out.
+    Output(u64),
+    /// Memory was refused for the piece of a frame that was read.
+    NoMemory,
+    /// A frame numbered 4,294,967,295.
+    TooMany,
+}
+
+impl<E> From<AllocError> for Stopped<E> {
+    ghost use Rattle.std.specs.Prelude.{◌≡◌};
+    ghost use Rattle.ls_film.specs.declared.engine.Stopped.TheVariants.{NoMemory};
+
+    ghost from_gives = { λ _ stopped. stopped ≡ NoMemory };
+
+    fn from(_refused: AllocError) -> Stopped<E> {
+        Stopped::NoMemory
+    }
+}
+
+/// Writes the text of the frames of a reader's images, frame by frame, and says how many frames there were.
+///
+/// Each piece is written before the next image is read. If the bytes of reader and writer are known (as in memory), the
+/// clauses say which were read and written.
+pub fn write_text<I: Images, T: Text, R: Feed, W: Outlet>(
     alloc: Global,
     reader: &mut R,
     writer: &mut W,
-) -> Result<u64, FilmFault>
-    ensures completes { IfOk result (Completes T.text
+) -> Result<u64, Stopped<I::Fault>>
+    ensures completes { IfOk result (Completes I.image T.text
         (R.remaining reader.old) (R.remaining reader.new) (W.contents writer.old) (W.contents writer.new)) }
-    ensures stops { IfErr result (Stops T.text
+    ensures stops { IfErr result (HasStopped I.image I.unread T.text
         (R.remaining reader.old) (R.remaining reader.new) (W.contents writer.old) (W.contents writer.new)) }
-    ensures reads { R.failed_reads reader.new ≡ count_after (failed_reader result) (R.failed_reads reader.old) }
+    ensures reads { R.failed_reads reader.new ≡ count_after (failed_reader I.of_device result) (R.failed_reads reader.old) }
     ensures writes { W.failed_writes writer.new ≡ count_after (failed_writer result) (W.failed_writes writer.old) }
 {
     let mut written = 0;
     for number in 0..MOST_FRAMES {
-        let Some(frame) = next_of_film(alloc, reader, number)? else {
+        let Some(frame) = next_frame_of::<I, R>(alloc, reader, number)? else {
             return Ok(number);
         };
         let piece = T::piece(alloc, number, &frame)?;
         written = write_piece(writer, &piece, written)?;
     }
-    match next_of_film(alloc, reader, MOST_FRAMES)? {
+    match next_frame_of::<I, R>(alloc, reader, MOST_FRAMES)? {
         None => Ok(MOST_FRAMES),
-        Some(_) => Err(FilmFault::TooMany),
+        Some(_) => Err(Stopped::TooMany),
     }
 }
 
-/// The text of a film in memory, as far as it was written, and how the writing ended.
-pub fn text_of_bytes<T: Text>(alloc: Global, film: &[u8]) -> (Vec<u8>, Result<u64, FilmFault>)
-    ensures completes { IfOk result.1 (IsTextOf T.text film.now result.0.items) }
-    ensures stops { IfErr result.1 (StopsOver T.text film.now result.0.items) }
-{
-    let mut reader = film;
-    let mut writer = Counted::new(Vec::new(alloc));
-    let ended = write_text::<T, &[u8], Counted<Vec<u8>>>(alloc, &mut reader, &mut writer);
-    (writer.into_inner(), ended)
-}
-
-/// Reads the next frame of a film, which has this number; `None` exactly at the end.
-fn next_of_film<R: Feed>(
+/// Reads the frame of this number; `None` exactly at the end.
+fn next_frame_of<I: Images, R: Feed>(
     alloc: Global,
     reader: &mut R,
     number: u64,
-) -> Result<Option<Frame>, FilmFault>
+) -> Result<Option<Frame>, Stopped<I::Fault>>
     ensures frame { IfOk result (λ next. IfSome next
-        (λ f. Gave (R.remaining reader.old) (R.remaining reader.new) (λ image. IsImageOf image f))) }
+        (λ f. Gave (R.remaining reader.old) (R.remaining reader.new) (λ bytes. I.image bytes f))) }
     ensures end { IfOk result (λ next. IfNone next (WasAtEnd (R.remaining reader.old) (R.remaining reader.new))) }
-    ensures stops { IfErr result (StopsNext (R.remaining reader.old) (R.remaining reader.new) number) }
-    ensures failures { R.failed_reads reader.new ≡ count_after (failed_reader result) (R.failed_reads reader.old) }
+    ensures stops { IfErr result (StopsNext I.unread (R.remaining reader.old) (R.remaining reader.new) number) }
+    ensures failures { R.failed_reads reader.new ≡ count_after (failed_reader I.of_device result) (R.failed_reads reader.old) }
 {
-    match next_frame(alloc, reader) {
+    match I::next(alloc, reader) {
         Ok(next) => Ok(next),
-        Err(fault) => Err(FilmFault::input_fault(number, fault)),
+        Err(fault) => Err(Stopped::Input(number, fault)),
     }
 }
 
 /// Writes a piece of the text after the `written` bytes of it, and says how many there are then.
-fn write_piece<W: Outlet>(writer: &mut W, piece: &[u8], written: u64) -> Result<u64, FilmFault>
+fn write_piece<E, W: Outlet>(writer: &mut W, piece: &[u8], written: u64) -> Result<u64, Stopped<E>>
     requires { written + length piece.now < 2 ^ 64 }
     ensures all { OnOk result (Appends (W.contents writer.old) (W.contents writer.new) piece.now) }
     ensures count { IfOk result (λ count. count ≡ written + length piece.now) }
@@ -99,9 +137,6 @@ fn write_piece<W: Outlet>(writer: &mut W, piece: &[u8], written: u64) -> Result<
 {
     match write_bytes(writer, piece) {
         Ok(()) => Ok(written + piece.len() as u64),
-        Err(fault) => Err(FilmFault::Output(written + fault.written as u64)),
+        Err(fault) => Err(Stopped::Output(written + fault.written as u64)),
     }
 }
-
-#[cfg(test)]
-mod tests;

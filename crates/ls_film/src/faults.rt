@@ -1,6 +1,6 @@
 //! Why an engine stopped, and what is said of it.
+use crate::engine::Stopped;
 use ls_frame::NetpbmFault;
-use std::alloc::AllocError;
 use thiserror::Error;
 
 /// The most frames of a film.
@@ -28,27 +28,19 @@ pub enum FilmFault {
 
 impl FilmFault {
     ghost use Rattle.std.specs.Prelude.{◌≡◌};
-    ghost use Rattle.ls_film.specs.View.Stopping.{input_fault};
+    ghost use Rattle.ls_film.specs.View.Stopping.{film_fault};
 
-    /// What a fault of the frame of this number, from 0, is to the engine that reads it.
-    pub fn input_fault(number: u64, fault: NetpbmFault) -> FilmFault
-        ensures { result ≡ input_fault number fault }
+    /// What the engine's end over Netpbm images is to a film.
+    pub fn of(stopped: Stopped<NetpbmFault>) -> FilmFault
+        ensures { result ≡ film_fault stopped }
     {
-        match fault {
-            NetpbmFault::NoMemory => FilmFault::NoMemory,
-            fault => FilmFault::Input(number, fault),
+        match stopped {
+            Stopped::Input(_, NetpbmFault::NoMemory) => FilmFault::NoMemory,
+            Stopped::Input(number, fault) => FilmFault::Input(number, fault),
+            Stopped::Output(written) => FilmFault::Output(written),
+            Stopped::NoMemory => FilmFault::NoMemory,
+            Stopped::TooMany => FilmFault::TooMany,
         }
-    }
-}
-
-impl From<AllocError> for FilmFault {
-    ghost use Rattle.std.specs.Prelude.{◌≡◌};
-    ghost use Rattle.ls_film.specs.declared.faults.FilmFault.TheVariants.{NoMemory};
-
-    ghost from_gives = { λ _ fault. fault ≡ NoMemory };
-
-    fn from(_refused: AllocError) -> FilmFault {
-        FilmFault::NoMemory
     }
 }
 

@@ -6,19 +6,20 @@
 //! so a film of codestreams is read by the same ones.
 //!
 //! ```
-//! let mut reader = Counted::new(BufReader::new(alloc, file)?);
+//! let mut reader = Counted::new(Buffered::new(alloc, file)?);
 //! let mut writer = Counted::new(rt.stdout());
 //! let frames = code_film(alloc, &mut reader, &mut writer)?;
 //! let (lines, ended) = list_bytes(alloc, film);
 //! ```
 //!
-//! In reading order: `faults` (why an engine stopped), `listing` (the line of a frame), `coding` (its codestream), `engine`
-//! (under both: reads a film and writes a piece for each frame).
+//! In reading order: `faults` (why a film stopped), `listing` (the line of a frame), `coding` (its codestream), `film` (under
+//! both: Netpbm images are read and a piece written for each frame), `engine` (the same for any images).
 #![tactic(auto)]
 
 pub mod coding;
-mod engine;
+pub mod engine;
 pub mod faults;
+pub mod film;
 pub mod listing;
 #[cfg(test)]
 mod testing;

@@ -1,13 +1,15 @@
 //! A line for each frame of a film.
 ghost use Rattle.std.specs.Prelude.{◌≡◌, ◌≤◌, IfOk, IfErr, length, refl, string_bytes};
+ghost use Rattle.ls_frame.specs.Netpbm.{IsImageOf};
 ghost use Rattle.ls_frame.specs.View.Devices.{count_after};
 ghost use Rattle.ls_film.specs.Listing.{kind_text, columns, line, lines};
 ghost use Rattle.ls_film.specs.View.Engine.{Completes};
 ghost use Rattle.ls_film.specs.View.Memory.{IsTextOf, StopsOver};
 ghost use Rattle.ls_film.specs.View.Stopping.{Stops, failed_reader, failed_writer};
 
-use crate::engine::{Text, text_of_bytes, write_text};
+use crate::engine::Text;
 use crate::faults::FilmFault;
+use crate::film::{text_of_bytes, write_film};
 use itoa::Buffer;
 use ls_frame::{Feed, Frame, Kind, Outlet, Presets};
 use std::alloc::{AllocError, Global};
@@ -21,14 +23,14 @@ pub fn list_film<R: Feed, W: Outlet>(
     reader: &mut R,
     writer: &mut W,
 ) -> Result<u64, FilmFault>
-    ensures completes { IfOk result (Completes lines
+    ensures completes { IfOk result (Completes IsImageOf lines
         (R.remaining reader.old) (R.remaining reader.new) (W.contents writer.old) (W.contents writer.new)) }
     ensures stops { IfErr result (Stops lines
         (R.remaining reader.old) (R.remaining reader.new) (W.contents writer.old) (W.contents writer.new)) }
     ensures reads { R.failed_reads reader.new ≡ count_after (failed_reader result) (R.failed_reads reader.old) }
     ensures writes { W.failed_writes writer.new ≡ count_after (failed_writer result) (W.failed_writes writer.old) }
 {
-    write_text::<Lines, R, W>(alloc, reader, writer)
+    write_film::<Lines, R, W>(alloc, reader, writer)
 }
 
 /// The lines of a film in memory, as far as they were written, and how the listing ended.

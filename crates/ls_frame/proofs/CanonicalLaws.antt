@@ -1,5 +1,5 @@
 -- The canonical text of a frame is a spelling of it.
-use Rattle.std.proofs.Common.{◌≡◌, ℕ, ◌/◌, ◌%◌, ◌<◌, ◌≤◌, Bool, true, false, List, [], ◌∷◌, ◌++◌, length, decimal, IsTrue, refl, sym, ap, arith, rules, append_assoc}
+use Rattle.std.proofs.Common.{◌≡◌, ℕ, ◌*◌, ◌/◌, ◌%◌, ◌^◌, ◌<◌, ◌≤◌, Bool, true, false, List, [], ◌∷◌, ◌++◌, length, decimal, IsTrue, refl, sym, ap, arith, rules, append_assoc}
 use Rattle.std.proofs.lemmas.List.{length-append}
 use Rattle.std.proofs.lemmas.Fmt.{decimal_nonempty, length-decimal-le, digits_decimal, digits_value-decimal}
 use Rattle.std.proofs.lemmas.Str.Parse.{IsNumeralModel, numerals_by_fold}
@@ -100,3 +100,31 @@ canonical-spells f lawful = record {
   samples = raster_bytes-say (is_wide f.maxval) f.samples;
   frame = lawful;
 }
+
+-- ---- its length
+
+sample_bytes-few : (wide : Bool) (sample : ℕ) → length (sample_bytes wide sample) ≤ 2
+sample_bytes-few false sample = omega arith
+sample_bytes-few true sample = omega arith
+
+raster_bytes-few : (wide : Bool) (samples : List ℕ) → length (raster_bytes wide samples) ≤ 2 * length samples
+unfolding raster_bytes
+raster_bytes-few wide [] = omega arith
+raster_bytes-few wide (s ∷ samples) =
+    omega (arith, length-append (sample_bytes wide s) (raster_bytes wide samples), sample_bytes-few wide s, raster_bytes-few wide samples)
+
+pub canonical-short : (f : Picture) → IsFrame f → length (canonical f) < 2 ^ 32
+unfolding canonical
+canonical-short f lawful =
+    let heading : List ℕ = heading_bytes (heading_of f) in
+    let raster : List ℕ = raster_bytes (is_wide f.maxval) f.samples in
+    let whole : canonical_heading f ++ raster ≡ heading ++ raster = ap (λ h. h ++ raster) (heading_of-bytes f) in
+    omega (
+      arith,
+      ap length whole,
+      length-append heading raster,
+      (heading_of-lawful f lawful).short,
+      raster_bytes-few (is_wide f.maxval) f.samples,
+      lawful.count,
+      lawful.few,
+    )

@@ -3,4 +3,5 @@ pub mod Alike
 pub mod Devices
 pub mod Known
 pub mod Laws
+pub mod Pieces
 pub mod Reading

@@ -60,6 +60,32 @@ impl Feed for &[u8] {
     }
 }
 
+/// A reader that is lent.
+impl<R: Feed> Feed for &mut R {
+    ghost failed_reads = { λ r. R.failed_reads r.now };
+
+    fn feed(&mut self, buf: &mut [u8]) -> Result<usize, Failed> {
+        Feed::feed(&mut **self, buf)
+    }
+
+    fn failures(&self) -> u64 {
+        Feed::failures(&**self)
+    }
+}
+
+/// A writer that is lent.
+impl<W: Outlet> Outlet for &mut W {
+    ghost failed_writes = { λ w. W.failed_writes w.now };
+
+    fn give(&mut self, buf: &[u8]) -> Result<usize, Failed> {
+        Outlet::give(&mut **self, buf)
+    }
+
+    fn failures(&self) -> u64 {
+        Outlet::failures(&**self)
+    }
+}
+
 /// A reader or a writer with the count of its failed calls.
 ///
 /// Its plain `read`, `write` and `flush` are those of what it wraps, and leave the count as it is.

@@ -117,14 +117,8 @@ impl Frame {
         Ok(Frame::from_parts(kind, width, height, maxval, samples))
     }
 
-    /// A frame of parts that make one.
-    pub(crate) fn from_parts(
-        kind: Kind,
-        width: u16,
-        height: u16,
-        maxval: u16,
-        samples: Vec<u16>,
-    ) -> Frame
+    /// A frame of parts that make one. It looks at no sample.
+    pub fn from_parts(kind: Kind, width: u16, height: u16, maxval: u16, samples: Vec<u16>) -> Frame
         requires { let picture : Picture = record {
           kind = kind;
           width = width;

@@ -1,11 +1,11 @@
 //! Laws over the definitions alone. Each is the contract of a function with nothing to do.
-ghost use Rattle.std.specs.Prelude.{◌≡◌, ◌+◌, ◌^◌, ◌≤◌, ◌++◌, [], List, ℕ, None};
+ghost use Rattle.std.specs.Prelude.{◌≡◌, ◌+◌, ◌^◌, ◌<◌, ◌≤◌, ◌++◌, [], List, length, ℕ, None};
 ghost use Rattle.ls_frame.specs.declared.netpbm.NetpbmFault.{NetpbmFault};
 ghost use Rattle.ls_frame.specs.Picture.{Picture, IsFrame};
 ghost use Rattle.ls_frame.specs.Netpbm.{IsImageOf, NoImage};
 ghost use Rattle.ls_frame.specs.Canonical.{canonical};
 ghost use Rattle.ls_frame.specs.Faults.{Breaks};
-ghost use Rattle.ls_frame.specs.Parameters.{Parameters, IsLegal, preset_fault, ceil_log2};
+ghost use Rattle.ls_frame.specs.Parameters.{Parameters, IsLegal, default_parameters, preset_fault, ceil_log2};
 
 /// No Netpbm image begins another: what follows one inside the bytes of another is nothing.
 pub fn no_image_begins_another()
@@ -20,6 +20,11 @@ pub fn images_have_one_frame()
 /// What is written of a frame is an image of it.
 pub fn canonical_text_spells_its_frame()
     ensures { (f : Picture) → IsFrame f → IsImageOf (canonical f) f }
+{}
+
+/// What is written of a frame has fewer than 2^32 bytes.
+pub fn canonical_texts_are_short()
+    ensures { (f : Picture) → IsFrame f → length (canonical f) < 2 ^ 32 }
 {}
 
 /// Bytes break the grammar in one way.
@@ -37,6 +42,12 @@ pub fn bytes_break_or_hold_an_image()
 pub fn ceil_log2_is_least()
     ensures reaches { (n : ℕ) → n ≤ 2 ^ 16 → n ≤ 2 ^ ceil_log2 n }
     ensures least { (n exponent : ℕ) → n ≤ 2 ^ exponent → ceil_log2 n ≤ exponent }
+{}
+
+/// The default parameters of a MAXVAL from 1 to 65535 are within Table C.2, and of this MAXVAL.
+pub fn default_parameters_are_legal()
+    ensures legal { (maxval : ℕ) → 0 < maxval → maxval ≤ 65535 → IsLegal (default_parameters maxval) }
+    ensures maxval { (maxval : ℕ) → (default_parameters maxval).maxval ≡ maxval }
 {}
 
 /// Parameters are within Table C.2 exactly if nothing is found that keeps them from it.

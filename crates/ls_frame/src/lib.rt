@@ -8,7 +8,7 @@
 //! writers and frames are seen as what these definitions speak of is in `specs/View`.
 //!
 //! ```
-//! let mut reader = Counted::new(BufReader::new(alloc, file)?);
+//! let mut reader = Counted::new(Buffered::new(alloc, file)?);
 //! while let Some(frame) = next_frame(alloc, &mut reader)? {
 //!     let presets = Presets::default_of(frame.maxval());
 //!     // .. frame.width(), frame.samples(), presets.t1() ..
@@ -16,11 +16,12 @@
 //! }
 //! ```
 //!
-//! In reading order: `device` (readers and writers that count), `frame`, `presets`, `tuning` (presets chosen in part),
-//! `output` (writing bytes whole), `netpbm` (reading an image and writing one), `laws` (what follows from the
-//! definitions alone).
+//! In reading order: `device` (readers and writers that count), `buffered` (a reader for those who read byte by byte),
+//! `frame`, `presets`, `tuning` (presets chosen in part), `output` (writing bytes whole), `netpbm` (reading an image and
+//! writing one), `laws` (what follows from the definitions alone).
 #![tactic(auto)]
 
+pub mod buffered;
 pub mod device;
 pub mod frame;
 pub mod laws;
@@ -31,6 +32,7 @@ pub mod presets;
 mod testing;
 pub mod tuning;
 
+pub use buffered::Buffered;
 pub use device::{Counted, Failed, Feed, Outlet};
 pub use frame::{Frame, FrameFault, Kind};
 pub use netpbm::{NetpbmFault, first_frame, next_frame, write_frame};

@@ -28,14 +28,14 @@ sample_bits-same : (p : Parameters) (plane : Plane) (i j : ℕ) (events : List E
 unfolding sample_bits state_of
 sample_bits-same p plane i j events = ap (golomb_bits p) (sym (word_of_regular (state_of p events) (around plane i j) (at plane i j) events refl))
 
-sample_after-same : (p : Parameters) (plane : Plane) (i j : ℕ) (events : List Event) → broken_after_events events ≡ false
+pub sample_after-same : (p : Parameters) (plane : Plane) (i j : ℕ) (events : List Event) → broken_after_events events ≡ false
     → state_of p (events ++ sample_event p plane i j events ∷ []) ≡ sample_after plane i j (state_of p events)
 unfolding sample_event state_of
 sample_after-same p plane i j events whole = sym (state_after_regular (state_of p events) _ (around plane i j) (at plane i j) whole refl events refl)
 
 -- ---- the sample that interrupts a run
 
-either : (p : Parameters) (events : List Event) (ri_type : Bool) → cond ri_type (counts_after_events p true events) (counts_after_events p false events) ≡ counts_after_events p ri_type events
+pub either : (p : Parameters) (events : List Event) (ri_type : Bool) → cond ri_type (counts_after_events p true events) (counts_after_events p false events) ≡ counts_after_events p ri_type events
 either p events true = refl
 either p events false = refl
 
@@ -46,7 +46,7 @@ break_bits-same p plane i j events r =
     ap (λ (t : Counts). golomb_bits p (interruption_word p (index_at (run_index_after_events events) r) (ri_type_of (around plane i j)) t (interruption_error p (around plane i j) (at plane i j))))
     (sym (either p events (ri_type_of (around plane i j))))
 
-interrupting_sample_after-same : (p : Parameters) (plane : Plane) (i j : ℕ) (events : List Event) (r : Run)
+pub interrupting_sample_after-same : (p : Parameters) (plane : Plane) (i j : ℕ) (events : List Event) (r : Run)
     → state_of p (events ++ run r ∷ interrupting_sample_event p plane i j ∷ []) ≡ interrupting_sample_after plane i j (run_after (state_of p events) r)
 unfolding interrupting_sample_event
 interrupting_sample_after-same p plane i j events r =
@@ -69,11 +69,11 @@ step : (p : Parameters) (plane : Plane) (more : List Span) (bits bits' : List Bo
     → coded p plane more events ≡ bits_from plane more (state_of p events) → bits ++ coded p plane more events ≡ bits' ++ bits_from plane more after
 step p plane more bits bits' events after e f g = ap (λ x. x ++ coded p plane more events) e ∙ ap (λ x. bits' ++ x) (g ∙ ap (bits_from plane more) f)
 
-sample_whole : (p : Parameters) (plane : Plane) (i j : ℕ) (events : List Event) → broken_after_events (events ++ sample_event p plane i j events ∷ []) ≡ false
+pub sample_whole : (p : Parameters) (plane : Plane) (i j : ℕ) (events : List Event) → broken_after_events (events ++ sample_event p plane i j events ∷ []) ≡ false
 unfolding sample_event
 sample_whole p plane i j events = last_of events (sample_event p plane i j events)
 
-break_whole : (p : Parameters) (plane : Plane) (i j : ℕ) (events : List Event) (r : Run) → broken_after_events (events ++ run r ∷ interrupting_sample_event p plane i j ∷ []) ≡ false
+pub break_whole : (p : Parameters) (plane : Plane) (i j : ℕ) (events : List Event) (r : Run) → broken_after_events (events ++ run r ∷ interrupting_sample_event p plane i j ∷ []) ≡ false
 unfolding interrupting_sample_event
 break_whole p plane i j events r = last_of_two events (run r) (interrupting_sample_event p plane i j)
 

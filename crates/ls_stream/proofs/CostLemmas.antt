@@ -86,7 +86,7 @@ left_after : (plane : Plane) (i value j count : ℕ) → left plane i j ≡ valu
 left_after plane i value j zero e equal = let same : j + 0 ≡ j = omega arith in ap (left plane i) same ∙ e
 left_after plane i value j (suc count) e equal = let next : j + suc count ≡ suc (j + count) = omega arith in ap (left plane i) next ∙ equal count (omega arith)
 
-interrupted : (maxval : ℕ) (plane : Plane) (i most j count : ℕ) → AreSmall maxval plane → IsLongest plane i (left plane i j) most j count → count < most
+pub interrupted : (maxval : ℕ) (plane : Plane) (i most j count : ℕ) → AreSmall maxval plane → IsLongest plane i (left plane i j) most j count → count < most
     → Interrupts maxval (around plane i (j + count)).a (at plane i (j + count))
 unfolding around
 interrupted maxval plane i most j count small h short = record {

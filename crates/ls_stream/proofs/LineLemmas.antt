@@ -22,7 +22,7 @@ row_before : (plane : Plane) (i : ℕ) → HasRow plane (suc i) → HasRow plane
 row_before plane i h = omega (arith, mul-le (i + 1) plane.width (suc i + 1) plane.width (omega arith) (omega arith))
 
 -- a place of a line after the first
-line_sample : (plane : Plane) (i j : ℕ) → HasRow plane i → j < plane.width → get_or (line_of plane (suc i)) (j + 1) 0 ≡ at plane i j
+pub line_sample : (plane : Plane) (i j : ℕ) → HasRow plane i → j < plane.width → get_or (line_of plane (suc i)) (j + 1) 0 ≡ at plane i j
 line_sample plane i j h k =
     let next : j + 1 ≡ suc j = omega arith in
     let inside : j < length (row_of plane i) = omega (arith, length_row plane i h) in
@@ -30,7 +30,7 @@ line_sample plane i j h k =
     ∙ get_or_append_left (row_of plane i) (at plane i (plane.width - 1) ∷ []) 0 j inside
     ∙ in_row plane i j k
 
-line_last : (plane : Plane) (i : ℕ) → HasRow plane i → get_or (line_of plane (suc i)) (plane.width + 1) 0 ≡ at plane i (plane.width - 1)
+pub line_last : (plane : Plane) (i : ℕ) → HasRow plane i → get_or (line_of plane (suc i)) (plane.width + 1) 0 ≡ at plane i (plane.width - 1)
 line_last plane i h =
     let next : plane.width + 1 ≡ suc plane.width = omega arith in
     let none : plane.width - plane.width ≡ 0 = omega arith in
@@ -40,14 +40,14 @@ line_last plane i h =
 
 -- ---- the four neighbours
 
-to_left : (plane : Plane) (i j : ℕ) → HasRow plane i → j < plane.width → get_or (line_of plane (suc i)) j 0 ≡ left plane i j
+pub to_left : (plane : Plane) (i j : ℕ) → HasRow plane i → j < plane.width → get_or (line_of plane (suc i)) j 0 ≡ left plane i j
 to_left plane i zero h k = refl
 to_left plane i (suc j) h k = let next : suc j ≡ j + 1 = omega arith in ap (λ n. get_or (line_of plane (suc i)) n 0) next ∙ line_sample plane i j h (omega arith)
 
-no_sample : (plane : Plane) (j : ℕ) → j < plane.width + 2 → get_or (line_of plane 0) j 0 ≡ 0
+pub no_sample : (plane : Plane) (j : ℕ) → j < plane.width + 2 → get_or (line_of plane 0) j 0 ≡ 0
 no_sample plane j h = get_or-replicate (plane.width + 2) j 0 0 h
 
-over : (plane : Plane) (i j : ℕ) → HasRow plane i → j < plane.width → get_or (line_of plane i) (j + 1) 0 ≡ above plane i j
+pub over : (plane : Plane) (i j : ℕ) → HasRow plane i → j < plane.width → get_or (line_of plane i) (j + 1) 0 ≡ above plane i j
 over plane zero j h k = no_sample plane (j + 1) (omega arith)
 over plane (suc i) j h k = line_sample plane i j (row_before plane i h) k
 
@@ -78,7 +78,7 @@ over_right plane (suc i) j h k = over_right_by plane i j (ltb (j + 1) plane.widt
 neighbours : ℕ → ℕ → ℕ → ℕ → Neighbours
 neighbours a b c d = record { a = a; b = b; c = c; d = d }
 
-near_is : (plane : Plane) (i j : ℕ) → HasRow plane i → j < plane.width → neighbours_in (line_of plane i) (line_of plane (suc i)) j ≡ around plane i j
+pub near_is : (plane : Plane) (i j : ℕ) → HasRow plane i → j < plane.width → neighbours_in (line_of plane i) (line_of plane (suc i)) j ≡ around plane i j
 unfolding neighbours around
 near_is plane i j h k =
     ap (λ n. neighbours n (get_or (line_of plane i) (j + 1) 0) (get_or (line_of plane i) j 0) (get_or (line_of plane i) (j + 2) 0)) (to_left plane i j h k)
@@ -87,6 +87,26 @@ near_is plane i j h k =
     ∙ ap (λ n. neighbours (left plane i j) (above plane i j) (above_left plane i j) n) (over_right plane i j h k)
 
 -- ---- in buffers
+
+left_before : (plane : Plane) (i j end : ℕ) (line : List ℕ) → get_or line 0 0 ≡ left plane i 0
+    → ((c : ℕ) → c < end → get_or line (c + 1) 0 ≡ at plane i c) → j ≤ end → get_or line j 0 ≡ left plane i j
+left_before plane i zero end line first before h = first
+left_before plane i (suc j) end line first before h = let next : suc j ≡ j + 1 = omega arith in ap (λ n. get_or line n 0) next ∙ before j (omega arith)
+
+-- what is left of a row's first sample
+pub first_left : (plane : Plane) (i : ℕ) (above_buffer line : List ℕ) → 1 ≤ plane.width → HasRow plane i → HoldsLine plane i above_buffer → get_or line 0 0 ≡ get_or above_buffer 1 0
+    → get_or line 0 0 ≡ left plane i 0
+first_left plane i above_buffer line some h over_is first = first ∙ over_is 1 (omega arith) ∙ over plane i 0 h some
+
+-- of a sample whose row is known to the left of it
+pub around_before : (plane : Plane) (i j end : ℕ) (above_buffer line : List ℕ) → HasRow plane i → j < plane.width → HoldsLine plane i above_buffer → get_or line 0 0 ≡ left plane i 0
+    → ((c : ℕ) → c < end → get_or line (c + 1) 0 ≡ at plane i c) → j ≤ end → neighbours_in above_buffer line j ≡ around plane i j
+unfolding neighbours around
+around_before plane i j end above_buffer line h k over_is first before reach =
+    ap (λ n. neighbours n (get_or above_buffer (j + 1) 0) (get_or above_buffer j 0) (get_or above_buffer (j + 2) 0)) (left_before plane i j end line first before reach)
+    ∙ ap (λ n. neighbours (left plane i j) n (get_or above_buffer j 0) (get_or above_buffer (j + 2) 0)) (over_is (j + 1) (omega arith) ∙ over plane i j h k)
+    ∙ ap (λ n. neighbours (left plane i j) (above plane i j) n (get_or above_buffer (j + 2) 0)) (over_is j (omega arith) ∙ over_left plane i j h k)
+    ∙ ap (λ n. neighbours (left plane i j) (above plane i j) (above_left plane i j) n) (over_is (j + 2) (omega arith) ∙ over_right plane i j h k)
 
 pub held_lines : (plane : Plane) (i : ℕ) (above_buffer line_buffer : List ℕ) → HasRow plane i → HoldsLine plane i above_buffer → HoldsLine plane (suc i) line_buffer → AreLines plane i above_buffer line_buffer
 unfolding neighbours

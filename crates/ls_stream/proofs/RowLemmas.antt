@@ -62,11 +62,11 @@ broken-moved plane i j count bits new s after n m x inside before_end e is f a b
 
 -- ---- how long a run is
 
-left_around : (plane : Plane) (i j : ℕ) → (around plane i j).a ≡ left plane i j
+pub left_around : (plane : Plane) (i j : ℕ) → (around plane i j).a ≡ left plane i j
 unfolding around
 left_around plane i j = refl
 
-equal_is : (plane : Plane) (i v most j end : ℕ) → most ≡ plane.width - j → j ≤ end → end ≤ plane.width → ((k : ℕ) → j ≤ k → k < end → at plane i k ≡ v)
+pub equal_is : (plane : Plane) (i v most j end : ℕ) → most ≡ plane.width - j → j ≤ end → end ≤ plane.width → ((k : ℕ) → j ≤ k → k < end → at plane i k ≡ v)
     → (end < plane.width → at plane i end ≢ v) → equal_from plane i v most j ≡ end - j
 equal_is plane i v zero j end e low high equal other = omega arith
 equal_is plane i v (suc most) j end e low high equal other =

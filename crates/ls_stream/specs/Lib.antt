@@ -1,5 +1,6 @@
 pub mod Components
 pub mod Examples
+pub mod Faults
 pub mod Grammar
 pub mod Layout
 pub mod Markers

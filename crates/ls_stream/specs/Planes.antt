@@ -14,6 +14,12 @@ pub record Plane : Type 0 where
   pub width : ℕ
   pub samples : List ℕ
 
+-- a plane of this width and height, of samples of at most maxval
+pub record IsSamplePlane (maxval width height : ℕ) (plane : Plane) : Type 0 where
+  pub width_is : plane.width ≡ width
+  pub count : length plane.samples ≡ height * width
+  pub small : (k : ℕ) → slice_index plane.samples k ≤ maxval
+
 -- ---- the neighbours of a sample (Figure A.1, A.2.1)
 
 -- the sample of a row and a column

@@ -1,5 +1,5 @@
 -- Marker segments (T.87 Annex C; T.81 B.1.1.4): a marker, the length of what follows it, and contents.
-use Rattle.std.specs.Prelude.{ℕ, ◌+◌, ◌<◌, ◌^◌, List, [], ◌∷◌, ◌++◌, length, flat_map}
+use Rattle.std.specs.Prelude.{ℕ, ◌+◌, ◌*◌, ◌<◌, ◌^◌, slice_index, List, [], ◌∷◌, ◌++◌, length, flat_map}
 use Rattle.ls_frame.specs.Parameters.{Parameters}
 use Rattle.ls_bits.specs.Bits.{two_bytes}
 use Rattle.ls_stream.specs.declared.marker.Marker.{Marker}
@@ -8,6 +8,10 @@ use Rattle.ls_stream.specs.Markers.{marker}
 -- the length counts its own two bytes and the contents
 abbrev pub segment : Marker → List ℕ → List ℕ
 segment m contents = marker m ++ two_bytes (2 + length contents) ++ contents
+
+-- the field of two bytes at a place: the number that it says
+unfoldable pub field_of : List ℕ → ℕ → ℕ
+field_of bytes place = 256 * slice_index bytes place + slice_index bytes (place + 1)
 
 -- ---- the frame header (SOF55; T.87 C.2.2)
 

@@ -1,3 +1,9 @@
+pub mod BitFaults
 pub mod Coded
+pub mod Decoding
+pub mod Extents
 pub mod LineBuffers
+pub mod Outlines
+pub mod Places
+pub mod Reading
 pub mod Shapes

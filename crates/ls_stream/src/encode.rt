@@ -1,5 +1,4 @@
 //! Encoding frames as codestreams (T.87 Annex C).
-mod buffers;
 mod coder;
 mod row;
 mod scan;
@@ -10,11 +9,11 @@ ghost use Rattle.ls_frame.specs.Picture.{components};
 ghost use Rattle.ls_frame.specs.Parameters.{limit_of, default_parameters};
 ghost use Rattle.ls_stream.specs.Layout.{codestream, scans_up_to, headers_length, scan_bound, bound};
 
+use crate::buffers::Lines;
 use crate::marker::Marker;
 use crate::segments::write::{
     presets_length, put_frame_header, put_marker, put_presets_if_needed, put_scan_header,
 };
-pub use buffers::Lines;
 use ls_frame::{Frame, Presets};
 use scan::put_scan;
 use std::alloc::{AllocError, Global};

@@ -1,17 +1,44 @@
-//! Laws over the definitions alone. Each is the contract of a function with nothing to do.
-ghost use Rattle.std.specs.Prelude.{◌≡◌, ◌-◌, ◌^◌, ◌<◌, ◌≤◌, ◌+◌, ◌++◌, ℕ, List, [], ◌∷◌, length, flat_map};
+//! Laws. Each is the contract of a function; but for the first, they are over the definitions alone, and the functions have nothing to
+//! do.
+ghost use Rattle.std.specs.Prelude.{◌≡◌, ◌-◌, ◌^◌, ◌<◌, ◌≤◌, ◌+◌, ◌++◌, ℕ, Bool, List, [], ◌∷◌, length, flat_map, MatchResult};
 ghost use Rattle.std.specs.List.{range_with_len};
 ghost use Rattle.ls_frame.specs.Picture.{Picture, IsFrame};
 ghost use Rattle.ls_frame.specs.declared.frame.Kind.TheVariants.{Gray, Color};
 ghost use Rattle.ls_frame.specs.Parameters.{Parameters, IsLegal};
-ghost use Rattle.ls_stream.specs.Planes.{Plane, left, run_length, IsLongest, row_spans, span_columns, plane_bits};
+ghost use Rattle.ls_stream.specs.Planes.{Plane, IsSamplePlane, left, run_length, IsLongest, row_spans, span_columns, plane_bits};
 ghost use Rattle.ls_stream.specs.Grammar.{Spells, Says, IsCoded, IsHeaderOf, presets, skipped};
 ghost use Rattle.ls_bits.specs.Stuffing.{unstuff};
 ghost use Rattle.ls_stream.specs.Layout.{codestream, bound};
 ghost use Rattle.ls_stream.specs.Examples.{scan, default_scan, annex_h_picture, annex_h_scan, lone, lone_codestream, lone_head, lone_scan, last_marker, lone_zero, soi, comment_a, empty_app8, lone_header, lone_reset, lone_grammar, lone_data, three_header};
+ghost use Rattle.ls_stream.specs.View.Extents.{SpellingsHaveExtents, OutlinesHaveExtents, TooFewForBoth, OneIsNext};
+ghost use Rattle.ls_stream.specs.View.Outlines.{BoundedOutlinesSpell, SpellingsHaveBoundedOutlines, BoundedFaultsBreak};
 
+use crate::decode::{Decoded, decode_frame};
+use crate::encode::encode_with;
+use crate::faults::StreamFault;
 use crate::marker::Marker;
 use ls_frame::laws::parameters_are_legal_or_at_fault;
+use ls_frame::{Frame, Presets};
+use std::alloc::Global;
+
+/// Decoding what was encoded gives the frame again, and takes its whole codestream; or an allocation fails.
+///
+/// It requires parameters of the frame's maxval.
+pub fn decoding_gives_what_was_encoded(
+    alloc: Global,
+    frame: &Frame,
+    presets: &Presets,
+) -> Result<Decoded, StreamFault>
+    requires maxval { presets.now.maxval ≡ frame.now.maxval }
+    ensures { MatchResult result
+        (λ decoded. (decoded.frame ≡ frame.now) × (decoded.used ≡ length (codestream frame.now presets.now)))
+        (λ fault. fault ≡ StreamFault.NoMemory) }
+{
+    prove!(presets.maxval() == frame.maxval());
+    parameters_are_legal_or_at_fault();
+    let bytes = encode_with(alloc, frame, presets)?;
+    decode_frame(alloc, &bytes)
+}
 
 /// The picture of T.87's Annex H.3 has the scan that stands there.
 pub fn annex_h_has_its_scan()
@@ -79,6 +106,23 @@ pub fn codestreams_spell_their_frames()
     parameters_are_legal_or_at_fault();
 }
 
+/// What is read of bytes at their front is a codestream of each frame that it says; a codestream is read so, whatever follows; and
+/// bytes that aren't read break the grammar with the fault that is answered.
+pub fn outlines_follow_the_grammar()
+    ensures spell { BoundedOutlinesSpell }
+    ensures are_read { SpellingsHaveBoundedOutlines }
+    ensures faults { BoundedFaultsBreak }
+{}
+
+/// How far a codestream goes by its markers alone is how far the grammar has it go, wherever that reads it, and one front of bytes is
+/// the next codestream.
+pub fn extents_follow_the_grammar()
+    ensures spelled { SpellingsHaveExtents }
+    ensures outlined { OutlinesHaveExtents }
+    ensures too_few { TooFewForBoth }
+    ensures one { OneIsNext }
+{}
+
 /// Codestreams as other programs may write them: skipped segments before the frame header; two LSE segments, of which the last
 /// counts, with 0 for a default; 15 bits after those of the plane; fill bytes; another identifier and quantization table.
 pub fn others_spell_frames_too()
@@ -98,4 +142,24 @@ pub fn these_say_no_frame()
     ensures identifiers { (f : Picture) (one two : ℕ) → IsHeaderOf f (three_header one two one) → ⊥ }
     ensures restarts { (p : Parameters) (f : Picture) (contents : List ℕ)
         → Says (lone_grammar (skipped 0 (Marker.Other 221) contents ∷ []) 1 0 [] (lone_data (128 ∷ []) []) 0) p f → ⊥ }
+{}
+
+/// A plane's bits tell it apart: what begins with them begins with those of no other plane of its width and height, whatever
+/// follows.
+pub fn planes_are_told_apart()
+    ensures { (p : Parameters) (plane other : Plane) (width height : ℕ) (bits rest others : List Bool) → IsLegal p → 1 ≤ width
+        → IsSamplePlane p.maxval width height plane → IsSamplePlane p.maxval width height other
+        → bits ≡ plane_bits p plane ++ rest → bits ≡ plane_bits p other ++ others → (plane ≡ other) × (rest ≡ others) }
+{}
+
+/// A codestream spells one frame and no other.
+pub fn one_frame_each()
+    ensures { (bytes : List ℕ) (f g : Picture) → Spells bytes f → Spells bytes g → f ≡ g }
+{
+    parameters_are_legal_or_at_fault();
+}
+
+/// No codestream begins another.
+pub fn no_codestream_begins_another()
+    ensures { (one other rest : List ℕ) (f g : Picture) → Spells one f → Spells other g → other ≡ one ++ rest → rest ≡ [] }
 {}

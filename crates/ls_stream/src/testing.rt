@@ -1,6 +1,10 @@
 //! What the tests share: frames, pictures that look like chance, and the checks.
+pub mod codestreams;
+
 use ls_frame::{Frame, Kind};
 use std::alloc::{AllocError, Global};
+use std::io;
+use std::io::Read;
 use std::process::Abort;
 
 /// That these are the bytes.
@@ -31,6 +35,12 @@ pub fn frame_of(
         made.map_err(|refused| refused.0)
             .expect(rt, "these parts make a frame"),
     )
+}
+
+/// A frame of these parts.
+pub fn frame_of_parts(rt: &impl Abort, alloc: Global, parts: Parts) -> Result<Frame, AllocError> {
+    let (kind, width, height, maxval, samples) = parts;
+    frame_of(rt, alloc, kind, width, height, maxval, samples)
 }
 
 /// Numbers that look like chance, the same in each run (splitmix64).
@@ -98,6 +108,23 @@ pub fn samples_of(
     Ok(samples)
 }
 
+/// Kind, width, height, maxval.
+pub type Shape = (Kind, u16, u16, u16);
+
+/// A frame of this shape that shows this.
+pub fn drawn_frame(
+    rt: &impl Abort,
+    alloc: Global,
+    chance: &mut Chance,
+    shape: Shape,
+    picture: Picture,
+) -> Result<Frame, AllocError> {
+    let (kind, width, height, maxval) = shape;
+    let count = usize::from(width) * usize::from(height) * usize::from(kind.components());
+    let samples = samples_of(alloc, chance, picture, maxval, count)?;
+    frame_of(rt, alloc, kind, width, height, maxval, &samples)
+}
+
 /// How many bytes there were, and their FNV-1a (64 bits).
 #[derive(Clone, Copy, Debug, PartialEq, Eq)]
 pub struct Sum {
@@ -126,4 +153,36 @@ impl Sum {
 /// That this is the sum.
 pub fn check_sum(rt: &impl Abort, name: &str, got: Sum, want: (u64, u64)) {
     assert_eq!(rt; (got.bytes, got.fnv), want, "{name}");
+}
+
+/// A reader over memory that gives at most `most` bytes a call. Its call number `failing`, from 0, fails and gives nothing.
+#[derive(Drop)]
+pub struct Pieces<'a> {
+    rest: &'a [u8],
+    most: usize,
+    failing: Option<usize>,
+    calls: usize,
+}
+
+impl<'a> Pieces<'a> {
+    pub fn new(bytes: &'a [u8], most: usize, failing: Option<usize>) -> Pieces<'a> {
+        Pieces {
+            rest: bytes,
+            most,
+            failing,
+            calls: 0,
+        }
+    }
+}
+
+impl<'a> Read for Pieces<'a> {
+    fn read(&mut self, buf: &mut [u8]) -> io::Result<usize> {
+        let call = self.calls;
+        self.calls = call.saturating_add(1);
+        if self.failing == Some(call) {
+            return Err(io::Error::from(io::ErrorKind::BrokenPipe));
+        }
+        let room = buf.len().min(self.most);
+        self.rest.read(&mut buf[..room])
+    }
 }

@@ -17,7 +17,24 @@ fn check_refusal(rt: &impl Abort, memory: Memory, error: &Error) {
 }
 
 fn check_files(rt: &impl Abort, alloc: Global, memory: Memory) {
-    let cases: [(&[&str], Request<'_>); 4] = [
+    let cases: [(&[&str], Request<'_>); 7] = [
+        (&["play", "x"], Request::Play { file: "x" }),
+        (
+            &["replay", "--sources", "0", "--capacity", "0", "x"],
+            Request::Replay {
+                sources: 0,
+                capacity: 0,
+                file: "x",
+            },
+        ),
+        (
+            &["replay", "x", "--capacity=4294967295", "--sources=255"],
+            Request::Replay {
+                sources: 255,
+                capacity: 4_294_967_295,
+                file: "x",
+            },
+        ),
         (&["list", "x"], Request::List { file: "x" }),
         (&["list", "--", "-x"], Request::List { file: "-x" }),
         (&["code", "x"], Request::Code { file: "x" }),
@@ -45,7 +62,9 @@ fn a_film_is_named_or_memory_is_wanting(rt: HostRuntime) {
 }
 
 /// The words that ask for nothing, and whether they are a fault.
-const ANSWERED: [(&[&str], bool); 16] = [
+const ANSWERED: [(&[&str], bool); 18] = [
+    (&["play"], true),
+    (&["play", "--help"], false),
     (&[], true),
     (&["list"], true),
     (&["list", "a", "b"], true),

@@ -223,8 +223,150 @@ fn films_are_coded_or_memory_is_wanting(rt: HostRuntime) {
     check_codings(&rt, Memory::Refusable, "coded_or_memory_is_wanting.pgm");
 }
 
+/// Recordings whose second codestream is bad, from the byte of this place of the first one's on, and what is said of it.
+const BAD_RECORDINGS: [(usize, &[u8], &str); 17] = [
+    (0, b"\x00", "frame 1: no SOI"),
+    (2, b"\x00", "frame 1: bad segment"),
+    (2, b"", "frame 1: truncated"),
+    (3, b"\xc0", "frame 1: unsupported: marker c0"),
+    (
+        2,
+        b"\xff\xf7\x00\x0b\x08\xff\xff\xff\xff\x01\x01\x11\x00",
+        "frame 1: too large",
+    ),
+    (
+        2,
+        b"\xff\xf7\x00\x0b\x08\x00\x00\x00\x01\x01\x01\x11\x00",
+        "frame 1: unsupported: height 0",
+    ),
+    (
+        2,
+        b"\xff\xf7\x00\x0e\x08\x00\x01\x00\x01\x02\x01\x11\x00\x02\x11\x00",
+        "frame 1: unsupported: 2 components",
+    ),
+    (
+        2,
+        b"\xff\xf7\x00\x0b\x08\x00\x01\x00\x01\x01\x01\x21\x00",
+        "frame 1: unsupported: sampling",
+    ),
+    (
+        15,
+        b"\xff\xda\x00\x08\x01\x02\x00\x00\x00\x00",
+        "frame 1: unsupported: scan order",
+    ),
+    (
+        15,
+        b"\xff\xda\x00\x08\x01\x01\x01\x00\x00\x00",
+        "frame 1: unsupported: mapping table",
+    ),
+    (
+        15,
+        b"\xff\xda\x00\x08\x01\x01\x00\x01\x00\x00",
+        "frame 1: unsupported: near-lossless",
+    ),
+    (
+        15,
+        b"\xff\xda\x00\x08\x01\x01\x00\x00\x00\x01",
+        "frame 1: unsupported: point transform",
+    ),
+    (
+        15,
+        b"\xff\xf8\x00\x03\x02\xff\xd9",
+        "frame 1: unsupported: LSE 2",
+    ),
+    (
+        26,
+        b"\xff\xf8\x00\x03\x01\xff\xd9",
+        "frame 1: unsupported: LSE after a scan",
+    ),
+    (
+        15,
+        b"\xff\xf8\x00\x0d\x01\x01\x00\x00\x00\x00\x00\x00\x00\x00\x00\
+\xff\xda\x00\x08\x01\x01\x00\x00\x00\x00",
+        "frame 1: bad presets: maxval",
+    ),
+    (25, b"\x00\xff\xd9", "frame 1: bad code in component 0"),
+    (
+        25,
+        b"\x80\x00\x00\xff\xd9",
+        "frame 1: leftover bits in component 0",
+    ),
+];
+
+/// A codestream, and after it its first bytes with others after them.
+fn recording_of(
+    alloc: Global,
+    place: usize,
+    others: &[u8],
+) -> Result<Vec<u8>, std::alloc::AllocError> {
+    let mut recording = FIRST_CODESTREAM.to_vec(alloc)?;
+    recording.extend_from_slice(FIRST_CODESTREAM.get(..place).unwrap_or(&[]))?;
+    recording.extend_from_slice(others)?;
+    Ok(recording)
+}
+
+/// Each image goes out by itself, so that a fault says how many bytes did.
+fn check_playing<R: Files + Abort + AllocGlobal>(rt: &R, memory: Memory, file: &str) {
+    let words = ["play", file];
+    let nothing = Mishap::Nothing;
+    check_film(rt, memory, words, FILM_CODESTREAMS, nothing, (0, FILM, b""));
+    check_film(rt, memory, words, b"", nothing, (0, b"", b""));
+    for (place, others, text) in BAD_RECORDINGS {
+        match recording_of(rt.alloc(), place, others) {
+            Ok(recording) => check_fault(rt, memory, words, &recording, nothing, BLACK, text),
+            Err(_) => check(rt, "no memory", memory == Memory::Refusable),
+        }
+    }
+    let none = "output failed after 0 bytes";
+    let codestream = FIRST_CODESTREAM;
+    check_fault(rt, memory, words, codestream, Mishap::Fails(0), b"", none);
+    let first = &FILM[..27];
+    let one = "output failed after 27 bytes";
+    check_fault(
+        rt,
+        memory,
+        words,
+        FILM_CODESTREAMS,
+        Mishap::Fails(1),
+        first,
+        one,
+    );
+    check_unread(rt, memory, words, "can't open");
+    check_unread(rt, memory, ["play", "."], "read failed");
+}
+
+#[test]
+fn recordings_are_played_with_ample_memory(rt: HostRuntime) {
+    check_playing(&rt, Memory::Ample, "played_with_ample_memory.jls");
+}
+
+#[test]
+fn recordings_are_played_or_memory_is_wanting(rt: HostRuntime) {
+    check_playing(&rt, Memory::Refusable, "played_or_memory_is_wanting.jls");
+}
+
 /// The words that ask for nothing, and the status.
-const ANSWERED: [(&[&str], u8); 16] = [
+const ANSWERED: [(&[&str], u8); 30] = [
+    (&["play"], 2),
+    (&["play", "a", "b"], 2),
+    (&["play", "--help"], 0),
+    (&["replay"], 2),
+    (&["replay", "x"], 2),
+    (&["replay", "--sources", "1", "x"], 2),
+    (&["replay", "--capacity", "1", "x"], 2),
+    (&["replay", "--sources", "1", "--capacity", "1"], 2),
+    (&["replay", "--sources", "256", "--capacity", "1", "x"], 2),
+    (&["replay", "--sources", "-1", "--capacity", "1", "x"], 2),
+    (
+        &["replay", "--sources", "1", "--capacity", "4294967296", "x"],
+        2,
+    ),
+    (&["replay", "--sources", "a", "--capacity", "1", "x"], 2),
+    (
+        &["replay", "--sources", "1", "--capacity", "1", "x", "y"],
+        2,
+    ),
+    (&["replay", "--help"], 0),
     (&[], 2),
     (&["list"], 2),
     (&["list", "a", "b"], 2),
@@ -371,4 +513,134 @@ fn want_of_memory_is_said_without_any(rt: HostRuntime) {
     check_status(&rt, "no memory", no_memory(rt.alloc(), &mut errors), 1);
     let errors = errors.into_inner();
     check_bytes(&rt, "no memory", errors.written(), b"jlsrec: no memory\n");
+}
+
+/// The steps of two sources and capacity 2, and the lines of their replies.
+const STEPS: &[u8] =
+    b"put 0 10\nput 1 20\nput 0 30\ntake\nput 0 30\nclose 0\nput 0 40\ntake\ntake\ntake\nclose 1\nclose 1\ntake\n";
+
+const STEPS_LINES: &[u8] =
+    b"taken 0\ntaken 0\nfull\njob 0 0 10\ntaken 1\nnow 2\nclosed\njob 1 0 20\njob 0 1 30\nempty\nnow 1\nalready 1\ndone\n";
+
+/// Runs `replay` over a file of these bytes, which is made for it, and compares. The text is what is said after the names of
+/// program and file, if anything is.
+fn check_replay<R: Files + Abort + AllocGlobal>(
+    rt: &R,
+    memory: Memory,
+    file: &str,
+    numbers: [&str; 2],
+    steps: &[u8],
+    mishap: Mishap,
+    want: Ending<'_, '_>,
+) {
+    let [sources, capacity] = numbers;
+    let words = ["replay", "--sources", sources, "--capacity", capacity, file];
+    if fs::write(rt, file, steps).is_ok() {
+        let mishaps = (mishap, Mishap::Nothing);
+        if let Some((status, output, errors)) = run_words(rt, memory, &words, mishaps) {
+            let got = (status, output.written(), errors.written());
+            check_ending(rt, memory, got, want, file);
+        }
+    } else {
+        check(rt, "the steps aren't written", memory == Memory::Refusable);
+    }
+    let _gone = fs::remove_file(rt, file);
+}
+
+/// Numbers, steps, the status, and what is said of the file.
+const BAD_REPLAYS: [([&str; 2], &[u8], &str); 4] = [
+    (["2", "2"], b"take\n\nput 0", "line 3: not a step"),
+    (["0", "0"], b"put 300 1", "line 1: not a step"),
+    (["1", "1"], b"take\nput 1 5\n", "step 1: no such source"),
+    (["16", "256"], b"close 255", "step 0: no such source"),
+];
+
+/// Numbers out of range, and what is said.
+const BAD_NUMBERS: [([&str; 2], &[u8]); 5] = [
+    (["0", "0"], b"jlsrec: sources\n"),
+    (["17", "1"], b"jlsrec: sources\n"),
+    (["255", "4294967295"], b"jlsrec: sources\n"),
+    (["2", "0"], b"jlsrec: capacity\n"),
+    (["2", "257"], b"jlsrec: capacity\n"),
+];
+
+fn check_replays<R: Files + Abort + AllocGlobal>(rt: &R, memory: Memory, file: &str) {
+    let nothing = Mishap::Nothing;
+    let two = ["2", "2"];
+    let want = (0, STEPS_LINES, b"".as_slice());
+    check_replay(rt, memory, file, two, STEPS, nothing, want);
+    let none = (0, b"".as_slice(), b"".as_slice());
+    check_replay(rt, memory, file, ["1", "1"], b"", nothing, none);
+    for (numbers, steps, text) in BAD_REPLAYS {
+        let errors = said(rt, file, text);
+        let want = (1, b"".as_slice(), errors.written());
+        check_replay(rt, memory, file, numbers, steps, nothing, want);
+    }
+    for (numbers, text) in BAD_NUMBERS {
+        let want = (2, b"".as_slice(), text);
+        check_replay(rt, memory, file, numbers, STEPS, nothing, want);
+    }
+    for mishap in [Mishap::Fails(0), Mishap::TakesNothing(0)] {
+        let want = (1, b"".as_slice(), FAILED_OUTPUT);
+        check_replay(rt, memory, file, two, STEPS, mishap, want);
+    }
+    let unflushed = (1, STEPS_LINES, FAILED_OUTPUT);
+    check_replay(
+        rt,
+        memory,
+        file,
+        two,
+        STEPS,
+        Mishap::FailsToFlush,
+        unflushed,
+    );
+}
+
+#[test]
+fn steps_are_replayed_with_ample_memory(rt: HostRuntime) {
+    check_replays(&rt, Memory::Ample, "replayed_with_ample_memory.txt");
+}
+
+#[test]
+fn steps_are_replayed_or_memory_is_wanting(rt: HostRuntime) {
+    check_replays(&rt, Memory::Refusable, "replayed_or_memory_is_wanting.txt");
+}
+
+/// That `replay` says this of a file that can't be read, whatever the numbers.
+fn check_unread_steps<R: Files + Abort + AllocGlobal>(
+    rt: &R,
+    memory: Memory,
+    file: &str,
+    text: &str,
+) {
+    let words = ["replay", "--sources", "0", "--capacity", "0", file];
+    let nothing = (Mishap::Nothing, Mishap::Nothing);
+    let Some((status, output, errors)) = run_words(rt, memory, &words, nothing) else {
+        return;
+    };
+    let wanted = said(rt, file, text);
+    let got = (status, output.written(), errors.written());
+    check_ending(rt, memory, got, (1, b"", wanted.written()), file);
+}
+
+#[test]
+fn steps_that_cannot_be_read_are_said_with_ample_memory(rt: HostRuntime) {
+    check_unread_steps(
+        &rt,
+        Memory::Ample,
+        "steps_that_are_not_there.txt",
+        "can't open",
+    );
+    check_unread_steps(&rt, Memory::Ample, ".", "read failed");
+}
+
+#[test]
+fn steps_that_cannot_be_read_are_said_or_memory_is_wanting(rt: HostRuntime) {
+    check_unread_steps(
+        &rt,
+        Memory::Refusable,
+        "steps_that_are_not_there_at_all.txt",
+        "can't open",
+    );
+    check_unread_steps(&rt, Memory::Refusable, ".", "read failed");
 }

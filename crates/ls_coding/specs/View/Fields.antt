@@ -3,6 +3,7 @@ use Rattle.std.specs.Prelude.{◌≡◌, ℕ, ◌+◌, ◌<◌, ◌≤◌, ℤ, 
 use Rattle.std.specs.List.{range_with_len}
 use Rattle.ls_frame.specs.Parameters.{IsLegal, limit_of}
 use Rattle.ls_coding.specs.declared.counters.Counters.{Counters}
+use Rattle.ls_coding.specs.Numbers.{golomb_parameter}
 use Rattle.ls_coding.specs.Stats.{Stats, AreSound, error_bound}
 use Rattle.ls_coding.specs.Interruptions.{Counts, AreSoundCounts}
 
@@ -30,6 +31,10 @@ pub record AreAllSound (reset bound : ℕ) (a : List ℕ) (b c : List ℤ) (n nn
   pub ri_type_0 : AreSoundCounts reset bound (counts_at a n nn 0)
   pub ri_type_1 : AreSoundCounts reset bound (counts_at a n nn 1)
 
+-- the Golomb parameters of regular contexts, beside their counters
+abbrev pub AreParameters : List ℕ → List ℕ → List ℕ → Type 0
+AreParameters k n a = (number : ℕ) → number < 365 → slice_index k number ≡ golomb_parameter (slice_index n number) (slice_index a number)
+
 -- ---- the same, of the arrays together
 
 abbrev pub regular_at : Counters → ℕ → Stats
@@ -46,6 +51,7 @@ pub record IsSound (counters : Counters) : Type 0 where
   pub legal : IsLegal counters.presets
   pub limit_is : counters.limit ≡ limit_of counters.presets.maxval
   pub all : AreAllSound counters.presets.reset (error_bound counters.presets.maxval) counters.a counters.b counters.c counters.n counters.nn
+  pub parameters : AreParameters counters.k counters.n counters.a
 
 -- what a state keeps to
 pub record IsSoundState (run_index : ℕ) (counters : Counters) : Type 0 where

@@ -1,17 +1,24 @@
--- Why an engine that reads a film stopped, and what had happened then.
-use Rattle.std.specs.Prelude.{◌≡◌, ◌≢◌, ℕ, ◌+◌, ◌<◌, Bool, true, false, IsTrue, List, length, take, Option, Result, Ok, Err}
-use Rattle.std.specs.Io.KnownBytes.{Appends}
+-- Why the reading of a film of Netpbm images stopped, and what had happened then.
+use Rattle.std.specs.Prelude.{◌≡◌, ◌≢◌, ℕ, ◌⊎◌, Bool, true, false, IsTrue, List, Option, Result, Ok, Err}
 use Rattle.ls_frame.specs.declared.netpbm.NetpbmFault.{NetpbmFault}
 use Rattle.ls_frame.specs.declared.netpbm.NetpbmFault.TheVariants as netpbm
 use Rattle.ls_frame.specs.Picture.{Picture}
-use Rattle.ls_frame.specs.Netpbm.{IsWholeHeading}
+use Rattle.ls_frame.specs.Netpbm.{IsImageOf, IsWholeHeading}
 use Rattle.ls_frame.specs.Faults.{IsBroken, blames_bytes, blames_device}
 use Rattle.ls_frame.specs.View.Known.{Tells, Gave, known}
 use Rattle.ls_film.specs.View.Engine.{StopsAtInput, StopsAtOutput, StopsForMemory, StopsAtMost}
+use Rattle.ls_film.specs.View.Steps.{IsSomeImage}
+use Rattle.ls_film.specs.declared.engine.Stopped.{Stopped}
+use Rattle.ls_film.specs.declared.engine.Stopped.TheVariants as engine
 use Rattle.ls_film.specs.declared.faults.FilmFault.{FilmFault}
 use Rattle.ls_film.specs.declared.faults.FilmFault.TheVariants.{Input, Output, NoMemory, TooMany}
 
--- a fault of the frame of number m, to the engine that reads it
+-- what a fault of the next image says of the reader's bytes: they are broken; or a whole header was read, and memory refused
+pub record IsUnread (fault : NetpbmFault) (read read' : Option (List ℕ)) : Type 0 where
+  pub broken : IsTrue (blames_bytes fault) → Tells read → IsBroken (known read) fault
+  pub memory : fault ≡ netpbm.NoMemory → Gave read read' IsWholeHeading
+
+-- a fault of the image of number m, to a film
 abbrev pub input_fault : ℕ → NetpbmFault → FilmFault
 input_fault m netpbm.BadMagic = Input m netpbm.BadMagic
 input_fault m netpbm.BadHeader = Input m netpbm.BadHeader
@@ -23,12 +30,24 @@ input_fault m netpbm.Truncated = Input m netpbm.Truncated
 input_fault m netpbm.Io = Input m netpbm.Io
 input_fault m netpbm.NoMemory = NoMemory
 
+-- the engine's end, to a film
+abbrev pub film_fault : Stopped NetpbmFault → FilmFault
+film_fault (engine.Input m fault) = input_fault m fault
+film_fault (engine.Output bytes) = Output bytes
+film_fault engine.NoMemory = NoMemory
+film_fault engine.TooMany = TooMany
+
+-- what was read of the frame that memory was refused for: its header, or all of it
+abbrev pub IsHeadingOrImage : List ℕ → Type 0
+IsHeadingOrImage bytes = IsWholeHeading bytes ⊎ IsSomeImage IsImageOf bytes
+
 -- what each fault says of the run: of the reader's bytes before and after it, and of the writer's
 abbrev pub Stops : (List Picture → List ℕ) → Option (List ℕ) → Option (List ℕ) → Option (List ℕ) → Option (List ℕ) → FilmFault → Type 0
-Stops text read read' written written' (Input m fault) = StopsAtInput text read read' written written' m fault × (fault ≢ netpbm.NoMemory)
-Stops text read read' written written' (Output bytes) = StopsAtOutput text read read' written written' bytes
-Stops text read read' written written' NoMemory = StopsForMemory text read read' written written'
-Stops text read read' written written' TooMany = StopsAtMost text read read' written written'
+Stops text read read' written written' (Input m fault) =
+    StopsAtInput IsImageOf text read read' written written' m (λ rest. IsTrue (blames_bytes fault) → IsBroken rest fault) × (fault ≢ netpbm.NoMemory)
+Stops text read read' written written' (Output bytes) = StopsAtOutput IsImageOf text read read' written written' bytes
+Stops text read read' written written' NoMemory = StopsForMemory IsImageOf text read read' written written' IsHeadingOrImage
+Stops text read read' written written' TooMany = StopsAtMost IsImageOf text read read' written written'
 
 -- whether a run failed by its reader's device, and by its writer's
 abbrev pub blames_reader : FilmFault → Bool
@@ -50,18 +69,3 @@ failed_reader (Err fault) = blames_reader fault
 abbrev pub failed_writer : {X : Type 0} → Result X FilmFault → Bool
 failed_writer (Ok x) = false
 failed_writer (Err fault) = blames_writer fault
-
--- what a fault of the next frame, of number n, says: the input is broken or failed there, or its header was read and memory
--- was refused
-abbrev pub StopsNext : Option (List ℕ) → Option (List ℕ) → ℕ → FilmFault → Type 0
-StopsNext read read' n (Input m fault) = (m ≡ n) × (fault ≢ netpbm.NoMemory) × (IsTrue (blames_bytes fault) → Tells read → IsBroken (known read) fault)
-StopsNext read read' n (Output bytes) = ⊥
-StopsNext read read' n NoMemory = Gave read read' IsWholeHeading
-StopsNext read read' n TooMany = ⊥
-
--- what a fault of a piece that is written after so many bytes says: its first bytes went out
-abbrev pub StopsPiece : Option (List ℕ) → Option (List ℕ) → ℕ → List ℕ → FilmFault → Type 0
-StopsPiece written written' bytes piece (Input m fault) = ⊥
-StopsPiece written written' bytes piece (Output n) = (here : ℕ) × (n ≡ bytes + here) × (here < length piece) × Appends written written' (take here piece)
-StopsPiece written written' bytes piece NoMemory = ⊥
-StopsPiece written written' bytes piece TooMany = ⊥

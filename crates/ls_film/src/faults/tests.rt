@@ -29,14 +29,14 @@ fn check_fault(rt: &impl Abort, got: FilmFault, want: FilmFault, text: &str) {
 #[test]
 fn faults_of_frames_have_their_numbers_and_texts(rt: HostRuntime) {
     for (fault, text) in INPUT_FAULTS {
-        let got = FilmFault::input_fault(3, fault);
+        let got = FilmFault::of(Stopped::Input(3, fault));
         check_fault(&rt, got, FilmFault::Input(3, fault), text);
     }
 }
 
 #[test]
 fn other_faults_have_their_texts(rt: HostRuntime) {
-    let refused = FilmFault::input_fault(3, NetpbmFault::NoMemory);
+    let refused = FilmFault::of(Stopped::Input(3, NetpbmFault::NoMemory));
     check_fault(&rt, refused, FilmFault::NoMemory, "no memory");
     let output = FilmFault::Output(7);
     check_fault(&rt, output, output, "output failed after 7 bytes");

@@ -10,7 +10,7 @@ ghost use Rattle.ls_stream.specs.Components.{component_plane, plane_of};
 ghost use Rattle.ls_stream.specs.View.Coded.{all_from};
 ghost use Rattle.ls_stream.specs.Layout.{scan_bound};
 
-use crate::encode::buffers::Lines;
+use crate::buffers::Lines;
 use crate::encode::coder::Coder;
 use crate::encode::row::code_row;
 use crate::lines::{clear, fill_line};

@@ -1,72 +1,15 @@
 mod sums;
 
 use super::*;
+use crate::testing::codestreams::{CODESTREAMS, PLANES, TUNINGS, around_scan};
 use crate::testing::{
-    Chance, PICTURES, Parts, Picture, Sum, check_bytes, check_number, check_sum, frame_of,
-    samples_of,
+    Chance, PICTURES, Picture, Shape, Sum, check_bytes, check_number, check_sum, drawn_frame,
+    frame_of, frame_of_parts,
 };
 use ls_frame::{Kind, Tuning};
 use std::process::Abort;
 use std::test::Fail;
 use sums::{LARGE, LONGEST_RUNS, SMALL};
-
-/// The bytes in front of a scan, of gray samples with the default parameters of maxval 255.
-fn head(width: u16, height: u16) -> [u8; 25] {
-    let [high, low] = height.to_be_bytes();
-    let [wide, narrow] = width.to_be_bytes();
-    [
-        0xff, 0xd8, 0xff, 0xf7, 0x00, 0x0b, 0x08, high, low, wide, narrow, 0x01, 0x01, 0x11, 0x00,
-        0xff, 0xda, 0x00, 0x08, 0x01, 0x01, 0x00, 0x00, 0x00, 0x00,
-    ]
-}
-
-const END: [u8; 2] = [0xff, 0xd9];
-
-/// What a plane shows, its maxval, its width, its samples, and its scan with the default parameters.
-const PLANES: [(&str, u16, u16, &[u16], &[u8]); 12] = [
-    (
-        "the picture of T.87's Annex H.3",
-        255,
-        4,
-        &[
-            0, 0, 90, 74, 68, 50, 43, 205, 64, 145, 145, 145, 100, 145, 145, 145,
-        ],
-        &[
-            0xc0, 0x00, 0x00, 0x6c, 0x80, 0x20, 0x8e, 0x01, 0xc0, 0x00, 0x00, 0x57, 0x40, 0x00,
-            0x00, 0x6e, 0xe6, 0x00, 0x00, 0x01, 0xbc, 0x18, 0x00, 0x00, 0x05, 0xd8, 0x00, 0x00,
-            0x91, 0x60,
-        ],
-    ),
-    ("a lone zero", 255, 1, &[0], &[0x80]),
-    ("a lone greatest sample", 255, 1, &[255], &[0x40]),
-    ("a run of twelve", 255, 12, &[0; 12], &[0xff, 0x00]),
-    ("a run of thirteen", 255, 13, &[0; 13], &[0xff, 0x40]),
-    ("a run of sixteen", 255, 16, &[0; 16], &[0xff, 0x40]),
-    ("samples of two values", 1, 1, &[1], &[0x40]),
-    ("samples of sixteen bits", 65535, 1, &[65535], &[0x40, 0x00]),
-    (
-        "runs of two lines",
-        255,
-        4,
-        &[0, 0, 0, 9, 0, 0, 0, 9],
-        &[0xe0, 0xbb, 0x00],
-    ),
-    (
-        "an escape word after a run",
-        255,
-        5,
-        &[0, 0, 0, 0, 100],
-        &[0xf0, 0x00, 0x00, 0x1c, 0x60],
-    ),
-    (
-        "a second sample in regular mode",
-        255,
-        2,
-        &[5, 5],
-        &[0x16, 0x00],
-    ),
-    ("one column", 255, 1, &[5, 5, 6], &[0x16, 0x24]),
-];
 
 #[test]
 fn gray_frames_have_their_planes_scans_with_ample_memory(rt: HostRuntime) -> Result<(), Fail> {
@@ -80,83 +23,6 @@ fn gray_frames_have_their_planes_scans_with_ample_memory(rt: HostRuntime) -> Res
     }
     Ok(())
 }
-
-/// The codestream of a gray frame of maxval 255 with this scan, and with this between the frame header and the scan.
-fn around_scan(
-    alloc: Global,
-    width: u16,
-    height: u16,
-    between: &[u8],
-    scan: &[u8],
-) -> Result<Vec<u8>, AllocError> {
-    let head = head(width, height);
-    let mut bytes = head[..15].to_vec(alloc)?;
-    bytes.extend_from_slice(between)?;
-    bytes.extend_from_slice(&head[15..])?;
-    bytes.extend_from_slice(scan)?;
-    bytes.extend_from_slice(&END)?;
-    Ok(bytes)
-}
-
-/// Frames, their codestreams with the default parameters, and the bound of these.
-const CODESTREAMS: [(Parts, &[u8], u64); 5] = [
-    (
-        (
-            Kind::Gray,
-            4,
-            4,
-            255,
-            &[
-                0, 0, 90, 74, 68, 50, 43, 205, 64, 145, 145, 145, 100, 145, 145, 145,
-            ],
-        ),
-        &[
-            0xff, 0xd8, 0xff, 0xf7, 0x00, 0x0b, 0x08, 0x00, 0x04, 0x00, 0x04, 0x01, 0x01, 0x11,
-            0x00, 0xff, 0xda, 0x00, 0x08, 0x01, 0x01, 0x00, 0x00, 0x00, 0x00, 0xc0, 0x00, 0x00,
-            0x6c, 0x80, 0x20, 0x8e, 0x01, 0xc0, 0x00, 0x00, 0x57, 0x40, 0x00, 0x00, 0x6e, 0xe6,
-            0x00, 0x00, 0x01, 0xbc, 0x18, 0x00, 0x00, 0x05, 0xd8, 0x00, 0x00, 0x91, 0x60, 0xff,
-            0xd9,
-        ],
-        101,
-    ),
-    (
-        (Kind::Gray, 1, 1, 255, &[0]),
-        &[
-            0xff, 0xd8, 0xff, 0xf7, 0x00, 0x0b, 0x08, 0x00, 0x01, 0x00, 0x01, 0x01, 0x01, 0x11,
-            0x00, 0xff, 0xda, 0x00, 0x08, 0x01, 0x01, 0x00, 0x00, 0x00, 0x00, 0x80, 0xff, 0xd9,
-        ],
-        32,
-    ),
-    (
-        (Kind::Gray, 1, 1, 1, &[1]),
-        &[
-            0xff, 0xd8, 0xff, 0xf7, 0x00, 0x0b, 0x02, 0x00, 0x01, 0x00, 0x01, 0x01, 0x01, 0x11,
-            0x00, 0xff, 0xf8, 0x00, 0x0d, 0x01, 0x00, 0x01, 0x00, 0x01, 0x00, 0x01, 0x00, 0x01,
-            0x00, 0x40, 0xff, 0xda, 0x00, 0x08, 0x01, 0x01, 0x00, 0x00, 0x00, 0x00, 0x40, 0xff,
-            0xd9,
-        ],
-        45,
-    ),
-    (
-        (Kind::Gray, 1, 1, 65535, &[65535]),
-        &[
-            0xff, 0xd8, 0xff, 0xf7, 0x00, 0x0b, 0x10, 0x00, 0x01, 0x00, 0x01, 0x01, 0x01, 0x11,
-            0x00, 0xff, 0xda, 0x00, 0x08, 0x01, 0x01, 0x00, 0x00, 0x00, 0x00, 0x40, 0x00, 0xff,
-            0xd9,
-        ],
-        37,
-    ),
-    (
-        (Kind::Color, 1, 1, 255, &[0, 0, 0]),
-        &[
-            0xff, 0xd8, 0xff, 0xf7, 0x00, 0x11, 0x08, 0x00, 0x01, 0x00, 0x01, 0x03, 0x01, 0x11,
-            0x00, 0x02, 0x11, 0x00, 0x03, 0x11, 0x00, 0xff, 0xda, 0x00, 0x08, 0x01, 0x01, 0x00,
-            0x00, 0x00, 0x00, 0x80, 0xff, 0xda, 0x00, 0x08, 0x01, 0x02, 0x00, 0x00, 0x00, 0x00,
-            0x80, 0xff, 0xda, 0x00, 0x08, 0x01, 0x03, 0x00, 0x00, 0x00, 0x00, 0x80, 0xff, 0xd9,
-        ],
-        68,
-    ),
-];
 
 #[test]
 fn frames_have_these_codestreams_and_bounds_with_ample_memory(rt: HostRuntime) -> Result<(), Fail> {
@@ -183,11 +49,6 @@ fn codestreams_go_after_bytes_without_memory(rt: HostRuntime) {
             let _refused = encode_after_a_byte(&rt, rt.alloc(), &frame, want, bound);
         }
     }
-}
-
-fn frame_of_parts(rt: &impl Abort, alloc: Global, parts: Parts) -> Result<Frame, AllocError> {
-    let (kind, width, height, maxval, samples) = parts;
-    frame_of(rt, alloc, kind, width, height, maxval, samples)
 }
 
 /// Encodes after a byte 07, into just the room of the bound.
@@ -217,27 +78,6 @@ fn encode_after_a_byte(
     );
     Ok(())
 }
-
-/// T1, T2, T3 and RESET of a tuning, and the bytes between the frame header and the scan header that it makes of a lone zero
-/// of maxval 255.
-const TUNINGS: [([u16; 4], &[u8]); 4] = [
-    ([3, 7, 21, 64], &[]),
-    ([0, 0, 0, 0], &[]),
-    (
-        [0, 0, 0, 32],
-        &[
-            0xff, 0xf8, 0x00, 0x0d, 0x01, 0x00, 0xff, 0x00, 0x03, 0x00, 0x07, 0x00, 0x15, 0x00,
-            0x20,
-        ],
-    ),
-    (
-        [5, 0, 0, 0],
-        &[
-            0xff, 0xf8, 0x00, 0x0d, 0x01, 0x00, 0xff, 0x00, 0x05, 0x00, 0x07, 0x00, 0x15, 0x00,
-            0x40,
-        ],
-    ),
-];
 
 #[test]
 fn parameters_are_written_where_they_are_not_the_default_with_ample_memory(
@@ -278,14 +118,11 @@ fn drawn_codestream(
     rt: &impl Abort,
     alloc: Global,
     chance: &mut Chance,
-    shape: (Kind, u16, u16, u16),
+    shape: Shape,
     picture: Picture,
     chosen: [u16; 4],
 ) -> Result<Vec<u8>, Fail> {
-    let (kind, width, height, maxval) = shape;
-    let count = usize::from(width) * usize::from(height) * usize::from(kind.components());
-    let samples = samples_of(alloc, chance, picture, maxval, count)?;
-    let frame = frame_of(rt, alloc, kind, width, height, maxval, &samples)?;
+    let frame = drawn_frame(rt, alloc, chance, shape, picture)?;
     let [t1, t2, t3, reset] = chosen;
     let presets = Tuning { t1, t2, t3, reset }.presets(frame.maxval())?;
     Ok(encode_with(alloc, &frame, &presets)?)

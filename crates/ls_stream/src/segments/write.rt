@@ -10,11 +10,9 @@ ghost use Rattle.ls_stream.specs.Grammar.{greatest_maxval, miscellaneous_bytes};
 ghost use Rattle.ls_stream.specs.Layout.{written_component, written_header, needs_presets, written_presets, presets_length};
 
 use crate::marker::Marker;
+use crate::segments::{SAMPLED_ONE_BY_ONE, greatest_maxval};
 use byteorder::{BigEndian, ByteOrder};
 use ls_frame::{Frame, Presets};
-
-/// The sampling factors of a component, both 1, in one byte.
-const SAMPLED_ONE_BY_ONE: u8 = 0x11;
 
 /// A marker.
 pub fn put_marker(bytes: &mut Vec<u8>, marker: Marker)
@@ -123,16 +121,6 @@ fn needs_presets(presets: &Presets) -> bool
     ensures { result ≡ needs_presets presets.now }
 {
     *presets != Presets::default_of(greatest_maxval(presets.bpp()))
-}
-
-/// The greatest MAXVAL of a precision of 2 to 16 bits.
-fn greatest_maxval(precision: u32) -> u16
-    requires low { 2 ≤ precision }
-    requires high { precision ≤ 16 }
-    ensures value { result ≡ greatest_maxval precision }
-    ensures some { 0 < result }
-{
-    ((1u32 << precision) - 1) as u16
 }
 
 /// Preset parameters (LSE with ID 1; T.87 C.2.4.1.1).

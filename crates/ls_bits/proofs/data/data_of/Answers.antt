@@ -1,6 +1,11 @@
-use Rattle.std.proofs.Common.{◌+◌, ◌<◌, length, arith}
-use Rattle.ls_bits.proofs.DataLemmas.{data-more, data-more_pair, data-longest, data-stop_end, data-stop_marker}
+use Rattle.std.proofs.Common.{◌+◌, ◌<◌, ◌≤◌, length, arith}
+use Rattle.ls_bits.proofs.DataLemmas.{data-more, data-more_many, data-more_pair, data-longest, data-stop_end, data-stop_marker}
 use Rattle.ls_bits.proofs.data.data_of.Goals as goal
+
+pub loop-len-preserved-then-has_eight_plain : goal.loop-len-preserved-then-has_eight_plain
+loop-len-preserved-then-has_eight_plain c =
+    let whole : c.loop-len.len + 8 ≤ length c.args.bytes.now = c.has_eight_plain.ensures.whole c.if-has_eight_plain.true in
+    (whole, data-more_many c.args.bytes.now c.loop-len.len 8 whole c.loop-len.invariant.1 (c.has_eight_plain.ensures.plain c.if-has_eight_plain.true))
 
 pub loop-len-preserved-then-bytes-len : goal.loop-len-preserved-then-bytes-len
 loop-len-preserved-then-bytes-len c =

@@ -1,7 +1,14 @@
 use Rattle.std.proofs.Common.{◌≡◌, ap, ◌∙◌, neg_ℤ, pos, ◌≤ℤ◌, arith}
 use Rattle.std.specs.Prelude.{unsigned_abs}
-use Rattle.ls_coding.proofs.StatsLemmas.{step_is, sound_is, error_through, error_size, error_low, error_high, sum_through}
+use Rattle.ls_coding.proofs.StatsLemmas.{counted_by_code, step_is, sound_is, error_through, error_size, error_low, error_high, sum_through}
 use Rattle.ls_coding.proofs.update.update.Goals as goal
+
+pub golomb_parameter-requires : goal.golomb_parameter-requires
+golomb_parameter-requires c =
+    let facts = counted_by_code c.args.presets.reset c.args.presets.maxval c.args.a.now c.args.n.now c.unsigned_abs.result c.count_error.new.a c.count_error.new.n c.from-reset.result
+    c.args.b.now c.args.c.now c.args.error (omega arith) (omega arith) (omega arith) c.requires.sound c.requires.error c.unsigned_abs.ensures.value
+    (c.from-reset.ensures ∙ c.reset.ensures.value) c.count_error.ensures.a c.count_error.ensures.n in
+    record { some = facts.0; few = facts.1; sum = facts.2 }
 
 low : (c : goal.After-correct_bias) → neg_ℤ (pos 32768) ≤ℤ c.args.error
 low c = error_low _ c.args.error c.reset.ensures.legal.maxval c.requires.error

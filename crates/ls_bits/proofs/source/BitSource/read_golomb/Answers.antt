@@ -1,58 +1,14 @@
-use Rattle.std.proofs.Common.{ℕ, sym, subst, ◌∙◌, arith}
-use Rattle.std.proofs.lemmas.Result.{err_from_is_err_and}
-use Rattle.ls_bits.specs.Golomb.{escape_zeros, TakesWord}
-use Rattle.ls_bits.specs.View.Taking.{ZerosFault}
-use Rattle.ls_bits.proofs.GolombLaws.{TooFew, too_few, zeros_fault, short_taken, short_too_large, escape_taken, escape_needless}
+use Rattle.std.proofs.Common.{sym, subst, ◌≤◌, ◌∙◌, IfErr}
+use Rattle.ls_bits.specs.Golomb.{GolombFault}
+use Rattle.ls_bits.proofs.GolombLaws.{short_word-taken}
 use Rattle.ls_bits.proofs.source.BitSource.read_golomb.Goals as goal
 
-pub returns-in_err-zeros-clause-fault : goal.returns-in_err-zeros-clause-fault
-returns-in_err-zeros-clause-fault c =
-    let p = err_from_is_err_and c.from_residual.result c.from_residual.ensures.1 in
-    rw (p.1, p.2) (zeros_fault c.args.k c.args.glimit c.args.qbpp c.args.self.now c.in_err-zeros.field-0.0 c.requires
-    (subst (λ bits. ZerosFault (escape_zeros c.args.glimit c.args.qbpp) bits c.in_err-zeros.field-0.0) c.self.view_is c.in_err-zeros.ensures.fault))
+pub returns-in-Some-clause-ok : goal.returns-in-Some-clause-ok
+returns-in-Some-clause-ok c =
+    short_word-taken c.args.k c.args.glimit c.args.qbpp c.in-Some.value c.args.self.now c.take_short.new.self.bits c.in-Some.ensures.few
+    (subst (λ n. c.in-Some.value ≤ n) c.most.ensures c.in-Some.ensures.small) (sym c.self.view_is ∙ c.in-Some.ensures.word)
 
-pub returns-in_err-low-clause-fault : goal.returns-in_err-low-clause-fault
-returns-in_err-low-clause-fault c =
-    let p = err_from_is_err_and c.from_residual-in_err-low.result c.from_residual-in_err-low.ensures.1 in
-    let few : TooFew c.args.k c.args.glimit c.args.qbpp c.in_ok-zeros.zeros c.take_zeros.new.self.bits = record {
-      enough_zeros = c.in_ok-zeros.ensures.most;
-      few_short = λ less. c.in_err-low.ensures.fault.1;
-      few_escaped = λ more. absurd (omega (arith, c.if-zeros-escape.true));
-    } in
-    rw (p.1, p.2, c.in_err-low.ensures.fault.0)
-    (too_few c.args.k c.args.glimit c.args.qbpp c.in_ok-zeros.zeros c.args.self.now _ c.requires (sym c.self.view_is ∙ c.in_ok-zeros.ensures.ok) few)
-
-pub returns-in_err-value-clause-fault : goal.returns-in_err-value-clause-fault
-returns-in_err-value-clause-fault c =
-    let p = err_from_is_err_and c.from_residual-in_err-value.result c.from_residual-in_err-value.ensures.1 in
-    let few : TooFew c.args.k c.args.glimit c.args.qbpp c.in_ok-zeros.zeros c.take_zeros.new.self.bits = record {
-      enough_zeros = c.in_ok-zeros.ensures.most;
-      few_short = λ less. absurd (omega (arith, c.if-zeros-escape.false));
-      few_escaped = λ more. c.in_err-value.ensures.fault.1;
-    } in
-    rw (p.1, p.2, c.in_err-value.ensures.fault.0)
-    (too_few c.args.k c.args.glimit c.args.qbpp c.in_ok-zeros.zeros c.args.self.now _ c.requires (sym c.self.view_is ∙ c.in_ok-zeros.ensures.ok) few)
-
-pub returns-then-value-most-clause-fault : goal.returns-then-value-most-clause-fault
-returns-then-value-most-clause-fault c =
-    short_too_large c.args.k c.args.glimit c.args.qbpp c.in_ok-zeros.zeros c.in_ok-low.low c.args.self.now _ _ c.if-zeros-escape.true
-    (sym c.self.view_is ∙ c.in_ok-zeros.ensures.ok) c.in_ok-low.ensures.ok c.in_ok-low.ensures.value (omega (arith, c.if-value-most.true, c.most.ensures, c.joined-value.ensures))
-
-pub returns-else-value-most-clause-ok : goal.returns-else-value-most-clause-ok
-returns-else-value-most-clause-ok c =
-    let word = short_taken c.args.k c.args.glimit c.args.qbpp c.in_ok-zeros.zeros c.in_ok-low.low c.args.self.now _ _ c.if-zeros-escape.true
-    (sym c.self.view_is ∙ c.in_ok-zeros.ensures.ok) c.in_ok-low.ensures.ok c.in_ok-low.ensures.value (omega (arith, c.if-value-most.false, c.most.ensures, c.joined-value.ensures)) in
-    subst (λ (value : ℕ). TakesWord c.args.k c.args.glimit c.args.qbpp c.args.self.now value c.take.new.self.bits)
-    (sym c.joined-value.ensures) word
-
-pub returns-then-value-k-clause-fault : goal.returns-then-value-k-clause-fault
-returns-then-value-k-clause-fault c =
-    escape_needless c.args.k c.args.glimit c.args.qbpp c.in_ok-zeros.zeros c.in_ok-value.field-0 c.args.self.now _ _
-    (omega (arith, c.in_ok-zeros.ensures.most, c.if-zeros-escape.false))
-    (sym c.self.view_is ∙ c.in_ok-zeros.ensures.ok) c.in_ok-value.ensures.ok c.in_ok-value.ensures.value c.if-value-k.true
-
-pub returns-else-value-k-clause-ok : goal.returns-else-value-k-clause-ok
-returns-else-value-k-clause-ok c =
-    escape_taken c.args.k c.args.glimit c.args.qbpp c.in_ok-zeros.zeros c.in_ok-value.field-0 c.args.self.now _ _
-    (omega (arith, c.in_ok-zeros.ensures.most, c.if-zeros-escape.false))
-    (sym c.self.view_is ∙ c.in_ok-zeros.ensures.ok) c.in_ok-value.ensures.ok c.in_ok-value.ensures.value c.if-value-k.false
+pub returns-clause-fault : goal.returns-clause-fault
+returns-clause-fault c =
+    subst (λ bits. IfErr c.read_any_golomb.result (λ fault. GolombFault c.args.k c.args.glimit c.args.qbpp bits fault)) (c.in_default.ensures.none ∙ c.self.view_is)
+    c.read_any_golomb.ensures.fault

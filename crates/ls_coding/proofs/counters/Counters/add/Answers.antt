@@ -2,7 +2,7 @@ use Rattle.std.proofs.Common.{ap, ◌∙◌, rules}
 use Rattle.ls_coding.specs.Stats.{stats_step}
 use Rattle.ls_coding.specs.View.Fields.{stats_at}
 use Rattle.ls_coding.proofs.SignedLemmas.{through}
-use Rattle.ls_coding.proofs.FieldLemmas.{AreWhole, contexts_set, regular_sound}
+use Rattle.ls_coding.proofs.FieldLemmas.{AreWhole, contexts_set, regular_sound, parameters_set}
 use Rattle.ls_coding.proofs.counters.Counters.add.Goals as goal
 
 whole : (c : goal.After-update) → AreWhole c.args.self.now.a c.args.self.now.b c.args.self.now.c c.args.self.now.n
@@ -19,4 +19,5 @@ returns-clause-sound c = record {
   legal = c.requires.sound.legal;
   limit_is = c.requires.sound.limit_is;
   all = regular_sound _ _ _ _ _ _ _ c.args.number _ _ _ _ (whole c) c.requires.number c.requires.sound.all c.update.ensures.sound;
+  parameters = parameters_set c.args.self.now.k c.args.self.now.n c.args.self.now.a c.args.number _ _ _ (search rules) (search rules) (search rules) c.requires.number c.update.ensures.parameter c.requires.sound.parameters;
 }

@@ -1,0 +1,4 @@
+pub mod GrammarLaws
+pub mod GrammarLemmas
+pub mod ReplyLemmas
+pub mod StepsReadingLemmas

@@ -1,0 +1,30 @@
+use super::*;
+use crate::context::half_context;
+use std::process::Abort;
+
+/// The samples around one (a, b, c and d), and their context with its sign by the default parameters of 8 bits, whose thresholds
+/// are 3, 7 and 21.
+const CONTEXTS: [([u16; 4], i16); 6] = [
+    ([0, 0, 0, 0], 0),
+    ([5, 0, 0, 0], -2),
+    ([0, 0, 255, 255], 292),
+    ([255, 0, 0, 30], 320),
+    ([0, 3, 0, 1], -63),
+    ([21, 0, 1, 0], -12),
+];
+
+/// That the context of each is found by its halves; nothing if an allocation fails.
+fn check_contexts(rt: &impl Abort, alloc: Global) -> Result<(), AllocError> {
+    let presets = Presets::default_of(255);
+    let regions = Regions::new(alloc, &presets)?;
+    for ([a, b, c, d], want) in CONTEXTS {
+        let context = whole_context(&regions, half_context(&presets, b, c, d), a, c);
+        assert_eq!(rt; context, want);
+    }
+    Ok(())
+}
+
+#[test]
+fn contexts_are_made_of_halves(rt: HostRuntime) {
+    let _ = check_contexts(&rt, rt.alloc());
+}

@@ -1,0 +1,61 @@
+-- Where the engine stops, whatever its images are, and what its steps say of it. What an image is of a frame, and what a fault says
+-- of the reader's known bytes before and after it, are parameters.
+use Rattle.std.specs.Prelude.{◌≡◌, ℕ, ◌+◌, ◌<◌, Bool, true, false, List, length, take, Option, Result, Ok, Err}
+use Rattle.std.specs.Io.KnownBytes.{Appends}
+use Rattle.ls_frame.specs.Picture.{Picture}
+use Rattle.ls_film.specs.View.Engine.{HasRun, StopsAtOutput, StopsForMemory, StopsAtMost}
+use Rattle.ls_film.specs.declared.engine.Stopped.{Stopped}
+use Rattle.ls_film.specs.declared.engine.Stopped.TheVariants.{Input, Output, NoMemory, TooMany}
+
+-- whether a call failed by its reader's device, told by its fault
+abbrev pub failed_input : {E X : Type 0} → (E → Bool) → Result X E → Bool
+failed_input of_device (Ok x) = false
+failed_input of_device (Err fault) = of_device fault
+
+-- whether a run failed by its reader's device, and by its writer's
+abbrev pub blames_reader : {E : Type 0} → (E → Bool) → Stopped E → Bool
+blames_reader of_device (Input m fault) = of_device fault
+blames_reader of_device (Output bytes) = false
+blames_reader of_device NoMemory = false
+blames_reader of_device TooMany = false
+
+abbrev pub blames_writer : {E : Type 0} → Stopped E → Bool
+blames_writer (Input m fault) = false
+blames_writer (Output bytes) = true
+blames_writer NoMemory = false
+blames_writer TooMany = false
+
+abbrev pub failed_reader : {E X : Type 0} → (E → Bool) → Result X (Stopped E) → Bool
+failed_reader of_device (Ok x) = false
+failed_reader of_device (Err stopped) = blames_reader of_device stopped
+
+abbrev pub failed_writer : {E X : Type 0} → Result X (Stopped E) → Bool
+failed_writer (Ok x) = false
+failed_writer (Err stopped) = blames_writer stopped
+
+-- an image of some frame
+abbrev pub IsSomeImage : (List ℕ → Picture → Type 0) → List ℕ → Type 0
+IsSomeImage IsImage bytes = (f : Picture) × IsImage bytes f
+
+module _ {E : Type 0} (IsImage : List ℕ → Picture → Type 0) (Unread : E → Option (List ℕ) → Option (List ℕ) → Type 0) where
+  -- what each end says of the run: of the reader's bytes before and after it, and of the writer's
+  abbrev pub HasStopped : (List Picture → List ℕ) → Option (List ℕ) → Option (List ℕ) → Option (List ℕ) → Option (List ℕ) → Stopped E → Type 0
+  HasStopped text read read' written written' (Input m fault) =
+      (mid : Option (List ℕ)) × (bytes : ℕ) × HasRun IsImage text read mid written written' m bytes × Unread fault mid read'
+  HasStopped text read read' written written' (Output bytes) = StopsAtOutput IsImage text read read' written written' bytes
+  HasStopped text read read' written written' NoMemory = StopsForMemory IsImage text read read' written written' (IsSomeImage IsImage)
+  HasStopped text read read' written written' TooMany = StopsAtMost IsImage text read read' written written'
+
+-- what an end at the next frame, of number n, says: it can't be read
+abbrev pub StopsNext : {E : Type 0} → (E → Option (List ℕ) → Option (List ℕ) → Type 0) → Option (List ℕ) → Option (List ℕ) → ℕ → Stopped E → Type 0
+StopsNext Unread read read' n (Input m fault) = (m ≡ n) × Unread fault read read'
+StopsNext Unread read read' n (Output bytes) = ⊥
+StopsNext Unread read read' n NoMemory = ⊥
+StopsNext Unread read read' n TooMany = ⊥
+
+-- what an end at a piece that is written after so many bytes says: its first bytes went out
+abbrev pub StopsPiece : {E : Type 0} → Option (List ℕ) → Option (List ℕ) → ℕ → List ℕ → Stopped E → Type 0
+StopsPiece written written' bytes piece (Input m fault) = ⊥
+StopsPiece written written' bytes piece (Output n) = (here : ℕ) × (n ≡ bytes + here) × (here < length piece) × Appends written written' (take here piece)
+StopsPiece written written' bytes piece NoMemory = ⊥
+StopsPiece written written' bytes piece TooMany = ⊥

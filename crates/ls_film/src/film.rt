@@ -1,0 +1,63 @@
+//! The engine over films of Netpbm images.
+ghost use Rattle.std.specs.Prelude.{◌≡◌, IfOk, IfErr};
+ghost use Rattle.ls_frame.specs.Faults.{blames_device};
+ghost use Rattle.ls_frame.specs.Netpbm.{IsImageOf};
+ghost use Rattle.ls_frame.specs.View.Devices.{count_after};
+ghost use Rattle.ls_film.specs.View.Engine.{Completes};
+ghost use Rattle.ls_film.specs.View.Memory.{IsTextOf, StopsOver};
+ghost use Rattle.ls_film.specs.View.Stopping.{IsUnread, Stops, failed_reader, failed_writer};
+
+use crate::engine::{Images, Text, write_text};
+use crate::faults::FilmFault;
+use ls_frame::{Counted, Feed, Frame, NetpbmFault, Outlet, next_frame};
+use std::alloc::Global;
+
+/// Netpbm images.
+struct NetpbmImages;
+
+impl Images for NetpbmImages {
+    type Fault = NetpbmFault;
+
+    ghost image = { IsImageOf };
+
+    ghost unread = { IsUnread };
+
+    ghost of_device = { blames_device };
+
+    fn next<R: Feed>(alloc: Global, reader: &mut R) -> Result<Option<Frame>, NetpbmFault> {
+        next_frame(alloc, reader)
+    }
+}
+
+/// Writes the text of a film of Netpbm images, frame by frame, and says how many frames there were.
+///
+/// If the bytes of reader and writer are known (as in memory), the clauses say which were read and written. After
+/// `FilmFault::Input` nothing is said of the reader's place.
+pub fn write_film<T: Text, R: Feed, W: Outlet>(
+    alloc: Global,
+    reader: &mut R,
+    writer: &mut W,
+) -> Result<u64, FilmFault>
+    ensures completes { IfOk result (Completes IsImageOf T.text
+        (R.remaining reader.old) (R.remaining reader.new) (W.contents writer.old) (W.contents writer.new)) }
+    ensures stops { IfErr result (Stops T.text
+        (R.remaining reader.old) (R.remaining reader.new) (W.contents writer.old) (W.contents writer.new)) }
+    ensures reads { R.failed_reads reader.new ≡ count_after (failed_reader result) (R.failed_reads reader.old) }
+    ensures writes { W.failed_writes writer.new ≡ count_after (failed_writer result) (W.failed_writes writer.old) }
+{
+    match write_text::<NetpbmImages, T, R, W>(alloc, reader, writer) {
+        Ok(frames) => Ok(frames),
+        Err(stopped) => Err(FilmFault::of(stopped)),
+    }
+}
+
+/// The text of a film in memory, as far as it was written, and how the writing ended.
+pub fn text_of_bytes<T: Text>(alloc: Global, film: &[u8]) -> (Vec<u8>, Result<u64, FilmFault>)
+    ensures completes { IfOk result.1 (IsTextOf T.text film.now result.0.items) }
+    ensures stops { IfErr result.1 (StopsOver T.text film.now result.0.items) }
+{
+    let mut reader = film;
+    let mut writer = Counted::new(Vec::new(alloc));
+    let ended = write_film::<T, &[u8], Counted<Vec<u8>>>(alloc, &mut reader, &mut writer);
+    (writer.into_inner(), ended)
+}

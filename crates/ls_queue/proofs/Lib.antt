@@ -1,0 +1,13 @@
+pub mod AccountLaws
+pub mod AccountLists
+pub mod AccountSeats
+pub mod AccountSteps
+pub mod CoreLemmas
+pub mod EndLemmas
+pub mod FaultLemmas
+pub mod HistoryLaws
+pub mod HistoryLemmas
+pub mod JobLemmas
+pub mod SeatLemmas
+pub mod SettleLemmas
+pub mod StepLemmas

@@ -1,0 +1,13 @@
+use Rattle.std.proofs.Common.{◌≡◌, false}
+use Rattle.crossbeam_channel.specs.Claims.{view, IsSeatAt}
+use Rattle.crossbeam_channel.specs.Ends.{sends_on}
+use Rattle.ls_queue.proofs.running.Queue.take.Given as goal
+
+-- nothing is received yet, and the seat is as it was
+abbrev pub invariant-loop : goal.invariant-loop
+invariant-loop g l = record {
+  token : IsSeatAt (sends_on l.self.channel.entrance) l.seat.token;
+  known : view l.seat.token ≡ view l.fn.seat.token;
+  done : l.seat.done ≡ false;
+  before : l.fn.seat.done ≡ false;
+}

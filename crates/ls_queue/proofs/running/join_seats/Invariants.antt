@@ -1,0 +1,19 @@
+use Rattle.std.proofs.Common.{◌≡◌, length, true}
+use Rattle.std.specs.List.{AllByRecursion}
+use Rattle.crossbeam_channel.specs.Claims.{view, IsSeatAt}
+use Rattle.crossbeam_channel.specs.Ends.{sends_on}
+use Rattle.ls_queue.specs.Account.{with_takes}
+use Rattle.ls_queue.specs.Running.{IsWorkerAt, takes_of}
+use Rattle.ls_queue.proofs.running.join_seats.Given as goal
+
+-- the passes so far are joined; with those that are left it is all of them
+abbrev pub invariant-loop-seats : goal.invariant-loop-seats
+invariant-loop-seats g l = record {
+  token : IsSeatAt (sends_on l.channel.entrance) l.token;
+  closes : (view l.token).closes ≡ true;
+  left : AllByRecursion (IsWorkerAt l.channel) l.seats.items;
+  known : with_takes (view l.token) (takes_of l.seats.items) ≡ with_takes (view l.fn.token) (takes_of l.fn.seats.items);
+}
+
+abbrev pub decreases-loop-seats : goal.decreases-loop-seats
+decreases-loop-seats g l = length l.seats.items

@@ -1,0 +1,11 @@
+use Rattle.std.proofs.Common.{◌≡◌}
+use Rattle.crossbeam_channel.specs.Claims.{view, IsSeatAt}
+use Rattle.crossbeam_channel.specs.Ends.{sends_on}
+use Rattle.ls_queue.proofs.running.send_mark.Given as goal
+
+-- nothing is sent yet
+abbrev pub invariant-loop : goal.invariant-loop
+invariant-loop g l = record {
+  token : IsSeatAt (sends_on l.channel.entrance) l.token;
+  known : view l.token ≡ view l.fn.token;
+}

@@ -1,0 +1,11 @@
+use Rattle.std.proofs.Common.{◌≡◌}
+use Rattle.crossbeam_channel.specs.Claims.{view, IsSeatAt}
+use Rattle.crossbeam_channel.specs.Ends.{sends_on}
+use Rattle.ls_queue.specs.Account.{with_marks}
+use Rattle.ls_queue.proofs.running.send_marks.Given as goal
+
+abbrev pub invariant-loop-mark : goal.invariant-loop-mark
+invariant-loop-mark g l = record {
+  token : IsSeatAt (sends_on l.channel.entrance) l.token;
+  sent : view l.token ≡ with_marks (view l.fn.token) l.mark;
+}

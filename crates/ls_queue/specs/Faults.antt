@@ -1,0 +1,28 @@
+-- Why a queue can't be made, or its steps can't be replayed: the first fault, in their order.
+use Rattle.std.specs.Prelude.{ℕ, ◌||◌, not, List, Option, Some, None, if◌then◌else◌, ◌==◌, nat_lt, position, option_map}
+use Rattle.ls_queue.specs.declared.steps.Step.{Step}
+use Rattle.ls_queue.specs.declared.faults.QueueFault.{QueueFault}
+use Rattle.ls_queue.specs.declared.faults.QueueFault.TheVariants.{Sources, Capacity, Workers, NoSource}
+use Rattle.ls_queue.specs.declared.faults.TheConstants.{MOST_SOURCES, MOST_CAPACITY, MOST_WORKERS}
+use Rattle.ls_queue.specs.Steps.{is_known}
+
+-- a queue has 1 to 16 sources, and then a capacity of 1 to 256
+abbrev pub range_fault : ℕ → ℕ → Option QueueFault
+range_fault sources capacity =
+    (if sources == 0 || nat_lt MOST_SOURCES sources then Some Sources else (if capacity == 0 || nat_lt MOST_CAPACITY capacity then Some Capacity else None))
+
+-- a running queue also has 1 to 16 workers
+abbrev pub worker_fault : Option QueueFault → ℕ → Option QueueFault
+worker_fault (Some fault) workers = Some fault
+worker_fault None workers = (if workers == 0 || nat_lt MOST_WORKERS workers then Some Workers else None)
+
+abbrev pub open_fault : ℕ → ℕ → ℕ → Option QueueFault
+open_fault sources workers capacity = worker_fault (range_fault sources capacity) workers
+
+-- a fault of the numbers comes before the first step, counted from 0, that names no source of the queue
+abbrev pub first_of : Option QueueFault → Option ℕ → Option QueueFault
+first_of (Some fault) number = Some fault
+first_of None number = option_map NoSource number
+
+abbrev pub replay_fault : ℕ → ℕ → List Step → Option QueueFault
+replay_fault sources capacity steps = first_of (range_fault sources capacity) (position (λ step. not (is_known sources step)) steps)

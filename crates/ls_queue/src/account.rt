@@ -1,0 +1,147 @@
+//! The rule of the channel of a running queue, and its kinds of step.
+ghost use Rattle.std.specs.Prelude.{◌≡◌, ◌<◌, ◌≤◌, slice_index_or};
+ghost use Rattle.crossbeam_channel.specs.Ends.{sends_on, receives_on};
+
+use crate::views::{Message, View};
+use crossbeam_channel::protocol::{Join, Lesson, Outcome, Protocol, Split};
+use crossbeam_channel::{Pass, RuledReceiver, RuledSender};
+
+/// The rule: the account of `specs/Account.antt`.
+pub struct Rule;
+
+impl<T> Protocol<Message<T>, View<T>> for Rule {
+    ghost use Rattle.ls_queue.specs.Account.{Kept, first_view};
+
+    ghost holds = { λ items views. Kept items views };
+
+    ghost first = { first_view };
+}
+
+/// The closer makes a source seat.
+pub struct SourceSeated;
+
+impl<T> Split<View<T>> for SourceSeated {
+    ghost use Rattle.std.specs.Prelude.{[]};
+    ghost use Rattle.ls_queue.specs.Account.{source_made, source_view};
+
+    ghost left = { λ v. source_made v };
+
+    ghost right = { λ v. source_view v.sources [] };
+}
+
+/// The closer makes a worker seat.
+pub struct WorkerSeated;
+
+impl<T> Split<View<T>> for WorkerSeated {
+    ghost use Rattle.std.specs.Prelude.{[], false};
+    ghost use Rattle.ls_queue.specs.Account.{worker_made, worker_view};
+
+    ghost left = { λ v. worker_made v };
+
+    ghost right = { λ v. worker_view v.sources [] false };
+}
+
+/// A source seat sends a job.
+pub struct JobSent;
+
+impl<T> Outcome<Message<T>, View<T>> for JobSent {
+    ghost use Rattle.std.specs.Prelude.{◌≡◌};
+    ghost use Rattle.ls_queue.specs.Account.{after_put};
+
+    ghost then = { λ v x w. w ≡ after_put v x };
+}
+
+impl<T> Lesson<Message<T>, View<T>> for JobSent {
+    ghost use Rattle.std.specs.Prelude.{⊤};
+
+    ghost fact = { λ v items. ⊤ };
+}
+
+/// A worker seat receives a job or an end mark.
+pub struct Received;
+
+impl<T> Outcome<Message<T>, View<T>> for Received {
+    ghost use Rattle.ls_queue.specs.Account.{AfterTake};
+
+    ghost then = { λ v x w. AfterTake v x w };
+}
+
+impl<T> Lesson<Message<T>, View<T>> for Received {
+    ghost use Rattle.std.specs.Prelude.{⊤};
+
+    ghost fact = { λ v items. ⊤ };
+}
+
+/// The closer sends an end mark.
+pub struct MarkSent;
+
+impl<T> Outcome<Message<T>, View<T>> for MarkSent {
+    ghost use Rattle.std.specs.Prelude.{◌≡◌};
+    ghost use Rattle.ls_queue.specs.Account.{after_mark};
+
+    ghost then = { λ v x w. w ≡ after_mark v };
+}
+
+impl<T> Lesson<Message<T>, View<T>> for MarkSent {
+    ghost use Rattle.std.specs.Prelude.{⊤};
+
+    ghost fact = { λ v items. ⊤ };
+}
+
+/// The last pass is read.
+pub struct Settled;
+
+impl<T> Lesson<Message<T>, View<T>> for Settled {
+    ghost use Rattle.ls_queue.specs.Account.{IsSettled};
+
+    ghost fact = { λ v items. IsSettled v items };
+}
+
+/// A seat's pass is joined to the closer's.
+pub struct Joined;
+
+impl<T> Join<View<T>> for Joined {
+    ghost use Rattle.ls_queue.specs.Account.{joined, spent_view};
+
+    ghost both = { λ v w. joined v w };
+
+    ghost spent = { spent_view };
+}
+
+/// What a seat carries: a pass of the channel, which takes no bytes.
+pub type Token<T> = Pass<Message<T>, View<T>>;
+
+/// The channel of a queue, with both its ends.
+#[derive(Drop)]
+pub struct Channel<T: Drop> {
+    pub entrance: RuledSender<Message<T>, View<T>, Rule>,
+    pub exit: RuledReceiver<Message<T>, View<T>, Rule>,
+    /// How many sources it was made for, 1 to 16.
+    pub sources: u8,
+    /// How many workers it was made for, 1 to 16.
+    pub workers: usize,
+    ghost one_channel: { receives_on exit ≡ sends_on entrance },
+    ghost some_source: { 1 ≤ sources },
+    ghost few_sources: { sources ≤ 16 },
+    ghost some_worker: { 1 ≤ workers },
+    ghost few_workers: { workers ≤ 16 },
+}
+
+/// How many items each source put, all of which were taken.
+#[derive(Drop)]
+pub struct Account {
+    /// For each source, how many items it put; 0 for a number that is no source's.
+    pub(crate) counts: [u64; 16],
+    pub(crate) sources: u8,
+    ghost few: { sources ≤ 16 },
+}
+
+impl Account {
+    /// How many items the source put. It is below the number of sources of the queue that was settled.
+    pub fn count(&self, source: u8) -> u64
+        requires { source < self.now.sources }
+        ensures { result ≡ slice_index_or self.now.counts source 0 }
+    {
+        self.counts[source as usize]
+    }
+}

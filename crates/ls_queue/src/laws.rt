@@ -1,0 +1,55 @@
+//! What follows from lawful replies, whatever the steps, and from the account of a running queue. Each law is the contract of a function that has nothing to do.
+ghost use Rattle.std.specs.Prelude.{◌≡◌, ℕ, ◌++◌, [], ◌∷◌, List, length, All, IsTrue};
+ghost use Rattle.std.specs.List.{range_with_len};
+ghost use Rattle.ls_queue.specs.Queue.{new_queue};
+ghost use Rattle.ls_queue.specs.Steps.{is_known, replies_of};
+ghost use Rattle.ls_queue.specs.History.{Event, event, history, sent, taken, held, items_of, jobs_out, AreLawful, IsHistory, IsReplay};
+ghost use Rattle.ls_queue.specs.View.Cores.{numbers_of};
+ghost use Rattle.ls_queue.specs.Account.{Kept, EachOnce};
+ghost use Rattle.ls_queue.specs.declared.views.Message.{Message};
+ghost use Rattle.ls_queue.specs.declared.views.View.{View};
+
+use crate::replies::{Put, Take};
+use crate::steps::{Reply, Step};
+
+/// The replies of a queue, step by step, are the lawful ones, and no others are.
+pub fn lawful_replies_are_the_queues()
+    ensures lawful { (sources capacity : ℕ) (steps : List Step) → All (λ step. IsTrue (is_known sources step)) steps
+        → IsReplay sources capacity steps (replies_of (new_queue sources capacity) steps) }
+    ensures no_others { (sources capacity : ℕ) (steps : List Step) (replies : List Reply) → All (λ step. IsTrue (is_known sources step)) steps
+        → length replies ≡ length steps → AreLawful sources capacity [] (history steps replies)
+        → replies ≡ replies_of (new_queue sources capacity) steps }
+{}
+
+/// Each source's items are handed out once each, in the order put in: what was taken of it, and then what is held of it, is
+/// what it sent; and the jobs taken of it have the numbers from 0 on.
+pub fn items_are_handed_out_once_in_order()
+    ensures order { (sources capacity : ℕ) (events : List Event) → IsHistory sources capacity events
+        → (s : ℕ) → taken s events ++ items_of s (held events) ≡ sent s events }
+    ensures once { (sources capacity : ℕ) (events : List Event) → IsHistory sources capacity events
+        → (s : ℕ) → numbers_of s (jobs_out events) ≡ range_with_len 0 (length (taken s events)) }
+{}
+
+/// No item of a source is put in after its close: a put after it is answered Closed, and what the source sent stays what it
+/// was.
+pub fn nothing_is_put_in_after_a_close()
+    ensures closed { (sources capacity s x : ℕ) (before between later : List Event) (close reply : Reply)
+        → AreLawful sources capacity [] (before ++ event (Step.Close s) close ∷ between ++ event (Step.Put s x) reply ∷ later)
+        → reply ≡ Reply.Put (Put.Closed x) }
+    ensures sent { (sources capacity s : ℕ) (before later : List Event) (close : Reply)
+        → AreLawful sources capacity [] (before ++ event (Step.Close s) close ∷ later)
+        → sent s (before ++ event (Step.Close s) close ∷ later) ≡ sent s before }
+{}
+
+/// Once a take answers Done, all that each source sent was taken; so it stays.
+pub fn all_is_taken_once_done()
+    ensures { (sources capacity : ℕ) (before later : List Event)
+        → IsHistory sources capacity (before ++ event Step.Take (Reply.Take Take.Done) ∷ later)
+        → (s : ℕ) → taken s (before ++ event Step.Take (Reply.Take Take.Done) ∷ later) ≡ sent s (before ++ event Step.Take (Reply.Take Take.Done) ∷ later) }
+{}
+
+/// Between any two steps of a running queue, whichever threads hold its seats: each item that was put is one job, which was
+/// taken by one worker, once, or else stands in the channel once.
+pub fn each_item_is_taken_or_in_the_channel()
+    ensures { (items : List (Message ℕ)) (views : List (View ℕ)) → Kept items views → EachOnce items views }
+{}

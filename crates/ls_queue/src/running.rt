@@ -1,0 +1,459 @@
+//! The queue that threads share.
+ghost use Rattle.std.specs.Prelude.{◌≡◌, ℕ, ◌<◌, ◌≤◌, ◌+◌, ◌-◌, ◌⊎◌, [], ◌∷◌, ◌++◌, length, true, false, Some, None, IfOk, MatchResult, MatchOption};
+ghost use Rattle.std.specs.List.{AllByRecursion};
+ghost use Rattle.crossbeam_channel.specs.Claims.{view, IsSeatAt};
+ghost use Rattle.crossbeam_channel.specs.Ends.{sends_on, receives_on, ruled_capacity};
+ghost use Rattle.ls_queue.specs.Queue.{spent_count};
+ghost use Rattle.ls_queue.specs.Account.{closer_view, ending_view, after_mark, with_marks, with_takes, IsCounted};
+ghost use Rattle.ls_queue.specs.Faults.{open_fault};
+ghost use Rattle.ls_queue.specs.Running.{IsSourceSeat, IsWorkerSeat, IsWorkerAt, Balances, IsUnsettled, all_done, takes_of, IsEnded, IsEndedAt, IsCloser, IsFinished, IsMissing, IsLowestMissing, EachHasEnd, has_end, puts_of, parts_of, AreNewSources, AreNewWorkers, items_put, jobs_taken, is_done, items_ended, Takes};
+
+use crate::account::{
+    Account, Channel, JobSent, Joined, MarkSent, Received, Settled, SourceSeated, Token,
+    WorkerSeated,
+};
+use crate::faults::{QueueFault, open_fault};
+use crate::replies::Job;
+use crate::views::Message;
+use crossbeam_channel::bounded_with;
+use std::alloc::{AllocError, Global};
+use std::sync::Wait;
+
+/// A queue of several sources and several workers, in threads of their own.
+#[derive(Drop)]
+pub struct Queue<T: Drop> {
+    channel: Channel<T>,
+}
+
+/// The right to put items of one source.
+#[derive(Drop)]
+pub struct SourceSeat<T> {
+    source: u8,
+    /// How many items it put.
+    count: u64,
+    token: Token<T>,
+}
+
+/// The right to take jobs.
+#[derive(Drop)]
+pub struct WorkerSeat<T> {
+    /// Whether it was answered Done.
+    done: bool,
+    token: Token<T>,
+}
+
+/// The right to end the queue, once every source has ended.
+#[derive(Drop)]
+pub struct Closer<T> {
+    token: Token<T>,
+}
+
+/// A source that puts no more: what `end` made of its seat.
+#[derive(Drop)]
+pub struct Ended<T> {
+    pub source: u8,
+    /// How many items it put.
+    pub count: u64,
+    token: Token<T>,
+}
+
+/// A queue that was finished: every source has ended, and the end marks are sent.
+#[derive(Drop)]
+pub struct Finished<T> {
+    /// For each source, how many items it put.
+    counts: [u64; 16],
+    token: Token<T>,
+}
+
+/// Why a queue can't be finished.
+#[derive(Drop)]
+pub enum FinishFault<T> {
+    /// There is no end of this source, and it is the lowest such one. The closer and the ends come back.
+    MissingSource {
+        source: u8,
+        closer: Closer<T>,
+        ended: Vec<Ended<T>>,
+    },
+}
+
+/// Why a queue can't be settled.
+#[derive(Clone, Copy, Debug, Drop, PartialEq, Eq)]
+pub enum SettleCause {
+    /// There are fewer seats than workers.
+    MissingSeat,
+    /// A seat wasn't answered Done.
+    NotEmpty,
+}
+
+/// What couldn't be settled comes back, with the cause.
+#[derive(Drop)]
+pub struct SettleFault<T: Drop> {
+    pub cause: SettleCause,
+    pub queue: Queue<T>,
+    pub finished: Finished<T>,
+    pub seats: Vec<WorkerSeat<T>>,
+}
+
+/// What a take answers.
+#[derive(Clone, Copy, Debug, Drop, PartialEq, Eq)]
+pub enum Taken<T> {
+    /// A job, which no other take answers.
+    Job(Job<T>),
+    /// Every source has ended and every job was taken.
+    Done,
+}
+
+/// A queue of 1 to 16 sources and 1 to 16 workers, with room for `capacity` jobs, which is 1 to 256, or for one a worker, if
+/// that is more; a seat for each source, in order from source 0; a seat for each worker; and the closer. Fails for the first
+/// of `Sources`, `Capacity` and `Workers` that is so; else only if an allocation fails.
+///
+/// It takes all the memory that the queue will need.
+pub fn open<T: Drop, R: Wait>(
+    _rt: &R,
+    alloc: Global,
+    sources: u8,
+    workers: usize,
+    capacity: usize,
+) -> Result<(Queue<T>, Vec<SourceSeat<T>>, Vec<WorkerSeat<T>>, Closer<T>), QueueFault>
+    ensures { MatchResult result
+        (λ made. (open_fault sources workers capacity ≡ None) × (made.0.channel.sources ≡ sources) × (made.0.channel.workers ≡ workers)
+        × AreNewSources made.0.channel 0 made.1.items × (length made.1.items ≡ sources)
+        × AreNewWorkers made.0.channel made.2.items × (length made.2.items ≡ workers)
+        × IsCloser made.0 made.3)
+        (λ fault. (open_fault sources workers capacity ≡ Some fault) ⊎ ((open_fault sources workers capacity ≡ None) × (fault ≡ QueueFault.NoMemory))) }
+{
+    if let Some(fault) = open_fault(sources, workers, capacity) {
+        return Err(fault);
+    }
+    let (entrance, exit, mut token) = bounded_with(alloc, capacity.max(workers))?;
+    let channel = Channel {
+        entrance,
+        exit,
+        sources,
+        workers,
+    };
+    let source_seats = source_seats(alloc, &channel, &mut token)?;
+    let worker_seats = worker_seats(alloc, &channel, &mut token)?;
+    let queue = Queue { channel };
+    Ok((queue, source_seats, worker_seats, Closer { token }))
+}
+
+/// A seat for each source. `token` is the closer's, before it has made a seat.
+fn source_seats<T: Drop>(
+    alloc: Global,
+    channel: &Channel<T>,
+    token: &mut Token<T>,
+) -> Result<Vec<SourceSeat<T>>, AllocError>
+    requires token { IsSeatAt (sends_on channel.now.entrance) token.old }
+    requires first { view token.old ≡ closer_view 64 0 0 }
+    ensures token { IfOk result (λ seats. IsSeatAt (sends_on channel.now.entrance) token.new) }
+    ensures known { IfOk result (λ seats. view token.new ≡ closer_view (64 - channel.now.sources) channel.now.sources 0) }
+    ensures seats { IfOk result (λ seats. AreNewSources channel.now 0 seats.items × (length seats.items ≡ channel.now.sources)) }
+{
+    let mut seats = Vec::new(alloc);
+    for source in 0..channel.sources {
+        seats.push(SourceSeat {
+            source,
+            count: 0,
+            token: channel.entrance.another::<SourceSeated>(token),
+        })?;
+    }
+    Ok(seats)
+}
+
+/// A seat for each worker. `token` is the closer's, when it has made the source seats alone.
+fn worker_seats<T: Drop>(
+    alloc: Global,
+    channel: &Channel<T>,
+    token: &mut Token<T>,
+) -> Result<Vec<WorkerSeat<T>>, AllocError>
+    requires token { IsSeatAt (sends_on channel.now.entrance) token.old }
+    requires sources { view token.old ≡ closer_view (64 - channel.now.sources) channel.now.sources 0 }
+    ensures token { IfOk result (λ seats. IsSeatAt (sends_on channel.now.entrance) token.new) }
+    ensures known { IfOk result (λ seats. view token.new ≡ closer_view (64 - channel.now.sources - channel.now.workers) channel.now.sources channel.now.workers) }
+    ensures seats { IfOk result (λ seats. AreNewWorkers channel.now seats.items × (length seats.items ≡ channel.now.workers)) }
+{
+    let mut seats = Vec::new(alloc);
+    for worker in 0..channel.workers {
+        seats.push(WorkerSeat {
+            done: false,
+            token: channel.entrance.another::<WorkerSeated>(token),
+        })?;
+    }
+    Ok(seats)
+}
+
+impl<T: Drop> Queue<T> {
+    /// Puts an item of the seat's source, and answers its number. Waits while there is no room. The item comes back exactly
+    /// if the source has used up its numbers: the next one would be 2^64 - 1. Then nothing has changed.
+    pub fn put<R: Wait>(&self, rt: &R, seat: &mut SourceSeat<T>, item: T) -> Result<u64, T>
+        requires { IsSourceSeat self.now seat.old }
+        ensures seat { IsSourceSeat self.now seat.new × (seat.new.source ≡ seat.old.source) }
+        ensures put { MatchResult result
+            (λ number. (number ≡ length (items_put seat.old)) × (number < spent_count) × (items_put seat.new ≡ items_put seat.old ++ item ∷ []))
+            (λ back. (back ≡ item) × (length (items_put seat.old) ≡ spent_count) × (seat.new ≡ seat.old)) }
+    {
+        let number = seat.count;
+        if number == u64::MAX {
+            return Err(item);
+        }
+        let mut message = Message::Job(Job {
+            source: seat.source,
+            number,
+            item,
+        });
+        for _ in rt.forever() {
+            match self
+                .channel
+                .entrance
+                .send_as::<JobSent, R>(rt, &mut seat.token, message)
+            {
+                Ok(()) => {
+                    seat.count = number + 1;
+                    return Ok(number);
+                }
+                Err(refused) => message = refused.into_inner(),
+            }
+        }
+        unreachable!()
+    }
+
+    /// Ends a source: its seat is used up, so nothing is put after it. Answers the source, and how many items it put.
+    pub fn end<R: Wait>(&self, _rt: &R, seat: SourceSeat<T>) -> Ended<T>
+        requires { IsSourceSeat self.now seat }
+        ensures ended { IsEnded self.now result }
+        ensures same { (result.source ≡ seat.source) × (result.count ≡ length (items_put seat)) × (items_ended result ≡ items_put seat) }
+    {
+        let SourceSeat {
+            source,
+            count,
+            token,
+        } = seat;
+        Ended {
+            source,
+            count,
+            token,
+        }
+    }
+
+    /// Takes a job, or answers Done. Waits for a job or for the end.
+    pub fn take<R: Wait>(&self, rt: &R, seat: &mut WorkerSeat<T>) -> Taken<T>
+        requires { IsWorkerSeat self.now seat.old }
+        ensures seat { IsWorkerSeat self.now seat.new }
+        ensures taken { Takes self.now seat.old result seat.new }
+    {
+        if seat.done {
+            return Taken::Done;
+        }
+        for _ in rt.forever() {
+            match self
+                .channel
+                .exit
+                .recv_as::<Received, R>(rt, &mut seat.token)
+            {
+                Ok(Message::Job(job)) => return Taken::Job(job),
+                Ok(Message::Mark(_)) => {
+                    seat.done = true;
+                    return Taken::Done;
+                }
+                Err(_) => {}
+            }
+        }
+        unreachable!()
+    }
+
+    /// Ends the queue: sends one end mark for each worker. `ended` is what `end` made of the seats. Answers `MissingSource`
+    /// exactly if the end of a source isn't among them; then nothing is sent. Waits while there is no room.
+    pub fn finish<R: Wait>(
+        &self,
+        rt: &R,
+        closer: Closer<T>,
+        ended: Vec<Ended<T>>,
+    ) -> Result<Finished<T>, FinishFault<T>>
+        requires closer { IsCloser self.now closer }
+        requires ended { AllByRecursion (IsEndedAt self.now.channel) ended.items }
+        ensures { MatchResult result
+            (λ finished. EachHasEnd self.now.channel.sources ended.items × IsFinished self.now finished × (puts_of finished ≡ parts_of ended.items))
+            (λ fault. IsMissing self.now.channel.sources closer ended.items fault) }
+    {
+        if let Some(source) = missing(self.channel.sources, &ended) {
+            return Err(FinishFault::MissingSource {
+                source,
+                closer,
+                ended,
+            });
+        }
+        let Closer { mut token } = closer;
+        let counts = join_ends(&self.channel, &mut token, ended);
+        send_marks(rt, &self.channel, &mut token, counts);
+        Ok(Finished { counts, token })
+    }
+}
+
+/// The lowest source that has no end among these, if there is one.
+fn missing<T>(sources: u8, ended: &[Ended<T>]) -> Option<u8>
+    ensures { MatchOption result (EachHasEnd sources ended.now) (λ source. IsLowestMissing sources ended.now source) }
+{
+    for source in 0..sources {
+        if !has_end(source, ended) {
+            return Some(source);
+        }
+    }
+    None
+}
+
+/// Whether the end of a source is among these.
+fn has_end<T>(source: u8, ended: &[Ended<T>]) -> bool
+    ensures { result ≡ has_end source ended.now }
+{
+    for end in ended {
+        if end.source == source {
+            return true;
+        }
+    }
+    false
+}
+
+/// Joins the passes of the ends to the closer's, and counts what each source put.
+fn join_ends<T: Drop>(
+    channel: &Channel<T>,
+    token: &mut Token<T>,
+    mut ended: Vec<Ended<T>>,
+) -> [u64; 16]
+    requires token { IsSeatAt (sends_on channel.now.entrance) token.old }
+    requires known { view token.old ≡ closer_view (64 - channel.now.sources - channel.now.workers) channel.now.sources channel.now.workers }
+    requires ended { AllByRecursion (IsEndedAt channel.now) ended.items }
+    ensures token { IsSeatAt (sends_on channel.now.entrance) token.new }
+    ensures known { view token.new ≡ ending_view (64 - channel.now.sources - channel.now.workers + length ended.items) (parts_of ended.items) channel.now.sources channel.now.workers 0 }
+    ensures counts { (s : ℕ) → has_end s ended.items ≡ true → IsCounted result (parts_of ended.items) s }
+{
+    let mut counts: [u64; 16] = [0; 16];
+    while !ended.is_empty() {
+        let Ended {
+            source,
+            count,
+            token: pass,
+        } = ended.remove(0);
+        counts[source as usize] = count;
+        channel.entrance.absorb::<Joined>(token, pass);
+    }
+    counts
+}
+
+/// Sends an end mark for each worker, with these counts.
+fn send_marks<T: Drop, R: Wait>(
+    rt: &R,
+    channel: &Channel<T>,
+    token: &mut Token<T>,
+    counts: [u64; 16],
+)
+    requires token { IsSeatAt (sends_on channel.now.entrance) token.old }
+    requires closes { (view token.old).closes ≡ true }
+    requires none { (view token.old).marks ≡ 0 }
+    requires counts { (s : ℕ) → s < (view token.old).sources → IsCounted counts (view token.old).puts s }
+    ensures token { IsSeatAt (sends_on channel.now.entrance) token.new }
+    ensures sent { view token.new ≡ with_marks (view token.old) channel.now.workers }
+{
+    for mark in 0..channel.workers {
+        send_mark(rt, channel, token, counts);
+    }
+}
+
+/// Sends one end mark.
+fn send_mark<T: Drop, R: Wait>(
+    rt: &R,
+    channel: &Channel<T>,
+    token: &mut Token<T>,
+    counts: [u64; 16],
+)
+    requires token { IsSeatAt (sends_on channel.now.entrance) token.old }
+    requires closes { (view token.old).closes ≡ true }
+    requires counts { (s : ℕ) → s < (view token.old).sources → IsCounted counts (view token.old).puts s }
+    ensures token { IsSeatAt (sends_on channel.now.entrance) token.new }
+    ensures sent { view token.new ≡ after_mark (view token.old) }
+{
+    for _ in rt.forever() {
+        match channel
+            .entrance
+            .send_as::<MarkSent, R>(rt, token, Message::Mark(counts))
+        {
+            Ok(()) => return,
+            Err(_) => {}
+        }
+    }
+    unreachable!()
+}
+
+/// Settles a queue whose workers have all been answered Done: says how many items each source put, all of which were taken.
+/// Answers `MissingSeat` if there are fewer seats than workers; else `NotEmpty` if some seat wasn't answered Done; then all
+/// comes back.
+pub fn settle<T: Drop, R: Wait>(
+    _rt: &R,
+    queue: Queue<T>,
+    finished: Finished<T>,
+    seats: Vec<WorkerSeat<T>>,
+) -> Result<Account, SettleFault<T>>
+    requires finished { IsFinished queue finished }
+    requires seats { AllByRecursion (IsWorkerAt queue.channel) seats.items }
+    ensures { MatchResult result
+        (λ account. (queue.channel.workers ≤ length seats.items) × (all_done seats.items ≡ true) × (account.sources ≡ queue.channel.sources)
+        × Balances queue finished seats.items account.counts)
+        (λ fault. IsUnsettled queue finished seats.items fault) }
+{
+    if seats.len() < queue.channel.workers {
+        return Err(SettleFault {
+            cause: SettleCause::MissingSeat,
+            queue,
+            finished,
+            seats,
+        });
+    }
+    if !all_done(&seats) {
+        return Err(SettleFault {
+            cause: SettleCause::NotEmpty,
+            queue,
+            finished,
+            seats,
+        });
+    }
+    let Queue { channel } = queue;
+    let Finished { counts, mut token } = finished;
+    join_seats(&channel, &mut token, seats);
+    channel.entrance.learn_as::<Settled>(&mut token);
+    Ok(Account {
+        counts,
+        sources: channel.sources,
+    })
+}
+
+/// Whether each of these was answered Done.
+fn all_done<T>(seats: &[WorkerSeat<T>]) -> bool
+    ensures { result ≡ all_done seats.now }
+{
+    for seat in seats {
+        if !seat.done {
+            return false;
+        }
+    }
+    true
+}
+
+/// Joins the passes of the worker seats to the closer's.
+fn join_seats<T: Drop>(channel: &Channel<T>, token: &mut Token<T>, mut seats: Vec<WorkerSeat<T>>)
+    requires token { IsSeatAt (sends_on channel.now.entrance) token.old }
+    requires closes { (view token.old).closes ≡ true }
+    requires seats { AllByRecursion (IsWorkerAt channel.now) seats.items }
+    ensures token { IsSeatAt (sends_on channel.now.entrance) token.new }
+    ensures known { view token.new ≡ with_takes (view token.old) (takes_of seats.items) }
+{
+    while !seats.is_empty() {
+        let WorkerSeat {
+            done: _,
+            token: pass,
+        } = seats.remove(0);
+        channel.entrance.absorb::<Joined>(token, pass);
+    }
+}
+
+#[cfg(test)]
+mod tests;

@@ -1,0 +1,3 @@
+pub mod NextLemmas
+pub mod PlayLemmas
+pub mod RecordedLemmas

@@ -1,0 +1,166 @@
+-- How the planes that bits may be of grow fewer while the bits are read: until one plane is left, or none.
+use Rattle.std.specs.Prelude.{◌≡◌, ◌↔◌, ℕ, ◌+◌, ◌-◌, ◌*◌, ◌<◌, ◌≤◌, Bool, true, false, List, [], ◌++◌, length, slice_index, slice_index_or, ℤ, pos}
+use Rattle.ls_frame.specs.Parameters.{Parameters}
+use Rattle.ls_coding.specs.Contexts.{half_context}
+use Rattle.ls_coding.specs.View.States.{Coding}
+use Rattle.ls_frame.specs.Picture.{Picture}
+use Rattle.ls_stream.specs.declared.segments.read.FrameHeader.{FrameHeader}
+use Rattle.ls_bits.specs.declared.data.Stop.{Stop}
+use Rattle.ls_bits.specs.declared.data.Stop.TheVariants.{Marker, End}
+use Rattle.ls_bits.specs.declared.source.CodeFault.{CodeFault}
+use Rattle.ls_bits.specs.declared.source.CodeFault.TheVariants.{OutOfBits, NotCanonical}
+use Rattle.ls_stream.specs.declared.faults.StreamFault.{StreamFault}
+use Rattle.ls_stream.specs.declared.faults.StreamFault.TheVariants as stream
+use Rattle.ls_stream.specs.declared.decode.scan.ScanFault.{ScanFault}
+use Rattle.ls_stream.specs.declared.decode.scan.ScanFault.TheVariants.{Code, LeftoverBits}
+use Rattle.ls_stream.specs.Faults.{BreakInPlane, HaveLeftoverBits}
+use Rattle.ls_stream.specs.Planes.{Plane, IsSamplePlane, at, left, Span, row_from, rows_from}
+use Rattle.ls_stream.specs.Components.{component_plane}
+use Rattle.ls_stream.specs.Grammar.{IsCoded}
+use Rattle.ls_stream.specs.View.BitFaults.{BreaksSpans}
+use Rattle.ls_stream.specs.View.Coded.{bits_from}
+use Rattle.ls_stream.specs.View.LineBuffers.{HoldsLine}
+
+-- a plane of this width, of samples of at most maxval, that has a row i
+pub record HasSampleRow (maxval width : ℕ) (plane : Plane) (i : ℕ) : Type 0 where
+  pub width_is : plane.width ≡ width
+  pub whole : (i + 1) * plane.width ≤ length plane.samples
+  pub small : (k : ℕ) → slice_index plane.samples k ≤ maxval
+
+-- ---- in a row
+
+-- how far a row is read: the next column, the row's buffer, the state of the coding, and the bits that are left
+pub record Place : Type 0 where
+  pub column : ℕ
+  pub line : List ℕ
+  pub state : Coding
+  pub bits : List Bool
+
+abbrev pub place : ℕ → List ℕ → Coding → List Bool → Place
+place column line state bits = record { column = column; line = line; state = state; bits = bits }
+
+-- A plane's row i may be what is read: its samples before the column are in the buffer, with the line above it in the other; and
+-- the bits that are left are those of its spans from the column on, of more spans, and the rest.
+pub record MayBeRead (plane : Plane) (i : ℕ) (above : List ℕ) (at_place : Place) (more : List Span) (rest : List Bool) : Type 0 where
+  pub over : HoldsLine plane i above
+  pub first : slice_index at_place.line 0 ≡ left plane i 0
+  pub before : (c : ℕ) → c < at_place.column → slice_index at_place.line (c + 1) ≡ at plane i c
+  pub bits_are : at_place.bits ≡ bits_from plane (row_from plane i at_place.column ++ more) at_place.state ++ rest
+
+-- the same planes may be what is read at either place
+abbrev pub AreSamePlanes : ℕ → ℕ → List ℕ → Place → Place → Type 0
+AreSamePlanes maxval width above one other =
+    (plane : Plane) (i : ℕ) → HasSampleRow maxval width plane i → (more : List Span) (rest : List Bool)
+    → MayBeRead plane i above one more rest ↔ MayBeRead plane i above other more rest
+
+-- no plane may
+abbrev pub IsNoPlane : ℕ → ℕ → List ℕ → Place → Type 0
+IsNoPlane maxval width above one =
+    (plane : Plane) (i : ℕ) → HasSampleRow maxval width plane i → (more : List Span) (rest : List Bool)
+    → MayBeRead plane i above one more rest → ⊥
+
+-- a plane's row i stands in a buffer up to a column, with the line above it in the other
+pub record HoldsRowTo (plane : Plane) (i : ℕ) (above line : List ℕ) (column : ℕ) : Type 0 where
+  pub over : HoldsLine plane i above
+  pub first : slice_index line 0 ≡ left plane i 0
+  pub before : (c : ℕ) → c < column → slice_index line (c + 1) ≡ at plane i c
+
+-- From one place the row was read to another: bits that break later break all.
+pub record BreaksLater (maxval width : ℕ) (above : List ℕ) (one other : Place) : Type 0 where
+  pub on : one.column ≤ other.column
+  pub kept : (k : ℕ) → k ≤ one.column → slice_index other.line k ≡ slice_index one.line k
+  pub later : (plane : Plane) (i : ℕ) → HasSampleRow maxval width plane i → HoldsRowTo plane i above other.line other.column → (more : List Span) (fault : CodeFault)
+      → BreaksSpans plane (row_from plane i other.column ++ more) other.state other.bits fault
+      → BreaksSpans plane (row_from plane i one.column ++ more) one.state one.bits fault
+
+-- They break, in a plane whose row was read so far as a column.
+pub record BreaksFrom (maxval width : ℕ) (above : List ℕ) (one : Place) (fault : CodeFault) : Type 0 where
+  pub column : ℕ
+  pub line : List ℕ
+  pub inside : column < width
+  pub on : one.column ≤ column
+  pub kept : (k : ℕ) → k ≤ one.column → slice_index line k ≡ slice_index one.line k
+  pub small : (k : ℕ) → slice_index line k ≤ maxval
+  pub breaks : (plane : Plane) (i : ℕ) → HasSampleRow maxval width plane i → HoldsRowTo plane i above line column → (more : List Span)
+      → BreaksSpans plane (row_from plane i one.column ++ more) one.state one.bits fault
+
+-- ---- in a scan
+
+-- so many rows of a plane stand among samples, in the places of one of `count` components
+abbrev pub HoldsRows : Plane → ℕ → ℕ → ℕ → List ℕ → Type 0
+HoldsRows plane rows count component samples =
+    (i j : ℕ) → i < rows → j < plane.width → slice_index samples ((i * plane.width + j) * count + component) ≡ at plane i j
+
+-- a plane may be what is read: so many rows of it stand among the samples, and the bits that are left are those of the others and the
+-- rest
+pub record RowsMayBeRead (plane : Plane) (height row count component : ℕ) (samples : List ℕ) (state : Coding) (bits rest : List Bool) : Type 0 where
+  pub rows : HoldsRows plane row count component samples
+  pub bits_are : bits ≡ bits_from plane (rows_from plane (height - row) row) state ++ rest
+
+-- ---- the calls on the way
+
+-- what is left of a column stands in each column from it up to `end`, and the rest is as it was
+pub record AreRepeated (old : List ℕ) (column end : ℕ) (new : List ℕ) : Type 0 where
+  pub whole : length new ≡ length old
+  pub inside : (c : ℕ) → column ≤ c → c < end → slice_index new (c + 1) ≡ slice_index old column
+  pub before : (k : ℕ) → k ≤ column → slice_index new k ≡ slice_index old k
+  pub after : (k : ℕ) → end < k → slice_index new k ≡ slice_index old k
+
+-- what the line above says of the context of a column's sample
+abbrev pub half_in : Parameters → List ℕ → ℕ → ℤ
+half_in p above j = half_context p (slice_index above (j + 1)) (slice_index above j) (slice_index above (j + 2))
+
+-- and of those of the columns from one up to another
+abbrev pub AreHalves : Parameters → ℕ → ℕ → List ℕ → List ℤ → Type 0
+AreHalves p start end above halves = (j : ℕ) → start ≤ j → j < end → slice_index_or halves j (pos 0) ≡ half_in p above j
+
+-- a run of so many samples, with so many left in the line: one that ends with the line has all of them, one that is broken fewer
+pub record EndsInLine (left count : ℕ) (broken : Bool) : Type 0 where
+  pub full : broken ≡ false → count ≡ left
+  pub short : broken ≡ true → count < left
+
+-- what the fault of a scan says of its bits
+abbrev pub ScanBreaks : Parameters → ℕ → ℕ → List Bool → ScanFault → Type 0
+ScanBreaks p width height bits (Code fault) = BreakInPlane p width height bits fault
+ScanBreaks p width height bits LeftoverBits = HaveLeftoverBits p width height bits
+
+-- what is said of it, of a component's scan, by what ends its data
+abbrev pub end_fault : ℕ → Stop → StreamFault
+end_fault component Marker = stream.BadCode component
+end_fault component End = stream.Truncated
+
+abbrev pub code_fault : ℕ → Stop → CodeFault → StreamFault
+code_fault component stop OutOfBits = end_fault component stop
+code_fault component stop NotCanonical = stream.BadCode component
+
+abbrev pub fault_in : ℕ → Stop → ScanFault → StreamFault
+fault_in component stop (Code fault) = code_fault component stop fault
+fault_in component stop LeftoverBits = stream.LeftoverBits component
+
+-- a scan that is being read: the state of its coding, and the bits that are left
+pub record Unread : Type 0 where
+  pub state : Coding
+  pub bits : List Bool
+
+-- ---- in a frame
+
+-- the scan of a component
+abbrev pub scan_in : List (List ℕ) → ℕ → List ℕ
+scan_in scans component = slice_index_or scans component []
+
+-- the scans' data are those of all components that stand among these samples, and of no others
+pub record AreScansOf (p : Parameters) (width height count : ℕ) (samples : List ℕ) (scans : List (List ℕ)) : Type 0 where
+  pub all : length scans ≡ count
+  pub coded : (i : ℕ) → i < count → IsCoded p (component_plane width count i samples) (scan_in scans i)
+  pub only : (i : ℕ) (plane : Plane) → i < count → IsSamplePlane p.maxval width height plane → IsCoded p plane (scan_in scans i)
+      → plane ≡ component_plane width count i samples
+
+-- they are those of no planes
+abbrev pub NoScans : Parameters → ℕ → ℕ → ℕ → List (List ℕ) → Type 0
+NoScans p width height count scans =
+    (planes : ℕ → Plane) → ((i : ℕ) → i < count → IsSamplePlane p.maxval width height (planes i))
+    → ((i : ℕ) → i < count → IsCoded p (planes i) (scan_in scans i)) → ⊥
+
+-- the picture that a frame header says, with this maxval and these samples
+abbrev pub picture : FrameHeader → ℕ → List ℕ → Picture
+picture header maxval samples = record { kind = header.kind; width = header.width; height = header.height; maxval = maxval; samples = samples }

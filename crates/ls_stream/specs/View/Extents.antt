@@ -1,0 +1,95 @@
+-- How far the codestream at the front of bytes goes by its markers alone, for a reader that takes one codestream at a time: what
+-- the segments say, and which of them may stand where, isn't looked at. It is made of the pieces that the outline is made of.
+use Rattle.std.specs.Prelude.{◌≡◌, ◌≢◌, ◌⊎◌, ℕ, zero, suc, ◌<◌, ◌≤◌, Bool, true, false, List, [], ◌++◌, length, take, Result, Ok, Err}
+use Rattle.ls_frame.specs.Picture.{Picture}
+use Rattle.ls_stream.specs.declared.faults.StreamFault.{StreamFault}
+use Rattle.ls_stream.specs.declared.faults.StreamFault.TheVariants.{Truncated, Unsupported}
+use Rattle.ls_stream.specs.declared.faults.What.TheVariants as what
+use Rattle.ls_stream.specs.declared.marker.Marker.{Marker}
+use Rattle.ls_stream.specs.declared.marker.Marker.TheVariants.{StartOfImage, EndOfImage, StartOfScan, StartOfFrame, PresetParameters, Application, Comment, Other}
+use Rattle.ls_stream.specs.declared.next.NextFault.{NextFault}
+use Rattle.ls_stream.specs.declared.next.NextFault.TheVariants as next_fault
+use Rattle.ls_stream.specs.Markers.{code_of}
+use Rattle.ls_stream.specs.Grammar.{Spells, most_bytes}
+use Rattle.ls_stream.specs.View.Reading.{◌>>=◌, Take, start_at, marker_at, contents_at}
+use Rattle.ls_stream.specs.View.Outlines.{after_data, Outline, outline_at}
+
+-- ---- markers, segments and data up to EOI
+
+-- what is left after EOI, or the first fault that the markers show
+abbrev pub Left : Type 0
+Left = Result (List ℕ) StreamFault
+
+-- a segment after its marker, and what follows it
+abbrev pub after_segment : (List ℕ → Left) → List ℕ → Left
+after_segment next bytes = contents_at bytes >>= λ contents. next contents.1
+
+-- What stands after a marker: nothing after EOI, the header of a scan and its data after SOS, a segment after SOF55, LSE, APPn
+-- and COM. Another marker isn't supported.
+unfoldable pub after_any : (List ℕ → Left) → Marker → List ℕ → Left
+after_any again StartOfImage bytes = Err (Unsupported (what.Marker (code_of StartOfImage)))
+after_any again EndOfImage bytes = Ok bytes
+after_any again StartOfScan bytes = after_segment (λ stuffed. again (after_data stuffed)) bytes
+after_any again StartOfFrame bytes = after_segment again bytes
+after_any again PresetParameters bytes = after_segment again bytes
+after_any again (Application code) bytes = after_segment again bytes
+after_any again Comment bytes = after_segment again bytes
+after_any again (Other code) bytes = Err (Unsupported (what.Marker code))
+
+-- Segments and scans in any order, no more than `most`, up to EOI. The length of the bytes is always enough.
+unfoldable pub segments_within : ℕ → List ℕ → Left
+segments_within zero bytes = Err Truncated
+segments_within (suc most) bytes = marker_at bytes >>= λ next. after_any (segments_within most) next.0 next.1
+
+unfoldable pub segments_at : List ℕ → Left
+segments_at bytes = segments_within (length bytes) bytes
+
+-- SOI, and then those
+unfoldable pub extent_at : List ℕ → Left
+extent_at bytes = start_at bytes >>= segments_at
+
+-- ---- the next codestream
+
+-- The bytes of the next codestream, and those after it: as few as show by their markers where it ends or what breaks it, or all
+-- that there are.
+pub record IsNext (bytes rest : List ℕ) : Type 0 where
+  pub some : 0 < length bytes
+  pub short : length bytes ≤ most_bytes
+  -- fewer of them show neither
+  pub least : (count : ℕ) → count < length bytes → extent_at (take count bytes) ≡ Err Truncated
+  -- they do, or the input ends with them
+  pub whole : (extent_at bytes ≢ Err Truncated) ⊎ (rest ≡ [])
+
+-- what was read of a front of bytes, as of all of them: with what is left after the front
+abbrev pub with_left : {X : Type 0} → List ℕ → Take X → Take X
+with_left rest (Ok found) = Ok (found.0, found.1 ++ rest)
+with_left rest (Err fault) = Err fault
+
+-- ---- faults
+
+-- whether a read failed
+abbrev pub is_io : NextFault → Bool
+is_io next_fault.TooLarge = false
+is_io next_fault.Io = true
+is_io next_fault.NoMemory = false
+
+abbrev pub failed_feed : {X : Type 0} → Result X NextFault → Bool
+failed_feed (Ok x) = false
+failed_feed (Err fault) = is_io fault
+
+-- ---- laws
+
+-- A codestream of a frame is read to its end, whatever follows it.
+abbrev pub SpellingsHaveExtents : Type 0
+SpellingsHaveExtents = (front rest : List ℕ) (f : Picture) → Spells front f → extent_at (front ++ rest) ≡ Ok rest
+
+-- Where an outline is read, its extent is, and as much is left; where the bytes are too few for the one, they are for the other.
+abbrev pub OutlinesHaveExtents : Type 0
+OutlinesHaveExtents = (bytes rest : List ℕ) (o : Outline) → outline_at bytes ≡ Ok (o, rest) → extent_at bytes ≡ Ok rest
+
+abbrev pub TooFewForBoth : Type 0
+TooFewForBoth = (bytes : List ℕ) → outline_at bytes ≡ Err Truncated → extent_at bytes ≡ Err Truncated
+
+-- There is one next codestream.
+abbrev pub OneIsNext : Type 0
+OneIsNext = (bytes rest other left : List ℕ) → IsNext bytes rest → IsNext other left → bytes ++ rest ≡ other ++ left → bytes ≡ other

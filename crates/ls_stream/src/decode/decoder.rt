@@ -1,0 +1,176 @@
+//! A scan that is being read: its bits, as the events of its rows (T.87 Annex A).
+ghost use Rattle.std.specs.Prelude.{◌≡◌, ◌<◌, ◌≤◌, ◌++◌, [], ℕ, Bool, List, true, false, length, min, IfOk, IfErr};
+ghost use Rattle.ls_frame.specs.Parameters.{qbpp_of};
+ghost use Rattle.ls_bits.specs.Stuffing.{unstuff};
+ghost use Rattle.ls_bits.specs.Data.{IsData};
+ghost use Rattle.ls_coding.specs.Samples.{AreSamples, Interrupts};
+ghost use Rattle.ls_coding.specs.Contexts.{is_zero, is_run, signed_context, half_context};
+ghost use Rattle.ls_coding.specs.Interruptions.{ri_type_of, interruption_error};
+ghost use Rattle.ls_coding.specs.Runs.{run_of, run_bits};
+ghost use Rattle.ls_coding.specs.Events.{golomb_bits};
+ghost use Rattle.ls_coding.specs.View.States.{state_of, context_in, regular_error_in, regular_word_in, interruption_word_in, regular_after, run_after, interruption_after};
+ghost use Rattle.ls_stream.specs.View.BitFaults.{BreaksSample, BreaksInterruption, BreaksRun};
+ghost use Rattle.ls_stream.specs.View.Decoding.{EndsInLine};
+
+use ls_bits::{BitSource, CodeFault};
+use ls_coding::{Neighbours, Regions, State, whole_context};
+use ls_frame::Presets;
+use std::marker::Model;
+
+/// The state of a scan's coding, and the source of its bits.
+#[derive(Drop)]
+pub struct Decoder<'a> {
+    presets: Presets,
+    /// The bits of an error (qbpp).
+    qbpp: u32,
+    /// The regions of all gradients.
+    regions: &'a Regions,
+    state: State,
+    source: BitSource<'a>,
+}
+
+impl<'a> Model for Decoder<'a> {
+    ghost use Rattle.std.specs.Prelude.{◌≡◌};
+    ghost use Rattle.ls_frame.specs.Parameters.{qbpp_of, IsLegal};
+    ghost use Rattle.ls_stream.specs.View.Decoding.{Unread};
+
+    ghost Value = { Unread };
+
+    ghost view = { λ d. record { state = d.state; bits = d.source } };
+
+    ghost invariant = { λ d. (d.state.parameters ≡ d.presets) × (d.qbpp ≡ qbpp_of d.presets.maxval) × IsLegal d.presets × (d.regions.now ≡ d.presets) };
+}
+
+/// A run that was read: how many samples it has, and whether a sample interrupts it before the line's end.
+#[derive(Clone, Copy, Debug, PartialEq, Eq)]
+pub struct FoundRun {
+    pub count: u32,
+    pub broken: bool,
+}
+
+impl<'a> Decoder<'a> {
+    /// The start of a scan, of this data.
+    pub fn new(presets: &Presets, regions: &'a Regions, bytes: &'a [u8]) -> Decoder<'a>
+        requires is_data { IsData bytes.now }
+        requires regions { regions.now ≡ presets.now }
+        ensures parameters { result.state.parameters ≡ presets.now }
+        ensures state { result.state ≡ state_of presets.now [] }
+        ensures bits { result.bits ≡ unstuff bytes.now }
+    {
+        prove!(presets.maxval() > 0);
+        Decoder {
+            presets: *presets,
+            qbpp: presets.qbpp(),
+            regions,
+            state: State::new(presets),
+            source: BitSource::new(bytes),
+        }
+    }
+
+    /// The parameters that the scan is coded with.
+    pub fn presets(&self) -> &Presets
+        ensures { result.now ≡ self.now.state.parameters }
+    {
+        &self.presets
+    }
+
+    /// How many bits are left; 2^64 - 1 if they are more.
+    pub fn left(&self) -> u64
+        ensures { result ≡ min (length self.now.bits) u64.MAX }
+    {
+        self.source.left()
+    }
+
+    /// The context of a sample, of which `half` is what the line above says of it.
+    pub fn context_of(&self, half: i16, neighbours: &Neighbours) -> i16
+        requires half { half ≡ half_context self.now.state.parameters neighbours.now.b neighbours.now.c neighbours.now.d }
+        requires samples { AreSamples self.now.state.parameters.maxval neighbours.now }
+        ensures value { result ≡ signed_context self.now.state.parameters neighbours.now }
+        ensures run { is_zero result ≡ is_run neighbours.now }
+    {
+        whole_context(self.regions, half, neighbours.a, neighbours.c)
+    }
+
+    /// Reads a sample of regular mode, whose context is known. The bits that are left begin with the word of no other sample; of none if this fails.
+    pub fn decode_sample(&mut self, context: i16, neighbours: &Neighbours) -> Result<u16, CodeFault>
+        requires context { context ≡ signed_context self.old.state.parameters neighbours.now }
+        requires samples { AreSamples self.old.state.parameters.maxval neighbours.now }
+        requires regular { is_run neighbours.now ≡ false }
+        requires whole { self.old.state.broken ≡ false }
+        ensures within { IfOk result (λ sample. sample ≤ self.old.state.parameters.maxval) }
+        ensures bits { IfOk result (λ sample. self.old.bits
+            ≡ golomb_bits self.old.state.parameters (regular_word_in self.old.state neighbours.now sample) ++ self.new.bits) }
+        ensures state { IfOk result (λ sample. self.new.state ≡ regular_after self.old.state
+            (context_in self.old.state neighbours.now).number (regular_error_in self.old.state neighbours.now sample)) }
+        ensures only { IfOk result (λ sample. (other : ℕ) (rest : List Bool) → other ≤ self.old.state.parameters.maxval
+            → self.old.bits ≡ golomb_bits self.old.state.parameters (regular_word_in self.old.state neighbours.now other) ++ rest
+            → (other ≡ sample) × (rest ≡ self.new.bits)) }
+        ensures none { IfErr result (λ fault. (other : ℕ) (rest : List Bool) → other ≤ self.old.state.parameters.maxval
+            → self.old.bits ≡ golomb_bits self.old.state.parameters (regular_word_in self.old.state neighbours.now other) ++ rest
+            → ⊥) }
+        ensures fault { IfErr result (λ fault. BreaksSample self.old.state neighbours.now self.old.bits fault) }
+    {
+        let plan = self.state.plan_regular_at(context, neighbours);
+        let value = self.source.take_golomb(plan.k(), plan.glimit(), self.qbpp)?;
+        self.state.accept_regular(plan, value)
+    }
+
+    /// Reads a run, with `left` samples left in the line (A.7.1). The bits that are left begin with those of no other run that ends in
+    /// the line; of none if this fails.
+    pub fn decode_run(&mut self, left: u32) -> Result<FoundRun, CodeFault>
+        requires some { 0 < left }
+        requires whole { self.old.state.broken ≡ false }
+        ensures within { IfOk result (λ run. EndsInLine left run.count run.broken) }
+        ensures bits { IfOk result (λ run. self.old.bits
+            ≡ run_bits self.old.state.run_index (run_of run.count run.broken) ++ self.new.bits) }
+        ensures state { IfOk result (λ run. self.new.state ≡ run_after self.old.state (run_of run.count run.broken)) }
+        ensures only { IfOk result (λ run. (count : ℕ) (broken : Bool) (rest : List Bool) → EndsInLine left count broken
+            → self.old.bits ≡ run_bits self.old.state.run_index (run_of count broken) ++ rest
+            → (count ≡ run.count) × (broken ≡ run.broken) × (rest ≡ self.new.bits)) }
+        ensures none { IfErr result (λ fault. (count : ℕ) (broken : Bool) (rest : List Bool) → EndsInLine left count broken
+            → self.old.bits ≡ run_bits self.old.state.run_index (run_of count broken) ++ rest → ⊥) }
+        ensures fault { IfErr result (λ fault. BreaksRun self.old.state.run_index left self.old.bits fault) }
+    {
+        let mut count = 0;
+        'ones: while self.source.bit()? == 1 {
+            count += self.state.accept_one(left - count);
+            if count == left {
+                return Ok(FoundRun {
+                    count,
+                    broken: false,
+                });
+            }
+        }
+        let rest = self.source.bits(self.state.break_width())?;
+        self.state.accept_break(rest, left - count)?;
+        Ok(FoundRun {
+            count: count + rest,
+            broken: true,
+        })
+    }
+
+    /// Reads the sample that interrupts a run (A.7.2). The bits that are left begin with the word of no other sample that may; of none
+    /// if this fails.
+    pub fn decode_interruption(&mut self, neighbours: &Neighbours) -> Result<u16, CodeFault>
+        requires samples { AreSamples self.old.state.parameters.maxval neighbours.now }
+        requires broken { self.old.state.broken ≡ true }
+        ensures interrupts { IfOk result (λ sample. Interrupts self.old.state.parameters.maxval neighbours.now.a sample) }
+        ensures bits { IfOk result (λ sample. self.old.bits
+            ≡ golomb_bits self.old.state.parameters (interruption_word_in self.old.state neighbours.now sample) ++ self.new.bits) }
+        ensures state { IfOk result (λ sample. self.new.state ≡ interruption_after self.old.state (ri_type_of neighbours.now)
+            (interruption_error self.old.state.parameters neighbours.now sample)) }
+        ensures only { IfOk result (λ sample. (other : ℕ) (rest : List Bool)
+            → Interrupts self.old.state.parameters.maxval neighbours.now.a other
+            → self.old.bits ≡ golomb_bits self.old.state.parameters (interruption_word_in self.old.state neighbours.now other) ++ rest
+            → (other ≡ sample) × (rest ≡ self.new.bits)) }
+        ensures none { IfErr result (λ fault. (other : ℕ) (rest : List Bool)
+            → Interrupts self.old.state.parameters.maxval neighbours.now.a other
+            → self.old.bits ≡ golomb_bits self.old.state.parameters (interruption_word_in self.old.state neighbours.now other) ++ rest
+            → ⊥) }
+        ensures fault { IfErr result (λ fault. BreaksInterruption self.old.state neighbours.now self.old.bits fault) }
+    {
+        let plan = self.state.plan_interruption(neighbours);
+        let value = self.source.take_golomb(plan.k(), plan.glimit(), self.qbpp)?;
+        self.state.accept_interruption(plan, value)
+    }
+}

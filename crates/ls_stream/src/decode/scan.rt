@@ -1,0 +1,189 @@
+//! The scan of one component: the rows of its plane, out of its data (T.87 Annex A).
+ghost use Rattle.std.specs.Prelude.{◌≡◌, ◌≢◌, ◌↔◌, ◌+◌, ◌*◌, ◌<◌, ◌≤◌, ◌++◌, ℕ, false, Bool, List, length, slice_index, vec_len, [], IfOk, IfErr};
+ghost use Rattle.ls_bits.specs.Stuffing.{unstuff};
+ghost use Rattle.ls_bits.specs.Data.{IsData};
+ghost use Rattle.ls_coding.specs.View.States.{state_of};
+ghost use Rattle.ls_stream.specs.Planes.{Plane, IsSamplePlane, spans, plane_bits};
+ghost use Rattle.ls_stream.specs.Components.{component_plane};
+ghost use Rattle.ls_stream.specs.Grammar.{IsCoded};
+ghost use Rattle.ls_stream.specs.View.BitFaults.{BreaksSpans, BreaksPlane};
+ghost use Rattle.ls_stream.specs.View.Decoding.{RowsMayBeRead, ScanBreaks};
+
+use crate::buffers::Lines;
+use crate::decode::decoder::Decoder;
+use crate::decode::row::decode_row;
+use crate::lines::clear;
+use crate::shape::Shape;
+use ls_bits::CodeFault;
+use ls_coding::Regions;
+use ls_frame::Presets;
+
+/// Why a scan's data isn't that of a plane.
+#[derive(Clone, Copy, Debug, PartialEq, Eq)]
+pub enum ScanFault {
+    /// The bits break off, or go on as those of no plane do.
+    Code(CodeFault),
+    /// After the plane's bits there are 16 or more.
+    LeftoverBits,
+}
+
+/// Reads the plane of a component out of a scan's data, into its places among the samples.
+pub fn decode_scan(
+    presets: &Presets,
+    regions: &Regions,
+    bytes: &[u8],
+    lines: &mut Lines,
+    samples: &mut [u16],
+    shape: Shape,
+    component: usize,
+) -> Result<(), ScanFault>
+    requires is_data { IsData bytes.now }
+    requires regions { regions.now ≡ presets.now }
+    requires width { shape.width ≤ lines.old }
+    requires some { 1 ≤ shape.width }
+    requires narrow { shape.width ≤ 65535 }
+    requires samples { length samples.old ≡ shape.height * shape.width * shape.components }
+    requires small { (k : ℕ) → slice_index samples.old k ≤ presets.now.maxval }
+    requires component { component < shape.components }
+    ensures coded { IfOk result (λ _. IsCoded presets.now (component_plane shape.width shape.components component samples.new) bytes.now) }
+    ensures only { IfOk result (λ _. (plane : Plane) → IsSamplePlane presets.now.maxval shape.width shape.height plane
+        → IsCoded presets.now plane bytes.now → plane ≡ component_plane shape.width shape.components component samples.new) }
+    ensures none { IfErr result (λ _. (plane : Plane) → IsSamplePlane presets.now.maxval shape.width shape.height plane
+        → IsCoded presets.now plane bytes.now → ⊥) }
+    ensures fault { IfErr result (λ fault. ScanBreaks presets.now shape.width shape.height (unstuff bytes.now) fault) }
+    ensures others { (k other : ℕ) → other < shape.components → other ≢ component
+        → slice_index samples.new (k * shape.components + other) ≡ slice_index samples.old (k * shape.components + other) }
+    ensures small { (k : ℕ) → slice_index samples.new k ≤ presets.now.maxval }
+    ensures len { length samples.new ≡ length samples.old }
+    ensures lines { lines.new ≡ lines.old }
+{
+    let mut decoder = Decoder::new(presets, regions, bytes);
+    let read = decode_plane(
+        &mut decoder,
+        &mut lines.above,
+        &mut lines.line,
+        &mut lines.contexts,
+        samples,
+        shape,
+        component,
+    );
+    if let Err(fault) = read {
+        return Err(ScanFault::Code(fault));
+    }
+    if decoder.left() >= 16 {
+        return Err(ScanFault::LeftoverBits);
+    }
+    Ok(())
+}
+
+/// Reads a component's plane, at a scan's start; `above`, `line` and `halves` are room for what a row is read by.
+fn decode_plane(
+    decoder: &mut Decoder,
+    above: &mut Vec<u16>,
+    line: &mut Vec<u16>,
+    halves: &mut Vec<i16>,
+    samples: &mut [u16],
+    shape: Shape,
+    component: usize,
+) -> Result<(), CodeFault>
+    requires above { shape.width + 2 ≤ vec_len above.old }
+    requires line { shape.width + 2 ≤ vec_len line.old }
+    requires halves { shape.width ≤ vec_len halves.old }
+    requires some { 1 ≤ shape.width }
+    requires narrow { shape.width ≤ 65535 }
+    requires samples { length samples.old ≡ shape.height * shape.width * shape.components }
+    requires small { (k : ℕ) → slice_index samples.old k ≤ decoder.old.state.parameters.maxval }
+    requires component { component < shape.components }
+    requires state { decoder.old.state ≡ state_of decoder.old.state.parameters [] }
+    ensures plane { IfOk result (λ _. decoder.old.bits
+        ≡ plane_bits decoder.old.state.parameters (component_plane shape.width shape.components component samples.new) ++ decoder.new.bits) }
+    ensures only { IfOk result (λ _. (plane : Plane) → IsSamplePlane decoder.old.state.parameters.maxval shape.width shape.height plane → (rest : List Bool)
+        → decoder.old.bits ≡ plane_bits decoder.old.state.parameters plane ++ rest
+        → (plane ≡ component_plane shape.width shape.components component samples.new) × (rest ≡ decoder.new.bits)) }
+    ensures none { IfErr result (λ _. (plane : Plane) → IsSamplePlane decoder.old.state.parameters.maxval shape.width shape.height plane → (rest : List Bool)
+        → decoder.old.bits ≡ plane_bits decoder.old.state.parameters plane ++ rest → ⊥) }
+    ensures breaks { IfErr result (λ fault. BreaksPlane decoder.old.state.parameters shape.width shape.height decoder.old.bits fault) }
+    ensures others { (k other : ℕ) → other < shape.components → other ≢ component
+        → slice_index samples.new (k * shape.components + other) ≡ slice_index samples.old (k * shape.components + other) }
+    ensures small { (k : ℕ) → slice_index samples.new k ≤ decoder.old.state.parameters.maxval }
+    ensures len { length samples.new ≡ length samples.old }
+    ensures above { vec_len above.new ≡ vec_len above.old }
+    ensures line { vec_len line.new ≡ vec_len line.old }
+    ensures halves { vec_len halves.new ≡ vec_len halves.old }
+{
+    let places = shape.width + 2;
+    decode_rows(
+        decoder,
+        &mut above[..places],
+        &mut line[..places],
+        &mut halves[..shape.width],
+        samples,
+        shape,
+        component,
+    )
+}
+
+/// Reads the rows of one component; `above`, `line` and `halves` are room for what a row is read by.
+fn decode_rows(
+    decoder: &mut Decoder,
+    above: &mut [u16],
+    line: &mut [u16],
+    halves: &mut [i16],
+    samples: &mut [u16],
+    shape: Shape,
+    component: usize,
+) -> Result<(), CodeFault>
+    requires above { length above.old ≡ shape.width + 2 }
+    requires line { length line.old ≡ shape.width + 2 }
+    requires halves { length halves.old ≡ shape.width }
+    requires some { 1 ≤ shape.width }
+    requires narrow { shape.width ≤ 65535 }
+    requires samples { length samples.old ≡ shape.height * shape.width * shape.components }
+    requires small { (k : ℕ) → slice_index samples.old k ≤ decoder.old.state.parameters.maxval }
+    requires component { component < shape.components }
+    requires whole { decoder.old.state.broken ≡ false }
+    ensures rows { IfOk result (λ _. (plane : Plane) → IsSamplePlane decoder.old.state.parameters.maxval shape.width shape.height plane → (rest : List Bool)
+        → RowsMayBeRead plane shape.height 0 shape.components component samples.old decoder.old.state decoder.old.bits rest
+        ↔ RowsMayBeRead plane shape.height shape.height shape.components component samples.new decoder.new.state decoder.new.bits rest) }
+    ensures none { IfErr result (λ _. (plane : Plane) → IsSamplePlane decoder.old.state.parameters.maxval shape.width shape.height plane → (rest : List Bool)
+        → RowsMayBeRead plane shape.height 0 shape.components component samples.old decoder.old.state decoder.old.bits rest → ⊥) }
+    ensures breaks { IfErr result (λ fault. (plane : Plane) × IsSamplePlane decoder.old.state.parameters.maxval shape.width shape.height plane
+        × BreaksSpans plane (spans plane) decoder.old.state decoder.old.bits fault) }
+    ensures others { (k other : ℕ) → other < shape.components → other ≢ component
+        → slice_index samples.new (k * shape.components + other) ≡ slice_index samples.old (k * shape.components + other) }
+    ensures small { (k : ℕ) → slice_index samples.new k ≤ decoder.old.state.parameters.maxval }
+    ensures len { length samples.new ≡ length samples.old }
+{
+    clear(above);
+    clear(line);
+    for row in 0..shape.height {
+        line[0] = above[1];
+        decode_row(decoder, above, line, halves, shape.width)?;
+        line[shape.width + 1] = line[shape.width];
+        store_row(samples, line, row, shape, component);
+        above.copy_from_slice(line);
+    }
+    Ok(())
+}
+
+/// Puts the samples of a row, which stand in a line after its first place, where they belong among those of all components.
+fn store_row(samples: &mut [u16], line: &[u16], row: usize, shape: Shape, component: usize)
+    requires line { length line.now ≡ shape.width + 2 }
+    requires samples { length samples.old ≡ shape.height * shape.width * shape.components }
+    requires row { row < shape.height }
+    requires component { component < shape.components }
+    ensures stored { (j : ℕ) → j < shape.width
+        → slice_index samples.new ((row * shape.width + j) * shape.components + component) ≡ slice_index line.now (j + 1) }
+    ensures kept { (k : ℕ) → ((j : ℕ) → j < shape.width → k ≢ (row * shape.width + j) * shape.components + component)
+        → slice_index samples.new k ≡ slice_index samples.old k }
+    ensures len { length samples.new ≡ length samples.old }
+{
+    if shape.components == 1 {
+        let start = row * shape.width;
+        samples[start..start + shape.width].copy_from_slice(&line[1..shape.width + 1]);
+        return;
+    }
+    for column in 0..shape.width {
+        samples[(row * shape.width + column) * shape.components + component] = line[column + 1];
+    }
+}

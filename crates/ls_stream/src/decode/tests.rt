@@ -1,0 +1,497 @@
+use super::*;
+use crate::encode::encode_with;
+use crate::faults::What;
+use crate::testing::codestreams::{CODESTREAMS, PLANES, TUNINGS, around_scan, head};
+use crate::testing::{Chance, PICTURES, Parts, Picture, Shape, drawn_frame, frame_of};
+use ls_frame::{Kind, PresetFault, Tuning};
+use std::alloc::AllocError;
+use std::process::Abort;
+use std::test::Fail;
+
+/// The frame that bytes are decoded to, and how many of them are its codestream's; or the fault.
+type Answer<'a> = Result<(Kind, u16, u16, u16, &'a [u16], usize), StreamFault>;
+
+/// That this is what was decoded.
+fn check_answer(
+    rt: &impl Abort,
+    name: &str,
+    decoded: &Result<Decoded, StreamFault>,
+    want: Answer<'_>,
+) {
+    let got = match decoded {
+        Ok(Decoded { frame, used }) => Ok((
+            frame.kind(),
+            frame.width(),
+            frame.height(),
+            frame.maxval(),
+            frame.samples(),
+            *used,
+        )),
+        Err(fault) => Err(*fault),
+    };
+    assert_eq!(rt; got, want, "{name}");
+}
+
+/// That bytes are decoded to this.
+fn check_decoded(rt: &impl Abort, alloc: Global, name: &str, bytes: &[u8], want: Answer<'_>) {
+    check_answer(rt, name, &decode_frame(alloc, bytes), want);
+}
+
+/// That bytes are refused with this fault.
+fn check_fault(rt: &impl Abort, alloc: Global, name: &str, bytes: &[u8], want: StreamFault) {
+    check_decoded(rt, alloc, name, bytes, Err(want));
+}
+
+/// That a codestream of a frame of these parts is decoded to it, and with a byte behind it too.
+fn check_codestream(
+    rt: &impl Abort,
+    alloc: Global,
+    name: &str,
+    parts: Parts,
+    mut bytes: Vec<u8>,
+) -> Result<(), AllocError> {
+    let (kind, width, height, maxval, samples) = parts;
+    let want = (kind, width, height, maxval, samples, bytes.len());
+    check_decoded(rt, alloc, name, &bytes, Ok(want));
+    bytes.push(0x41)?;
+    check_decoded(rt, alloc, name, &bytes, Ok(want));
+    Ok(())
+}
+
+#[test]
+fn planes_are_decoded_from_their_scans_with_ample_memory(rt: HostRuntime) -> Result<(), Fail> {
+    for (name, maxval, width, samples, scan) in PLANES {
+        if maxval == 255 {
+            let height = (samples.len() / usize::from(width).max(1)) as u16;
+            let bytes = around_scan(rt.alloc(), width, height, &[], scan)?;
+            let parts = (Kind::Gray, width, height, maxval, samples);
+            check_codestream(&rt, rt.alloc(), name, parts, bytes)?;
+        }
+    }
+    Ok(())
+}
+
+#[test]
+fn codestreams_are_decoded_to_their_frames_with_ample_memory(rt: HostRuntime) -> Result<(), Fail> {
+    for (parts, bytes, _) in CODESTREAMS {
+        check_codestream(&rt, rt.alloc(), "whole", parts, bytes.to_vec(rt.alloc())?)?;
+    }
+    Ok(())
+}
+
+/// The answer is want of memory, or what it is with ample memory.
+#[test]
+fn codestreams_are_decoded_or_memory_is_wanting(rt: HostRuntime) {
+    for ((kind, width, height, maxval, samples), bytes, _) in CODESTREAMS {
+        let decoded = decode_frame(rt.alloc(), bytes);
+        let want = match decoded {
+            Err(StreamFault::NoMemory) => Err(StreamFault::NoMemory),
+            _ => Ok((kind, width, height, maxval, samples, bytes.len())),
+        };
+        check_answer(&rt, "memory", &decoded, want);
+    }
+}
+
+#[test]
+fn parameters_are_read_with_ample_memory(rt: HostRuntime) -> Result<(), Fail> {
+    for (_, lse) in TUNINGS {
+        let bytes = around_scan(rt.alloc(), 1, 1, lse, &[0x80])?;
+        check_codestream(
+            &rt,
+            rt.alloc(),
+            "tuned",
+            (Kind::Gray, 1, 1, 255, &[0]),
+            bytes,
+        )?;
+    }
+    let early: [u8; 15] = [
+        0xff, 0xf8, 0x00, 0x0d, 0x01, 0x00, 0xff, 0x00, 0x03, 0x00, 0x07, 0x00, 0x15, 0x00, 0x03,
+    ];
+    let bytes = around_scan(rt.alloc(), 7, 1, &early, &[0x2c, 0xa4, 0x48])?;
+    let parts: Parts = (Kind::Gray, 7, 1, 255, &[3, 3, 3, 3, 4, 6, 6]);
+    check_codestream(&rt, rt.alloc(), "early reset", parts, bytes)?;
+    Ok(())
+}
+
+/// A change of a codestream: its place in the table, the first byte that goes, how many go, and what stands there.
+type Change = (usize, usize, usize, &'static [u8]);
+
+/// The changed codestream.
+fn changed(alloc: Global, change: Change) -> Result<Vec<u8>, AllocError> {
+    let (codestream, place, gone, others) = change;
+    let bytes: &[u8] = match CODESTREAMS.get(codestream) {
+        Some((_, bytes, _)) => bytes,
+        None => &[],
+    };
+    let mut made = bytes.get(..place).unwrap_or(bytes).to_vec(alloc)?;
+    made.extend_from_slice(others)?;
+    made.extend_from_slice(bytes.get(place.saturating_add(gone)..).unwrap_or(&[]))?;
+    Ok(made)
+}
+
+/// A changed codestream of a gray frame of one pixel, its MAXVAL, its sample, and how many bytes of it are read.
+const LONE: [(Change, u16, u16, usize); 13] = [
+    // A comment.
+    ((1, 15, 0, &[0xff, 0xfe, 0x00, 0x03, 0x41]), 255, 0, 33),
+    ((1, 26, 0, &[0xff, 0xfe, 0x00, 0x03, 0x41]), 255, 0, 33),
+    // Fill bytes.
+    ((1, 2, 0, &[0xff, 0xff]), 255, 0, 30),
+    ((1, 26, 0, &[0xff]), 255, 0, 29),
+    // Tq, which isn't looked at; another ID.
+    ((1, 14, 1, &[0x05]), 255, 0, 28),
+    (
+        (
+            1,
+            12,
+            9,
+            &[0x09, 0x11, 0x00, 0xff, 0xda, 0x00, 0x08, 0x01, 0x09],
+        ),
+        255,
+        0,
+        28,
+    ),
+    // Parameters that are all to be the defaults; a MAXVAL that is; before others, and after them.
+    (
+        (
+            1,
+            2,
+            0,
+            &[0xff, 0xf8, 0x00, 0x0d, 0x01, 0, 0, 0, 0, 0, 0, 0, 0, 0, 0],
+        ),
+        255,
+        0,
+        43,
+    ),
+    ((2, 21, 1, &[0x00]), 3, 3, 43),
+    (
+        (
+            2,
+            15,
+            0,
+            &[0xff, 0xf8, 0x00, 0x0d, 0x01, 0, 0, 0, 0, 0, 0, 0, 0, 0, 0],
+        ),
+        1,
+        1,
+        58,
+    ),
+    (
+        (
+            2,
+            30,
+            0,
+            &[0xff, 0xf8, 0x00, 0x0d, 0x01, 0, 0, 0, 0, 0, 0, 0, 0, 0, 0],
+        ),
+        3,
+        3,
+        58,
+    ),
+    // Further bits, at most 15; a stuffed one isn't counted.
+    ((1, 26, 0, &[0x00]), 255, 0, 29),
+    ((1, 25, 1, &[0x05, 0xff, 0x7f]), 255, 9, 30),
+    ((1, 25, 1, &[0x05]), 255, 9, 28),
+];
+
+#[test]
+fn frames_are_decoded_from_codestreams_of_others_with_ample_memory(
+    rt: HostRuntime,
+) -> Result<(), Fail> {
+    for (change, maxval, sample, used) in LONE {
+        let bytes = changed(rt.alloc(), change)?;
+        let want = Ok((Kind::Gray, 1, 1, maxval, &[sample] as &[u16], used));
+        check_decoded(&rt, rt.alloc(), "changed", &bytes, want);
+    }
+    Ok(())
+}
+
+/// A comment and a segment of an application stand after the start of the image.
+#[test]
+fn segments_of_others_are_passed_over_with_ample_memory(rt: HostRuntime) -> Result<(), Fail> {
+    let ((kind, width, height, maxval, samples), _, _) = CODESTREAMS[0];
+    let others = &[0xff, 0xfe, 0x00, 0x03, 0x41, 0xff, 0xe8, 0x00, 0x02];
+    let bytes = changed(rt.alloc(), (0, 2, 0, others))?;
+    let want = Ok((kind, width, height, maxval, samples, 66));
+    check_decoded(&rt, rt.alloc(), "others", &bytes, want);
+    Ok(())
+}
+
+/// Changed codestreams that spell no frame: in their headers, and after the first of them.
+const FAULTY: [(Change, StreamFault); 27] = [
+    ((1, 0, 1, &[0x00]), StreamFault::NotSoi),
+    ((1, 2, 1, &[0x00]), StreamFault::BadSegment),
+    ((1, 4, 1, &[0xff]), StreamFault::Truncated),
+    ((1, 7, 4, &[0xff, 0xff, 0xff, 0xff]), StreamFault::TooLarge),
+    (
+        (1, 3, 1, &[0xc0]),
+        StreamFault::Unsupported(What::Marker(0xc0)),
+    ),
+    ((1, 3, 1, &[0xf8]), StreamFault::Unsupported(What::LseId(8))),
+    (
+        (1, 8, 1, &[0x00]),
+        StreamFault::Unsupported(What::HeightZero),
+    ),
+    (
+        (1, 11, 1, &[0x02]),
+        StreamFault::Unsupported(What::Components(2)),
+    ),
+    (
+        (1, 13, 1, &[0x21]),
+        StreamFault::Unsupported(What::Sampling),
+    ),
+    (
+        (1, 19, 1, &[0x02]),
+        StreamFault::Unsupported(What::Interleave),
+    ),
+    (
+        (1, 20, 1, &[0x02]),
+        StreamFault::Unsupported(What::ScanOrder),
+    ),
+    ((1, 21, 1, &[0x01]), StreamFault::Unsupported(What::Mapping)),
+    ((1, 22, 1, &[0x01]), StreamFault::Unsupported(What::Near)),
+    (
+        (1, 24, 1, &[0x01]),
+        StreamFault::Unsupported(What::PointTransform),
+    ),
+    (
+        (
+            1,
+            2,
+            0,
+            &[
+                0xff, 0xf8, 0x00, 0x0d, 0x01, 0x01, 0, 0, 0, 0, 0, 0, 0, 0, 0,
+            ],
+        ),
+        StreamFault::BadPresets(PresetFault::MaxvalRange),
+    ),
+    (
+        (1, 27, 1, &[0xc0]),
+        StreamFault::Unsupported(What::Marker(0xc0)),
+    ),
+    ((1, 27, 1, &[0xf8]), StreamFault::Unsupported(What::LseLate)),
+    ((1, 27, 1, &[0xda]), StreamFault::BadSegment),
+    ((4, 31, 1, &[0x00]), StreamFault::BadCode(0)),
+    ((4, 42, 1, &[0x00]), StreamFault::BadCode(1)),
+    ((4, 53, 1, &[0x00]), StreamFault::BadCode(2)),
+    ((4, 32, 0, &[0x00, 0x00]), StreamFault::LeftoverBits(0)),
+    ((4, 43, 0, &[0x00, 0x00]), StreamFault::LeftoverBits(1)),
+    ((4, 54, 0, &[0x00, 0x00]), StreamFault::LeftoverBits(2)),
+    (
+        (4, 37, 1, &[0x03]),
+        StreamFault::Unsupported(What::ScanOrder),
+    ),
+    ((4, 33, 1, &[0xd9]), StreamFault::BadSegment),
+    ((4, 53, 3, &[]), StreamFault::Truncated),
+];
+
+#[test]
+fn changed_codestreams_have_these_faults_with_ample_memory(rt: HostRuntime) -> Result<(), Fail> {
+    for (change, fault) in FAULTY {
+        let bytes = changed(rt.alloc(), change)?;
+        check_fault(&rt, rt.alloc(), "changed", &bytes, fault);
+    }
+    Ok(())
+}
+
+/// What the data and what follows it shows, a width and a height, these bytes, and the fault.
+const BROKEN_SCANS: [(&str, u16, u16, &[u8], StreamFault); 12] = [
+    (
+        "an escape word of a small value",
+        1,
+        1,
+        &[0x00, 0x00, 0x01, 0x00, 0xff, 0xd9],
+        StreamFault::BadCode(0),
+    ),
+    (
+        "an escape word of a small value at the end of the input",
+        1,
+        1,
+        &[0x00, 0x00, 0x01, 0x00],
+        StreamFault::BadCode(0),
+    ),
+    (
+        "a run past the line",
+        5,
+        1,
+        &[0xf4, 0xff, 0xd9],
+        StreamFault::BadCode(0),
+    ),
+    (
+        "a run that is interrupted by its own value",
+        4,
+        2,
+        &[0xe0, 0xba, 0x14, 0xff, 0xd9],
+        StreamFault::BadCode(0),
+    ),
+    (
+        "no word before a marker",
+        1,
+        1,
+        &[0x00, 0xff, 0xd9],
+        StreamFault::BadCode(0),
+    ),
+    (
+        "no word before the end of the input",
+        1,
+        1,
+        &[0x00],
+        StreamFault::Truncated,
+    ),
+    (
+        "no data before a marker",
+        1,
+        1,
+        &[0xff, 0xd9],
+        StreamFault::BadCode(0),
+    ),
+    ("no data", 1, 1, &[], StreamFault::Truncated),
+    (
+        "23 further bits",
+        1,
+        1,
+        &[0x80, 0x00, 0x00, 0xff, 0xd9],
+        StreamFault::LeftoverBits(0),
+    ),
+    (
+        "16 further bits",
+        1,
+        1,
+        &[0x05, 0x00, 0x00, 0xff, 0xd9],
+        StreamFault::LeftoverBits(0),
+    ),
+    (
+        "further bits at the end of the input",
+        1,
+        1,
+        &[0x80, 0x00, 0x00],
+        StreamFault::LeftoverBits(0),
+    ),
+    (
+        "no marker after the data",
+        1,
+        1,
+        &[0x80, 0xff],
+        StreamFault::Truncated,
+    ),
+];
+
+#[test]
+fn broken_scans_have_these_faults_with_ample_memory(rt: HostRuntime) -> Result<(), Fail> {
+    for (name, width, height, rest, fault) in BROKEN_SCANS {
+        let mut bytes = head(width, height).to_vec(rt.alloc())?;
+        bytes.extend_from_slice(rest)?;
+        check_fault(&rt, rt.alloc(), name, &bytes, fault);
+    }
+    Ok(())
+}
+
+#[test]
+fn fronts_of_codestreams_are_truncated_with_ample_memory(rt: HostRuntime) {
+    for (_, bytes, _) in CODESTREAMS {
+        for len in 0..bytes.len() {
+            let front = &bytes[..len];
+            check_fault(&rt, rt.alloc(), "front", front, StreamFault::Truncated);
+        }
+    }
+}
+
+// ---- round trips
+
+/// That a frame is decoded from its codestream by these parameters, all of them 0 for the defaults.
+fn check_round_trip(
+    rt: &impl Abort,
+    alloc: Global,
+    name: &str,
+    frame: &Frame,
+    chosen: [u16; 4],
+) -> Result<(), Fail> {
+    let [t1, t2, t3, reset] = chosen;
+    let presets = Tuning { t1, t2, t3, reset }.presets(frame.maxval())?;
+    let bytes = encode_with(alloc, frame, &presets)?;
+    let want = (
+        frame.kind(),
+        frame.width(),
+        frame.height(),
+        frame.maxval(),
+        frame.samples(),
+        bytes.len(),
+    );
+    check_decoded(rt, alloc, name, &bytes, Ok(want));
+    Ok(())
+}
+
+/// MAXVAL and a choice of T1, T2, T3 and RESET, each 0 for its default.
+const CHOICES: [(u16, [u16; 4]); 12] = [
+    (1, [0, 0, 0, 0]),
+    (2, [0, 0, 0, 3]),
+    (6, [1, 1, 6, 0]),
+    (7, [4, 4, 7, 3]),
+    (100, [0, 0, 0, 0]),
+    (254, [254, 254, 254, 255]),
+    (255, [0, 0, 0, 0]),
+    (256, [1, 1, 1, 3]),
+    (1000, [0, 0, 0, 1000]),
+    (4095, [0, 0, 0, 0]),
+    (65534, [0, 0, 0, 0]),
+    (65535, [1, 32768, 65535, 65535]),
+];
+
+#[test]
+fn small_pictures_come_back_with_ample_memory(rt: HostRuntime) -> Result<(), Fail> {
+    let mut chance = Chance { state: 3 };
+    for (maxval, chosen) in CHOICES {
+        for picture in PICTURES {
+            for (kind, width, height) in [
+                (Kind::Gray, 1, 9),
+                (Kind::Gray, 13, 1),
+                (Kind::Gray, 23, 11),
+                (Kind::Color, 9, 7),
+            ] {
+                let shape = (kind, width, height, maxval);
+                let frame = drawn_frame(&rt, rt.alloc(), &mut chance, shape, picture)?;
+                check_round_trip(&rt, rt.alloc(), "small", &frame, chosen)?;
+            }
+        }
+    }
+    Ok(())
+}
+
+/// The longest lines, the longest columns, and colour.
+const LARGE: [(Shape, Picture); 4] = [
+    ((Kind::Color, 61, 37, 65535), Picture::Ramp),
+    ((Kind::Gray, 65535, 1, 4095), Picture::Runs),
+    ((Kind::Gray, 1, 65535, 255), Picture::Ramp),
+    ((Kind::Gray, 1, 65535, 1), Picture::Extremes),
+];
+
+#[test]
+fn large_pictures_come_back_with_ample_memory(rt: HostRuntime) -> Result<(), Fail> {
+    for (shape, picture) in LARGE {
+        let mut chance = Chance { state: 4 };
+        let frame = drawn_frame(&rt, rt.alloc(), &mut chance, shape, picture)?;
+        check_round_trip(&rt, rt.alloc(), "large", &frame, [0; 4])?;
+    }
+    Ok(())
+}
+
+/// All but a few of them 0.
+#[test]
+fn a_million_samples_come_back_with_ample_memory(rt: HostRuntime) -> Result<(), Fail> {
+    let mut samples = vec![in rt.alloc(); 0u16; 1025 * 1024]?;
+    for place in [1024, 5000, 5001, 524_288, 1_049_599] {
+        if let Some(sample) = samples.get_mut(place) {
+            *sample = 200;
+        }
+    }
+    let frame = frame_of(&rt, rt.alloc(), Kind::Gray, 1024, 1025, 255, &samples)?;
+    check_round_trip(&rt, rt.alloc(), "a million samples", &frame, [0; 4])
+}
+
+#[test]
+fn the_longest_runs_come_back_with_ample_memory(rt: HostRuntime) -> Result<(), Fail> {
+    for last in [0, 7] {
+        let mut samples = vec![in rt.alloc(); 0u16; 65535]?;
+        samples[65534] = last;
+        let frame = frame_of(&rt, rt.alloc(), Kind::Gray, 65535, 1, 255, &samples)?;
+        check_round_trip(&rt, rt.alloc(), "the longest runs", &frame, [0; 4])?;
+    }
+    Ok(())
+}

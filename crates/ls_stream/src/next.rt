@@ -1,0 +1,108 @@
+//! Taking one codestream at a time off a reader, by its markers alone.
+mod awaited;
+
+ghost use Rattle.std.specs.Prelude.{◌≡◌, ◌⊎◌, ◌++◌, ℕ, List, length, IfOk, IfErr, IfSome, IfNone, MatchResult, MatchOption};
+ghost use Rattle.ls_frame.specs.Picture.{Picture};
+ghost use Rattle.ls_frame.specs.View.Devices.{count_after};
+ghost use Rattle.ls_frame.specs.View.Known.{Tells, Gave, WasAtEnd, known};
+ghost use Rattle.ls_stream.specs.Grammar.{Spells, most_bytes};
+ghost use Rattle.ls_stream.specs.View.Extents.{IsNext, with_left, failed_feed};
+ghost use Rattle.ls_stream.specs.View.Places.{GivesByte, GivesNext};
+ghost use Rattle.ls_stream.specs.View.Outlines.{outline_of};
+
+use awaited::Awaited;
+use ls_frame::{Failed, Feed};
+use std::alloc::Global;
+use thiserror::Error;
+
+/// Why the next codestream can't be taken.
+#[derive(Clone, Copy, Debug, Drop, PartialEq, Eq, Error)]
+pub enum NextFault {
+    /// A byte is needed after 4,294,967,295 of them.
+    #[error("too large")]
+    TooLarge,
+    /// A read failed.
+    #[error("read failed")]
+    Io,
+    /// An allocation failed.
+    #[error("no memory")]
+    NoMemory,
+}
+
+/// The most bytes of a codestream.
+const MOST_BYTES: usize = 4_294_967_295;
+
+/// Takes the bytes of the next codestream off a reader, and not a byte more; `None` exactly at the end of input.
+///
+/// They end with EOI; or with the byte that shows that the markers break: no SOI, no marker where one is due, a marker that
+/// isn't supported, or a length below 2; or with the input. What the segments say isn't looked at. So decoding these bytes gives what
+/// decoding all that was left would: if any front of it is a codestream of a frame, they are that front.
+///
+/// If the bytes are known (as in memory), the clauses say which were read. `TooLarge` comes after exactly 4,294,967,295 bytes that show
+/// neither an end nor a fault. `Io` comes only if a read failed, and `NoMemory` only if an allocation did; after these two nothing is
+/// said of the reader's place.
+pub fn next_stream<R: Feed>(alloc: Global, reader: &mut R) -> Result<Option<Vec<u8>>, NextFault>
+    // The bytes are the next codestream's, and exactly they were read.
+    ensures stream { IfOk result (λ next. IfSome next (λ bytes. Gave (R.remaining reader.old) (R.remaining reader.new)
+        (λ read. (bytes.items ≡ read) × IsNext read (known (R.remaining reader.new))))) }
+    ensures end { IfOk result (λ next. IfNone next (WasAtEnd (R.remaining reader.old) (R.remaining reader.new))) }
+    // A front that is a codestream of a frame is the answer.
+    ensures whole { Tells (R.remaining reader.old) → (front rest : List ℕ) (f : Picture)
+        → known (R.remaining reader.old) ≡ front ++ rest → Spells front f
+        → MatchResult result (λ next. MatchOption next ⊥ (λ bytes. bytes.items ≡ front))
+        (λ fault. (fault ≡ NextFault.Io) ⊎ (fault ≡ NextFault.NoMemory)) }
+    // The outline of the answer, or its fault, is that of all that was left.
+    ensures outline { IfOk result (λ next. IfSome next (λ bytes. Tells (R.remaining reader.old)
+        → outline_of (known (R.remaining reader.old)) ≡ with_left (known (R.remaining reader.new)) (outline_of bytes.items))) }
+    ensures too_large { IfErr result (λ fault. fault ≡ NextFault.TooLarge →
+        Gave (R.remaining reader.old) (R.remaining reader.new) (λ read. length read ≡ most_bytes)) }
+    ensures failures { R.failed_reads reader.new ≡ count_after (failed_feed result) (R.failed_reads reader.old) }
+{
+    read_stream(alloc, reader)
+}
+
+/// The bytes of the next codestream, or nothing at the end of input.
+fn read_stream<R: Feed>(alloc: Global, reader: &mut R) -> Result<Option<Vec<u8>>, NextFault>
+    ensures bytes { GivesNext (λ bytes. bytes.items) (R.remaining reader.old) (R.remaining reader.new) result }
+    ensures failures { R.failed_reads reader.new ≡ count_after (failed_feed result) (R.failed_reads reader.old) }
+{
+    let mut bytes = Vec::new(alloc);
+    let mut place = Awaited::Start;
+    for _count in 0..MOST_BYTES {
+        let byte = match next_byte(reader)? {
+            Some(byte) => byte,
+            None if bytes.is_empty() => return Ok(None),
+            None => return Ok(Some(bytes)),
+        };
+        if bytes.push(byte).is_err() {
+            return Err(NextFault::NoMemory);
+        }
+        match place {
+            // Most bytes are a scan's data, and are followed by more of it.
+            Awaited::Data if byte != 0xFF => {}
+            _ => match place.after(byte) {
+                Some(next) => place = next,
+                None => return Ok(Some(bytes)),
+            },
+        }
+    }
+    Err(NextFault::TooLarge)
+}
+
+/// The next byte, or nothing at the end of input.
+#[tactic(auto, using(crate::proofs::FeedLemmas::one_fed))]
+fn next_byte<R: Feed>(reader: &mut R) -> Result<Option<u8>, NextFault>
+    ensures byte { IfOk result (GivesByte (R.remaining reader.old) (R.remaining reader.new)) }
+    ensures fault { IfErr result (λ fault. fault ≡ NextFault.Io) }
+    ensures failures { R.failed_reads reader.new ≡ count_after (failed_feed result) (R.failed_reads reader.old) }
+{
+    let mut byte = [0u8; 1];
+    match reader.feed(&mut byte) {
+        Err(Failed) => Err(NextFault::Io),
+        Ok(0) => Ok(None),
+        Ok(_) => Ok(Some(byte[0])),
+    }
+}
+
+#[cfg(test)]
+mod tests;

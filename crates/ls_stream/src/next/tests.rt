@@ -1,0 +1,269 @@
+use super::*;
+use crate::decode::{Decoded, decode_frame};
+use crate::faults::{StreamFault, What};
+use crate::testing::Pieces;
+use crate::testing::codestreams::{BLACK_AND_WHITE, CODESTREAMS};
+use ls_frame::Counted;
+use std::process::Abort;
+use std::test::Fail;
+
+/// That this was taken: bytes, nothing at the end, or a fault.
+fn check_taken(
+    rt: &impl Abort,
+    name: &str,
+    at: usize,
+    next: &Result<Option<Vec<u8>>, NextFault>,
+    want: Result<Option<&[u8]>, NextFault>,
+) {
+    let got = match next {
+        Ok(Some(bytes)) => Ok(Some(bytes.as_slice())),
+        Ok(None) => Ok(None),
+        Err(fault) => Err(*fault),
+    };
+    assert_eq!(rt; got, want, "{name}, at {at}");
+}
+
+/// That so many are left, were read or failed.
+fn check_count(rt: &impl Abort, name: &str, at: usize, got: usize, want: usize) {
+    assert_eq!(rt; got, want, "{name}, at {at}");
+}
+
+/// That decoding ended with this fault, or with none.
+fn check_fault(
+    rt: &impl Abort,
+    at: usize,
+    decoded: &Result<Decoded, StreamFault>,
+    want: Option<StreamFault>,
+) {
+    let got = match decoded {
+        Ok(_) => None,
+        Err(fault) => Some(*fault),
+    };
+    assert_eq!(rt; got, want, "the fault of codestream {at}");
+}
+
+/// Whether decoding gave the same.
+fn are_same(one: &Result<Decoded, StreamFault>, other: &Result<Decoded, StreamFault>) -> bool {
+    match (one, other) {
+        (Ok(one), Ok(other)) => one.used == other.used && one.frame == other.frame,
+        (Err(one), Err(other)) => one == other,
+        _ => false,
+    }
+}
+
+/// That so many of these bytes are taken, whose decoding is that of all of them, and that the others are left.
+fn check_first(
+    rt: &impl Abort,
+    alloc: Global,
+    at: usize,
+    bytes: &[u8],
+    count: usize,
+    want: Option<StreamFault>,
+) {
+    let mut rest = bytes;
+    let next = next_stream(alloc, &mut rest);
+    let first = bytes.get(..count).unwrap_or(bytes);
+    check_taken(rt, "the next codestream", at, &next, Ok(Some(first)));
+    let left = bytes.len().saturating_sub(count);
+    check_count(rt, "bytes left", at, rest.len(), left);
+    let decoded = decode_frame(alloc, first);
+    check_fault(rt, at, &decoded, want);
+    let same = are_same(&decoded, &decode_frame(alloc, bytes));
+    check_count(rt, "the same", at, usize::from(same), 1);
+}
+
+/// Bytes, how many of them the next codestream has, and the fault of decoding them.
+const BROKEN: [(&[u8], usize, StreamFault); 22] = [
+    // No SOI.
+    (&[0x00, 0x00], 1, StreamFault::NotSoi),
+    (&[0xff, 0x00, 0x41], 2, StreamFault::NotSoi),
+    (&[0xff], 1, StreamFault::Truncated),
+    (&[0xff, 0xd8], 2, StreamFault::Truncated),
+    // No marker.
+    (&[0xff, 0xd8, 0x41, 0x42], 3, StreamFault::BadSegment),
+    (&[0xff, 0xd8, 0xff, 0x00, 0x41], 4, StreamFault::BadSegment),
+    (
+        &[0xff, 0xd8, 0xff, 0xff, 0x00, 0x41],
+        5,
+        StreamFault::BadSegment,
+    ),
+    (&[0xff, 0xd8, 0xff], 3, StreamFault::Truncated),
+    (&[0xff, 0xd8, 0xff, 0xff], 4, StreamFault::Truncated),
+    // EOI with no frame.
+    (&[0xff, 0xd8, 0xff, 0xd9], 4, StreamFault::BadSegment),
+    (
+        &[0xff, 0xd8, 0xff, 0xff, 0xd9, 0xff],
+        5,
+        StreamFault::BadSegment,
+    ),
+    // Markers that aren't supported.
+    (
+        &[0xff, 0xd8, 0xff, 0xc0, 0x00],
+        4,
+        StreamFault::Unsupported(What::Marker(0xc0)),
+    ),
+    (
+        &[0xff, 0xd8, 0xff, 0xd8, 0xff],
+        4,
+        StreamFault::Unsupported(What::Marker(0xd8)),
+    ),
+    // Lengths.
+    (
+        &[0xff, 0xd8, 0xff, 0xfe, 0x00, 0x01, 0x41],
+        6,
+        StreamFault::BadSegment,
+    ),
+    (
+        &[0xff, 0xd8, 0xff, 0xfe, 0x00, 0x02, 0x41, 0x42],
+        7,
+        StreamFault::BadSegment,
+    ),
+    (
+        &[0xff, 0xd8, 0xff, 0xfe, 0x00, 0x03, 0x41, 0x42, 0x43],
+        8,
+        StreamFault::BadSegment,
+    ),
+    (
+        &[0xff, 0xd8, 0xff, 0xe0, 0x01, 0x02, 0x41, 0x42],
+        8,
+        StreamFault::Truncated,
+    ),
+    (&[0xff, 0xd8, 0xff, 0xe0, 0x01], 5, StreamFault::Truncated),
+    // A scan with no frame: its data goes on past FF 7F, to EOI or to a marker that isn't supported.
+    (
+        &[
+            0xff, 0xd8, 0xff, 0xda, 0x00, 0x03, 0x41, 0x80, 0xff, 0x7f, 0x01, 0xff, 0xd9, 0xff,
+        ],
+        13,
+        StreamFault::BadSegment,
+    ),
+    (
+        &[
+            0xff, 0xd8, 0xff, 0xda, 0x00, 0x02, 0xff, 0xff, 0xff, 0xdd, 0x00,
+        ],
+        10,
+        StreamFault::BadSegment,
+    ),
+    (
+        &[0xff, 0xd8, 0xff, 0xda, 0x00, 0x02, 0xff, 0x80, 0x00],
+        8,
+        StreamFault::BadSegment,
+    ),
+    (
+        &[0xff, 0xd8, 0xff, 0xda, 0x00, 0x02, 0x80, 0xff],
+        8,
+        StreamFault::BadSegment,
+    ),
+];
+
+#[test]
+fn bytes_are_taken_up_to_what_breaks_them_with_ample_memory(rt: HostRuntime) {
+    for (at, (bytes, count, fault)) in BROKEN.into_iter().enumerate() {
+        check_first(&rt, rt.alloc(), at, bytes, count, Some(fault));
+    }
+}
+
+#[test]
+fn codestreams_are_taken_whole_with_ample_memory(rt: HostRuntime) -> Result<(), Fail> {
+    for (at, (_, codestream, _)) in CODESTREAMS.into_iter().enumerate() {
+        let mut bytes = codestream.to_vec(rt.alloc())?;
+        check_first(&rt, rt.alloc(), at, &bytes, codestream.len(), None);
+        bytes.push(0x41)?;
+        check_first(&rt, rt.alloc(), at, &bytes, codestream.len(), None);
+        let cut = codestream
+            .get(..codestream.len().saturating_sub(2))
+            .unwrap_or(codestream);
+        let truncated = Some(StreamFault::Truncated);
+        check_first(&rt, rt.alloc(), at, cut, cut.len(), truncated);
+    }
+    Ok(())
+}
+
+#[test]
+fn a_fill_byte_before_eoi_is_taken_with_ample_memory(rt: HostRuntime) -> Result<(), Fail> {
+    let [black, _] = BLACK_AND_WHITE;
+    let mut bytes = black.get(..27).unwrap_or(black).to_vec(rt.alloc())?;
+    bytes.extend_from_slice(&[0xff, 0xd9, 0xff])?;
+    check_first(&rt, rt.alloc(), 0, &bytes, 29, None);
+    Ok(())
+}
+
+/// Takes two codestreams that stand behind one another, and then the end, by so many bytes a call.
+fn check_two(rt: &impl Abort, alloc: Global, joined: &[u8], most: usize) {
+    let mut reader = Counted::new(Pieces::new(joined, most, None));
+    for (at, codestream) in BLACK_AND_WHITE.into_iter().enumerate() {
+        let next = next_stream(alloc, &mut reader);
+        check_taken(rt, "one of two", at, &next, Ok(Some(codestream)));
+    }
+    let next = next_stream(alloc, &mut reader);
+    check_taken(rt, "the end", most, &next, Ok(None));
+    check_count(rt, "failures", most, Feed::failures(&reader) as usize, 0);
+}
+
+#[test]
+fn joined_codestreams_are_taken_one_by_one_with_ample_memory(rt: HostRuntime) -> Result<(), Fail> {
+    let [black, white] = BLACK_AND_WHITE;
+    let mut joined = black.to_vec(rt.alloc())?;
+    joined.extend_from_slice(white)?;
+    for most in [1, 2, 56, 100] {
+        check_two(&rt, rt.alloc(), &joined, most);
+    }
+    Ok(())
+}
+
+#[test]
+fn a_failed_read_is_named_and_counted_once_with_ample_memory(rt: HostRuntime) {
+    let [black, _] = BLACK_AND_WHITE;
+    for failing in 0..black.len() {
+        let mut reader = Counted::new(Pieces::new(black, 1, Some(failing)));
+        let next = next_stream(rt.alloc(), &mut reader);
+        check_taken(&rt, "a failed read", failing, &next, Err(NextFault::Io));
+        let failures = Feed::failures(&reader) as usize;
+        check_count(&rt, "failures", failing, failures, 1);
+    }
+}
+
+/// The answer is want of memory, or what it is with ample memory.
+#[test]
+fn codestreams_are_taken_or_memory_is_wanting(rt: HostRuntime) {
+    for (at, (_, codestream, _)) in CODESTREAMS.into_iter().enumerate() {
+        let mut rest = codestream;
+        let next = next_stream(rt.alloc(), &mut rest);
+        let want = match next {
+            Err(NextFault::NoMemory) => Err(NextFault::NoMemory),
+            _ => Ok(Some(codestream)),
+        };
+        check_taken(&rt, "memory", at, &next, want);
+    }
+}
+
+/// Nothing is taken at the end, which needs no memory.
+#[test]
+fn the_end_is_named(rt: HostRuntime) {
+    let mut rest: &[u8] = &[];
+    let next = next_stream(rt.alloc(), &mut rest);
+    check_taken(&rt, "the end", 0, &next, Ok(None));
+    let mut reader = Counted::new(Pieces::new(&[], 1, Some(0)));
+    let next = next_stream(rt.alloc(), &mut reader);
+    check_taken(&rt, "a failed read", 0, &next, Err(NextFault::Io));
+}
+
+/// Faults, and what is said of them.
+const TEXTS: [(NextFault, &str); 3] = [
+    (NextFault::TooLarge, "too large"),
+    (NextFault::Io, "read failed"),
+    (NextFault::NoMemory, "no memory"),
+];
+
+/// That this is the text.
+fn check_text(rt: &impl Abort, got: &str, want: &str) {
+    assert_eq!(rt; got, want);
+}
+
+#[test]
+fn faults_have_texts_with_ample_memory(rt: HostRuntime) -> Result<(), Fail> {
+    for (fault, text) in TEXTS {
+        check_text(&rt, &format!(in rt.alloc(); "{fault}")?, text);
+    }
+    Ok(())
+}

@@ -1,0 +1,188 @@
+//! Reading the contents of marker segments (T.87 Annex C). Each function looks for faults in the order of the fields; a length that
+//! doesn't fit them comes as soon as it shows.
+ghost use Rattle.std.specs.Prelude.{◌≡◌, ◌+◌, ◌*◌, ◌<◌, ◌≤◌, length, IfOk};
+ghost use Rattle.ls_frame.specs.Picture.{components, sample_count, most_samples};
+ghost use Rattle.ls_stream.specs.Segments.{field_of};
+ghost use Rattle.ls_stream.specs.View.Reading.{Gives, kind_of_count, id_of, ids_of, frame_header_of, preset_fields_of, fields_of, scan_header_of};
+
+use crate::faults::{StreamFault, What};
+use crate::segments::SAMPLED_ONE_BY_ONE;
+use byteorder::{BigEndian, ByteOrder};
+use ls_frame::frame::MOST_SAMPLES;
+use ls_frame::{Kind, Tuning};
+
+/// What a frame header says of a frame of one or three components: a size within the limits of frames.
+#[derive(Clone, Copy)]
+pub struct FrameHeader {
+    /// Bits a sample (P), 2 to 16.
+    pub precision: u8,
+    /// Lines (Y).
+    pub height: u16,
+    /// Samples a line (X).
+    pub width: u16,
+    pub kind: Kind,
+    /// The identifiers of the components (Ci), all different. Those that no component has are 0.
+    pub ids: [u8; 3],
+}
+
+/// Preset coding parameters as they are written: a 0 stands for a default.
+#[derive(Clone, Copy)]
+pub struct PresetFields {
+    pub maxval: u16,
+    pub tuning: Tuning,
+}
+
+/// The contents of a frame header (SOF55; T.87 C.2.2), of which the quantization tables aren't looked at.
+#[tactic(auto, unfolding(crate::specs::View::Reading::frame_header_of))]
+pub fn read_frame_header(contents: &[u8]) -> Result<FrameHeader, StreamFault>
+    ensures value { Gives (λ header. header) result (frame_header_of contents.now) }
+    ensures width { IfOk result (λ header. 0 < header.width) }
+    ensures height { IfOk result (λ header. 0 < header.height) }
+    ensures few { IfOk result (λ header. sample_count header.kind header.width header.height ≤ most_samples) }
+    ensures some_bits { IfOk result (λ header. 2 ≤ header.precision) }
+    ensures bits { IfOk result (λ header. header.precision ≤ 16) }
+{
+    if contents.len() < 6 {
+        return Err(StreamFault::BadSegment);
+    }
+    let precision = contents[0];
+    if precision < 2 || precision > 16 {
+        return Err(StreamFault::BadSegment);
+    }
+    let height = field(contents, 1);
+    if height == 0 {
+        return Err(StreamFault::Unsupported(What::HeightZero));
+    }
+    let width = field(contents, 3);
+    if width == 0 {
+        return Err(StreamFault::BadSegment);
+    }
+    let kind = kind_of_count(contents[5])?;
+    if contents.len() != 6 + 3 * usize::from(kind.components()) {
+        return Err(StreamFault::BadSegment);
+    }
+    let ids = read_ids(kind, contents)?;
+    if u64::from(width) * u64::from(height) * u64::from(kind.components()) > MOST_SAMPLES {
+        return Err(StreamFault::TooLarge);
+    }
+    Ok(FrameHeader {
+        precision,
+        height,
+        width,
+        kind,
+        ids,
+    })
+}
+
+/// The contents of preset parameters (LSE with ID 1; T.87 C.2.4.1.1).
+#[tactic(auto, unfolding(crate::specs::View::Reading::preset_fields_of))]
+pub fn read_presets(contents: &[u8]) -> Result<PresetFields, StreamFault>
+    ensures { Gives (λ fields. fields_of fields) result (preset_fields_of contents.now) }
+{
+    if contents.len() < 1 {
+        return Err(StreamFault::BadSegment);
+    }
+    if contents[0] != 1 {
+        return Err(StreamFault::Unsupported(What::LseId(contents[0])));
+    }
+    if contents.len() != 11 {
+        return Err(StreamFault::BadSegment);
+    }
+    Ok(PresetFields {
+        maxval: field(contents, 1),
+        tuning: Tuning {
+            t1: field(contents, 3),
+            t2: field(contents, 5),
+            t3: field(contents, 7),
+            reset: field(contents, 9),
+        },
+    })
+}
+
+/// The contents of the header of a scan (SOS; T.87 C.2.3): of the component with this identifier alone, with no mapping table,
+/// NEAR 0, not interleaved, with no point transform.
+#[tactic(auto, unfolding(crate::specs::View::Reading::scan_header_of))]
+pub fn read_scan_header(contents: &[u8], id: u8) -> Result<(), StreamFault>
+    ensures { Gives (λ done. tt) result (scan_header_of id contents.now) }
+{
+    if contents.len() < 4 {
+        return Err(StreamFault::BadSegment);
+    }
+    if contents[0] != 1 {
+        return Err(StreamFault::Unsupported(What::Interleave));
+    }
+    if contents.len() != 6 {
+        return Err(StreamFault::BadSegment);
+    }
+    if contents[1] != id {
+        return Err(StreamFault::Unsupported(What::ScanOrder));
+    }
+    if contents[2] != 0 {
+        return Err(StreamFault::Unsupported(What::Mapping));
+    }
+    if contents[3] != 0 {
+        return Err(StreamFault::Unsupported(What::Near));
+    }
+    if contents[4] != 0 {
+        return Err(StreamFault::Unsupported(What::Interleave));
+    }
+    if contents[5] != 0 {
+        return Err(StreamFault::Unsupported(What::PointTransform));
+    }
+    Ok(())
+}
+
+/// The field of two bytes at a place.
+pub fn field(bytes: &[u8], place: usize) -> u16
+    requires { place + 1 < length bytes.now }
+    ensures { result ≡ field_of bytes.now place }
+{
+    BigEndian::read_u16(&bytes[place..])
+}
+
+/// The kind of frame that has so many components (Nf).
+fn kind_of_count(count: u8) -> Result<Kind, StreamFault>
+    ensures { Gives (λ kind. kind) result (kind_of_count count) }
+{
+    match count {
+        1 => Ok(Kind::Gray),
+        3 => Ok(Kind::Color),
+        count => Err(StreamFault::Unsupported(What::Components(count))),
+    }
+}
+
+/// The identifiers of the components.
+#[tactic(auto, unfolding(crate::specs::View::Reading::ids_of))]
+fn read_ids(kind: Kind, contents: &[u8]) -> Result<[u8; 3], StreamFault>
+    requires { 6 + 3 * components kind ≤ length contents.now }
+    ensures { Gives (λ ids. ids) result (ids_of kind contents.now) }
+{
+    match kind {
+        Kind::Gray => {
+            let first = read_id(&[], contents, 6)?;
+            Ok([first, 0, 0])
+        }
+        Kind::Color => {
+            let first = read_id(&[], contents, 6)?;
+            let second = read_id(&[first], contents, 9)?;
+            let third = read_id(&[first, second], contents, 12)?;
+            Ok([first, second, third])
+        }
+    }
+}
+
+/// The identifier of the component whose fields start at a place, where no component before it has that too.
+#[tactic(auto, unfolding(crate::specs::View::Reading::id_of))]
+fn read_id(before: &[u8], contents: &[u8], place: usize) -> Result<u8, StreamFault>
+    requires { place + 1 < length contents.now }
+    ensures { Gives (λ id. id) result (id_of before.now contents.now place) }
+{
+    let id = contents[place];
+    if before.contains(&id) {
+        return Err(StreamFault::BadSegment);
+    }
+    if contents[place + 1] != SAMPLED_ONE_BY_ONE {
+        return Err(StreamFault::Unsupported(What::Sampling));
+    }
+    Ok(id)
+}
