@@ -3,8 +3,6 @@ pub mod codestreams;
 
 use ls_frame::{Frame, Kind};
 use std::alloc::{AllocError, Global};
-use std::io;
-use std::io::Read;
 use std::process::Abort;
 
 /// That these are the bytes.
@@ -153,36 +151,4 @@ impl Sum {
 /// That this is the sum.
 pub fn check_sum(rt: &impl Abort, name: &str, got: Sum, want: (u64, u64)) {
     assert_eq!(rt; (got.bytes, got.fnv), want, "{name}");
-}
-
-/// A reader over memory that gives at most `most` bytes a call. Its call number `failing`, from 0, fails and gives nothing.
-#[derive(Drop)]
-pub struct Pieces<'a> {
-    rest: &'a [u8],
-    most: usize,
-    failing: Option<usize>,
-    calls: usize,
-}
-
-impl<'a> Pieces<'a> {
-    pub fn new(bytes: &'a [u8], most: usize, failing: Option<usize>) -> Pieces<'a> {
-        Pieces {
-            rest: bytes,
-            most,
-            failing,
-            calls: 0,
-        }
-    }
-}
-
-impl<'a> Read for Pieces<'a> {
-    fn read(&mut self, buf: &mut [u8]) -> io::Result<usize> {
-        let call = self.calls;
-        self.calls = call.saturating_add(1);
-        if self.failing == Some(call) {
-            return Err(io::Error::from(io::ErrorKind::BrokenPipe));
-        }
-        let room = buf.len().min(self.most);
-        self.rest.read(&mut buf[..room])
-    }
 }

@@ -1,5 +1,6 @@
 use super::*;
-use crate::testing::{Memory, check, words_of};
+use crate::testing::{check, words_of};
+use ls_testing::Memory;
 use std::process::Abort;
 
 /// The words, or nothing if memory may be refused and was.

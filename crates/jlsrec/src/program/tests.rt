@@ -1,8 +1,9 @@
 use super::*;
-use crate::testing::{
-    BLACK, FILM, FILM_CODESTREAMS, FILM_LINES, FIRST_CODESTREAM, FIRST_LINE, Memory, Mishap, Sink,
-    check, check_bytes, check_status, endless_header, words_of,
+use crate::testing::{check, check_bytes, check_status, words_of};
+use ls_testing::films::{
+    BLACK, FILM, FILM_CODESTREAMS, FILM_LINES, FIRST_CODESTREAM, FIRST_LINE, endless_header,
 };
+use ls_testing::{Memory, Mishap, Sink};
 use std::fs;
 use std::io::Write;
 use std::process::Abort;

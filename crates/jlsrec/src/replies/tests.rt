@@ -1,6 +1,7 @@
 use super::*;
-use crate::testing::{Mishap, Sink, check, check_bytes};
+use crate::testing::{check, check_bytes};
 use ls_frame::Counted;
+use ls_testing::{Mishap, Sink};
 use std::process::Abort;
 
 /// A reply of each kind, with the least and the greatest numbers.

@@ -1,6 +1,7 @@
 use super::*;
-use crate::testing::{Memory, check};
+use crate::testing::check;
 use ls_frame::Counted;
+use ls_testing::Memory;
 use std::io;
 use std::io::Read;
 use std::process::Abort;

@@ -1,9 +1,8 @@
 use super::*;
-use crate::testing::{
-    FILM, FILM_CODESTREAMS, Memory, Mishap, Outcome, Pieces, Sink, TWO_CODESTREAMS, TWO_IMAGES,
-    check_count, check_outcome, failures_in,
-};
+use crate::testing::{Outcome, check_count, check_outcome, failures_in};
 use ls_frame::{Counted, NetpbmFault};
+use ls_testing::films::{FILM, FILM_CODESTREAMS, TWO_CODESTREAMS, TWO_IMAGES};
+use ls_testing::{Memory, Mishap, Pieces, Sink};
 use std::process::Abort;
 
 /// What each codestream ends in, and what stands nowhere else in it.

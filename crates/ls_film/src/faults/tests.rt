@@ -1,5 +1,5 @@
 use super::*;
-use crate::testing::{Mishap, Sink};
+use ls_testing::{Mishap, Sink};
 use std::io::Write;
 use std::process::Abort;
 

@@ -1,9 +1,8 @@
 use super::*;
-use crate::testing::{
-    BLACK, FILM, FILM_LINES, FIRST_LINE, Memory, Mishap, Outcome, Pieces, Sink, TWO_IMAGES,
-    check_count, check_outcome, endless_header, failures_in,
-};
+use crate::testing::{Outcome, check_count, check_outcome, failures_in};
 use ls_frame::{Counted, NetpbmFault};
+use ls_testing::films::{BLACK, FILM, FILM_LINES, FIRST_LINE, TWO_IMAGES, endless_header};
+use ls_testing::{Memory, Mishap, Pieces, Sink};
 use std::process::Abort;
 
 /// What each line ends in.

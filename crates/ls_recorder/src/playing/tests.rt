@@ -1,10 +1,9 @@
 use super::*;
-use crate::testing::{
-    ANNEX_H, ANNEX_H_IMAGE, BLACK_AND_WHITE, BLACK_AND_WHITE_IMAGES, COLOUR, Pieces, Sink,
-    TWO_VALUES,
-};
+use crate::testing::{ANNEX_H, ANNEX_H_IMAGE, COLOUR, TWO_VALUES};
 use ls_frame::PresetFault;
 use ls_stream::What;
+use ls_testing::films::{TWO_CODESTREAMS, TWO_IMAGES};
+use ls_testing::{Mishap, Pieces, Sink};
 use std::io::Write;
 use std::process::Abort;
 
@@ -52,12 +51,7 @@ fn check_played(
 const RECORDINGS: [(&str, &[u8], Result<u64, PlayFault>, &[u8]); 7] = [
     ("no codestream", b"", Ok(0), b""),
     ("the picture of Annex H.3", ANNEX_H, Ok(1), ANNEX_H_IMAGE),
-    (
-        "two codestreams",
-        BLACK_AND_WHITE,
-        Ok(2),
-        BLACK_AND_WHITE_IMAGES,
-    ),
+    ("two codestreams", TWO_CODESTREAMS, Ok(2), TWO_IMAGES),
     ("two values", TWO_VALUES, Ok(1), b"P5\n1 1\n1\n\x01"),
     ("colour", COLOUR, Ok(1), b"P6\n1 1\n255\n\x00\x00\x00"),
     (
@@ -86,7 +80,7 @@ const RECORDINGS: [(&str, &[u8], Result<u64, PlayFault>, &[u8]); 7] = [
 fn check_recordings(rt: &impl Abort, alloc: Global, ample: bool) {
     for (name, recording, result, images) in RECORDINGS {
         let reader = Pieces::new(recording, 3, None);
-        let writer = Sink::new(2, None);
+        let writer = Sink::new(2, Mishap::Nothing);
         let want = (result, images, 0, 0);
         check_played(rt, alloc, name, reader, writer, want, ample);
     }
@@ -125,23 +119,23 @@ fn fronts_of_codestreams_are_truncated_with_ample_memory(rt: HostRuntime) {
 
 #[test]
 fn a_failed_write_ends_the_playing_with_ample_memory(rt: HostRuntime) {
-    for i in 0..BLACK_AND_WHITE_IMAGES.len() {
-        let reader = Pieces::new(BLACK_AND_WHITE, 4096, None);
-        let writer = Sink::new(1, Some(i));
+    for i in 0..TWO_IMAGES.len() {
+        let reader = Pieces::new(TWO_CODESTREAMS, 4096, None);
+        let writer = Sink::new(1, Mishap::Fails(i));
         let want = Err(PlayFault::Output(i as u64));
-        let want = (want, &BLACK_AND_WHITE_IMAGES[..i], 0, 1);
+        let want = (want, &TWO_IMAGES[..i], 0, 1);
         check_played(&rt, rt.alloc(), "a write", reader, writer, want, true);
     }
 }
 
 #[test]
 fn a_failed_read_ends_the_playing_with_ample_memory(rt: HostRuntime) {
-    for i in 0..BLACK_AND_WHITE.len() {
-        let reader = Pieces::new(BLACK_AND_WHITE, 1, Some(i));
-        let writer = Sink::new(4096, None);
+    for i in 0..TWO_CODESTREAMS.len() {
+        let reader = Pieces::new(TWO_CODESTREAMS, 1, Some(i));
+        let writer = Sink::new(4096, Mishap::Nothing);
         let (frames, bytes) = if i < 28 { (0, 0) } else { (1, 12) };
         let want = Err(PlayFault::Io(frames));
-        let want = (want, &BLACK_AND_WHITE_IMAGES[..bytes], 1, 0);
+        let want = (want, &TWO_IMAGES[..bytes], 1, 0);
         check_played(&rt, rt.alloc(), "a read", reader, writer, want, true);
     }
 }
@@ -185,7 +179,7 @@ const TEXTS: [(PlayFault, &str); 12] = [
 
 /// That a fault has this text.
 fn check_text(rt: &impl Abort, fault: PlayFault, text: &str) {
-    let mut sink = Sink::new(4096, None);
+    let mut sink = Sink::new(4096, Mishap::Nothing);
     let written = write!(sink, "{fault}").is_ok();
     assert_eq!(rt;
         (written, sink.written()),

@@ -1,9 +1,9 @@
 use super::*;
 use crate::decode::{Decoded, decode_frame};
 use crate::faults::{StreamFault, What};
-use crate::testing::Pieces;
 use crate::testing::codestreams::{BLACK_AND_WHITE, CODESTREAMS};
 use ls_frame::Counted;
+use ls_testing::Pieces;
 use std::process::Abort;
 use std::test::Fail;
 
