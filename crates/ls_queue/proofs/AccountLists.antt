@@ -96,7 +96,7 @@ module _ {X : Type 0} where
   is_job (message.Job j) = Unit {0}
   is_job (message.Mark c) = ⊥
 
-  job_or_mark : (j : Job X) (c : List ℕ) → message.Job j ≡ message.Mark c → ⊥
+  pub job_or_mark : (j : Job X) (c : List ℕ) → message.Job j ≡ message.Mark c → ⊥
   unfolding is_job
   job_or_mark j c e = subst is_job e tt
 

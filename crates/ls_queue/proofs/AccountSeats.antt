@@ -12,7 +12,7 @@ use Rattle.ls_queue.specs.declared.views.Message.TheVariants as message
 use Rattle.ls_queue.specs.declared.views.Puts.{Puts}
 use Rattle.ls_queue.specs.declared.views.Takes.{Takes}
 use Rattle.ls_queue.specs.declared.views.View.{View}
-use Rattle.ls_queue.specs.Account.{numbered, jobs_of, jobs_in, marks_in, IsWithin, weight_taken, marks_taken, Past, FitsPuts, FitsTakes, Fits, Counts, Kept, source_view, worker_view, first_view, source_made, worker_made, after_mark, joined, spent_view, IsCounted, IsEmpty, IsSettled}
+use Rattle.ls_queue.specs.Account.{numbered, jobs_of, jobs_in, marks_in, IsWithin, weight_put, weight_taken, marks_taken, Past, FitsPuts, FitsTakes, Fits, Counts, Kept, source_view, worker_view, first_view, source_made, worker_made, after_mark, joined, spent_view, IsCounted, IsEmpty, IsSettled}
 use Rattle.ls_queue.proofs.AccountLists.{all_append, all_map, all_none, at_set, each_set, each_added, sum_set, sum_added, length-numbered, one_more_mark, jobs_in-append, jobs_in-all, all_gone}
 use Rattle.ls_queue.proofs.AccountSteps.{false_true}
 
@@ -69,6 +69,7 @@ module _ {X : Type 0} where
         past = later;
         whole = k.whole;
         shares = (let t = sum_added (λ (u : View X). u.shares) views p v w r at in let old = k.shares in omega arith);
+        put = λ h. (let t = sum_added (weight_put h) views p v w r at in let old = k.put h in omega arith);
         taken = λ h. (let t = sum_added (weight_taken h) views p v w r at in let old = k.taken h in omega arith);
         marked = (let t = sum_added marks_taken views p v w r at in let old = k.marked in omega arith);
         known = all_map (λ (j : Job X). j.source < n) (λ (j : Job X). j.source < n + 1) (λ j b. omega arith) k.past.jobs k.known;
@@ -121,6 +122,7 @@ module _ {X : Type 0} where
         past = later;
         whole = k.whole;
         shares = (let t = sum_added (λ (u : View X). u.shares) views p v w r at in let old = k.shares in omega arith);
+        put = λ h. (let t = sum_added (weight_put h) views p v w r at in let old = k.put h in omega arith);
         taken = λ h. (let t = sum_added (weight_taken h) views p v w r at in let old = k.taken h in omega arith);
         marked = (let t = sum_added marks_taken views p v w r at in let old = k.marked in omega arith);
         known = k.known;
@@ -186,6 +188,7 @@ module _ {X : Type 0} where
           past = later;
           whole = one_more_mark k.past.received items k.past.jobs k.past.marks counts k.whole;
           shares = (let t = sum_set (λ (u : View X). u.shares) views p v w at in let old = k.shares in omega arith);
+          put = λ h. (let t = sum_set (weight_put h) views p v w at in let old = k.put h in omega arith);
           taken = λ h. (let t = sum_set (weight_taken h) views p v w at in let old = k.taken h in omega arith);
           marked = (let t = sum_set marks_taken views p v w at in let old = k.marked in omega arith);
           known = k.known;
@@ -247,6 +250,8 @@ module _ {X : Type 0} where
         past = later;
         whole = k.whole;
         shares = (let t = sum_set (λ (u : View X). u.shares) views p v both at in let t' = sum_set (λ (u : View X). u.shares) vs other w spent_view at' in let old = k.shares in omega arith);
+        put = λ h. (let t = sum_set (weight_put h) views p v both at in let t' = sum_set (weight_put h) vs other w spent_view at' in let old = k.put h in
+            let a = sum_by-append (λ (u : Puts X). sum_by h (numbered u.source 0 u.items)) v.puts w.puts in omega arith);
         taken = λ h. (let t = sum_set (weight_taken h) views p v both at in let t' = sum_set (weight_taken h) vs other w spent_view at' in let old = k.taken h in
             let a = sum_by-append (λ (u : Takes X). sum_by h u.jobs) v.takes w.takes in omega arith);
         marked = (let t = sum_set marks_taken views p v both at in let t' = sum_set marks_taken vs other w spent_view at' in let old = k.marked in
@@ -342,6 +347,7 @@ module _ {X : Type 0} where
     past = begun;
     whole = refl;
     shares = refl;
+    put = λ h. refl;
     taken = λ h. refl;
     marked = refl;
     known = tt;

@@ -1,14 +1,14 @@
 -- Each kind of step keeps the account.
-use Rattle.std.proofs.Common.{◌≡◌, ℕ, ◌<◌, inl, inr, ⊎_elim, Bool, true, false, true≢false, List, [], ◌∷◌, ◌++◌, length, refl, sym, ap, subst, ◌∙◌, arith, append-nil, append_assoc}
+use Rattle.std.proofs.Common.{◌≡◌, ℕ, ◌+◌, ◌<◌, inl, inr, ⊎_elim, Bool, true, false, true≢false, List, [], ◌∷◌, ◌++◌, length, refl, sym, ap, subst, ◌∙◌, arith, append-nil, append_assoc}
 use Rattle.std.specs.Prelude.{⊤}
 use Rattle.std.specs.List.{sum_by}
-use Rattle.std.proofs.lemmas.List.Sums.{sum_by-append, sum_by-cons}
+use Rattle.std.proofs.lemmas.List.Sums.{sum_by-append, sum_by-cons, sum_by_push}
 use Rattle.crossbeam_channel.specs.Fifo.{Pushes, Pops, Learns}
 use Rattle.ls_queue.specs.declared.replies.Job.{Job}
 use Rattle.ls_queue.specs.declared.views.Message.{Message}
 use Rattle.ls_queue.specs.declared.views.Message.TheVariants as message
 use Rattle.ls_queue.specs.declared.views.View.{View}
-use Rattle.ls_queue.specs.Account.{job, numbered, jobs_in, IsWithin, weight_taken, marks_taken, Past, FitsPuts, FitsTakes, Fits, Kept, source_view, worker_view, after_put, AfterTake}
+use Rattle.ls_queue.specs.Account.{job, numbered, jobs_in, IsWithin, weight_put, weight_taken, marks_taken, Past, FitsPuts, FitsTakes, Fits, Kept, source_view, worker_view, after_put, AfterTake}
 use Rattle.ls_queue.proofs.AccountLists.{all_append, all_map, all_none, each_set, sum_set, numbered-more, jobs_of-own, jobs_of-other, jobs_in-append, marks_in-append, IsWithin-later, IsWithin-last, one_more_job, front_job}
 
 pub false_true : {Y : Type 0} → false ≡ true → Y
@@ -33,6 +33,9 @@ module _ {X : Type 0} where
           past = later;
           whole = one_more_job k.past.received items k.past.jobs k.past.marks j none k.whole;
           shares = (let t = sum_set (λ (u : View X). u.shares) views p v w at in let old = k.shares in omega arith);
+          put = λ h. (let t = sum_set (weight_put h) views p v w at in let old = k.put h in let a = ap (sum_by h) (numbered-more s 0 xs x) in
+              let b = sum_by_push h (numbered s 0 xs) (job s (0 + length xs) x) in let c = sum_by_push h k.past.jobs j in
+              let d : h (job s (0 + length xs) x) ≡ h j = ap (λ m. h (job s m x)) (omega arith) in omega arith);
           taken = λ h. (let t = sum_set (weight_taken h) views p v w at in let old = k.taken h in omega arith);
           marked = (let t = sum_set marks_taken views p v w at in let old = k.marked in omega arith);
           known = all_append _ k.past.jobs (j ∷ []) k.known (part.known, tt);
@@ -84,6 +87,7 @@ module _ {X : Type 0} where
           past = later;
           whole = append_assoc k.past.received (message.Job j ∷ []) items ∙ k.whole;
           shares = (let t = sum_set (λ (u : View X). u.shares) views p v w at in let old = k.shares in omega arith);
+          put = λ h. (let t = sum_set (weight_put h) views p v w at in let old = k.put h in omega arith);
           taken = λ h. (let t = sum_set (weight_taken h) views p v w at in let old = k.taken h in
               let a = ap (sum_by h) more in let b = sum_by-append h (jobs_in k.past.received) (j ∷ []) in let c = sum_by-append h jobs (j ∷ []) in omega arith);
           marked = (let t = sum_set marks_taken views p v w at in let old = k.marked in let a = marks_in-append k.past.received (message.Job j ∷ []) in omega arith);
@@ -120,6 +124,7 @@ module _ {X : Type 0} where
           past = later;
           whole = append_assoc k.past.received (message.Mark c ∷ []) items ∙ k.whole;
           shares = (let t = sum_set (λ (u : View X). u.shares) views p v w at in let old = k.shares in omega arith);
+          put = λ h. (let t = sum_set (weight_put h) views p v w at in let old = k.put h in omega arith);
           taken = λ h. (let t = sum_set (weight_taken h) views p v w at in let old = k.taken h in let a = ap (sum_by h) same in omega arith);
           marked = (let t = sum_set marks_taken views p v w at in let old = k.marked in let a = marks_in-append k.past.received (message.Mark c ∷ []) in omega (arith, sum_by-cons));
           known = k.known;

@@ -47,6 +47,13 @@ module _ {X : Type 0} where
   abbrev pub items_ended : Ended X → List X
   items_ended ended = items_in (view ended.token).puts
 
+  -- how many sources and how many workers a queue was opened for
+  abbrev pub sources_of : Queue X → ℕ
+  sources_of queue = queue.channel.sources
+
+  abbrev pub workers_of : Queue X → ℕ
+  workers_of queue = queue.channel.workers
+
   -- these are seats, ends and the closer of the queue with this channel
   pub record IsSourceAt (channel : Channel X) (seat : SourceSeat X) : Type 0 where
     pub token : IsSeatAt (sends_on channel.entrance) seat.token
@@ -88,6 +95,20 @@ module _ {X : Type 0} where
   AreNewWorkers channel [] = Unit {0}
   AreNewWorkers channel (seat ∷ seats) =
       (IsWorkerAt channel seat × (jobs_taken seat ≡ []) × (is_done seat ≡ false)) × AreNewWorkers channel seats
+
+  -- what `open` makes: a seat for each source, in order from source 0, and a seat for each worker; nothing was put or taken by them
+  abbrev pub AreAllSources : Queue X → List (SourceSeat X) → Type 0
+  AreAllSources queue seats = AreNewSources queue.channel 0 seats × (length seats ≡ sources_of queue)
+
+  abbrev pub AreAllWorkers : Queue X → List (WorkerSeat X) → Type 0
+  AreAllWorkers queue seats = AreNewWorkers queue.channel seats × (length seats ≡ workers_of queue)
+
+  -- worker seats and ends of that queue, however many
+  abbrev pub AreWorkerSeats : Queue X → List (WorkerSeat X) → Type 0
+  AreWorkerSeats queue seats = AllByRecursion (IsWorkerAt queue.channel) seats
+
+  abbrev pub AreEnds : Queue X → List (Ended X) → Type 0
+  AreEnds queue ended = AllByRecursion (IsEndedAt queue.channel) ended
 
   -- whether the end of source s is among these
   abbrev pub has_end : ℕ → List (Ended X) → Bool
@@ -136,15 +157,15 @@ module _ {X : Type 0} where
   pub record Balances (queue : Queue X) (finished : Finished X) (seats : List (WorkerSeat X)) (counts : List ℕ) : Type 0 where
     pub order : List (Job X)
     pub each : AllByRecursion (λ (u : Puts X). jobs_of u.source order ≡ numbered u.source 0 u.items) (puts_of finished)
-    pub no_others : AllByRecursion (λ (j : Job X). j.source < queue.channel.sources) order
+    pub no_others : AllByRecursion (λ (j : Job X). j.source < sources_of queue) order
     pub taken : (h : Job X → ℕ) → sum_by (λ (u : TakesPart X). sum_by h u.jobs) (takes_of seats) ≡ sum_by h order
     pub within : AllByRecursion (λ (u : TakesPart X). IsWithin u.jobs order) (takes_of seats)
-    pub counted : (s : ℕ) → s < queue.channel.sources → IsCounted counts (puts_of finished) s
+    pub counted : (s : ℕ) → s < sources_of queue → IsCounted counts (puts_of finished) s
 
   -- why a queue isn't settled: too few seats come before a seat that isn't done
   abbrev pub IsCause : Queue X → List (WorkerSeat X) → SettleCause → Type 0
-  IsCause queue seats cause.MissingSeat = length seats < queue.channel.workers
-  IsCause queue seats cause.NotEmpty = (queue.channel.workers ≤ length seats) × (all_done seats ≡ false)
+  IsCause queue seats cause.MissingSeat = length seats < workers_of queue
+  IsCause queue seats cause.NotEmpty = (workers_of queue ≤ length seats) × (all_done seats ≡ false)
 
   -- all comes back, with its cause
   abbrev pub IsUnsettled : Queue X → Finished X → List (WorkerSeat X) → SettleFault X → Type 0
@@ -154,5 +175,5 @@ module _ {X : Type 0} where
   -- a take answers a job and the seat's list grows by it; or it answers Done, and the list stays
   abbrev pub Takes : Queue X → WorkerSeat X → Taken X → WorkerSeat X → Type 0
   Takes queue before (taken.Job j) after =
-      (is_done before ≡ false) × (is_done after ≡ false) × (jobs_taken after ≡ jobs_taken before ++ j ∷ []) × (j.source < queue.channel.sources)
+      (is_done before ≡ false) × (is_done after ≡ false) × (jobs_taken after ≡ jobs_taken before ++ j ∷ []) × (j.source < sources_of queue)
   Takes queue before taken.Done after = (is_done after ≡ true) × (jobs_taken after ≡ jobs_taken before)

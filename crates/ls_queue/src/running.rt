@@ -6,7 +6,7 @@ ghost use Rattle.crossbeam_channel.specs.Ends.{sends_on, receives_on, ruled_capa
 ghost use Rattle.ls_queue.specs.Queue.{spent_count};
 ghost use Rattle.ls_queue.specs.Account.{closer_view, ending_view, after_mark, with_marks, with_takes, IsCounted};
 ghost use Rattle.ls_queue.specs.Faults.{open_fault};
-ghost use Rattle.ls_queue.specs.Running.{IsSourceSeat, IsWorkerSeat, IsWorkerAt, Balances, IsUnsettled, all_done, takes_of, IsEnded, IsEndedAt, IsCloser, IsFinished, IsMissing, IsLowestMissing, EachHasEnd, has_end, puts_of, parts_of, AreNewSources, AreNewWorkers, items_put, jobs_taken, is_done, items_ended, Takes};
+ghost use Rattle.ls_queue.specs.Running.{sources_of, workers_of, AreAllSources, AreAllWorkers, AreWorkerSeats, AreEnds, IsSourceSeat, IsWorkerSeat, IsWorkerAt, Balances, IsUnsettled, all_done, takes_of, IsEnded, IsEndedAt, IsCloser, IsFinished, IsMissing, IsLowestMissing, EachHasEnd, has_end, puts_of, parts_of, AreNewSources, AreNewWorkers, items_put, jobs_taken, is_done, items_ended, Takes};
 
 use crate::account::{
     Account, Channel, JobSent, Joined, MarkSent, Received, Settled, SourceSeated, Token,
@@ -116,10 +116,8 @@ pub fn open<T: Drop, R: Wait>(
     capacity: usize,
 ) -> Result<(Queue<T>, Vec<SourceSeat<T>>, Vec<WorkerSeat<T>>, Closer<T>), QueueFault>
     ensures { MatchResult result
-        (λ made. (open_fault sources workers capacity ≡ None) × (made.0.channel.sources ≡ sources) × (made.0.channel.workers ≡ workers)
-        × AreNewSources made.0.channel 0 made.1.items × (length made.1.items ≡ sources)
-        × AreNewWorkers made.0.channel made.2.items × (length made.2.items ≡ workers)
-        × IsCloser made.0 made.3)
+        (λ made. (open_fault sources workers capacity ≡ None) × (sources_of made.0 ≡ sources) × (workers_of made.0 ≡ workers)
+        × AreAllSources made.0 made.1.items × AreAllWorkers made.0 made.2.items × IsCloser made.0 made.3)
         (λ fault. (open_fault sources workers capacity ≡ Some fault) ⊎ ((open_fault sources workers capacity ≡ None) × (fault ≡ QueueFault.NoMemory))) }
 {
     if let Some(fault) = open_fault(sources, workers, capacity) {
@@ -271,10 +269,10 @@ impl<T: Drop> Queue<T> {
         ended: Vec<Ended<T>>,
     ) -> Result<Finished<T>, FinishFault<T>>
         requires closer { IsCloser self.now closer }
-        requires ended { AllByRecursion (IsEndedAt self.now.channel) ended.items }
+        requires ended { AreEnds self.now ended.items }
         ensures { MatchResult result
-            (λ finished. EachHasEnd self.now.channel.sources ended.items × IsFinished self.now finished × (puts_of finished ≡ parts_of ended.items))
-            (λ fault. IsMissing self.now.channel.sources closer ended.items fault) }
+            (λ finished. EachHasEnd (sources_of self.now) ended.items × IsFinished self.now finished × (puts_of finished ≡ parts_of ended.items))
+            (λ fault. IsMissing (sources_of self.now) closer ended.items fault) }
     {
         if let Some(source) = missing(self.channel.sources, &ended) {
             return Err(FinishFault::MissingSource {
@@ -394,9 +392,9 @@ pub fn settle<T: Drop, R: Wait>(
     seats: Vec<WorkerSeat<T>>,
 ) -> Result<Account, SettleFault<T>>
     requires finished { IsFinished queue finished }
-    requires seats { AllByRecursion (IsWorkerAt queue.channel) seats.items }
+    requires seats { AreWorkerSeats queue seats.items }
     ensures { MatchResult result
-        (λ account. (queue.channel.workers ≤ length seats.items) × (all_done seats.items ≡ true) × (account.sources ≡ queue.channel.sources)
+        (λ account. (workers_of queue ≤ length seats.items) × (all_done seats.items ≡ true) × (account.sources ≡ sources_of queue)
         × Balances queue finished seats.items account.counts)
         (λ fault. IsUnsettled queue finished seats.items fault) }
 {
