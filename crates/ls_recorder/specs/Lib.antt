@@ -1,2 +1,4 @@
+pub mod Collecting
+pub mod Orders
 pub mod Showing
 pub mod View

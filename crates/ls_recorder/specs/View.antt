@@ -1,2 +1,3 @@
--- How a reader, a writer and the code's faults are seen as recordings and what they show.
+-- How a reader, a writer and the code's faults are seen as recordings and what they show; and when orders are equal.
+pub mod Alike
 pub mod Playing

@@ -1,6 +1,18 @@
 //! Recordings: joined codestreams, a film's frames coded one after the other.
 //!
-//! What it hands on: playing a recording writes the canonical Netpbm image of each of its frames (`specs/Showing.antt`); where it
+//! What it hands on for recording: an order is a frame with the parameters to code it with (`specs/Orders.antt`); a piece is the
+//! codestream of an order, whoever made it; a collector puts the pieces of a source in order (`specs/Collecting.antt`).
+//!
+//! ```
+//! let number = collector.book(order.clone()?);
+//! let piece = Coded::make(alloc, job);
+//! collector.accept(piece);
+//! while let Some(piece) = collector.next() {
+//!     // .. piece.bytes() ..
+//! }
+//! ```
+//!
+//! And for playing: playing a recording writes the canonical Netpbm image of each of its frames (`specs/Showing.antt`); where it
 //! stops it says which frames it read and which bytes it wrote (`specs/View/Playing.antt`). A recording is a film of codestreams,
 //! by the definition of `ls_film`.
 //!
@@ -10,11 +22,19 @@
 //!     Err((fault, reader, writer)) => ..,
 //! };
 //! ```
+//!
+//! In reading order: `orders` (what is to be coded), `pieces` (what was coded), `collector` (pieces in order); `playing`; `laws`.
 #![tactic(auto)]
 
+pub mod collector;
 pub mod laws;
+pub mod orders;
+pub mod pieces;
 pub mod playing;
 #[cfg(test)]
 mod testing;
 
+pub use collector::{Collector, CollectorFault, MOST_WINDOW, Misfit};
+pub use orders::Order;
+pub use pieces::{Coded, Uncoded};
 pub use playing::{PlayFault, play, play_bytes};

@@ -1,4 +1,11 @@
-//! Recordings for the tests.
+//! Recordings, and orders of single pixels, for the tests.
+use crate::orders::Order;
+use crate::pieces::Coded;
+use ls_frame::{Frame, Kind, Presets};
+use ls_queue::Job;
+use std::alloc::Global;
+use std::process::Abort;
+use std::sync::Arc;
 
 /// The codestream of T.87's Annex H.3, 4 by 4 up to 255.
 pub const ANNEX_H: &[u8] = b"\xff\xd8\
@@ -22,3 +29,41 @@ pub const COLOUR: &[u8] = b"\xff\xd8\
 \xff\xda\x00\x08\x01\x01\x00\x00\x00\x00\x80\
 \xff\xda\x00\x08\x01\x02\x00\x00\x00\x00\x80\
 \xff\xda\x00\x08\x01\x03\x00\x00\x00\x00\x80\xff\xd9";
+
+/// That a check of this name went right. It wasn't made if memory was refused before, which isn't right if there was ample.
+pub fn check(rt: &impl Abort, name: &str, right: Option<bool>, ample: bool) {
+    assert_eq!(rt; right.unwrap_or(!ample), true, "{name}");
+}
+
+/// An order for a gray pixel of this sample up to 255, with the default thresholds and this RESET. `None` if memory is refused.
+pub fn pixel_order(alloc: Global, sample: u16, reset: u16) -> Option<Order> {
+    let mut samples = Vec::new(alloc);
+    samples.push(sample).ok()?;
+    let Ok(frame) = Frame::new(Kind::Gray, 1, 1, 255, samples) else {
+        return None;
+    };
+    let Ok(presets) = Presets::explicit(255, 3, 7, 21, reset) else {
+        return None;
+    };
+    let Ok(frame) = Arc::new(alloc, frame) else {
+        return None;
+    };
+    Some(Order::new(frame, presets))
+}
+
+/// The piece of such an order, under this source and number.
+pub fn pixel_piece(
+    alloc: Global,
+    source: u8,
+    number: u64,
+    sample: u16,
+    reset: u16,
+) -> Option<Coded> {
+    let item = pixel_order(alloc, sample, reset)?;
+    let job = Job {
+        source,
+        number,
+        item,
+    };
+    Coded::make(alloc, job).ok()
+}

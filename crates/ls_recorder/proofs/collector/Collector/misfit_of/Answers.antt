@@ -1,0 +1,14 @@
+use Rattle.std.proofs.Common.{◌≡◌, ◌≤◌, ◌-◌, Bool, true, false, Some, refl, sym, ap, ◌∙◌, arith, rules}
+use Rattle.std.specs.List.{slice_get}
+use Rattle.ls_recorder.specs.Collecting.{has_piece}
+use Rattle.ls_recorder.proofs.CollectorLemmas.{FitsIn, no_misfit}
+use Rattle.ls_recorder.proofs.collector.Collector.misfit_of.Goals as goal
+
+pub returns-in-Some-3-clause-reply : goal.returns-in-Some-3-clause-reply
+returns-in-Some-3-clause-reply c =
+    sym (no_misfit c.args.self.now c.args.piece.now c.in-Some.slot.now (record {
+      source = search rules;
+      number = search rules;
+      at = search rules;
+      order = search rules;
+    }) (search rules))
