@@ -1,3 +1,4 @@
+pub mod BoxLemmas
 pub mod CollectorLemmas
 pub mod NextLemmas
 pub mod PlayLemmas

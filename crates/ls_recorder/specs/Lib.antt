@@ -1,3 +1,4 @@
+pub mod Boxes
 pub mod Collecting
 pub mod Orders
 pub mod Showing

@@ -27,6 +27,8 @@
 #![tactic(auto)]
 
 pub mod collector;
+pub mod delivery;
+pub mod faults;
 pub mod laws;
 pub mod orders;
 pub mod pieces;
@@ -35,6 +37,8 @@ pub mod playing;
 mod testing;
 
 pub use collector::{Collector, CollectorFault, MOST_WINDOW, Misfit};
+pub use delivery::{Answer, Inbox, Outbox, boxes};
+pub use faults::RecordFault;
 pub use orders::Order;
 pub use pieces::{Coded, Uncoded};
 pub use playing::{PlayFault, play, play_bytes};

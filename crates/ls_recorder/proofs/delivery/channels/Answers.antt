@@ -1,0 +1,16 @@
+use Rattle.std.proofs.Common.{◌≡◌, length, sym, ◌∙◌, rules}
+use Rattle.crossbeam_channel.specs.Ends.{sends_on, receives_on}
+use Rattle.ls_recorder.specs.declared.delivery.ends.Inbox.{Inbox}
+use Rattle.ls_recorder.specs.declared.delivery.ends.Door.{Door}
+use Rattle.ls_recorder.proofs.BoxLemmas.{AreFrom-push, both-push}
+use Rattle.ls_recorder.proofs.delivery.channels.Goals as goal
+
+pub loop-source-preserved : goal.loop-source-preserved
+loop-source-preserved c =
+    let before = c.loop-source.invariant in
+    record {
+      many = search rules;
+      in_order = rw (c.in_ok-push.ensures.items) (AreFrom-push _ _ before.in_order (sym before.many));
+      lead = rw (c.in_ok-push.ensures.items, c.in_ok-push-2.ensures.items)
+          (both-push (λ (door : Door). sends_on door.entrance) (λ (inbox : Inbox). receives_on inbox.exit) c.loop-source.doors.items c.loop-source.inboxes.items _ _ before.lead (sym c.in_ok-entrance.ensures.0));
+    }

@@ -1,0 +1,13 @@
+use Rattle.std.proofs.Common.{◌≡◌, length}
+use Rattle.std.specs.List.{AllByRecursion}
+use Rattle.ls_recorder.specs.declared.delivery.ends.Outbox.{Outbox}
+use Rattle.ls_recorder.specs.Boxes.{LeadAlike}
+use Rattle.ls_recorder.proofs.delivery.outboxes.Given as goal
+
+-- the outboxes of the workers so far; the doors lead where they led
+abbrev pub invariant-loop-worker : goal.invariant-loop-worker
+invariant-loop-worker l = record {
+  many : length l.outboxes.items ≡ l._worker;
+  lead : AllByRecursion (λ (outbox : Outbox). LeadAlike outbox.doors.items l.fn.doors.items) l.outboxes.items;
+  same : LeadAlike l.doors.items l.fn.doors.items;
+}

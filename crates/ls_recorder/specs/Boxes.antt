@@ -1,0 +1,39 @@
+-- The boxes in which answers go from workers to lanes: whose they are.
+use Rattle.std.specs.Prelude.{◌≡◌, ℕ, suc, ◌==◌, ◌||◌, nat_lt, if◌then◌else◌, List, [], ◌∷◌, length, map, Option, None, Some}
+use Rattle.std.specs.List.{AllByRecursion}
+use Rattle.crossbeam_channel.specs.Ends.{sends_on, receives_on}
+use Rattle.ls_recorder.specs.declared.delivery.ends.Inbox.{Inbox}
+use Rattle.ls_recorder.specs.declared.delivery.ends.Door.{Door}
+use Rattle.ls_recorder.specs.declared.delivery.ends.Outbox.{Outbox}
+use Rattle.ls_recorder.specs.declared.faults.RecordFault.{RecordFault}
+use Rattle.ls_recorder.specs.declared.faults.RecordFault.TheVariants.{Sources, Workers, Window}
+use Rattle.ls_queue.specs.declared.faults.TheConstants.{MOST_SOURCES, MOST_WORKERS}
+use Rattle.ls_recorder.specs.declared.collector.TheConstants.{MOST_WINDOW}
+
+-- why there are no boxes for so many sources and workers with such a window: the first of these that is so
+abbrev pub box_fault : ℕ → ℕ → ℕ → Option RecordFault
+box_fault sources workers window =
+    if sources == 0 || nat_lt MOST_SOURCES sources then Some Sources
+    else (if workers == 0 || nat_lt MOST_WORKERS workers then Some Workers
+    else (if window == 0 || nat_lt MOST_WINDOW window then Some Window
+    else None))
+
+-- the inboxes of the sources from number n on, in order
+abbrev pub AreFrom : ℕ → List Inbox → Type 0
+AreFrom n [] = Unit {0}
+AreFrom n (inbox ∷ inboxes) = (inbox.source ≡ n) × AreFrom (suc n) inboxes
+
+-- for each inbox a door that leads to it
+abbrev pub LeadTo : List Inbox → List Door → Type 0
+LeadTo inboxes doors = map (λ (door : Door). sends_on door.entrance) doors ≡ map (λ (inbox : Inbox). receives_on inbox.exit) inboxes
+
+-- an inbox for each source, in order from source 0, and outboxes each of which leads to all of them
+pub record AreBoxes (sources workers : ℕ) (inboxes : List Inbox) (outboxes : List Outbox) : Type 0 where
+  pub sources_are : length inboxes ≡ sources
+  pub in_order : AreFrom 0 inboxes
+  pub workers_are : length outboxes ≡ workers
+  pub lead : AllByRecursion (λ (outbox : Outbox). LeadTo inboxes outbox.doors.items) outboxes
+
+-- doors that lead where those lead
+abbrev pub LeadAlike : List Door → List Door → Type 0
+LeadAlike doors others = map (λ (door : Door). sends_on door.entrance) doors ≡ map (λ (door : Door). sends_on door.entrance) others

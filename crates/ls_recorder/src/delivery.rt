@@ -1,0 +1,107 @@
+//! Boxes: answers go through them from any worker to the lane of their source.
+mod ends;
+
+ghost use Rattle.std.specs.Prelude.{◌≡◌, ◌<◌, ◌⊎◌, None, Some, length, IfOk, MatchResult};
+ghost use Rattle.std.specs.List.{AllByRecursion};
+ghost use Rattle.ls_recorder.specs.declared.delivery.ends.Outbox.{Outbox};
+ghost use Rattle.ls_recorder.specs.Boxes.{box_fault, AreFrom, LeadTo, LeadAlike, AreBoxes};
+
+use crate::collector::MOST_WINDOW;
+use crate::faults::RecordFault;
+use crossbeam_channel::bounded_with;
+use crossbeam_channel::protocol::Free;
+use ends::{Another, Door};
+pub use ends::{Answer, Inbox, Outbox};
+use ls_queue::{MOST_SOURCES, MOST_WORKERS};
+use std::alloc::{AllocError, Global};
+use std::sync::Wait;
+
+/// An inbox for each of 1 to 16 sources, in order from source 0, and an outbox for each of 1 to 16 workers. The box of a source has
+/// room for as many answers as the window, which is 1 to 64. Fails for the first of `Sources`, `Workers` and `Window` that is
+/// so; else only if an allocation fails.
+///
+/// It takes all the memory that the boxes will need.
+pub fn boxes<R: Wait>(
+    _rt: &R,
+    alloc: Global,
+    sources: u8,
+    workers: usize,
+    window: usize,
+) -> Result<(Vec<Inbox>, Vec<Outbox>), RecordFault>
+    ensures { MatchResult result
+        (λ made. (box_fault sources workers window ≡ None) × AreBoxes sources workers made.0.items made.1.items)
+        (λ fault. (box_fault sources workers window ≡ Some fault) ⊎ ((box_fault sources workers window ≡ None) × (fault ≡ RecordFault.NoMemory))) }
+{
+    if let Some(fault) = box_fault(sources, workers, window) {
+        return Err(fault);
+    }
+    let (inboxes, doors) = channels(alloc, sources, window)?;
+    let outboxes = outboxes(alloc, doors, workers)?;
+    Ok((inboxes, outboxes))
+}
+
+/// The fault of the numbers that boxes are made with, if there is one.
+fn box_fault(sources: u8, workers: usize, window: usize) -> Option<RecordFault>
+    ensures { result ≡ box_fault sources workers window }
+{
+    if sources == 0 || sources > MOST_SOURCES {
+        return Some(RecordFault::Sources);
+    }
+    if workers == 0 || workers > MOST_WORKERS {
+        return Some(RecordFault::Workers);
+    }
+    if window == 0 || window > MOST_WINDOW {
+        return Some(RecordFault::Window);
+    }
+    None
+}
+
+/// A box for each source, with a door that leads to it.
+fn channels(
+    alloc: Global,
+    sources: u8,
+    window: usize,
+) -> Result<(Vec<Inbox>, Vec<Door>), AllocError>
+    requires { 0 < window }
+    ensures { IfOk result (λ made. (length made.0.items ≡ sources) × AreFrom 0 made.0.items × LeadTo made.0.items made.1.items) }
+{
+    let mut inboxes = Vec::new(alloc);
+    let mut doors = Vec::new(alloc);
+    for source in 0..sources {
+        let (entrance, exit, mut pass) = bounded_with::<Answer, (), Free, Global>(alloc, window)?;
+        let other = entrance.another::<Another>(&mut pass);
+        inboxes.push(Inbox { source, exit, pass })?;
+        doors.push(Door {
+            entrance,
+            pass: other,
+        })?;
+    }
+    Ok((inboxes, doors))
+}
+
+/// An outbox for each worker, each with a door to where each of these leads.
+fn outboxes(alloc: Global, mut doors: Vec<Door>, workers: usize) -> Result<Vec<Outbox>, AllocError>
+    ensures { IfOk result (λ made. (length made.items ≡ workers) × AllByRecursion (λ (outbox : Outbox). LeadAlike outbox.doors.items doors.items) made.items) }
+{
+    let mut outboxes = Vec::new(alloc);
+    for _worker in 0..workers {
+        let doors = copies(alloc, &mut doors)?;
+        outboxes.push(Outbox { doors })?;
+    }
+    Ok(outboxes)
+}
+
+/// Another door to where each of these leads.
+fn copies(alloc: Global, doors: &mut Vec<Door>) -> Result<Vec<Door>, AllocError>
+    ensures same { IfOk result (λ copies. LeadAlike doors.new.items doors.old.items) }
+    ensures copies { IfOk result (λ copies. LeadAlike copies.items doors.old.items) }
+{
+    let mut copies = Vec::new(alloc);
+    for place in 0..doors.len() {
+        copies.push(doors[place].another()?)?;
+    }
+    Ok(copies)
+}
+
+#[cfg(test)]
+mod tests;

@@ -1,0 +1,92 @@
+//! The ends of boxes.
+ghost use Rattle.std.specs.Prelude.{◌≡◌, ◌<◌, length, IfOk, IfErr};
+ghost use Rattle.crossbeam_channel.specs.Claims.{IsSeatAt};
+ghost use Rattle.crossbeam_channel.specs.Ends.{sends_on, receives_on};
+
+use crate::pieces::{Coded, Uncoded};
+use crossbeam_channel::protocol::{Free, Split};
+use crossbeam_channel::{Pass, RuledReceiver, RuledSender};
+use std::alloc::AllocError;
+use std::sync::Wait;
+
+/// What a worker answers to a job: its piece, or that it couldn't be coded.
+pub type Answer = Result<Coded, Uncoded>;
+
+/// A pass of a box says nothing, and so does each pass that is made of it.
+pub struct Another;
+
+impl Split<()> for Another {
+    ghost left = { λ v. v };
+
+    ghost right = { λ v. v };
+}
+
+/// Where the answers of one source come out.
+#[derive(Drop)]
+pub struct Inbox {
+    pub source: u8,
+    pub exit: RuledReceiver<Answer, (), Free>,
+    pub pass: Pass<Answer, ()>,
+    ghost own: { IsSeatAt (receives_on exit) pass },
+}
+
+/// Where answers of one source go in.
+#[derive(Drop)]
+pub struct Door {
+    pub entrance: RuledSender<Answer, (), Free>,
+    pub pass: Pass<Answer, ()>,
+    ghost own: { IsSeatAt (sends_on entrance) pass },
+}
+
+/// Where the answers of one worker go in, whatever their source.
+#[derive(Drop)]
+pub struct Outbox {
+    /// A door for each source, in order from source 0.
+    pub doors: Vec<Door>,
+}
+
+impl Inbox {
+    /// Takes an answer out. Waits for one; `None` is answered if nobody is left to send any.
+    ///
+    /// Nothing is proved of which answer comes out, and when.
+    pub fn recv<R: Wait>(&mut self, rt: &R) -> Option<Answer>
+        ensures { self.new.source ≡ self.old.source }
+    {
+        self.exit.recv_as::<Free, R>(rt, &mut self.pass).ok()
+    }
+}
+
+impl Door {
+    /// Another door to the same box.
+    pub fn another(&mut self) -> Result<Door, AllocError>
+        ensures same { sends_on self.new.entrance ≡ sends_on self.old.entrance }
+        ensures another { IfOk result (λ door. sends_on door.entrance ≡ sends_on self.old.entrance) }
+    {
+        let entrance = self.entrance.try_clone()?;
+        let pass = entrance.another::<Another>(&mut self.pass);
+        Ok(Door { entrance, pass })
+    }
+}
+
+impl Outbox {
+    /// How many sources the boxes were made for.
+    pub fn sources(&self) -> usize
+        ensures { result ≡ length self.now.doors.items }
+    {
+        self.doors.len()
+    }
+
+    /// Puts an answer into the box of a source, which has to be one of those that the boxes were made for. Waits while there is
+    /// no room. The answer comes back if the lane that takes from the box is gone.
+    pub fn send<R: Wait>(&mut self, rt: &R, source: u8, answer: Answer) -> Result<(), Answer>
+        requires { source < length self.old.doors.items }
+        ensures refused { IfErr result (λ back. back ≡ answer) }
+        ensures sources { length self.new.doors.items ≡ length self.old.doors.items }
+    {
+        let door = &mut self.doors[source as usize];
+        match door.entrance.send_as::<Free, R>(rt, &mut door.pass, answer) {
+            Ok(()) => Ok(()),
+            Err(refused) => Err(refused.into_inner()),
+        }
+    }
+}
