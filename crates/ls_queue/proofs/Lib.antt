@@ -9,5 +9,6 @@ pub mod HistoryLaws
 pub mod HistoryLemmas
 pub mod JobLemmas
 pub mod SeatLemmas
+pub mod SeatPlaces
 pub mod SettleLemmas
 pub mod StepLemmas

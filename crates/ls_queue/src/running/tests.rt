@@ -1,3 +1,4 @@
+use super::crowd::{Usage, use_queue};
 use super::*;
 use crate::testing::{check, next_source, next_worker};
 use std::process::Abort;
@@ -71,4 +72,16 @@ fn one_item<R: Wait + Abort>(rt: &R, alloc: Global) -> Result<u64, QueueFault> {
 fn an_item_goes_through_with_ample_memory(rt: HostRuntime) {
     let alloc = rt.alloc();
     check(&rt, "count", one_item(&rt, alloc) == Ok(1));
+}
+
+#[test]
+fn items_of_four_sources_go_through_to_four_workers_with_ample_memory(rt: HostRuntime) {
+    let usage = Usage {
+        sources: 4,
+        workers: 4,
+        capacity: 3,
+        items: 1000,
+        seed: 0,
+    };
+    use_queue(&rt, rt.alloc(), usage);
 }
