@@ -14,7 +14,7 @@ use std::thread::Threads;
 pub type Line = (u8, u64, u64);
 
 /// How a queue is used.
-#[derive(Clone, Copy, Debug)]
+#[derive(Clone, Copy)]
 pub struct Usage {
     pub sources: u8,
     pub workers: usize,
