@@ -130,6 +130,11 @@ module _ {X : Type 0} where
   parts_of [] = []
   parts_of (e ∷ es) = record { source = e.source; items = items_ended e } ∷ parts_of es
 
+  -- ends in the order of their sources, which are those from number n on
+  abbrev pub AreInOrder : ℕ → List (Ended X) → Type 0
+  AreInOrder n [] = Unit {0}
+  AreInOrder n (e ∷ es) = (e.source ≡ n) × AreInOrder (suc n) es
+
   -- the items of all sources, once the queue is finished
   abbrev pub puts_of : Finished X → List (Puts X)
   puts_of finished = (view finished.token).puts

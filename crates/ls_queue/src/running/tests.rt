@@ -5,6 +5,7 @@ use super::crowd::{Usage, use_queue};
 use super::*;
 use crate::testing::{Memory, check, next_source, next_worker};
 use std::process::Abort;
+use std::thread::Threads;
 
 /// Numbers that a running queue can't be made with: sources, workers, capacity.
 const BAD_RANGES: [(u8, usize, usize, QueueFault); 7] = [
@@ -231,6 +232,18 @@ fn a_queue_is_used_by_one_thread_or_memory_is_wanting(rt: HostRuntime) {
 }
 
 #[test]
+fn items_of_two_sources_go_through_to_two_workers_with_ample_memory(rt: HostRuntime) {
+    let usage = Usage {
+        sources: 2,
+        workers: 2,
+        capacity: 8,
+        items: 1000,
+        seed: 0,
+    };
+    use_queue(&rt, rt.alloc(), usage);
+}
+
+#[test]
 fn items_of_four_sources_go_through_to_four_workers_with_ample_memory(rt: HostRuntime) {
     let usage = Usage {
         sources: 4,
@@ -254,18 +267,31 @@ const CROWDS: [(u8, usize); 8] = [
     (16, 16),
 ];
 
-#[test]
-fn each_of_many_items_goes_through_once_whoever_pauses_with_ample_memory(rt: HostRuntime) {
+/// Has each of these crowds pass 100,000 items, with pseudo-random pauses, through a queue of this capacity.
+fn check_crowds<R: Threads + Wait + Abort + Sync>(rt: &R, alloc: Global, capacity: usize) {
     for (sources, workers) in CROWDS {
-        for capacity in [1, 2, 256] {
-            let usage = Usage {
-                sources,
-                workers,
-                capacity,
-                items: 100_000 / u64::from(sources).max(1),
-                seed: 88172645463325252,
-            };
-            use_queue(&rt, rt.alloc(), usage);
-        }
+        let usage = Usage {
+            sources,
+            workers,
+            capacity,
+            items: 100_000 / u64::from(sources).max(1),
+            seed: 88172645463325252,
+        };
+        use_queue(rt, alloc, usage);
     }
+}
+
+#[test]
+fn many_items_go_through_one_place_whoever_pauses_with_ample_memory(rt: HostRuntime) {
+    check_crowds(&rt, rt.alloc(), 1);
+}
+
+#[test]
+fn many_items_go_through_two_places_whoever_pauses_with_ample_memory(rt: HostRuntime) {
+    check_crowds(&rt, rt.alloc(), 2);
+}
+
+#[test]
+fn many_items_go_through_256_places_whoever_pauses_with_ample_memory(rt: HostRuntime) {
+    check_crowds(&rt, rt.alloc(), 256);
 }
