@@ -2,6 +2,7 @@ pub mod AccountLaws
 pub mod AccountLists
 pub mod AccountSeats
 pub mod AccountSteps
+pub mod BalanceLaws
 pub mod CoreLemmas
 pub mod EndLemmas
 pub mod FaultLemmas
