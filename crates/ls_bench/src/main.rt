@@ -6,6 +6,7 @@
 //! - `ls_bench frames TIMES FILM..`: the frames of films in Netpbm's binary forms, encoded whole (`frames`).
 //! - `ls_bench decode TIMES FILE..`: the codestreams of files, which stand one behind the other, decoded whole
 //!   (`codestreams`).
+//! - `ls_bench queue [JOBS]`: jobs passed through a queue by four threads to four others (`queue`).
 //!
 //! What it prints to standard output is the same in each run; times go to standard error. `bench/` runs it beside its
 //! twins in C++.
@@ -15,11 +16,14 @@ mod codestreams;
 mod events;
 mod frames;
 mod picture;
+mod queue;
 mod regular;
 mod words;
 
 use anyhow::{Context, Result, bail};
 use std::rt::{Clock, Env, Files};
+use std::sync::Wait;
+use std::thread::Threads;
 use std::time::Duration;
 use std::{env, io};
 
@@ -28,7 +32,9 @@ fn main(rt: HostRuntime) -> Result<()> {
 }
 
 /// Measures what the words after the program's name ask for.
-fn run<R: Env + Files + Clock + Print + Eprint + AllocGlobal>(rt: &R) -> Result<()> {
+fn run<R: Threads + Wait + Sync + Env + Files + Clock + Print + Eprint + AllocGlobal>(
+    rt: &R,
+) -> Result<()> {
     let words: Vec<String> = env::args(rt)?.skip(1).collect(rt.alloc())?;
     match words.first().map(String::as_str) {
         Some("words") => words::measure(
@@ -43,6 +49,7 @@ fn run<R: Env + Files + Clock + Print + Eprint + AllocGlobal>(rt: &R) -> Result<
         ),
         Some("frames") => measure_films(rt, &words),
         Some("decode") => measure_files(rt, &words),
+        Some("queue") => queue::measure(rt, number(&words, 1, queue::USUAL_JOBS)?),
         Some(other) => bail!("{other} can't be measured"),
         None => bail!("what is to be measured?"),
     }

@@ -41,7 +41,7 @@ rising_across (m ∷ ms) ns rising = (below_back m ms ns rising.0, rising_across
 
 module _ {X : Type 0} where
   -- only the jobs of a source count for it
-  own_jobs : (s n : ℕ) (h : Job X → ℕ) (jobs : List (Job X)) → sum_by (weight_at s n h) jobs ≡ sum_by (weight_at s n h) (jobs_of s jobs)
+  pub own_jobs : (s n : ℕ) (h : Job X → ℕ) (jobs : List (Job X)) → sum_by (weight_at s n h) jobs ≡ sum_by (weight_at s n h) (jobs_of s jobs)
   own_jobs s n h [] = refl
   own_jobs s n h (j ∷ js) =
       let w = weight_at s n h in
@@ -62,7 +62,7 @@ module _ {X : Type 0} where
       let here : weight_at s n h (job s m x) ≡ 0 = rw (eq-eqb s s refl, ne_eqb m n (λ e. omega arith)) refl in
       let rest = none_before s n (suc m) h xs (omega arith) in omega (arith, sum_by-cons (weight_at s n h) (job s m x) (numbered s (suc m) xs))
 
-  item_at : (s n m k : ℕ) (h : Job X → ℕ) (xs : List X) (x : X) → n ≡ m + k → slice_get xs k ≡ Some x → sum_by (weight_at s n h) (numbered s m xs) ≡ h (job s n x)
+  pub item_at : (s n m k : ℕ) (h : Job X → ℕ) (xs : List X) (x : X) → n ≡ m + k → slice_get xs k ≡ Some x → sum_by (weight_at s n h) (numbered s m xs) ≡ h (job s n x)
   item_at s n m k h [] x is at = absurd (none-some x at)
   item_at s n m zero h (y ∷ ys) x is at =
       let same : m ≡ n = omega arith in
@@ -73,7 +73,7 @@ module _ {X : Type 0} where
       let here : weight_at s n h (job s m y) ≡ 0 = rw (eq-eqb s s refl, ne_eqb m n (λ e. omega arith)) refl in
       let rest = item_at s n (suc m) k h ys x (omega arith) at in omega (arith, sum_by-cons (weight_at s n h) (job s m y) (numbered s (suc m) ys))
 
-  one_each : (s n m : ℕ) (xs : List X) → m ≤ n → n < m + length xs → sum_by (is_job s n) (numbered s m xs) ≡ 1
+  pub one_each : (s n m : ℕ) (xs : List X) → m ≤ n → n < m + length xs → sum_by (is_job s n) (numbered s m xs) ≡ 1
   one_each s n m [] le lt = absurd (omega arith)
   one_each s n m (x ∷ xs) le lt =
       elim (eqb_tells m n) [

@@ -1,9 +1,10 @@
 -- Ends as they are joined and counted.
 use Rattle.std.proofs.Common.{◌≡◌, ◌≢◌, ℕ, zero, suc, ◌+◌, ◌-◌, ◌<◌, ◌≤◌, ◌⊎◌, inl, inr, ⊎_elim, Bool, true, false, true≢false, ◌||◌, ◌==◌, List, [], ◌∷◌, ◌++◌, length, set, get_or, refl, sym, ap, subst, ◌∙◌, arith, append_assoc, append-nil}
-use Rattle.std.specs.Prelude.{⊤, slice_index_or}
+use Rattle.std.specs.Prelude.{⊤, Some, slice_get, slice_index_or}
 use Rattle.std.specs.List.{remove}
 use Rattle.std.proofs.lemmas.Bool.{ne_eqb}
 use Rattle.std.proofs.lemmas.Bool.Decides.{eqb_tells}
+use Rattle.std.proofs.lemmas.Option.{same_Some}
 use Rattle.std.proofs.lemmas.List.{get_or-set_same, get_or-set_other}
 use Rattle.crossbeam_channel.specs.Fifo.{Pushes, Merges, Learns}
 use Rattle.ls_queue.specs.declared.views.Message.TheVariants as message
@@ -11,7 +12,7 @@ use Rattle.ls_queue.specs.declared.views.Puts.{Puts}
 use Rattle.ls_queue.specs.declared.views.View.{View}
 use Rattle.ls_queue.specs.declared.running.Ended.{Ended}
 use Rattle.ls_queue.specs.Account.{Kept, source_view, ending_view, joined, spent_view, after_mark, with_marks, IsCounted}
-use Rattle.ls_queue.specs.Running.{has_end, EachHasEnd, parts_of, items_ended}
+use Rattle.ls_queue.specs.Running.{has_end, EachHasEnd, AreInOrder, parts_of, items_ended}
 use Rattle.ls_queue.proofs.AccountSeats.{joins, sends_mark}
 
 pub took_first : {A : Type 0} (old new : List A) (e : A) → e ≡ slice_index_or old 0 e → new ≡ remove old 0 → length new + 1 ≡ length old → old ≡ e ∷ new
@@ -147,3 +148,20 @@ module _ {X : Type 0} where
 
   pub finished_puts : (v n : View X) (m s w : ℕ) (us : List (Puts X)) → v ≡ ending_view m us s w 0 → n ≡ with_marks v w → n.puts ≡ us
   finished_puts v n m s w us is made = ap (λ (y : View X). y.puts) made ∙ ap (λ (y : View X). y.puts) is
+
+  counted_from : (counts : List ℕ) (n s : ℕ) (es : List (Ended X)) → AreInOrder n es → IsCounted counts (parts_of es) s → n ≤ s
+  counted_from counts n s [] order c = absurd c
+  counted_from counts n s (e ∷ es) order c = ⊎_elim (λ t. (let a = t.0 in let b = order.0 in omega arith)) (λ t. (let r = counted_from counts (suc n) s es order.1 t in omega arith)) c
+
+  -- where the ends are in order, a count is how many items its end has
+  count_from : (counts : List ℕ) (n i s : ℕ) (es : List (Ended X)) (end : Ended X) → s ≡ n + i → AreInOrder n es → slice_get es i ≡ Some end → IsCounted counts (parts_of es) s
+      → slice_index_or counts s 0 ≡ length (items_ended end)
+  count_from counts n i s [] end is order at c = absurd c
+  count_from counts n zero s (e ∷ es) end is order at c = ⊎_elim (λ t. t.1 ∙ ap (λ (y : Ended X). length (items_ended y)) (same_Some e end at))
+      (λ t. absurd (let r = counted_from counts (suc n) s es order.1 t in omega arith)) c
+  count_from counts n (suc i) s (e ∷ es) end is order at c = ⊎_elim (λ t. absurd (let a = t.0 in let b = order.0 in omega arith))
+      (λ t. count_from counts (suc n) i s es end (omega arith) order.1 at t) c
+
+  pub count_of_end : (counts : List ℕ) (es : List (Ended X)) (s : ℕ) (end : Ended X) → AreInOrder 0 es → slice_get es s ≡ Some end → IsCounted counts (parts_of es) s
+      → slice_index_or counts s 0 ≡ length (items_ended end)
+  count_of_end counts es s end order at c = count_from counts 0 s s es end (omega arith) order at c

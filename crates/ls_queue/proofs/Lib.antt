@@ -2,6 +2,7 @@ pub mod AccountLaws
 pub mod AccountLists
 pub mod AccountSeats
 pub mod AccountSteps
+pub mod BalanceLaws
 pub mod CoreLemmas
 pub mod EndLemmas
 pub mod FaultLemmas
@@ -9,5 +10,6 @@ pub mod HistoryLaws
 pub mod HistoryLemmas
 pub mod JobLemmas
 pub mod SeatLemmas
+pub mod SeatPlaces
 pub mod SettleLemmas
 pub mod StepLemmas

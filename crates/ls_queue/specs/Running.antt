@@ -1,5 +1,5 @@
 -- The seats and ends of a running queue, as its callers speak of them: whose they are, and what was put and taken by them.
-use Rattle.std.specs.Prelude.{◌≡◌, ℕ, suc, ◌-◌, ◌+◌, ◌≤◌, ◌==◌, ◌||◌, ◌&&◌, ◌<◌, Bool, true, false, List, [], ◌∷◌, ◌++◌, length}
+use Rattle.std.specs.Prelude.{◌≡◌, ℕ, suc, Some, slice_get, slice_index_or, ◌-◌, ◌+◌, ◌≤◌, ◌==◌, ◌||◌, ◌&&◌, ◌<◌, Bool, true, false, List, [], ◌∷◌, ◌++◌, length}
 use Rattle.std.specs.List.{sum_by, AllByRecursion}
 use Rattle.crossbeam_channel.specs.Claims.{view, IsSeatAt}
 use Rattle.crossbeam_channel.specs.Ends.{sends_on}
@@ -20,7 +20,7 @@ use Rattle.ls_queue.specs.declared.running.WorkerSeat.{WorkerSeat}
 use Rattle.ls_queue.specs.declared.running.Ended.{Ended}
 use Rattle.ls_queue.specs.declared.running.Taken.{Taken}
 use Rattle.ls_queue.specs.declared.running.Taken.TheVariants as taken
-use Rattle.ls_queue.specs.Account.{source_view, worker_view, closer_view, ending_view, IsCounted, IsWithin, jobs_of, numbered}
+use Rattle.ls_queue.specs.Account.{source_view, worker_view, closer_view, ending_view, IsCounted, IsWithin, job, jobs_of, numbered, weight_at, is_job}
 
 module _ {X : Type 0} where
   abbrev pub items_in : List (Puts X) → List X
@@ -130,6 +130,11 @@ module _ {X : Type 0} where
   parts_of [] = []
   parts_of (e ∷ es) = record { source = e.source; items = items_ended e } ∷ parts_of es
 
+  -- ends in the order of their sources, which are those from number n on
+  abbrev pub AreInOrder : ℕ → List (Ended X) → Type 0
+  AreInOrder n [] = Unit {0}
+  AreInOrder n (e ∷ es) = (e.source ≡ n) × AreInOrder (suc n) es
+
   -- the items of all sources, once the queue is finished
   abbrev pub puts_of : Finished X → List (Puts X)
   puts_of finished = (view finished.token).puts
@@ -161,6 +166,14 @@ module _ {X : Type 0} where
     pub taken : (h : Job X → ℕ) → sum_by (λ (u : TakesPart X). sum_by h u.jobs) (takes_of seats) ≡ sum_by h order
     pub within : AllByRecursion (λ (u : TakesPart X). IsWithin u.jobs order) (takes_of seats)
     pub counted : (s : ℕ) → s < sources_of queue → IsCounted counts (puts_of finished) s
+
+  -- Of each source the seats took the jobs with the numbers below its count, each once, and with the item that was put under it; and they
+  -- took no others. This follows where a queue balances.
+  pub record TookAll (sources : ℕ) (puts : List (Puts X)) (seats : List (WorkerSeat X)) (counts : List ℕ) : Type 0 where
+    pub once : (s n : ℕ) → s < sources → n < slice_index_or counts s 0 → sum_by (λ (u : TakesPart X). sum_by (is_job s n) u.jobs) (takes_of seats) ≡ 1
+    pub item : AllByRecursion (λ (u : Puts X). (n : ℕ) (x : X) → slice_get u.items n ≡ Some x → (h : Job X → ℕ)
+        → sum_by (λ (t : TakesPart X). sum_by (weight_at u.source n h) t.jobs) (takes_of seats) ≡ h (job u.source n x)) puts
+    pub no_others : AllByRecursion (λ (u : TakesPart X). AllByRecursion (λ (j : Job X). (j.source < sources) × (j.number < slice_index_or counts j.source 0)) u.jobs) (takes_of seats)
 
   -- why a queue isn't settled: too few seats come before a seat that isn't done
   abbrev pub IsCause : Queue X → List (WorkerSeat X) → SettleCause → Type 0

@@ -1,11 +1,16 @@
 //! What follows from lawful replies, whatever the steps, and from the account of a running queue. Each law is the contract of a function that has nothing to do.
-ghost use Rattle.std.specs.Prelude.{◌≡◌, ℕ, ◌++◌, [], ◌∷◌, List, length, All, IsTrue};
+ghost use Rattle.std.specs.Prelude.{◌≡◌, ℕ, ◌++◌, [], ◌∷◌, List, length, All, IsTrue, Some, slice_get, slice_index_or};
 ghost use Rattle.std.specs.List.{range_with_len};
 ghost use Rattle.ls_queue.specs.Queue.{new_queue};
 ghost use Rattle.ls_queue.specs.Steps.{is_known, replies_of};
 ghost use Rattle.ls_queue.specs.History.{Event, event, history, sent, taken, held, items_of, jobs_out, AreLawful, IsHistory, IsReplay};
 ghost use Rattle.ls_queue.specs.View.Cores.{numbers_of};
-ghost use Rattle.ls_queue.specs.Account.{Kept, EachOnce, EachItem, NoOthers, EachRises, MarksAreLast, AllIsTaken, LastIsSettled};
+ghost use Rattle.ls_queue.specs.Account.{IsCounted, Kept, EachOnce, EachItem, NoOthers, EachRises, MarksAreLast, AllIsTaken, LastIsSettled};
+ghost use Rattle.ls_queue.specs.Running.{AreInOrder, Balances, TookAll, sources_of, puts_of, parts_of, items_ended};
+ghost use Rattle.ls_queue.specs.declared.running.Ended.{Ended};
+ghost use Rattle.ls_queue.specs.declared.running.Finished.{Finished};
+ghost use Rattle.ls_queue.specs.declared.running.Queue.{Queue};
+ghost use Rattle.ls_queue.specs.declared.running.WorkerSeat.{WorkerSeat};
 ghost use Rattle.ls_queue.specs.declared.views.Message.{Message};
 ghost use Rattle.ls_queue.specs.declared.views.View.{View};
 
@@ -77,4 +82,18 @@ pub fn all_is_taken_once_a_mark_is()
 /// Who has joined all passes, each worker's with its end mark, finds the channel empty.
 pub fn the_channel_is_empty_once_all_passes_are_joined()
     ensures { (items : List (Message ℕ)) (views : List (View ℕ)) → Kept items views → LastIsSettled items views }
+{}
+
+/// If the ends were handed to `finish` in the order of their sources, each count of the account is how many items that source
+/// put before its end.
+pub fn each_count_is_that_of_its_end<T>()
+    ensures { (counts : List ℕ) (ended : List (Ended T)) (s : ℕ) (end : Ended T) → AreInOrder 0 ended → slice_get ended s ≡ Some end
+        → IsCounted counts (parts_of ended) s → slice_index_or counts s 0 ≡ length (items_ended end) }
+{}
+
+/// Where a queue was settled: of each source the workers took the jobs with the numbers below its count, each once, and with the
+/// item that was put under it; and they took no others.
+pub fn a_settled_queue_was_taken_whole<T>()
+    ensures { (queue : Queue T) (finished : Finished T) (seats : List (WorkerSeat T)) (counts : List ℕ) → Balances queue finished seats counts
+        → TookAll (sources_of queue) (puts_of finished) seats counts }
 {}

@@ -16,22 +16,37 @@
 //! let replies = replay(alloc, 2, 8, &[Step::Put(0, 10), Step::Take])?;
 //! ```
 //!
-//! The running queue is the same for threads, over one bounded channel: each source and each worker has a seat.
+//! The running queue is the same for threads, over one bounded channel: each source and each worker has a seat. Two sources
+//! and two workers, each in a thread of its own, and at the end the account:
 //!
 //! ```
-//! let (queue, mut sources, mut workers, closer) = open(rt, alloc, 1, 1, 8)?;
-//! let mut source = sources.remove(0);
-//! let mut worker = workers.remove(0);
-//! let number = queue.put(rt, &mut source, item);
-//! let end = queue.end(rt, source);
-//! let job = queue.take(rt, &mut worker);
-//! let finished = queue.finish(rt, closer, ends);
-//! let done = queue.take(rt, &mut worker);
-//! let account = settle(rt, queue, finished, workers);
+//! let (queue, sources, workers, closer) = open(rt, alloc, 2, 2, 8)?;
+//! let shared = &queue;
+//! let put = |mut seat| {
+//!     for item in 0..1000 {
+//!         shared.put(rt, &mut seat, item);
+//!     }
+//!     shared.end(rt, seat)
+//! };
+//! let take = |mut seat| {
+//!     while let Taken::Job(job) = shared.take(rt, &mut seat) {
+//!         show(job.source, job.number, job.item);
+//!     }
+//!     seat
+//! };
+//! let (finished, workers) = thread::join(
+//!     rt,
+//!     || shared.finish(rt, closer, thread::map_vec(rt, sources, &put)?),
+//!     || thread::map_vec(rt, workers, &take),
+//! );
+//! let account = settle(rt, queue, finished?, workers?);
 //! ```
 //!
-//! What is true between any two steps of its channel, for any number of threads, is the account (`specs/Account.antt`); what
-//! its calls do to seats and ends is said in `specs/Running.antt`. `docs/QUEUE.md` tells the whole.
+//! With the contracts of its closures, and checks, that is `use_queue` of `src/running/crowd.rt`, by which the tests use a queue.
+//!
+//! What is true between any two steps of its channel, for any number of threads, is the account (`specs/Account.antt`), and
+//! `laws` says what follows from it; what its calls do to seats and ends is said in `specs/Running.antt`. `docs/QUEUE.md` tells
+//! the whole.
 //!
 //! In reading order: `faults` (why a queue can't be made), `replies` (jobs and answers), `bounded` (`Core`, the queue by
 //! itself), `steps` (`replay`, a queue over a list of steps), `views` and `account` (what the channel carries, and

@@ -454,4 +454,6 @@ fn join_seats<T: Drop>(channel: &Channel<T>, token: &mut Token<T>, mut seats: Ve
 }
 
 #[cfg(test)]
+mod crowd;
+#[cfg(test)]
 mod tests;
