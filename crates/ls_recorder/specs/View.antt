@@ -1,3 +1,4 @@
 -- How a reader, a writer and the code's faults are seen as recordings and what they show; and when orders are equal.
 pub mod Alike
+pub mod Lanes
 pub mod Playing

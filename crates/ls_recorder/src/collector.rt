@@ -187,19 +187,13 @@ impl Collector {
         self.first + self.slots.len() as u64
     }
 
-    /// Whether nothing is booked that wasn't handed out.
-    pub fn is_empty(&self) -> bool
-        ensures { result ≡ (length self.now.slots == 0) }
-    {
-        self.slots.is_empty()
-    }
-
-    /// Whether as many booked orders as the window has weren't handed out, so that `book` would give one back.
-    pub fn is_full(&self) -> bool
-        ensures value { result ≡ is_full self.now }
+    /// How many of the booked orders weren't handed out, at most as many as the window has: `book` gives an order back if that
+    /// many are.
+    pub fn waiting(&self) -> usize
+        ensures value { result ≡ length self.now.slots }
         ensures lawful { IsCollection self.now }
     {
-        self.slots.is_full()
+        self.slots.len()
     }
 }
 

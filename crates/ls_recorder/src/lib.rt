@@ -1,7 +1,8 @@
 //! Recordings: joined codestreams, a film's frames coded one after the other.
 //!
 //! What it hands on for recording: an order is a frame with the parameters to code it with (`specs/Orders.antt`); a piece is the
-//! codestream of an order, whoever made it; a collector puts the pieces of a source in order (`specs/Collecting.antt`).
+//! codestream of an order, whoever made it; a collector puts the pieces of a source in order (`specs/Collecting.antt`); a lane writes
+//! exactly the codestreams of the frames that its reader gave, or says where it stopped (`specs/View/Lanes.antt`).
 //!
 //! ```
 //! let number = collector.book(order.clone()?);
@@ -23,12 +24,15 @@
 //! };
 //! ```
 //!
-//! In reading order: `orders` (what is to be coded), `pieces` (what was coded), `collector` (pieces in order); `playing`; `laws`.
+//! In reading order: `orders` (what is to be coded), `pieces` (what was coded), `collector` (pieces in order), `delivery` (how they come
+//! to their lane), `lane` (a film's way from its reader to its writer, `specs/View/Lanes.antt`), `faults` (why a recording isn't begun);
+//! `playing`; `laws`.
 #![tactic(auto)]
 
 pub mod collector;
 pub mod delivery;
 pub mod faults;
+pub mod lane;
 pub mod laws;
 pub mod orders;
 pub mod pieces;
@@ -39,6 +43,7 @@ mod testing;
 pub use collector::{Collector, CollectorFault, MOST_WINDOW, Misfit};
 pub use delivery::{Answer, Inbox, Outbox, boxes};
 pub use faults::RecordFault;
+pub use lane::{LaneEnd, LaneFault};
 pub use orders::Order;
 pub use pieces::{Coded, Uncoded};
 pub use playing::{PlayFault, play, play_bytes};

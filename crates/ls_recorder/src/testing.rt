@@ -1,8 +1,11 @@
 //! Recordings, and orders of single pixels, for the tests.
+ghost use Rattle.std.specs.Prelude.{◌≡◌, [], IfSome};
+ghost use Rattle.ls_queue.specs.Running.{AreAllSources, IsSourceSeat, items_put};
+
 use crate::orders::Order;
 use crate::pieces::Coded;
 use ls_frame::{Frame, Kind, Presets};
-use ls_queue::Job;
+use ls_queue::{Job, Queue, SourceSeat};
 use std::alloc::Global;
 use std::process::Abort;
 use std::sync::Arc;
@@ -66,4 +69,16 @@ pub fn pixel_piece(
         item,
     };
     Coded::make(alloc, job).ok()
+}
+
+/// The seat of source 0, of the seats that a queue was opened with.
+pub fn first_seat(queue: &Queue<Order>, seats: Vec<SourceSeat<Order>>) -> Option<SourceSeat<Order>>
+    requires { AreAllSources queue.now seats.items }
+    ensures { IfSome result (λ seat. IsSourceSeat queue.now seat × (items_put seat ≡ [])) }
+{
+    let mut seats = seats;
+    if seats.is_empty() {
+        return None;
+    }
+    Some(seats.remove(0))
 }

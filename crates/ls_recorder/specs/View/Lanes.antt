@@ -1,0 +1,180 @@
+-- What a lane did: of its reader's known bytes before and after, of its writer's, and of what its seat put.
+use Rattle.std.specs.Prelude.{◌≡◌, ◌≢◌, ◌⊎◌, ℕ, ◌<◌, ◌≤◌, Bool, true, false, IsTrue, List, [], ◌∷◌, ◌++◌, length, map, take, Option, Result, Ok, Err}
+use Rattle.std.specs.Io.KnownBytes.{Appends}
+use Rattle.ls_frame.specs.declared.tuning.Tuning.{Tuning}
+use Rattle.ls_frame.specs.declared.presets.PresetFault.{PresetFault}
+use Rattle.ls_frame.specs.declared.netpbm.NetpbmFault.{NetpbmFault}
+use Rattle.ls_frame.specs.declared.netpbm.NetpbmFault.TheVariants as netpbm
+use Rattle.ls_frame.specs.Picture.{Picture}
+use Rattle.ls_frame.specs.Parameters.{explicit_parameters}
+use Rattle.ls_frame.specs.Tuning.{tuned}
+use Rattle.ls_frame.specs.Netpbm.{IsImageOf}
+use Rattle.ls_frame.specs.Faults.{IsBroken, blames_bytes, blames_device}
+use Rattle.ls_frame.specs.View.Devices.{risen}
+use Rattle.ls_frame.specs.View.Known.{Tells, Gave, known}
+use Rattle.ls_film.specs.Film.{most_frames}
+use Rattle.ls_film.specs.Coding.{file}
+use Rattle.ls_film.specs.View.Given.{GaveFrames, BeginsWithFrames}
+use Rattle.ls_film.specs.View.Engine.{Completes, StopsAtInput, StopsAtMost}
+use Rattle.ls_recorder.specs.Orders.{Ordered}
+use Rattle.ls_recorder.specs.declared.collector.Slot.{Slot}
+use Rattle.ls_recorder.specs.Collecting.{Collection}
+use Rattle.ls_recorder.specs.declared.lane.LaneFault.{LaneFault}
+use Rattle.ls_recorder.specs.declared.lane.LaneFault.TheVariants.{Input, Output, NoMemory, Misfit, Lost, NotStarted, TooMany, Tuning as BadTuning}
+
+-- frames with the parameters that a tuning gives for each
+abbrev pub with_tuning : Tuning → List Picture → List Ordered
+with_tuning tuning frames = map (λ (f : Picture). (f, tuned tuning f.maxval)) frames
+
+-- their codestreams
+abbrev pub tuned_file : Tuning → List Picture → List ℕ
+tuned_file tuning frames = file (with_tuning tuning frames)
+
+-- ---- what was put and what was written
+
+module _ (items : List Ordered) (start now : Option (List ℕ)) where
+  -- exactly the codestreams of the first items were written, perhaps of all
+  pub record WroteFront : Type 0 where
+    pub count : ℕ
+    pub front : count ≤ length items
+    pub wrote : Appends start now (file (take count items))
+
+  -- exactly the codestreams of the first items were written, and not of all
+  pub record WroteFewer : Type 0 where
+    pub count : ℕ
+    pub fewer : count < length items
+    pub wrote : Appends start now (file (take count items))
+
+  -- exactly the first bytes of the items' codestreams were written, and not all
+  pub record WrotePart (bytes : ℕ) : Type 0 where
+    pub part : bytes < length (file items)
+    pub wrote : Appends start now (take bytes (file items))
+
+  -- what an end that isn't the reader's says
+  abbrev pub StopsWriting : LaneFault → Type 0
+  StopsWriting (Input m fault) = ⊥
+  StopsWriting (Output bytes) = WrotePart bytes
+  StopsWriting NoMemory = WroteFront
+  StopsWriting (Misfit misfit) = WroteFewer
+  StopsWriting Lost = WroteFewer
+  StopsWriting NotStarted = ⊥
+  StopsWriting TooMany = ⊥
+  StopsWriting (BadTuning m fault) = ⊥
+
+-- the orders of a collector that weren't handed out
+abbrev pub orders_in : Collection → List Ordered
+orders_in c = map (λ (slot : Slot). slot.order) c.slots
+
+-- So far the codestreams of the first items were written, so many bytes; the others wait in the collector.
+pub record IsWriting (items : List Ordered) (start now : Option (List ℕ)) (c : Collection) (bytes : ℕ) : Type 0 where
+  pub done : List Ordered
+  pub items_are : items ≡ done ++ orders_in c
+  pub wrote : Appends start now (file done)
+  pub bytes_are : bytes ≡ length (file done)
+
+-- whatever was put and wherever writing began, it goes on
+abbrev pub GoesOn : Option (List ℕ) → Collection → ℕ → Option (List ℕ) → Collection → ℕ → Type 0
+GoesOn now c bytes now' c' bytes' = (items : List Ordered) (start : Option (List ℕ)) → IsWriting items start now c bytes → IsWriting items start now' c' bytes'
+
+-- or it stops so
+abbrev pub StopsSo : Option (List ℕ) → Collection → ℕ → Option (List ℕ) → LaneFault → Type 0
+StopsSo now c bytes now' fault = (items : List Ordered) (start : Option (List ℕ)) → IsWriting items start now c bytes → StopsWriting items start now' fault
+
+-- ---- the next frame
+
+-- what a fault at the frame of number n says of the reader's bytes
+abbrev pub StopsReading : Tuning → Option (List ℕ) → Option (List ℕ) → ℕ → LaneFault → Type 0
+StopsReading tuning read read' n (Input m fault) =
+    (m ≡ n) × (fault ≢ netpbm.NoMemory) × (IsTrue (blames_bytes fault) → Tells read → IsBroken (known read) fault)
+StopsReading tuning read read' n (Output bytes) = ⊥
+StopsReading tuning read read' n NoMemory = Unit {0}
+StopsReading tuning read read' n (Misfit misfit) = ⊥
+StopsReading tuning read read' n Lost = ⊥
+StopsReading tuning read read' n NotStarted = ⊥
+StopsReading tuning read read' n TooMany = (n ≡ most_frames) × (last : Picture) × Gave read read' (λ image. IsImageOf image last)
+StopsReading tuning read read' n (BadTuning m fault) =
+    (m ≡ n) × (n < most_frames) × (last : Picture) × Gave read read' (λ image. IsImageOf image last) × (explicit_parameters (tuned tuning last.maxval) ≡ Err fault)
+
+-- ---- a lane
+
+module _ (tuning : Tuning) (items : List Ordered) (read read' written written' : Option (List ℕ)) where
+  -- The reader is at its end, it gave a film of n frames, all of which were put, and their codestreams were written.
+  pub record Records (n : ℕ) : Type 0 where
+    pub run : Completes IsImageOf (tuned_file tuning) read read' written written' n
+    pub put : items ≡ with_tuning tuning run.frames
+
+  -- the input begins with the frames that were put
+  pub record HasPut : Type 0 where
+    pub frames : List Picture
+    pub few : length frames ≤ most_frames
+    pub begins : BeginsWithFrames IsImageOf read frames
+    pub put : items ≡ with_tuning tuning frames
+
+  -- Frame m can't be read; those before it were put, and their codestreams were written.
+  pub record RecordsBefore (m : ℕ) (fault : NetpbmFault) : Type 0 where
+    pub run : StopsAtInput IsImageOf (tuned_file tuning) read read' written written' m (λ rest. IsTrue (blames_bytes fault) → IsBroken rest fault)
+    pub put : items ≡ with_tuning tuning run.frames
+    pub known : fault ≢ netpbm.NoMemory
+
+  -- One frame too many: those before it were put, and their codestreams were written.
+  pub record RecordsMost : Type 0 where
+    pub run : StopsAtMost IsImageOf (tuned_file tuning) read read' written written'
+    pub put : items ≡ with_tuning tuning run.frames
+
+  -- The tuning gives no parameters for frame m; those before it were put, and their codestreams were written.
+  pub record RecordsUntuned (m : ℕ) (fault : PresetFault) : Type 0 where
+    pub frames : List Picture
+    pub last : Picture
+    pub count : length frames ≡ m
+    pub few : length frames < most_frames
+    pub gave : GaveFrames IsImageOf read read' (frames ++ last ∷ [])
+    pub fault_is : explicit_parameters (tuned tuning last.maxval) ≡ Err fault
+    pub put : items ≡ with_tuning tuning frames
+    pub wrote : Appends written written' (tuned_file tuning frames)
+
+  -- what each fault says of the lane
+  abbrev pub StopsLane : LaneFault → Type 0
+  StopsLane (Input m fault) = RecordsBefore m fault
+  StopsLane (Output bytes) = HasPut × WrotePart items written written' bytes
+  StopsLane NoMemory = HasPut × WroteFront items written written'
+  StopsLane (Misfit misfit) = HasPut × WroteFewer items written written'
+  StopsLane Lost = HasPut × WroteFewer items written written'
+  StopsLane NotStarted = ⊥
+  StopsLane TooMany = RecordsMost
+  StopsLane (BadTuning m fault) = RecordsUntuned m fault
+
+-- ---- devices
+
+-- how many reads failed: one, if it is what the end blames; else none, or one before the lane stopped for another cause
+abbrev pub ReadsSo : Bool → ℕ → ℕ → Type 0
+ReadsSo true old new = new ≡ risen old
+ReadsSo false old new = (new ≡ old) ⊎ (new ≡ risen old)
+
+-- whether a lane's end blames its reader's device, and whether it blames its writer's
+abbrev pub blames_reader : LaneFault → Bool
+blames_reader (Input m fault) = blames_device fault
+blames_reader (Output bytes) = false
+blames_reader NoMemory = false
+blames_reader (Misfit misfit) = false
+blames_reader Lost = false
+blames_reader NotStarted = false
+blames_reader TooMany = false
+blames_reader (BadTuning m fault) = false
+
+abbrev pub blames_writer : LaneFault → Bool
+blames_writer (Input m fault) = false
+blames_writer (Output bytes) = true
+blames_writer NoMemory = false
+blames_writer (Misfit misfit) = false
+blames_writer Lost = false
+blames_writer NotStarted = false
+blames_writer TooMany = false
+blames_writer (BadTuning m fault) = false
+
+abbrev pub failed_reader : {X : Type 0} → Result X LaneFault → Bool
+failed_reader (Ok x) = false
+failed_reader (Err fault) = blames_reader fault
+
+abbrev pub failed_writer : {X : Type 0} → Result X LaneFault → Bool
+failed_writer (Ok x) = false
+failed_writer (Err fault) = blames_writer fault
