@@ -4,4 +4,5 @@ pub mod LaneLemmas
 pub mod NextLemmas
 pub mod PlayLemmas
 pub mod RecordedLemmas
+pub mod RecordingLemmas
 pub mod RunLemmas

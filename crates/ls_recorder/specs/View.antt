@@ -2,3 +2,4 @@
 pub mod Alike
 pub mod Lanes
 pub mod Playing
+pub mod Recordings

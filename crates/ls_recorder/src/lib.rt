@@ -37,8 +37,10 @@ pub mod laws;
 pub mod orders;
 pub mod pieces;
 pub mod playing;
+pub mod recording;
 #[cfg(test)]
 mod testing;
+pub mod working;
 
 pub use collector::{Collector, CollectorFault, MOST_WINDOW, Misfit};
 pub use delivery::{Answer, Inbox, Outbox, boxes};
@@ -47,3 +49,5 @@ pub use lane::{LaneEnd, LaneFault};
 pub use orders::Order;
 pub use pieces::{Coded, Uncoded};
 pub use playing::{PlayFault, play, play_bytes};
+pub use recording::{Recording, Track, record};
+pub use working::{Gate, Moment, Open, Worked, work};

@@ -1,0 +1,252 @@
+-- Lists of seats, lanes and tracks as they grow.
+use Rattle.std.proofs.Common.{◌≡◌, ℕ, zero, suc, ◌+◌, ◌<◌, ◌≤◌, ◌⊎◌, inl, inr, Bool, true, false, true≢false, ◌&&◌, ◌||◌, ◌==◌, List, [], ◌∷◌, ◌++◌, length, refl, sym, ap, subst, ◌∙◌, arith, append_assoc, append-nil}
+use Rattle.std.specs.List.{AllByRecursion}
+use Rattle.ls_queue.specs.declared.running.WorkerSeat.{WorkerSeat}
+use Rattle.std.specs.Prelude.{slice_index_or, Option, Result, Ok, Err, IfOk, IfErr, MatchResult, map}
+use Rattle.ls_frame.specs.Picture.{Picture}
+use Rattle.ls_recorder.specs.declared.lane.LaneFault.{LaneFault}
+use Rattle.ls_recorder.specs.View.Lanes.{Records, with_tuning}
+use Rattle.std.specs.List.{remove}
+use Rattle.std.proofs.lemmas.Bool.Decides.{eqb_tells}
+use Rattle.std.proofs.Math.Nat.{eq-or-lt_of_le}
+use Rattle.ls_queue.specs.declared.running.Ended.{Ended}
+use Rattle.ls_queue.specs.Running.{is_done, all_done, has_end, AreNewSources, IsSourceAt, items_put, AreEnds, parts_of, AreNewWorkers, IsWorkerAt}
+use Rattle.ls_queue.specs.Account.{IsCounted}
+use Rattle.ls_queue.specs.declared.account.Channel.{Channel}
+use Rattle.ls_queue.specs.declared.running.SourceSeat.{SourceSeat}
+use Rattle.ls_recorder.specs.declared.delivery.ends.Inbox.{Inbox}
+use Rattle.ls_queue.specs.declared.running.Queue.{Queue}
+use Rattle.ls_frame.specs.declared.tuning.Tuning.{Tuning}
+use Rattle.ls_recorder.specs.Orders.{Ordered}
+use Rattle.ls_recorder.specs.declared.recording.threads.Lane.{Lane}
+use Rattle.ls_recorder.specs.declared.recording.Track.{Track}
+use Rattle.crossbeam_channel.specs.Ends.{sends_on, receives_on}
+use Rattle.ls_recorder.specs.declared.delivery.ends.Door.{Door}
+use Rattle.ls_recorder.specs.declared.delivery.ends.Outbox.{Outbox}
+use Rattle.ls_recorder.specs.Boxes.{AreFrom, LeadTo}
+use Rattle.ls_recorder.specs.View.Recordings.{IsLaneEnd, IsStarted, AreStarted, AreDone, AreTracks, AreCounted, LeadToAll}
+
+pub all-more : {A : Type 0} (P : A → Type 0) (xs : List A) (x : A) → AllByRecursion P xs → P x → AllByRecursion P (xs ++ x ∷ [])
+all-more P [] x all last = (last, _)
+all-more P (y ∷ ys) x all last = (all.0, all-more P ys x all.1 last)
+
+and_both : (a b : Bool) → a ≡ true → b ≡ true → (a && b) ≡ true
+and_both true b is is' = is'
+and_both false b is is' = absurd (true≢false (sym is))
+
+and_left : (a b : Bool) → (a && b) ≡ true → a ≡ true
+and_left true b is = refl
+and_left false b is = is
+
+and_right : (a b : Bool) → (a && b) ≡ true → b ≡ true
+and_right true b is = is
+and_right false b is = absurd (true≢false (sym is))
+
+pub all_done-more : {X : Type 0} (seats : List (WorkerSeat X)) (seat : WorkerSeat X) → all_done seats ≡ true → is_done seat ≡ true → all_done (seats ++ seat ∷ []) ≡ true
+all_done-more [] seat all last = and_both (is_done seat) true last refl
+all_done-more (s ∷ ss) seat all last = and_both (is_done s) _ (and_left (is_done s) _ all) (all_done-more ss seat (and_right (is_done s) _ all) last)
+
+-- the first element taken off a vector, in the words of `Vec::remove`
+pub took_first : {A : Type 0} (old new : List A) (e : A) → e ≡ slice_index_or old 0 e → new ≡ remove old 0 → length new + 1 ≡ length old → old ≡ e ∷ new
+took_first [] new e is rest size = absurd (omega arith)
+took_first (x ∷ xs) new e is rest size = λ i. sym is i ∷ sym rest i
+
+pub none_left : {A : Type 0} (l : List A) → length l ≡ 0 → l ≡ []
+none_left [] e = refl
+none_left (x ∷ xs) e = absurd (omega arith)
+
+or_first : (a b : Bool) → a ≡ true → (a || b) ≡ true
+or_first true b is = refl
+or_first false b is = absurd (true≢false (sym is))
+
+or_second : (a b : Bool) → b ≡ true → (a || b) ≡ true
+or_second true b is = refl
+or_second false b is = is
+
+or_kept : (a b c : Bool) → (b ≡ true → c ≡ true) → (a || b) ≡ true → (a || c) ≡ true
+or_kept true b c more is = refl
+or_kept false b c more is = more is
+
+pub has_end-more : {X : Type 0} (s : ℕ) (es : List (Ended X)) (e : Ended X) → has_end s es ≡ true → has_end s (es ++ e ∷ []) ≡ true
+has_end-more s [] e is = absurd (true≢false (sym is))
+has_end-more s (x ∷ xs) e is = or_kept (x.source == s) _ _ (has_end-more s xs e) is
+
+eq_true : (a b : ℕ) → a ≡ b → (a == b) ≡ true
+eq_true a b is = elim (eqb_tells a b) [ inl same ↦ same.0 | inr other ↦ absurd (other.1 is) ]
+
+pub has_end-last : {X : Type 0} (s : ℕ) (es : List (Ended X)) (e : Ended X) → e.source ≡ s → has_end s (es ++ e ∷ []) ≡ true
+has_end-last s [] e is = or_first (e.source == s) false (eq_true e.source s is)
+has_end-last s (x ∷ xs) e is = or_second (x.source == s) _ (has_end-last s xs e is)
+
+-- a source below n + 1 is below n, or is n
+below : (s n : ℕ) → s < n + 1 → (s < n) ⊎ (n ≡ s)
+below s n less = elim (eq-or-lt_of_le {n = s} {m = n} (omega arith)) [ inl same ↦ inr (sym same) | inr h ↦ inl h ]
+
+pub each-more : {X : Type 0} (es : List (Ended X)) (e : Ended X) (n : ℕ) → ((s : ℕ) → s < n → has_end s es ≡ true) → e.source ≡ n → (s : ℕ) → s < n + 1 → has_end s (es ++ e ∷ []) ≡ true
+each-more es e n each is s less = elim (below s n less) [ inl h ↦ has_end-more s es e (each s h) | inr h ↦ has_end-last s es e (is ∙ h) ]
+
+pub length-more : {A : Type 0} (xs : List A) (x : A) → length (xs ++ x ∷ []) ≡ length xs + 1
+length-more [] x = refl
+length-more (y ∷ ys) x = let h = length-more ys x in omega arith
+
+module _ {R W : Type 0} (remaining : R → Option (List ℕ)) (failed_reads : R → ℕ) (contents : W → Option (List ℕ)) (failed_writes : W → ℕ) where
+  pub started-more : (queue : Queue Ordered) (s n : ℕ) (films : List (R × W × Tuning)) (lanes : List (Lane R W)) (film : R × W × Tuning) (l : Lane R W)
+      → AreStarted remaining failed_reads contents failed_writes queue s films lanes → n ≡ s + length films → IsStarted remaining failed_reads contents failed_writes queue n film l
+      → AreStarted remaining failed_reads contents failed_writes queue s (films ++ film ∷ []) (lanes ++ l ∷ [])
+  started-more queue s n [] [] film l all at last = (subst (λ k. IsStarted remaining failed_reads contents failed_writes queue k film l) (omega arith) last, _)
+  started-more queue s n [] (x ∷ xs) film l all at last = absurd all
+  started-more queue s n (f ∷ fs) [] film l all at last = absurd all
+  started-more queue s n (f ∷ fs) (x ∷ xs) film l all at last = (all.0, started-more queue (suc s) n fs xs film l all.1 (omega arith) last)
+
+  pub done-more : (queue : Queue Ordered) (s n : ℕ) (films : List (R × W × Tuning)) (es : List (Ended Ordered)) (ts : List (Track R W)) (film : R × W × Tuning) (e : Ended Ordered) (t : Track R W)
+      → AreDone remaining failed_reads contents failed_writes queue s films es ts → n ≡ s + length films
+      → IsLaneEnd remaining failed_reads contents failed_writes queue n film.2 film.0 film.1 (record { ended = e; reader = t.reader; writer = t.writer; result = t.result })
+      → AreDone remaining failed_reads contents failed_writes queue s (films ++ film ∷ []) (es ++ e ∷ []) (ts ++ t ∷ [])
+  done-more queue s n [] [] [] film e t all at last =
+      (subst (λ k. IsLaneEnd remaining failed_reads contents failed_writes queue k film.2 film.0 film.1 (record { ended = e; reader = t.reader; writer = t.writer; result = t.result })) (omega arith) last, _)
+  done-more queue s n [] [] (y ∷ ys) film e t all at last = absurd all
+  done-more queue s n [] (x ∷ xs) ts film e t all at last = absurd all
+  done-more queue s n (f ∷ fs) [] ts film e t all at last = absurd all
+  done-more queue s n (f ∷ fs) (x ∷ xs) [] film e t all at last = absurd all
+  done-more queue s n (f ∷ fs) (x ∷ xs) (y ∷ ys) film e t all at last = (all.0, done-more queue (suc s) n fs xs ys film e t all.1 (omega arith) last)
+
+-- ---- what each loop keeps
+
+module _ {R W : Type 0} (remaining : R → Option (List ℕ)) (failed_reads : R → ℕ) (contents : W → Option (List ℕ)) (failed_writes : W → ℕ) (queue : Queue Ordered) where
+  -- one more lane was joined
+  pub joins : (films : List (R × W × Tuning)) (done left : List (R × W × Tuning)) (es : List (Ended Ordered)) (ts : List (Track R W)) (lanes rest : List (Lane R W)) (l : Lane R W) (e : Ended Ordered) (t : Track R W)
+      → done ++ left ≡ films → AreDone remaining failed_reads contents failed_writes queue 0 done es ts → AreStarted remaining failed_reads contents failed_writes queue (length done) left lanes → lanes ≡ l ∷ rest
+      → ((s : ℕ) (film : R × W × Tuning) → IsStarted remaining failed_reads contents failed_writes queue s film l
+        → IsLaneEnd remaining failed_reads contents failed_writes queue s film.2 film.0 film.1 (record { ended = e; reader = t.reader; writer = t.writer; result = t.result }))
+      → (done' : List (R × W × Tuning)) × (left' : List (R × W × Tuning)) × (done' ++ left' ≡ films)
+      × AreDone remaining failed_reads contents failed_writes queue 0 done' (es ++ e ∷ []) (ts ++ t ∷ []) × AreStarted remaining failed_reads contents failed_writes queue (length done') left' rest
+  joins films done [] es ts lanes rest l e t whole ended started first end = absurd (subst (AreStarted remaining failed_reads contents failed_writes queue (length done) []) first started)
+  joins films done (f ∷ fs) es ts lanes rest l e t whole ended started first end =
+      let both : AreStarted remaining failed_reads contents failed_writes queue (length done) (f ∷ fs) (l ∷ rest) = subst (AreStarted remaining failed_reads contents failed_writes queue (length done) (f ∷ fs)) first started in
+      (
+        done ++ f ∷ [],
+        fs,
+        append_assoc done (f ∷ []) fs ∙ whole,
+        done-more remaining failed_reads contents failed_writes queue 0 (length done) done es ts f e t ended (omega arith) (end (length done) f both.0),
+        subst (λ n. AreStarted remaining failed_reads contents failed_writes queue n fs rest) (sym (length-more done f) ∙ refl) (subst (λ n. AreStarted remaining failed_reads contents failed_writes queue n fs rest) (omega arith) both.1),
+      )
+
+  -- no lane is left
+  pub joined : (films done left : List (R × W × Tuning)) (es : List (Ended Ordered)) (ts : List (Track R W)) (lanes : List (Lane R W))
+      → done ++ left ≡ films → AreDone remaining failed_reads contents failed_writes queue 0 done es ts → AreStarted remaining failed_reads contents failed_writes queue (length done) left lanes → lanes ≡ []
+      → AreDone remaining failed_reads contents failed_writes queue 0 films es ts
+  joined films done [] es ts lanes whole ended started none = subst (λ fs. AreDone remaining failed_reads contents failed_writes queue 0 fs es ts) (sym (append-nil done) ∙ whole) ended
+  joined films done (f ∷ fs) es ts lanes whole ended started none = absurd (subst (AreStarted remaining failed_reads contents failed_writes queue (length done) (f ∷ fs)) none started)
+
+-- the first of seats, and of inboxes, in order from source n on
+pub seat-first : {X : Type 0} (channel : Channel X) (n : ℕ) (seats rest : List (SourceSeat X)) (seat : SourceSeat X) → seats ≡ seat ∷ rest → AreNewSources channel n seats
+    → (IsSourceAt channel seat × (seat.source ≡ n) × (items_put seat ≡ [])) × AreNewSources channel (n + 1) rest
+seat-first channel n seats rest seat first all =
+    let both : AreNewSources channel n (seat ∷ rest) = subst (AreNewSources channel n) first all in
+    (both.0, subst (λ k. AreNewSources channel k rest) (omega arith) both.1)
+
+pub inbox-first : (n : ℕ) (inboxes rest : List Inbox) (inbox : Inbox) → inboxes ≡ inbox ∷ rest → AreFrom n inboxes → (inbox.source ≡ n) × AreFrom (n + 1) rest
+inbox-first n inboxes rest inbox first all =
+    let both : AreFrom n (inbox ∷ rest) = subst (AreFrom n) first all in
+    (both.0, subst (λ k. AreFrom k rest) (omega arith) both.1)
+
+-- ---- lanes that ended
+
+module _ {R W : Type 0} (remaining : R → Option (List ℕ)) (failed_reads : R → ℕ) (contents : W → Option (List ℕ)) (failed_writes : W → ℕ) (queue : Queue Ordered) where
+  pub done-ends : (s : ℕ) (films : List (R × W × Tuning)) (es : List (Ended Ordered)) (ts : List (Track R W)) → AreDone remaining failed_reads contents failed_writes queue s films es ts → AreEnds queue es
+  done-ends s [] [] [] all = _
+  done-ends s [] [] (t ∷ ts) all = absurd all
+  done-ends s [] (e ∷ es) ts all = absurd all
+  done-ends s (f ∷ fs) [] ts all = absurd all
+  done-ends s (f ∷ fs) (e ∷ es) [] all = absurd all
+  done-ends s (f ∷ fs) (e ∷ es) (t ∷ ts) all = (all.0.ended, done-ends (suc s) fs es ts all.1)
+
+  pub done-each : (s : ℕ) (films : List (R × W × Tuning)) (es : List (Ended Ordered)) (ts : List (Track R W)) → AreDone remaining failed_reads contents failed_writes queue s films es ts
+      → (k : ℕ) → s ≤ k → k < s + length films → has_end k es ≡ true
+  done-each s [] [] [] all k from below_k = absurd (omega arith)
+  done-each s [] [] (t ∷ ts) all k from below_k = absurd all
+  done-each s [] (e ∷ es) ts all k from below_k = absurd all
+  done-each s (f ∷ fs) [] ts all k from below_k = absurd all
+  done-each s (f ∷ fs) (e ∷ es) [] all k from below_k = absurd all
+  done-each s (f ∷ fs) (e ∷ es) (t ∷ ts) all k from below_k = elim (eq-or-lt_of_le {n = s} {m = k} from) [
+    inl same ↦ or_first (e.source == k) _ (eq_true e.source k (all.0.source ∙ same))
+    | inr later ↦ or_second (e.source == k) _ (done-each (suc s) fs es ts all.1 k (omega arith) (omega arith))
+  ]
+
+  pub done-tracks : (s : ℕ) (films : List (R × W × Tuning)) (es : List (Ended Ordered)) (ts : List (Track R W)) → AreDone remaining failed_reads contents failed_writes queue s films es ts → AreTracks remaining failed_reads contents failed_writes films ts
+  done-tracks s [] [] [] all = _
+  done-tracks s [] [] (t ∷ ts) all = absurd all
+  done-tracks s [] (e ∷ es) ts all = absurd all
+  done-tracks s (f ∷ fs) [] ts all = absurd all
+  done-tracks s (f ∷ fs) (e ∷ es) [] all = absurd all
+  done-tracks s (f ∷ fs) (e ∷ es) (t ∷ ts) all = (all.0.track, done-tracks (suc s) fs es ts all.1)
+
+  -- a source below s isn't counted by the ends from s on
+  not_below : (counts : List ℕ) (s : ℕ) (films : List (R × W × Tuning)) (es : List (Ended Ordered)) (ts : List (Track R W)) → AreDone remaining failed_reads contents failed_writes queue s films es ts
+      → (k : ℕ) → k < s → IsCounted counts (parts_of es) k → ⊥
+  not_below counts s [] [] [] all k less counted = counted
+  not_below counts s [] [] (t ∷ ts) all k less counted = all
+  not_below counts s [] (e ∷ es) ts all k less counted = all
+  not_below counts s (f ∷ fs) [] ts all k less counted = all
+  not_below counts s (f ∷ fs) (e ∷ es) [] all k less counted = all
+  not_below counts s (f ∷ fs) (e ∷ es) (t ∷ ts) all k less counted = elim counted [
+    inl here ↦ (let a = all.0.source in let b = here.0 in absurd (omega arith))
+    | inr later ↦ not_below counts (suc s) fs es ts all.1 k (omega arith) later
+  ]
+
+  ok-both : {A E : Type 0} (r : Result A E) (P Q : A → Type 0) → ((x : A) → P x → Q x) → IfOk r P → IfOk r Q
+  ok-both (Ok x) P Q f h = f x h
+  ok-both (Err e) P Q f h = h
+
+  pub done-counted : (counts : List ℕ) (s : ℕ) (films : List (R × W × Tuning)) (es : List (Ended Ordered)) (ts : List (Track R W)) → AreDone remaining failed_reads contents failed_writes queue s films es ts
+      → ((k : ℕ) → s ≤ k → k < s + length films → IsCounted counts (parts_of es) k) → AreCounted counts s ts
+  done-counted counts s [] [] [] all counted = _
+  done-counted counts s [] [] (t ∷ ts) all counted = absurd all
+  done-counted counts s [] (e ∷ es) ts all counted = absurd all
+  done-counted counts s (f ∷ fs) [] ts all counted = absurd all
+  done-counted counts s (f ∷ fs) (e ∷ es) [] all counted = absurd all
+  done-counted counts s (f ∷ fs) (e ∷ es) (t ∷ ts) all counted =
+      (
+        elim (counted s (omega arith) (omega arith)) [
+          inl here ↦ ok-both t.result (λ n. e.count ≡ n) (λ n. slice_index_or counts s 0 ≡ n) (λ n is. here.1 ∙ (sym all.0.ended.count ∙ is)) all.0.count
+          | inr later ↦ absurd (not_below counts (suc s) fs es ts all.1 s (omega arith) later)
+        ],
+        done-counted counts (suc s) fs es ts all.1 (λ k from less. elim (counted k (omega arith) (omega arith)) [
+          inl here ↦ (let a = all.0.source in let b = here.0 in absurd (omega arith))
+          | inr later ↦ later
+        ]),
+      )
+
+pub new-workers : {X : Type 0} (channel : Channel X) (seats : List (WorkerSeat X)) → AreNewWorkers channel seats → AllByRecursion (IsWorkerAt channel) seats
+new-workers channel [] all = _
+new-workers channel (s ∷ ss) all = (all.0.0, new-workers channel ss all.1)
+
+-- ---- what a lane answers
+
+pub match-both : {A E : Type 0} (P : A → Type 0) (Q : E → Type 0) (r : Result A E) → IfOk r P → IfErr r Q → MatchResult r P Q
+match-both P Q (Ok x) ok err = ok
+match-both P Q (Err e) ok err = err
+
+length-with_tuning : (tuning : Tuning) (frames : List Picture) → length (with_tuning tuning frames) ≡ length frames
+length-with_tuning tuning [] = refl
+length-with_tuning tuning (f ∷ fs) = ap suc (length-with_tuning tuning fs)
+
+pub recorded-count : (tuning : Tuning) (items : List Ordered) (read read' written written' : Option (List ℕ)) (r : Result ℕ LaneFault) (count : ℕ) → count ≡ length items
+    → IfOk r (Records tuning items read read' written written') → IfOk r (λ n. count ≡ n)
+recorded-count tuning items read read' written written' (Ok n) count is records =
+    is ∙ (ap length records.put ∙ (length-with_tuning tuning records.run.frames ∙ records.run.count))
+recorded-count tuning items read read' written written' (Err fault) count is records = records
+
+-- ---- outboxes lead to all boxes
+
+length-map : {A B : Type 0} (f : A → B) (xs : List A) → length (map f xs) ≡ length xs
+length-map f [] = refl
+length-map f (x ∷ xs) = ap suc (length-map f xs)
+
+lead-length : (inboxes : List Inbox) (doors : List Door) → LeadTo inboxes doors → length doors ≡ length inboxes
+lead-length inboxes doors lead =
+    sym (length-map (λ (door : Door). sends_on door.entrance) doors) ∙ (ap length lead ∙ length-map (λ (inbox : Inbox). receives_on inbox.exit) inboxes)
+
+pub lead-all : (n : ℕ) (inboxes : List Inbox) (outboxes : List Outbox) → length inboxes ≡ n → AllByRecursion (λ (outbox : Outbox). LeadTo inboxes outbox.doors.items) outboxes → LeadToAll n outboxes
+lead-all n inboxes [] many all = _
+lead-all n inboxes (o ∷ os) many all = ((let l = lead-length inboxes o.doors.items all.0 in omega arith), lead-all n inboxes os many all.1)

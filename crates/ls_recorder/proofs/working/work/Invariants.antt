@@ -1,0 +1,14 @@
+use Rattle.std.proofs.Common.{◌≡◌, ◌+◌, ◌≤◌, length}
+use Rattle.ls_queue.specs.Running.{IsWorkerSeat, jobs_taken, sources_of}
+use Rattle.ls_recorder.proofs.working.work.Given as goal
+
+-- each job so far was coded at most once, and answered at most once
+abbrev pub invariant-loop : goal.invariant-loop
+invariant-loop g l = record {
+  next : (goal.iterator-loop g).can_next l.iterator';
+  goes_on : (goal.iterator-loop g).is_finite l.iterator';
+  seat : IsWorkerSeat l.queue l.seat;
+  boxes : sources_of l.queue ≤ length l.outbox.doors.items;
+  coded : length (jobs_taken l.fn.seat) + l.coded ≤ length (jobs_taken l.seat);
+  undelivered : length (jobs_taken l.fn.seat) + l.undelivered ≤ length (jobs_taken l.seat);
+}

@@ -1,0 +1,154 @@
+-- What a recording did: each lane for its film, the workers, and the account.
+use Rattle.std.specs.Prelude.{◌≡◌, ◌⊎◌, ℕ, suc, ◌<◌, ◌≤◌, ◌==◌, ◌||◌, nat_lt, if◌then◌else◌, true, List, [], ◌∷◌, length, Option, Some, None, Result, Ok, Err, IfOk, MatchResult, slice_index_or, vec_capacity}
+use Rattle.std.specs.List.{AllByRecursion}
+use Rattle.std.specs.declared.sync.atomic.AtomicBool.{AtomicBool}
+use Rattle.std.specs.declared.thread.PromisedHandle.{PromisedHandle}
+use Rattle.ls_frame.specs.declared.tuning.Tuning.{Tuning}
+use Rattle.ls_frame.specs.View.Devices.{count_after}
+use Rattle.ls_queue.specs.declared.faults.TheConstants.{MOST_SOURCES, MOST_CAPACITY, MOST_WORKERS}
+use Rattle.ls_queue.specs.declared.running.Queue.{Queue}
+use Rattle.ls_queue.specs.declared.running.Ended.{Ended}
+use Rattle.ls_queue.specs.Running.{IsEnded, IsWorkerSeat, is_done, items_ended, puts_of, parts_of, IsFinished, IsCloser, AreAllSources, AreWorkerSeats, all_done, sources_of, workers_of}
+use Rattle.ls_recorder.specs.declared.collector.TheConstants.{MOST_WINDOW}
+use Rattle.ls_recorder.specs.declared.delivery.ends.Outbox.{Outbox}
+use Rattle.ls_recorder.specs.declared.faults.RecordFault.{RecordFault}
+use Rattle.ls_recorder.specs.declared.faults.RecordFault.TheVariants.{Sources, Workers, Capacity, Window}
+use Rattle.ls_recorder.specs.declared.lane.LaneEnd.{LaneEnd}
+use Rattle.ls_recorder.specs.declared.lane.LaneFault.TheVariants.{NotStarted}
+use Rattle.ls_recorder.specs.declared.working.Worked.{Worked}
+use Rattle.ls_recorder.specs.declared.recording.Track.{Track}
+use Rattle.ls_recorder.specs.declared.recording.threads.Parts.{Parts}
+use Rattle.ls_recorder.specs.declared.recording.threads.Room.{Room}
+use Rattle.ls_recorder.specs.declared.recording.threads.Ran.{Ran}
+use Rattle.ls_recorder.specs.declared.recording.threads.WorkerOf.{WorkerOf}
+use Rattle.ls_recorder.specs.declared.recording.threads.Lane.{Lane}
+use Rattle.ls_recorder.specs.declared.recording.threads.Lane.TheVariants as lane
+use Rattle.ls_recorder.specs.Boxes.{AreFrom}
+use Rattle.ls_recorder.specs.Orders.{Ordered}
+use Rattle.ls_recorder.specs.View.Lanes.{Records, StopsLane, ReadsSo, blames_reader, failed_writer}
+
+-- why a recording can't begin: the first of these that is so
+abbrev pub record_fault : ℕ → ℕ → ℕ → ℕ → Option RecordFault
+record_fault sources workers capacity window =
+    if sources == 0 || nat_lt MOST_SOURCES sources then Some Sources
+    else (if workers == 0 || nat_lt MOST_WORKERS workers then Some Workers
+    else (if capacity == 0 || nat_lt MOST_CAPACITY capacity then Some Capacity
+    else (if window == 0 || nat_lt MOST_WINDOW window then Some Window
+    else None)))
+
+-- ---- films and their tracks. A film is what reads it, what takes its recording, and a tuning.
+
+module _ {R W : Type 0} (remaining : R → Option (List ℕ)) (failed_reads : R → ℕ) (contents : W → Option (List ℕ)) (failed_writes : W → ℕ) where
+  -- a lane wasn't started, or it did for its film what a lane does, with these items put
+  abbrev pub DidLane : R × W × Tuning → List Ordered → Track R W → Type 0
+  DidLane film items track =
+      ((track.result ≡ Err NotStarted) × (track.reader ≡ film.0) × (track.writer ≡ film.1))
+      ⊎ MatchResult track.result
+        (Records film.2 items (remaining film.0) (remaining track.reader) (contents film.1) (contents track.writer))
+        (StopsLane film.2 items (remaining film.0) (remaining track.reader) (contents film.1) (contents track.writer))
+
+  -- what a track says of its film, and of its devices
+  pub record IsTrack (film : R × W × Tuning) (track : Track R W) : Type 0 where
+    pub items : List Ordered
+    pub did : DidLane film items track
+    pub reads : MatchResult track.result (λ frames. failed_reads track.reader ≡ failed_reads film.0) (λ fault. ReadsSo (blames_reader fault) (failed_reads film.0) (failed_reads track.reader))
+    pub writes : failed_writes track.writer ≡ count_after (failed_writer track.result) (failed_writes film.1)
+
+  -- a track for each film, in their order
+  abbrev pub AreTracks : List (R × W × Tuning) → List (Track R W) → Type 0
+  AreTracks [] [] = Unit {0}
+  AreTracks [] (t ∷ ts) = ⊥
+  AreTracks (f ∷ fs) [] = ⊥
+  AreTracks (f ∷ fs) (t ∷ ts) = IsTrack f t × AreTracks fs ts
+
+  -- how the lane of source s ended: its track, and how many items it put
+  pub record IsLaneEnd (queue : Queue Ordered) (s : ℕ) (tuning : Tuning) (reader : R) (writer : W) (end : LaneEnd R W) : Type 0 where
+    pub ended : IsEnded queue end.ended
+    pub source : end.ended.source ≡ s
+    pub track : IsTrack (reader, writer, tuning) (record { reader = end.reader; writer = end.writer; result = end.result })
+    pub count : IfOk end.result (λ n. end.ended.count ≡ n)
+
+  -- the lane of a film was started, or it has ended
+  abbrev pub IsStarted : Queue Ordered → ℕ → R × W × Tuning → Lane R W → Type 0
+  IsStarted queue s film (lane.Running h) = (h.promise.queue.value ≡ queue) × (h.promise.source ≡ s) × (h.promise.tuning ≡ film.2)
+      × (h.promise.reader.value ≡ film.0) × (h.promise.writer.value ≡ film.1)
+  IsStarted queue s film (lane.Refused end) = IsLaneEnd queue s film.2 film.0 film.1 end
+
+  -- a lane for each film, in order from source s on
+  abbrev pub AreStarted : Queue Ordered → ℕ → List (R × W × Tuning) → List (Lane R W) → Type 0
+  AreStarted queue s [] [] = Unit {0}
+  AreStarted queue s [] (l ∷ ls) = ⊥
+  AreStarted queue s (f ∷ fs) [] = ⊥
+  AreStarted queue s (f ∷ fs) (l ∷ ls) = IsStarted queue s f l × AreStarted queue (suc s) fs ls
+
+  -- an end and a track of each film's lane, in order from source s on
+  abbrev pub AreDone : Queue Ordered → ℕ → List (R × W × Tuning) → List (Ended Ordered) → List (Track R W) → Type 0
+  AreDone queue s [] [] [] = Unit {0}
+  AreDone queue s [] [] (t ∷ ts) = ⊥
+  AreDone queue s [] (e ∷ es) ts = ⊥
+  AreDone queue s (f ∷ fs) [] ts = ⊥
+  AreDone queue s (f ∷ fs) (e ∷ es) [] = ⊥
+  AreDone queue s (f ∷ fs) (e ∷ es) (t ∷ ts) =
+      IsLaneEnd queue s f.2 f.0 f.1 (record { ended = e; reader = t.reader; writer = t.writer; result = t.result }) × AreDone queue (suc s) fs es ts
+
+  -- what came of the threads: each lane ran for its film, all sources ended, and the workers were answered Done
+  pub record HasRun (queue : Queue Ordered) (films : List (R × W × Tuning)) (ran : Ran R W) : Type 0 where
+    pub ended : List (Ended Ordered)
+    pub lanes : AreDone queue 0 films ended ran.tracks.items
+    pub puts : puts_of ran.finished ≡ parts_of ended
+    pub finished : IsFinished queue ran.finished
+    pub seats : AreWorkerSeats queue ran.seats.items
+    pub done : all_done ran.seats.items ≡ true
+    pub workers : length ran.seats.items ≡ workers_of queue
+
+module _ {R W : Type 0} where
+  -- the counts are those of the tracks that were recorded whole, from source s on
+  abbrev pub AreCounted : List ℕ → ℕ → List (Track R W) → Type 0
+  AreCounted counts s [] = Unit {0}
+  AreCounted counts s (t ∷ ts) = IfOk t.result (λ n. slice_index_or counts s 0 ≡ n) × AreCounted counts (suc s) ts
+
+  -- there is room for so many sources and workers, and nothing in it
+  pub record IsRoom (sources workers : ℕ) (room : Room R W) : Type 0 where
+    pub working : (room.working.items ≡ []) × (workers ≤ vec_capacity room.working)
+    pub lanes : (room.lanes.items ≡ []) × (sources ≤ vec_capacity room.lanes)
+    pub ended : (room.ended.items ≡ []) × (sources ≤ vec_capacity room.ended)
+    pub tracks : (room.tracks.items ≡ []) × (sources ≤ vec_capacity room.tracks)
+    pub seats : (room.seats.items ≡ []) × (workers ≤ vec_capacity room.seats)
+
+-- ---- workers
+
+-- a worker took jobs until it was answered Done
+pub record IsWorked (queue : Queue Ordered) (worked : Worked) : Type 0 where
+  pub seat : IsWorkerSeat queue worked.seat
+  pub done : is_done worked.seat ≡ true
+
+-- workers of this queue
+abbrev pub AreWorking : Queue Ordered → List (PromisedHandle Worked WorkerOf) → Type 0
+AreWorking queue handles = AllByRecursion (λ (h : PromisedHandle Worked WorkerOf). h.promise.queue.value ≡ queue) handles
+
+-- ---- what threads are started with
+
+-- outboxes that lead to the boxes of so many sources
+abbrev pub LeadToAll : ℕ → List Outbox → Type 0
+LeadToAll sources outboxes = AllByRecursion (λ (outbox : Outbox). sources ≤ length outbox.doors.items) outboxes
+
+-- all seats, and boxes for them
+pub record AreParts (queue : Queue Ordered) (parts : Parts) : Type 0 where
+  pub sources : AreAllSources queue parts.sources.items
+  pub workers : AreWorkerSeats queue parts.workers.items
+  pub workers_are : length parts.workers.items ≡ workers_of queue
+  pub closer : IsCloser queue parts.closer
+  pub inboxes : AreFrom 0 parts.inboxes.items
+  pub inboxes_are : length parts.inboxes.items ≡ sources_of queue
+  pub outboxes : LeadToAll (sources_of queue) parts.outboxes.items
+  pub outboxes_are : length parts.outboxes.items ≡ workers_of queue
+
+-- the films, and all that was made for their lanes and for the workers
+pub record MayRun {R W : Type 0} (queue : Queue Ordered) (refused : List AtomicBool) (window : ℕ) (films : List (R × W × Tuning)) (parts : Parts) (room : Room R W) : Type 0 where
+  pub films_are : length films ≡ sources_of queue
+  pub sources : sources_of queue ≤ 16
+  pub seats : AreParts queue parts
+  pub flags : length refused ≡ sources_of queue
+  pub some : 1 ≤ window
+  pub few : window ≤ MOST_WINDOW
+  pub places : IsRoom (sources_of queue) (workers_of queue) room

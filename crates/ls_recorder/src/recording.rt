@@ -1,0 +1,149 @@
+//! Recording films side by side: each has a lane, in a thread of its own, and workers code the frames of all.
+mod threads;
+
+ghost use Rattle.std.specs.Prelude.{◌≡◌, ℕ, List, ◌⊎◌, Some, None, length, IfOk, IfErr};
+ghost use Rattle.ls_queue.specs.Running.{sources_of, workers_of};
+ghost use Rattle.ls_recorder.specs.View.Recordings.{AreTracks, AreCounted, AreParts, HasRun, record_fault};
+
+use crate::collector::MOST_WINDOW;
+use crate::delivery::boxes;
+use crate::faults::RecordFault;
+use crate::lane::LaneFault;
+use crate::orders::Order;
+use crate::working::Gate;
+use ls_frame::{Feed, Outlet, Tuning};
+use ls_queue::{Account, MOST_CAPACITY, MOST_SOURCES, MOST_WORKERS, Queue, open, settle};
+use std::alloc::Global;
+use std::sync::Wait;
+use std::thread::Threads;
+use threads::{Parts, Ran, flags_for, room_for, run_in_scope};
+
+/// A film's reader and writer as its lane gives them back, and how many frames it recorded, or why it stopped.
+#[derive(Drop)]
+pub struct Track<R, W> {
+    pub reader: R,
+    pub writer: W,
+    pub result: Result<u64, LaneFault>,
+}
+
+/// What came of a recording.
+#[derive(Drop)]
+pub struct Recording<R, W> {
+    /// A track for each film, in their order.
+    pub tracks: Vec<Track<R, W>>,
+    /// How many frames of each film were put into the queue; of one that was recorded whole, all.
+    pub account: Account,
+}
+
+/// Records 1 to 16 films side by side: of each the codestreams of its frames, joined. A film is what reads it, what its codestreams
+/// are written to, and a tuning of its coding parameters. 1 to 16 workers code the frames of all films; up to `capacity` frames, 1 to
+/// 256, wait for a worker, or one a worker if that is more; of each film up to `window` frames, 1 to 64, were read and aren't written.
+///
+/// Each film has a lane of its own, and no film's end or fault touches another (`lane::lane` says what each answers). A lane for which no
+/// thread can be made answers `NotStarted`, with nothing read or written, and the others go on. If the bytes of a film's reader and
+/// writer are known (as in memory), the clauses say which were read and written.
+///
+/// Fails for the first of `Sources`, `Workers`, `Capacity` and `Window` that is so; else for `NoMemory` only if an allocation fails, and
+/// for `NotStarted` only if no thread can be made for a worker. Then the films come back, with nothing read or written.
+///
+/// All that it needs it takes before it starts a thread. It waits for its threads; nothing is proved of when they end.
+pub fn record<Rt: Threads + Wait + Sync, R: Feed + Send + Drop, W: Outlet + Send + Drop, G: Gate>(
+    rt: &Rt,
+    alloc: Global,
+    films: Vec<(R, W, Tuning)>,
+    workers: usize,
+    capacity: usize,
+    window: usize,
+    gate: &G,
+) -> Result<Recording<R, W>, (RecordFault, Vec<(R, W, Tuning)>)>
+    ensures tracks { IfOk result (λ recording. AreTracks R.remaining R.failed_reads W.contents W.failed_writes films.items recording.tracks.items) }
+    ensures account { IfOk result (λ recording. AreCounted recording.account.counts 0 recording.tracks.items
+        × (recording.account.sources ≡ length films.items)) }
+    ensures refused { IfErr result (λ refused. (refused.1.items ≡ films.items)
+        × ((record_fault (length films.items) workers capacity window ≡ Some refused.0)
+        ⊎ ((record_fault (length films.items) workers capacity window ≡ None) × ((refused.0 ≡ RecordFault.NoMemory) ⊎ (refused.0 ≡ RecordFault.NotStarted))))) }
+{
+    if let Some(fault) = record_fault(films.len(), workers, capacity, window) {
+        return Err((fault, films));
+    }
+    let (Ok(flags), Ok(room)) = (flags_for(alloc, films.len()), room_for(alloc, films.len(), workers)) else {
+        return Err((RecordFault::NoMemory, films));
+    };
+    let Ok((queue, parts)) = make_queue(rt, alloc, films.len() as u8, workers, capacity, window) else {
+        return Err((RecordFault::NoMemory, films));
+    };
+    match run_in_scope(rt, alloc, &queue, gate, &flags, window, films, parts, room) {
+        Ok(ran) => Ok(settled(rt, queue, ran)),
+        Err(films) => Err((RecordFault::NotStarted, films)),
+    }
+}
+
+/// The fault of the numbers that a recording is made with, if there is one.
+fn record_fault(sources: usize, workers: usize, capacity: usize, window: usize) -> Option<RecordFault>
+    ensures { result ≡ record_fault sources workers capacity window }
+{
+    if sources == 0 || sources > MOST_SOURCES as usize {
+        return Some(RecordFault::Sources);
+    }
+    if workers == 0 || workers > MOST_WORKERS {
+        return Some(RecordFault::Workers);
+    }
+    if capacity == 0 || capacity > MOST_CAPACITY {
+        return Some(RecordFault::Capacity);
+    }
+    if window == 0 || window > MOST_WINDOW {
+        return Some(RecordFault::Window);
+    }
+    None
+}
+
+/// A queue with all its seats, and a box for each source. Fails only if an allocation fails.
+fn make_queue<Rt: Wait>(
+    rt: &Rt,
+    alloc: Global,
+    sources: u8,
+    workers: usize,
+    capacity: usize,
+    window: usize,
+) -> Result<(Queue<Order>, Parts), RecordFault>
+    requires { record_fault sources workers capacity window ≡ None }
+    ensures { IfOk result (λ made. (sources_of made.0 ≡ sources) × (workers_of made.0 ≡ workers) × AreParts made.0 made.1) }
+{
+    let Ok((inboxes, outboxes)) = boxes(rt, alloc, sources, workers, window) else {
+        return Err(RecordFault::NoMemory);
+    };
+    let Ok((queue, sources, workers, closer)) = open(rt, alloc, sources, workers, capacity) else {
+        return Err(RecordFault::NoMemory);
+    };
+    Ok((
+        queue,
+        Parts {
+            sources,
+            workers,
+            closer,
+            inboxes,
+            outboxes,
+        },
+    ))
+}
+
+/// The account of a queue whose threads have ended.
+fn settled<Rt: Wait, R: Feed + Drop, W: Outlet + Drop>(rt: &Rt, queue: Queue<Order>, ran: Ran<R, W>) -> Recording<R, W>
+    requires { (films : List (R × W × Tuning)) × (length films ≡ sources_of queue) × HasRun R.remaining R.failed_reads W.contents W.failed_writes queue films ran }
+    ensures { (films : List (R × W × Tuning)) → length films ≡ sources_of queue → HasRun R.remaining R.failed_reads W.contents W.failed_writes queue films ran
+        → AreTracks R.remaining R.failed_reads W.contents W.failed_writes films result.tracks.items × AreCounted result.account.counts 0 result.tracks.items
+        × (result.account.sources ≡ length films) }
+{
+    let Ran {
+        tracks,
+        finished,
+        seats,
+    } = ran;
+    match settle(rt, queue, finished, seats) {
+        Ok(account) => Recording { tracks, account },
+        Err(_) => unreachable!(),
+    }
+}
+
+#[cfg(test)]
+mod tests;

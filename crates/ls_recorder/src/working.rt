@@ -1,0 +1,90 @@
+//! What a worker does: it takes jobs, codes them, and answers into the boxes of their sources.
+ghost use Rattle.std.specs.Prelude.{◌≡◌, ◌+◌, ◌≤◌, true, length};
+ghost use Rattle.ls_queue.specs.Running.{IsWorkerSeat, jobs_taken, is_done, sources_of};
+
+use crate::delivery::Outbox;
+use crate::orders::Order;
+use crate::pieces::Coded;
+use ls_queue::{Queue, Taken, WorkerSeat};
+use std::alloc::Global;
+use std::sync::Wait;
+
+/// When a gate is passed.
+#[derive(Clone, Copy, Debug, PartialEq, Eq)]
+pub enum Moment {
+    /// The job is about to be coded.
+    Before,
+    /// It was coded, or couldn't be, and isn't answered yet.
+    After,
+}
+
+/// What each worker passes before and after each coding. Nothing is promised of it: it can count, and hold workers up.
+pub trait Gate: Sync {
+    /// The job of this source and this number is at this moment.
+    fn pass(&self, source: u8, number: u64, moment: Moment);
+}
+
+/// The gate that holds nobody up.
+pub struct Open;
+
+impl Gate for Open {
+    fn pass(&self, _source: u8, _number: u64, _moment: Moment) {}
+}
+
+/// What a worker did.
+#[derive(Drop)]
+pub struct Worked {
+    /// Its seat, which was answered Done.
+    pub seat: WorkerSeat<Order>,
+    /// How many jobs it coded, as far as 64 bits count.
+    pub coded: u64,
+    /// How many answers came back, since the lanes of their sources were gone.
+    pub undelivered: u64,
+}
+
+/// Takes jobs until the queue is done, codes each, and answers it into the box of its source. It passes the gate before and after
+/// each coding. A job for whose coding memory is refused is answered with `Uncoded`.
+///
+/// Waits for jobs, and while there is no room for an answer.
+pub fn work<R: Wait, G: Gate>(
+    rt: &R,
+    alloc: Global,
+    queue: &Queue<Order>,
+    mut seat: WorkerSeat<Order>,
+    mut outbox: Outbox,
+    gate: &G,
+) -> Worked
+    requires seat { IsWorkerSeat queue.now seat }
+    requires boxes { sources_of queue.now ≤ length outbox.doors.items }
+    ensures seat { IsWorkerSeat queue.now result.seat }
+    ensures done { is_done result.seat ≡ true }
+    ensures coded { length (jobs_taken seat) + result.coded ≤ length (jobs_taken result.seat) }
+    ensures undelivered { length (jobs_taken seat) + result.undelivered ≤ length (jobs_taken result.seat) }
+{
+    let mut coded: u64 = 0;
+    let mut undelivered: u64 = 0;
+    for _ in rt.forever() {
+        let Taken::Job(job) = queue.take(rt, &mut seat) else {
+            return Worked {
+                seat,
+                coded,
+                undelivered,
+            };
+        };
+        let source = job.source;
+        let number = job.number;
+        gate.pass(source, number, Moment::Before);
+        let answer = Coded::make(alloc, job);
+        gate.pass(source, number, Moment::After);
+        if answer.is_ok() {
+            coded = coded.saturating_add(1);
+        }
+        if outbox.send(rt, source, answer).is_err() {
+            undelivered = undelivered.saturating_add(1);
+        }
+    }
+    unreachable!()
+}
+
+#[cfg(test)]
+mod tests;

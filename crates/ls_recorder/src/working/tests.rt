@@ -1,0 +1,85 @@
+ghost use Rattle.std.specs.Prelude.{◌≡◌};
+ghost use Rattle.ls_queue.specs.Running.{IsSourceSeat, IsWorkerSeat, AreAllSources, AreAllWorkers, sources_of, workers_of};
+
+use super::*;
+use crate::delivery::{Inbox, boxes};
+use crate::testing::{check, pixel_order};
+use ls_queue::{SourceSeat, open};
+use std::sync::atomic::{AtomicU64, Ordering};
+
+/// A gate that counts how often it was passed.
+#[derive(Drop)]
+struct Counter {
+    before: AtomicU64,
+    after: AtomicU64,
+}
+
+impl Gate for Counter {
+    fn pass(&self, _source: u8, _number: u64, moment: Moment) {
+        let _earlier = match moment {
+            Moment::Before => self.before.fetch_add(1, Ordering::SeqCst),
+            Moment::After => self.after.fetch_add(1, Ordering::SeqCst),
+        };
+    }
+}
+
+/// The seat of a queue's only source.
+fn only_source(queue: &Queue<Order>, mut seats: Vec<SourceSeat<Order>>) -> SourceSeat<Order>
+    requires one { sources_of queue.now ≡ 1 }
+    requires seats { AreAllSources queue.now seats.items }
+    ensures { IsSourceSeat queue.now result }
+{
+    seats.remove(0)
+}
+
+/// The seat of a queue's only worker.
+fn only_worker(queue: &Queue<Order>, mut seats: Vec<WorkerSeat<Order>>) -> WorkerSeat<Order>
+    requires one { workers_of queue.now ≡ 1 }
+    requires seats { AreAllWorkers queue.now seats.items }
+    ensures { IsWorkerSeat queue.now result }
+{
+    seats.remove(0)
+}
+
+/// Whether the next piece in the box is of this number and this sample.
+fn comes_out<R: Wait>(rt: &R, inbox: &mut Inbox, number: u64, sample: u16) -> bool {
+    match inbox.recv(rt) {
+        Some(Ok(piece)) => {
+            piece.number() == number && piece.frame().samples().first() == Some(&sample)
+        }
+        _ => false,
+    }
+}
+
+/// Whether a worker codes two pixels, one after the other, and counts them. `None` if memory is refused.
+fn two_pixels_are_coded<R: Wait>(rt: &R, alloc: Global) -> Option<bool> {
+    let (mut inboxes, mut outboxes) = boxes(rt, alloc, 1, 1, 2).ok()?;
+    let mut inbox = inboxes.pop()?;
+    let outbox = outboxes.pop()?;
+    let (queue, sources, workers, closer) = open::<Order, R>(rt, alloc, 1, 1, 3).ok()?;
+    let mut source = only_source(&queue, sources);
+    let worker = only_worker(&queue, workers);
+    let _first = queue.put(rt, &mut source, pixel_order(alloc, 0, 64)?);
+    let _second = queue.put(rt, &mut source, pixel_order(alloc, 255, 64)?);
+    let mut ended = Vec::with_capacity(alloc, 1).ok()?;
+    ended.push_reserved(queue.end(rt, source));
+    let _finished = queue.finish(rt, closer, ended).ok()?;
+    if outbox.sources() == 0 {
+        return Some(false);
+    }
+    let gate = Counter {
+        before: AtomicU64::new(0),
+        after: AtomicU64::new(0),
+    };
+    let worked = work(rt, alloc, &queue, worker, outbox, &gate);
+    let counts = (worked.coded, worked.undelivered) == (2, 0);
+    let passed = (gate.before.into_inner(), gate.after.into_inner()) == (2, 2);
+    let pieces = comes_out(rt, &mut inbox, 0, 0) && comes_out(rt, &mut inbox, 1, 255);
+    Some(counts && passed && pieces && inbox.recv(rt).is_none())
+}
+
+#[test]
+fn jobs_are_coded_and_answered_with_ample_memory(rt: HostRuntime) {
+    let right = two_pixels_are_coded(&rt, rt.alloc());
+    check(&rt, "two pixels", right, true);
+}
