@@ -1,7 +1,7 @@
 -- What a lane put and what it wrote of that, step by step.
-use Rattle.std.proofs.Common.{◌≡◌, ℕ, ◌+◌, ◌-◌, ◌<◌, ◌≤◌, Bool, true, false, cond, List, [], ◌∷◌, ◌++◌, length, map, take, drop, set, Option, Some, None, IfSome, refl, sym, ap, subst, ◌∙◌, arith, append_assoc, append-nil}
+use Rattle.std.proofs.Common.{◌≡◌, ℕ, ◌+◌, ◌-◌, ◌<◌, Bool, true, false, cond, List, [], ◌∷◌, ◌++◌, length, map, take, drop, Option, Some, None, IfSome, refl, sym, ap, subst, ◌∙◌, arith, append_assoc, append-nil}
 use Rattle.std.specs.Io.KnownBytes.{Appends}
-use Rattle.std.proofs.KnownBytes.{Appends-nil, Appends-trans}
+use Rattle.std.proofs.KnownBytes.{Appends-trans}
 use Rattle.std.proofs.Math.Seq.{map-set_same, take-append-add, take-append_seam}
 use Rattle.std.proofs.lemmas.List.{length-append, length-set, length-map, length_push, map-append, take-append-le}
 use Rattle.std.proofs.lemmas.Bool.{ne_eqb}
@@ -11,7 +11,7 @@ use Rattle.ls_queue.specs.declared.replies.Job.{Job}
 use Rattle.ls_recorder.specs.declared.collector.Slot.{Slot}
 use Rattle.ls_recorder.specs.Orders.{Ordered, coded}
 use Rattle.ls_recorder.specs.Collecting.{Collection, booked, misfit_of, after_accept, is_full, after_book, first_piece, next_reply, after_reply, after_next, job_of, ArePieces, IsCollection}
-use Rattle.ls_recorder.specs.View.Lanes.{WroteFront, WroteFewer, WrotePart, orders_in, IsWriting, GoesOn}
+use Rattle.ls_recorder.specs.View.Lanes.{WroteFront, WroteFewer, WrotePart, orders_in, IsWriting}
 use Rattle.ls_recorder.proofs.CollectorLemmas.{fits}
 
 -- ---- codestreams, one more at a time

@@ -1,25 +1,25 @@
 -- A lane's run: what it read and what it wrote of that, and how it ends.
-use Rattle.std.proofs.Common.{◌≡◌, ℕ, ◌+◌, ◌<◌, ◌≤◌, ◌^◌, inl, inr, Bool, true, false, List, [], ◌∷◌, ◌++◌, length, map, take, Option, Result, Ok, Err, refl, sym, ap, subst, ◌∙◌, arith, append_assoc, append-nil, IsTrue}
+use Rattle.std.proofs.Common.{◌≡◌, ℕ, ◌+◌, ◌≤◌, inl, inr, Bool, true, false, List, [], ◌∷◌, ◌++◌, length, map, Option, refl, sym, ap, subst, ◌∙◌, arith, append_assoc, append-nil, IsTrue}
 use Rattle.std.specs.Io.KnownBytes.{Appends}
 use Rattle.std.proofs.KnownBytes.{Appends-nil}
-use Rattle.std.proofs.lemmas.List.{length_push, length-map, map-append}
+use Rattle.std.proofs.lemmas.List.{length_push, map-append}
 use Rattle.ls_frame.specs.declared.tuning.Tuning.{Tuning}
 use Rattle.ls_frame.specs.Picture.{Picture}
 use Rattle.ls_frame.specs.Tuning.{tuned}
 use Rattle.ls_frame.specs.Netpbm.{IsImageOf}
 use Rattle.ls_frame.specs.Faults.{IsBroken, blames_bytes}
-use Rattle.ls_frame.specs.View.Devices.{count_after, risen}
+use Rattle.ls_frame.specs.View.Devices.{count_after}
 use Rattle.ls_frame.specs.View.Known.{Gave, WasAtEnd}
 use Rattle.ls_film.specs.Film.{most_frames}
 use Rattle.ls_film.specs.Coding.{file}
-use Rattle.ls_film.specs.View.Given.{GaveFrames, BeginsWithFrames}
+use Rattle.ls_film.specs.View.Given.{GaveFrames}
 use Rattle.ls_film.proofs.FilmLemmas.{GaveFrames-none, GaveFrames-more, GaveFilm-end, IsBrokenAfter-next, BeginsWithFrames-gave}
 use Rattle.ls_recorder.specs.declared.collector.Slot.{Slot}
 use Rattle.ls_recorder.specs.declared.lane.LaneFault.{LaneFault}
 use Rattle.ls_recorder.specs.declared.lane.LaneFault.TheVariants.{Input, Output, NoMemory, Misfit, Lost, NotStarted, TooMany, Tuning as BadTuning}
 use Rattle.ls_recorder.specs.Orders.{Ordered}
-use Rattle.ls_recorder.specs.Collecting.{Collection, new_collection, after_book}
-use Rattle.ls_recorder.specs.View.Lanes.{with_tuning, tuned_file, WroteFront, WroteFewer, WrotePart, StopsWriting, orders_in, IsWriting, StopsReading, Records, HasPut, RecordsBefore, RecordsMost, RecordsUntuned, StopsLane, ReadsSo, blames_reader, blames_writer}
+use Rattle.ls_recorder.specs.Collecting.{Collection, new_collection}
+use Rattle.ls_recorder.specs.View.Lanes.{with_tuning, tuned_file, WroteFront, StopsWriting, orders_in, IsWriting, StopsReading, Records, HasPut, StopsLane, ReadsSo, blames_reader, blames_writer}
 use Rattle.ls_recorder.proofs.LaneLemmas.{writes-front}
 
 -- what was read so far, all of which was put

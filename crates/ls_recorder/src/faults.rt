@@ -35,3 +35,6 @@ impl From<AllocError> for RecordFault {
         RecordFault::NoMemory
     }
 }
+
+#[cfg(test)]
+mod tests;

@@ -4,7 +4,6 @@ use Rattle.std.specs.Prelude.{◌≡◌, true, refl, Decides}
 use Rattle.std.specs.Cmp.{IsPartialEquivalence, first_so, second_so, decided, partial_equiv_from_equiv}
 use Rattle.std.proofs.Common.{subst}
 use Rattle.std.proofs.lemmas.Bool.{eqb-true, eq-eqb}
-use Rattle.ls_frame.specs.Picture.{same_picture}
 use Rattle.ls_frame.specs.Parameters.{Parameters}
 use Rattle.ls_frame.specs.View.Alike.{same_picture-decides}
 use Rattle.ls_stream.specs.Layout.{same_parameters}

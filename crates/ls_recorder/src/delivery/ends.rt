@@ -24,9 +24,9 @@ impl Split<()> for Another {
 /// Where the answers of one source come out.
 #[derive(Drop)]
 pub struct Inbox {
-    pub source: u8,
-    pub exit: RuledReceiver<Answer, (), Free>,
-    pub pass: Pass<Answer, ()>,
+    pub(crate) source: u8,
+    pub(crate) exit: RuledReceiver<Answer, (), Free>,
+    pub(crate) pass: Pass<Answer, ()>,
     ghost own: { IsSeatAt (receives_on exit) pass },
 }
 
@@ -42,7 +42,7 @@ pub struct Door {
 #[derive(Drop)]
 pub struct Outbox {
     /// A door for each source, in order from source 0.
-    pub doors: Vec<Door>,
+    pub(crate) doors: Vec<Door>,
 }
 
 impl Inbox {

@@ -1,4 +1,4 @@
-use Rattle.std.proofs.Common.{◌≡◌, length, sym, ◌∙◌, rules}
+use Rattle.std.proofs.Common.{sym, rules}
 use Rattle.crossbeam_channel.specs.Ends.{sends_on, receives_on}
 use Rattle.ls_recorder.specs.declared.delivery.ends.Inbox.{Inbox}
 use Rattle.ls_recorder.specs.declared.delivery.ends.Door.{Door}

@@ -1,4 +1,4 @@
-use Rattle.std.proofs.Common.{◌≡◌, ◌<◌, get_or, length, sym, ap, ◌∙◌, arith, rules}
+use Rattle.std.proofs.Common.{◌≡◌, ◌<◌, get_or, length, ap, ◌∙◌, rules}
 use Rattle.crossbeam_channel.specs.Ends.{sends_on}
 use Rattle.ls_recorder.specs.declared.delivery.ends.Door.{Door}
 use Rattle.ls_recorder.proofs.BoxLemmas.{copies-push, channel-set}

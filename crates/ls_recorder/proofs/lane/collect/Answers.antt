@@ -1,6 +1,4 @@
-use Rattle.std.proofs.Common.{◌≡◌, None, sym, ◌∙◌, rules}
 use Rattle.std.proofs.lemmas.Result.{err_from_is_err_and}
-use Rattle.ls_recorder.specs.Collecting.{misfit_of, after_accept}
 use Rattle.ls_recorder.proofs.LaneLemmas.{keeps, writes-kept, writes-fewer, writes-front}
 use Rattle.ls_recorder.proofs.lane.collect.Goals as goal
 

@@ -1,4 +1,4 @@
-use Rattle.std.proofs.Common.{◌≡◌, ◌*◌, ◌^◌, ◌≤◌, length}
+use Rattle.std.proofs.Common.{◌≡◌, ◌*◌, ◌^◌, ◌≤◌}
 use Rattle.ls_recorder.specs.Collecting.{booked}
 use Rattle.ls_recorder.specs.View.Lanes.{GoesOn}
 use Rattle.ls_recorder.proofs.lane.collect_until.Given as goal

@@ -1,10 +1,10 @@
-use Rattle.std.proofs.Common.{◌≡◌, ◌+◌, ◌<◌, ◌≤◌, false, length, sym, ap, ◌∙◌, arith, rules}
+use Rattle.std.proofs.Common.{◌+◌, ◌<◌, false, length, ap, ◌∙◌, arith}
 use Rattle.std.proofs.lemmas.List.{length_push}
 use Rattle.std.proofs.lemmas.Result.{err_from_is_err_and}
 use Rattle.ls_frame.specs.View.Devices.{count_after}
 use Rattle.ls_queue.specs.Running.{items_put}
 use Rattle.ls_recorder.specs.View.Lanes.{blames_reader, blames_writer}
-use Rattle.ls_recorder.proofs.LaneLemmas.{Books, books}
+use Rattle.ls_recorder.proofs.LaneLemmas.{books}
 use Rattle.ls_recorder.proofs.RunLemmas.{HasRead-more, IsWriting-more, records-all, stops-writing, stops-reading, stops-memory, reads-so, reads-writing, writes-reading}
 use Rattle.ls_recorder.proofs.lane.run.Goals as goal
 

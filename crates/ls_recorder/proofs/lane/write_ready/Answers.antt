@@ -1,7 +1,7 @@
-use Rattle.std.proofs.Common.{◌≡◌, ◌≤◌, Some, sym, ◌∙◌, subst, arith, rules}
+use Rattle.std.proofs.Common.{◌≡◌, Some, ◌∙◌, arith, rules}
 use Rattle.std.proofs.lemmas.Result.{err_from_is_err_and}
 use Rattle.ls_recorder.specs.Collecting.{next_reply}
-use Rattle.ls_recorder.proofs.LaneLemmas.{HandsOut, hands_out, writes-piece, writes-part}
+use Rattle.ls_recorder.proofs.LaneLemmas.{hands_out, writes-piece, writes-part}
 use Rattle.ls_recorder.proofs.lane.write_ready.Goals as goal
 
 pub loop-piece-preserved : goal.loop-piece-preserved

@@ -1,4 +1,4 @@
-use Rattle.std.proofs.Common.{◌<◌, ◌-◌, ◌^◌, length, refl, sym, subst, arith}
+use Rattle.std.proofs.Common.{◌<◌, ◌-◌, ◌^◌, refl, sym, subst}
 use Rattle.ls_recorder.specs.Collecting.{Collection, booked}
 use Rattle.ls_recorder.proofs.CollectorLemmas.{IsCollection-book}
 use Rattle.ls_recorder.proofs.collector.Collector.book.Goals as goal

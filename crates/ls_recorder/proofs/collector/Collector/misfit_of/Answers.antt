@@ -1,7 +1,5 @@
-use Rattle.std.proofs.Common.{◌≡◌, ◌≤◌, ◌-◌, Bool, true, false, Some, refl, sym, ap, ◌∙◌, arith, rules}
-use Rattle.std.specs.List.{slice_get}
-use Rattle.ls_recorder.specs.Collecting.{has_piece}
-use Rattle.ls_recorder.proofs.CollectorLemmas.{FitsIn, no_misfit}
+use Rattle.std.proofs.Common.{sym, rules}
+use Rattle.ls_recorder.proofs.CollectorLemmas.{no_misfit}
 use Rattle.ls_recorder.proofs.collector.Collector.misfit_of.Goals as goal
 
 pub returns-in-Some-3-clause-reply : goal.returns-in-Some-3-clause-reply
