@@ -117,13 +117,12 @@ module _ {R W : Type 0} (remaining : R → Option (List ℕ)) (failed_reads : R 
   pub joins : (films : List (R × W × Tuning)) (done left : List (R × W × Tuning)) (es : List (Ended Ordered)) (ts : List (Track R W)) (lanes rest : List (Lane R W)) (l : Lane R W) (e : Ended Ordered) (t : Track R W)
       → done ++ left ≡ films → AreDone remaining failed_reads contents failed_writes queue 0 done es ts → AreStarted remaining failed_reads contents failed_writes queue (length done) left lanes → lanes ≡ l ∷ rest
       → ((s : ℕ) (film : R × W × Tuning) → IsStarted remaining failed_reads contents failed_writes queue s film l
-        → IsLaneEnd remaining failed_reads contents failed_writes queue s film.2 film.0 film.1 (record { ended = e; reader = t.reader; writer = t.writer; result = t.result }))
+      → IsLaneEnd remaining failed_reads contents failed_writes queue s film.2 film.0 film.1 (record { ended = e; reader = t.reader; writer = t.writer; result = t.result }))
       → (done' : List (R × W × Tuning)) × (left' : List (R × W × Tuning)) × (done' ++ left' ≡ films)
       × AreDone remaining failed_reads contents failed_writes queue 0 done' (es ++ e ∷ []) (ts ++ t ∷ []) × AreStarted remaining failed_reads contents failed_writes queue (length done') left' rest
   joins films done [] es ts lanes rest l e t whole ended started first end = absurd (subst (AreStarted remaining failed_reads contents failed_writes queue (length done) []) first started)
   joins films done (f ∷ fs) es ts lanes rest l e t whole ended started first end =
-      let both : AreStarted remaining failed_reads contents failed_writes queue (length done) (f ∷ fs) (l ∷ rest) = subst (AreStarted remaining failed_reads contents failed_writes queue (length done) (f ∷ fs)) first started in
-      (
+      let both : AreStarted remaining failed_reads contents failed_writes queue (length done) (f ∷ fs) (l ∷ rest) = subst (AreStarted remaining failed_reads contents failed_writes queue (length done) (f ∷ fs)) first started in (
         done ++ f ∷ [],
         fs,
         append_assoc done (f ∷ []) fs ∙ whole,
@@ -169,7 +168,7 @@ module _ {R W : Type 0} (remaining : R → Option (List ℕ)) (failed_reads : R 
   done-each s (f ∷ fs) [] ts all k from below_k = absurd all
   done-each s (f ∷ fs) (e ∷ es) [] all k from below_k = absurd all
   done-each s (f ∷ fs) (e ∷ es) (t ∷ ts) all k from below_k = elim (eq-or-lt_of_le {n = s} {m = k} from) [
-    inl same ↦ or_first (e.source == k) _ (eq_true e.source k (all.0.source ∙ same))
+    | inl same ↦ or_first (e.source == k) _ (eq_true e.source k (all.0.source ∙ same))
     | inr later ↦ or_second (e.source == k) _ (done-each (suc s) fs es ts all.1 k (omega arith) (omega arith))
   ]
 
@@ -190,7 +189,7 @@ module _ {R W : Type 0} (remaining : R → Option (List ℕ)) (failed_reads : R 
   not_below counts s (f ∷ fs) [] ts all k less counted = all
   not_below counts s (f ∷ fs) (e ∷ es) [] all k less counted = all
   not_below counts s (f ∷ fs) (e ∷ es) (t ∷ ts) all k less counted = elim counted [
-    inl here ↦ (let a = all.0.source in let b = here.0 in absurd (omega arith))
+    | inl here ↦ (let a = all.0.source in let b = here.0 in absurd (omega arith))
     | inr later ↦ not_below counts (suc s) fs es ts all.1 k (omega arith) later
   ]
 
@@ -205,17 +204,16 @@ module _ {R W : Type 0} (remaining : R → Option (List ℕ)) (failed_reads : R 
   done-counted counts s [] (e ∷ es) ts all counted = absurd all
   done-counted counts s (f ∷ fs) [] ts all counted = absurd all
   done-counted counts s (f ∷ fs) (e ∷ es) [] all counted = absurd all
-  done-counted counts s (f ∷ fs) (e ∷ es) (t ∷ ts) all counted =
-      (
-        elim (counted s (omega arith) (omega arith)) [
-          inl here ↦ ok-both t.result (λ n. e.count ≡ n) (λ n. slice_index_or counts s 0 ≡ n) (λ n is. here.1 ∙ (sym all.0.ended.count ∙ is)) all.0.count
-          | inr later ↦ absurd (not_below counts (suc s) fs es ts all.1 s (omega arith) later)
-        ],
-        done-counted counts (suc s) fs es ts all.1 (λ k from less. elim (counted k (omega arith) (omega arith)) [
-          inl here ↦ (let a = all.0.source in let b = here.0 in absurd (omega arith))
-          | inr later ↦ later
-        ]),
-      )
+  done-counted counts s (f ∷ fs) (e ∷ es) (t ∷ ts) all counted = (
+    elim (counted s (omega arith) (omega arith)) [
+      | inl here ↦ ok-both t.result (λ n. e.count ≡ n) (λ n. slice_index_or counts s 0 ≡ n) (λ n is. here.1 ∙ (sym all.0.ended.count ∙ is)) all.0.count
+      | inr later ↦ absurd (not_below counts (suc s) fs es ts all.1 s (omega arith) later)
+    ],
+    done-counted counts (suc s) fs es ts all.1 (λ k from less. elim (counted k (omega arith) (omega arith)) [
+      | inl here ↦ (let a = all.0.source in let b = here.0 in absurd (omega arith))
+      | inr later ↦ later
+    ]),
+  )
 
 pub new-workers : {X : Type 0} (channel : Channel X) (seats : List (WorkerSeat X)) → AreNewWorkers channel seats → AllByRecursion (IsWorkerAt channel) seats
 new-workers channel [] all = _

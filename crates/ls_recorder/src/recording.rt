@@ -57,8 +57,8 @@ pub fn record<Rt: Threads + Wait + Sync, R: Feed + Send + Drop, W: Outlet + Send
     gate: &G,
 ) -> Result<Recording<R, W>, (RecordFault, Vec<(R, W, Tuning)>)>
     ensures tracks { IfOk result (λ recording. AreTracks R.remaining R.failed_reads W.contents W.failed_writes films.items recording.tracks.items) }
-    ensures account { IfOk result (λ recording. AreCounted recording.account.counts 0 recording.tracks.items
-        × (recording.account.sources ≡ length films.items)) }
+    ensures account { IfOk result (λ recording. AreCounted recording.account.counts 0 recording.tracks.items) }
+    ensures sources { IfOk result (λ recording. recording.account.sources ≡ length films.items) }
     ensures refused { IfErr result (λ refused. (refused.1.items ≡ films.items)
         × ((record_fault (length films.items) workers capacity window ≡ Some refused.0)
         ⊎ ((record_fault (length films.items) workers capacity window ≡ None) × ((refused.0 ≡ RecordFault.NoMemory) ⊎ (refused.0 ≡ RecordFault.NotStarted))))) }
@@ -66,10 +66,14 @@ pub fn record<Rt: Threads + Wait + Sync, R: Feed + Send + Drop, W: Outlet + Send
     if let Some(fault) = record_fault(films.len(), workers, capacity, window) {
         return Err((fault, films));
     }
-    let (Ok(flags), Ok(room)) = (flags_for(alloc, films.len()), room_for(alloc, films.len(), workers)) else {
+    let (Ok(flags), Ok(room)) = (
+        flags_for(alloc, films.len()),
+        room_for(alloc, films.len(), workers),
+    ) else {
         return Err((RecordFault::NoMemory, films));
     };
-    let Ok((queue, parts)) = make_queue(rt, alloc, films.len() as u8, workers, capacity, window) else {
+    let Ok((queue, parts)) = make_queue(rt, alloc, films.len() as u8, workers, capacity, window)
+    else {
         return Err((RecordFault::NoMemory, films));
     };
     match run_in_scope(rt, alloc, &queue, gate, &flags, window, films, parts, room) {
@@ -79,7 +83,12 @@ pub fn record<Rt: Threads + Wait + Sync, R: Feed + Send + Drop, W: Outlet + Send
 }
 
 /// The fault of the numbers that a recording is made with, if there is one.
-fn record_fault(sources: usize, workers: usize, capacity: usize, window: usize) -> Option<RecordFault>
+fn record_fault(
+    sources: usize,
+    workers: usize,
+    capacity: usize,
+    window: usize,
+) -> Option<RecordFault>
     ensures { result ≡ record_fault sources workers capacity window }
 {
     if sources == 0 || sources > MOST_SOURCES as usize {
@@ -128,11 +137,17 @@ fn make_queue<Rt: Wait>(
 }
 
 /// The account of a queue whose threads have ended.
-fn settled<Rt: Wait, R: Feed + Drop, W: Outlet + Drop>(rt: &Rt, queue: Queue<Order>, ran: Ran<R, W>) -> Recording<R, W>
+fn settled<Rt: Wait, R: Feed + Drop, W: Outlet + Drop>(
+    rt: &Rt,
+    queue: Queue<Order>,
+    ran: Ran<R, W>,
+) -> Recording<R, W>
     requires { (films : List (R × W × Tuning)) × (length films ≡ sources_of queue) × HasRun R.remaining R.failed_reads W.contents W.failed_writes queue films ran }
-    ensures { (films : List (R × W × Tuning)) → length films ≡ sources_of queue → HasRun R.remaining R.failed_reads W.contents W.failed_writes queue films ran
-        → AreTracks R.remaining R.failed_reads W.contents W.failed_writes films result.tracks.items × AreCounted result.account.counts 0 result.tracks.items
-        × (result.account.sources ≡ length films) }
+    ensures tracks { (films : List (R × W × Tuning)) → length films ≡ sources_of queue → HasRun R.remaining R.failed_reads W.contents W.failed_writes queue films ran
+        → AreTracks R.remaining R.failed_reads W.contents W.failed_writes films result.tracks.items }
+    ensures account { (films : List (R × W × Tuning)) → length films ≡ sources_of queue → HasRun R.remaining R.failed_reads W.contents W.failed_writes queue films ran
+        → AreCounted result.account.counts 0 result.tracks.items }
+    ensures sources { result.account.sources ≡ sources_of queue }
 {
     let Ran {
         tracks,

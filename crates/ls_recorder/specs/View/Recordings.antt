@@ -44,8 +44,8 @@ module _ {R W : Type 0} (remaining : R → Option (List ℕ)) (failed_reads : R 
   DidLane film items track =
       ((track.result ≡ Err NotStarted) × (track.reader ≡ film.0) × (track.writer ≡ film.1))
       ⊎ MatchResult track.result
-        (Records film.2 items (remaining film.0) (remaining track.reader) (contents film.1) (contents track.writer))
-        (StopsLane film.2 items (remaining film.0) (remaining track.reader) (contents film.1) (contents track.writer))
+      (Records film.2 items (remaining film.0) (remaining track.reader) (contents film.1) (contents track.writer))
+      (StopsLane film.2 items (remaining film.0) (remaining track.reader) (contents film.1) (contents track.writer))
 
   -- what a track says of its film, and of its devices
   pub record IsTrack (film : R × W × Tuning) (track : Track R W) : Type 0 where

@@ -76,7 +76,12 @@ pub fn flags_for(alloc: Global, sources: usize) -> Result<Vec<AtomicBool>, Alloc
 }
 
 /// As `run_threads`, in a scope of its own.
-pub fn run_in_scope<Rt: Threads + Wait + Sync, R: Feed + Send + Drop, W: Outlet + Send + Drop, G: Gate>(
+pub fn run_in_scope<
+    Rt: Threads + Wait + Sync,
+    R: Feed + Send + Drop,
+    W: Outlet + Send + Drop,
+    G: Gate,
+>(
     rt: &Rt,
     alloc: Global,
     queue: &Queue<Order>,
@@ -98,13 +103,22 @@ pub fn run_in_scope<Rt: Threads + Wait + Sync, R: Feed + Send + Drop, W: Outlet 
             requires { MayRun queue.now refused.now window films.items parts room }
             ensures { IfOk result (HasRun R.remaining R.failed_reads W.contents W.failed_writes queue.entry.now films.items) × IfErr result (λ back. back.items ≡ films.items) }
         {
-            run_threads(scope, rt, alloc, queue, gate, refused, window, films, parts, room)
+            run_threads(
+                scope, rt, alloc, queue, gate, refused, window, films, parts, room,
+            )
         },
     )
 }
 
 /// Runs the workers and the lanes to their ends; gives the films back if a worker can't be started.
-fn run_threads<'s, E, Rt: Threads + Wait + Sync, R: Feed + Send + Drop + 's, W: Outlet + Send + Drop + 's, G: Gate>(
+fn run_threads<
+    's,
+    E,
+    Rt: Threads + Wait + Sync,
+    R: Feed + Send + Drop + 's,
+    W: Outlet + Send + Drop + 's,
+    G: Gate,
+>(
     scope: &Scope<'s, E>,
     rt: &'s Rt,
     alloc: Global,
@@ -134,12 +148,23 @@ fn run_threads<'s, E, Rt: Threads + Wait + Sync, R: Feed + Send + Drop + 's, W: 
         mut tracks,
         mut seats,
     } = room;
-    if !start_workers(scope, rt, alloc, queue, gate, workers, outboxes, &mut working) {
+    if !start_workers(
+        scope,
+        rt,
+        alloc,
+        queue,
+        gate,
+        workers,
+        outboxes,
+        &mut working,
+    ) {
         end_all(rt, queue, sources, &mut ended);
         let _finished = finish_queue(rt, queue, closer, ended);
         return Err(films);
     }
-    start_lanes(scope, rt, alloc, queue, refused, window, films, sources, inboxes, &mut lanes);
+    start_lanes(
+        scope, rt, alloc, queue, refused, window, films, sources, inboxes, &mut lanes,
+    );
     join_lanes(rt, queue, lanes, &mut ended, &mut tracks);
     let finished = finish_queue(rt, queue, closer, ended);
     join_workers(rt, queue, working, &mut seats);
@@ -186,10 +211,13 @@ fn start_workers<'s, E, Rt: Threads + Wait + Sync, G: Gate>(
         let promise = WorkerOf {
             queue: Snapshot::of(queue),
         };
-        let started = scope.spawn_with(promise, move || -> Worked
-            requires { IsWorkerSeat queue.now seat × (sources_of queue.now ≤ length outbox.doors.items) }
-            ensures { IsWorked queue.entry.now result }
-        { work(rt, alloc, queue, seat, outbox, gate) });
+        let started = scope.spawn_with(
+            promise,
+            move || -> Worked
+                requires { IsWorkerSeat queue.now seat × (sources_of queue.now ≤ length outbox.doors.items) }
+                ensures { IsWorked queue.entry.now result }
+            { work(rt, alloc, queue, seat, outbox, gate) },
+        );
         match started {
             Ok(handle) => working.push_reserved(handle),
             Err(_refused) => return false,
@@ -242,7 +270,13 @@ pub enum Lane<R: Feed + Drop, W: Outlet + Drop> {
 }
 
 /// Starts a lane for each film, in order from source 0.
-fn start_lanes<'s, E, Rt: Threads + Wait + Sync, R: Feed + Send + Drop + 's, W: Outlet + Send + Drop + 's>(
+fn start_lanes<
+    's,
+    E,
+    Rt: Threads + Wait + Sync,
+    R: Feed + Send + Drop + 's,
+    W: Outlet + Send + Drop + 's,
+>(
     scope: &Scope<'s, E>,
     rt: &'s Rt,
     alloc: Global,
@@ -280,7 +314,13 @@ fn start_lanes<'s, E, Rt: Threads + Wait + Sync, R: Feed + Send + Drop + 's, W: 
 }
 
 /// Starts a lane in a thread of its own; if none can be made, its film comes back as it was.
-fn start_lane<'s, E, Rt: Threads + Wait + Sync, R: Feed + Send + Drop + 's, W: Outlet + Send + Drop + 's>(
+fn start_lane<
+    's,
+    E,
+    Rt: Threads + Wait + Sync,
+    R: Feed + Send + Drop + 's,
+    W: Outlet + Send + Drop + 's,
+>(
     scope: &Scope<'s, E>,
     rt: &'s Rt,
     alloc: Global,
@@ -307,10 +347,13 @@ fn start_lane<'s, E, Rt: Threads + Wait + Sync, R: Feed + Send + Drop + 's, W: O
         reader: Snapshot::of(&film.0),
         writer: Snapshot::of(&film.1),
     };
-    let started = scope.spawn_with(promise, move || -> LaneEnd<R, W>
-        requires { IsSourceSeat queue.now seat × (items_put seat ≡ []) × (inbox.source ≡ seat.source) × (1 ≤ window) × (window ≤ MOST_WINDOW) }
-        ensures { IsLaneEnd R.remaining R.failed_reads W.contents W.failed_writes queue.entry.now seat.source film.2 film.0 film.1 result }
-    { begin_lane(rt, alloc, queue, refused, seat, inbox, window, film) });
+    let started = scope.spawn_with(
+        promise,
+        move || -> LaneEnd<R, W>
+            requires { IsSourceSeat queue.now seat × (items_put seat ≡ []) × (inbox.source ≡ seat.source) × (1 ≤ window) × (window ≤ MOST_WINDOW) }
+            ensures { IsLaneEnd R.remaining R.failed_reads W.contents W.failed_writes queue.entry.now seat.source film.2 film.0 film.1 result }
+        { begin_lane(rt, alloc, queue, refused, seat, inbox, window, film) },
+    );
     match started {
         Ok(handle) => Lane::Running(handle),
         Err(closure) => {
@@ -348,7 +391,9 @@ fn begin_lane<Rt: Wait, R: Feed, W: Outlet>(
             result: Err(LaneFault::NotStarted),
         };
     }
-    lane(rt, alloc, queue, seat, inbox, window, tuning, reader, writer)
+    lane(
+        rt, alloc, queue, seat, inbox, window, tuning, reader, writer,
+    )
 }
 
 /// Joins the lanes: their ends, and their tracks.

@@ -10,10 +10,14 @@ loop-lanes-init g c =
     let e : length es ≡ 0 = ap length c.requires.no_ended in
     let t : length ts ≡ 0 = ap length c.requires.no_tracks in
     record {
-      films = λ films started. ([], films, refl,
-          subst (λ l. AreDone g.R.Read.remaining g.R.Feed.failed_reads g.W.Write.contents g.W.Outlet.failed_writes c.args.queue.now 0 [] l ts) (sym c.requires.no_ended)
+      films = λ films started. (
+        [],
+        films,
+        refl,
+        subst (λ l. AreDone g.R.Read.remaining g.R.Feed.failed_reads g.W.Write.contents g.W.Outlet.failed_writes c.args.queue.now 0 [] l ts) (sym c.requires.no_ended)
             (subst (λ l. AreDone g.R.Read.remaining g.R.Feed.failed_reads g.W.Write.contents g.W.Outlet.failed_writes c.args.queue.now 0 [] [] l) (sym c.requires.no_tracks) _),
-          started);
+        started,
+      );
       sum = omega arith;
       same = omega arith;
       ended_room = refl;
@@ -31,17 +35,16 @@ loop-lanes-preserved g c =
     let first : c.loop-lanes.lanes.items ≡ l ∷ rest = took_first c.loop-lanes.lanes.items rest l c.remove-lane.ensures.value c.remove-lane.ensures.items size in
     let more : length c.push_reserved.new.self.items ≡ length es + 1 = omega (arith, c.push_reserved.ensures.len, c.push_reserved.new.self.ok, c.loop-lanes.ended.ok) in
     let more' : length c.push_reserved-in-loop-lanes.new.self.items ≡ length ts + 1 =
-        omega (arith, c.push_reserved-in-loop-lanes.ensures.len, c.push_reserved-in-loop-lanes.new.self.ok, c.loop-lanes.tracks.ok) in
+    omega (arith, c.push_reserved-in-loop-lanes.ensures.len, c.push_reserved-in-loop-lanes.new.self.ok, c.loop-lanes.tracks.ok) in
     record {
       films = λ films started.
           let b = before.films films started in
-          let j = joins g.R.Read.remaining g.R.Feed.failed_reads g.W.Write.contents g.W.Outlet.failed_writes c.args.queue.now films b.0 b.1 es ts c.loop-lanes.lanes.items rest l _ _ b.2 b.3 b.4 first c.join_lane-last.ensures in
-          (
+          let j = joins g.R.Read.remaining g.R.Feed.failed_reads g.W.Write.contents g.W.Outlet.failed_writes c.args.queue.now films b.0 b.1 es ts c.loop-lanes.lanes.items rest l _ _ b.2 b.3 b.4 first c.join_lane-last.ensures in (
             j.0,
             j.1,
             j.2,
             subst (λ x. AreDone g.R.Read.remaining g.R.Feed.failed_reads g.W.Write.contents g.W.Outlet.failed_writes c.args.queue.now 0 j.0 x c.push_reserved-in-loop-lanes.new.self.items) (sym c.push_reserved.ensures.items)
-              (subst (λ x. AreDone g.R.Read.remaining g.R.Feed.failed_reads g.W.Write.contents g.W.Outlet.failed_writes c.args.queue.now 0 j.0 (es ++ c.join_lane-last.result.ended ∷ []) x) (sym c.push_reserved-in-loop-lanes.ensures.items) j.3),
+                (subst (λ x. AreDone g.R.Read.remaining g.R.Feed.failed_reads g.W.Write.contents g.W.Outlet.failed_writes c.args.queue.now 0 j.0 (es ++ c.join_lane-last.result.ended ∷ []) x) (sym c.push_reserved-in-loop-lanes.ensures.items) j.3),
             j.4,
           );
       sum = (let s = before.sum in omega arith);

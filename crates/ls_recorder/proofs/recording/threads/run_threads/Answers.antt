@@ -10,4 +10,4 @@ finish_queue-finished-requires-2-clause-ended g c =
 pub finish_queue-finished-requires-2-clause-each : goal.finish_queue-finished-requires-2-clause-each
 finish_queue-finished-requires-2-clause-each g c = λ s less.
     done-each g.R.Read.remaining g.R.Feed.failed_reads g.W.Write.contents g.W.Outlet.failed_writes c.args.queue.now 0 c.args.films.items _ _ (c.join_lanes.ensures c.args.films.items c.start_lanes.ensures.lanes) s (omega arith)
-      (let f = c.requires.films_are in omega arith)
+    (let f = c.requires.films_are in omega arith)
