@@ -1,10 +1,10 @@
-ghost use Rattle.std.specs.Prelude.{◌≡◌};
-ghost use Rattle.ls_queue.specs.Running.{IsSourceSeat, IsWorkerSeat, AreAllSources, AreAllWorkers, sources_of, workers_of};
+ghost use Rattle.std.specs.Prelude.{◌≡◌, IfSome};
+ghost use Rattle.ls_queue.specs.Running.{IsSourceSeat, IsWorkerSeat, IsEnded, AreAllSources, AreAllWorkers, sources_of, workers_of};
 
 use super::*;
 use crate::delivery::{Inbox, boxes};
 use crate::testing::{check, pixel_order};
-use ls_queue::{SourceSeat, open};
+use ls_queue::{Ended, SourceSeat, open};
 use std::sync::atomic::{AtomicU64, Ordering};
 
 /// A gate that counts how often it was passed.
@@ -51,19 +51,41 @@ fn comes_out<R: Wait>(rt: &R, inbox: &mut Inbox, number: u64, sample: u16) -> bo
     }
 }
 
+/// A finished queue in which a black and a white pixel wait, and its worker's seat. `None` if memory is refused.
+fn two_pixels<R: Wait>(rt: &R, alloc: Global) -> Option<(Queue<Order>, WorkerSeat<Order>)>
+    ensures seat { IfSome result (λ made. IsWorkerSeat made.0 made.1) }
+    ensures one { IfSome result (λ made. sources_of made.0 ≡ 1) }
+{
+    let (queue, sources, workers, closer) = open::<Order, R>(rt, alloc, 1, 1, 3).ok()?;
+    let worker = only_worker(&queue, workers);
+    let end = put_two(rt, alloc, &queue, only_source(&queue, sources))?;
+    let mut ended = Vec::with_capacity(alloc, 1).ok()?;
+    ended.push_reserved(end);
+    let _finished = queue.finish(rt, closer, ended).ok()?;
+    Some((queue, worker))
+}
+
+/// Puts a black and a white pixel, and ends the source. `None` if memory is refused.
+fn put_two<R: Wait>(
+    rt: &R,
+    alloc: Global,
+    queue: &Queue<Order>,
+    mut source: SourceSeat<Order>,
+) -> Option<Ended<Order>>
+    requires { IsSourceSeat queue.now source }
+    ensures { IfSome result (λ ended. IsEnded queue.now ended) }
+{
+    let _first = queue.put(rt, &mut source, pixel_order(alloc, 0, 64)?);
+    let _second = queue.put(rt, &mut source, pixel_order(alloc, 255, 64)?);
+    Some(queue.end(rt, source))
+}
+
 /// Whether a worker codes two pixels, one after the other, and counts them. `None` if memory is refused.
 fn two_pixels_are_coded<R: Wait>(rt: &R, alloc: Global) -> Option<bool> {
     let (mut inboxes, mut outboxes) = boxes(rt, alloc, 1, 1, 2).ok()?;
     let mut inbox = inboxes.pop()?;
     let outbox = outboxes.pop()?;
-    let (queue, sources, workers, closer) = open::<Order, R>(rt, alloc, 1, 1, 3).ok()?;
-    let mut source = only_source(&queue, sources);
-    let worker = only_worker(&queue, workers);
-    let _first = queue.put(rt, &mut source, pixel_order(alloc, 0, 64)?);
-    let _second = queue.put(rt, &mut source, pixel_order(alloc, 255, 64)?);
-    let mut ended = Vec::with_capacity(alloc, 1).ok()?;
-    ended.push_reserved(queue.end(rt, source));
-    let _finished = queue.finish(rt, closer, ended).ok()?;
+    let (queue, worker) = two_pixels(rt, alloc)?;
     if outbox.sources() == 0 {
         return Some(false);
     }
