@@ -4,7 +4,7 @@ use clap::{Arg, ArgMatches, Command, Error, value_parser};
 use std::alloc::{AllocError, Global};
 
 /// What the words ask for.
-#[derive(Clone, Copy, Debug, PartialEq, Eq)]
+#[derive(Debug, Drop, PartialEq, Eq)]
 pub enum Request<'a> {
     /// The lines of a film's frames.
     List {
@@ -17,6 +17,15 @@ pub enum Request<'a> {
     /// The frames of a recording.
     Play {
         file: &'a str,
+    },
+    /// Recordings of films, side by side.
+    Record {
+        workers: u8,
+        queue: u16,
+        window: u8,
+        /// The coding parameters that were chosen, as they were written.
+        preset: Option<&'a str>,
+        files: Vec<&'a str>,
     },
     /// The replies of a queue to the steps of a file.
     Replay {
@@ -71,6 +80,27 @@ in `jlsrec play film.jls | ffmpeg -f image2pipe -i - film.mkv`.
 
 A codestream of another program is read if it is lossless, and each component has a scan of its own.";
 
+const RECORD_HELP: &str = "\
+Records the films FILE.. side by side: writes beside each FILE a file FILE.jls, of a codestream of JPEG-LS
+(ITU-T T.87) for each of its frames. A FILE may be a named pipe that a camera writes to.
+
+Each film has a lane of its own, which reads its frames and writes their codestreams in order, each as
+soon as its turn has come; the workers code the frames of all films. A film that ends early or breaks
+ends its own lane, and no other. Once all have ended, a line tells of each FILE that was recorded whole,
+in their order:
+  FILE: N frames
+
+All FILEs are opened first, and only then each FILE.jls is made, so that nothing that was recorded before
+is touched unless all FILEs are there.
+
+  $ jlsrec record left.pgm right.pgm
+  left.pgm: 250 frames
+  right.pgm: 250 frames
+  $ jlsrec play left.pgm.jls | cmp - left.pgm";
+
+const PRESET_HELP: &str = "\
+The coding parameters of all films, each 0 for the default of a frame's maxval";
+
 const RECORDING_HELP: &str = "\
 The recording to read: lossless codestreams of JPEG-LS one after the other";
 
@@ -122,6 +152,7 @@ pub fn command<'a>(alloc: Global) -> Result<Command<'a>, AllocError> {
         .subcommand_required(true)
         .subcommand(file_command(alloc, "list", list, LIST_HELP, FILM_HELP)?)?
         .subcommand(file_command(alloc, "code", code, CODE_HELP, FILM_HELP)?)?
+        .subcommand(record_command(alloc)?)?
         .subcommand(file_command(alloc, "play", play, PLAY_HELP, RECORDING_HELP)?)?
         .subcommand(replay_command(alloc)?)
 }
@@ -139,6 +170,43 @@ fn file_command<'a>(
         .about(about)
         .long_about(help)
         .arg(file)
+}
+
+/// The command that records films.
+fn record_command<'a>(alloc: Global) -> Result<Command<'a>, AllocError> {
+    let workers = Arg::new(alloc, "workers")
+        .long("workers")
+        .value_name("N")
+        .default_value("2")
+        .value_parser(value_parser!(u8).range(1..=16))
+        .help("How many workers code frames, 1 to 16");
+    let queue = Arg::new(alloc, "queue")
+        .long("queue")
+        .value_name("N")
+        .default_value("8")
+        .value_parser(value_parser!(u16).range(1..=256))
+        .help("How many frames may wait for a worker, 1 to 256");
+    let window = Arg::new(alloc, "window")
+        .long("window")
+        .value_name("N")
+        .default_value("4")
+        .value_parser(value_parser!(u8).range(1..=64))
+        .help("How many frames of a film may be read and not written, 1 to 64");
+    let preset = Arg::new(alloc, "preset")
+        .long("preset")
+        .value_name("T1,T2,T3,RESET")
+        .help(PRESET_HELP);
+    let files = Arg::new(alloc, "FILE").required(true).num_args(1..).help(
+        "The films to read, 1 to 16: binary Netpbm images (PGM, PPM) one after the other",
+    );
+    Command::new(alloc, "record")
+        .about("Records films side by side")
+        .long_about(RECORD_HELP)
+        .arg(workers)?
+        .arg(queue)?
+        .arg(window)?
+        .arg(preset)?
+        .arg(files)
 }
 
 /// The command that replays steps.
@@ -173,6 +241,7 @@ pub fn read_words<'a>(alloc: Global, words: &'a [String]) -> Result<Request<'a>,
         Some(("list", list)) => list.get_str("FILE").map(|file| Request::List { file }),
         Some(("code", code)) => code.get_str("FILE").map(|file| Request::Code { file }),
         Some(("play", play)) => play.get_str("FILE").map(|file| Request::Play { file }),
+        Some(("record", record)) => record_request(alloc, record)?,
         Some(("replay", replay)) => replay_request(replay),
         _ => None,
     };
@@ -180,6 +249,31 @@ pub fn read_words<'a>(alloc: Global, words: &'a [String]) -> Result<Request<'a>,
         Some(request) => Ok(request),
         None => Err(usage_fault(alloc, "a command is wanted")?),
     }
+}
+
+/// What the words of `record` ask for, which `clap` has looked at.
+fn record_request<'a>(
+    alloc: Global,
+    words: &ArgMatches<'a>,
+) -> Result<Option<Request<'a>>, AllocError> {
+    let (Some(workers), Some(queue), Some(window)) = (
+        words.get_one("workers"),
+        words.get_one("queue"),
+        words.get_one("window"),
+    ) else {
+        return Ok(None);
+    };
+    let mut files = Vec::new(alloc);
+    for file in words.get_strs("FILE").unwrap_or(&[]) {
+        files.push(*file)?;
+    }
+    Ok(Some(Request::Record {
+        workers,
+        queue,
+        window,
+        preset: words.get_str("preset"),
+        files,
+    }))
 }
 
 /// What the words of `replay` ask for, which `clap` has looked at.

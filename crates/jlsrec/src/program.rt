@@ -1,5 +1,8 @@
 //! The whole program over its words, its files and its two streams.
+mod recording;
+
 use crate::command_line::{Request, read_words, usage_fault};
+use crate::program::recording::{Task, record_films};
 use crate::replies::print_replies;
 use crate::steps_file::{read_steps, read_text};
 use clap::Error;
@@ -13,6 +16,8 @@ use std::fmt::Display;
 use std::fs::File;
 use std::io::BufWriter;
 use std::rt::{Env, Files};
+use std::sync::Wait;
+use std::thread::Threads;
 use std::{env, io};
 
 /// The statuses that the program ends with.
@@ -25,7 +30,8 @@ const USAGE: u8 = 2;
 /// Reads the words, runs the program and flushes its output.
 pub fn start<R, W, E>(rt: &R, output: &mut W, errors: &mut E) -> u8
 where
-    R: Env + Files + AllocGlobal,
+    R: Env + Files + AllocGlobal + Threads + Wait + Sync,
+    R::File: Send,
     W: Outlet,
     E: Outlet,
 {
@@ -48,7 +54,8 @@ where
 /// buffer, which is flushed at the end.
 pub fn run<R, W, E>(rt: &R, words: &[String], output: &mut W, errors: &mut E) -> u8
 where
-    R: Files + AllocGlobal,
+    R: Files + AllocGlobal + Threads + Wait + Sync,
+    R::File: Send,
     W: Outlet,
     E: Outlet,
 {
@@ -57,6 +64,24 @@ where
         Ok(Request::List { file }) => list(rt, file, output, errors),
         Ok(Request::Code { file }) => {
             read_file(rt, file, errors, |film| code_film(alloc, film, output))
+        }
+        Ok(
+            Request::Record {
+                workers,
+                queue,
+                window,
+                preset,
+                files,
+            },
+        ) => {
+            let task = Task {
+                workers: usize::from(workers),
+                queue: usize::from(queue),
+                window: usize::from(window),
+                preset,
+                files,
+            };
+            record_films(rt, task, output, errors)
         }
         Ok(Request::Play { file }) => {
             read_file(rt, file, errors, |recording| show(alloc, recording, output))

@@ -17,49 +17,63 @@ fn check_refusal(rt: &impl Abort, memory: Memory, error: &Error) {
     check(rt, "no memory", memory == Memory::Refusable);
 }
 
-fn check_files(rt: &impl Abort, alloc: Global, memory: Memory) {
-    let cases: [(&[&str], Request<'_>); 7] = [
-        (&["play", "x"], Request::Play { file: "x" }),
-        (
-            &["replay", "--sources", "0", "--capacity", "0", "x"],
-            Request::Replay {
-                sources: 0,
-                capacity: 0,
-                file: "x",
-            },
-        ),
-        (
-            &["replay", "x", "--capacity=4294967295", "--sources=255"],
-            Request::Replay {
-                sources: 255,
-                capacity: 4_294_967_295,
-                file: "x",
-            },
-        ),
-        (&["list", "x"], Request::List { file: "x" }),
-        (&["list", "--", "-x"], Request::List { file: "-x" }),
-        (&["code", "x"], Request::Code { file: "x" }),
-        (&["code", "--", "-x"], Request::Code { file: "-x" }),
-    ];
-    for (line, want) in cases {
-        let Some(words) = fixture(rt, alloc, memory, line) else {
-            return;
-        };
-        match read_words(alloc, &words) {
-            Ok(request) => check(rt, "a request", request == want),
-            Err(error) => check_refusal(rt, memory, &error),
-        }
+/// That these words ask for this.
+fn check_request(
+    rt: &impl Abort,
+    alloc: Global,
+    memory: Memory,
+    line: &[&str],
+    want: &Request<'_>,
+) {
+    let Some(words) = fixture(rt, alloc, memory, line) else {
+        return;
+    };
+    match read_words(alloc, &words) {
+        Ok(request) => check(rt, "a request", request == *want),
+        Err(error) => check_refusal(rt, memory, &error),
     }
+}
+
+fn check_files(rt: &impl Abort, alloc: Global, memory: Memory) {
+    let list = Request::List { file: "x" };
+    check_request(rt, alloc, memory, &["list", "x"], &list);
+    let list = Request::List { file: "-x" };
+    check_request(rt, alloc, memory, &["list", "--", "-x"], &list);
+    let code = Request::Code { file: "x" };
+    check_request(rt, alloc, memory, &["code", "x"], &code);
+    let code = Request::Code { file: "-x" };
+    check_request(rt, alloc, memory, &["code", "--", "-x"], &code);
+    let play = Request::Play { file: "x" };
+    check_request(rt, alloc, memory, &["play", "x"], &play);
+}
+
+fn check_queues(rt: &impl Abort, alloc: Global, memory: Memory) {
+    let least = Request::Replay {
+        sources: 0,
+        capacity: 0,
+        file: "x",
+    };
+    let words = ["replay", "--sources", "0", "--capacity", "0", "x"];
+    check_request(rt, alloc, memory, &words, &least);
+    let most = Request::Replay {
+        sources: 255,
+        capacity: 4_294_967_295,
+        file: "x",
+    };
+    let words = ["replay", "x", "--capacity=4294967295", "--sources=255"];
+    check_request(rt, alloc, memory, &words, &most);
 }
 
 #[test]
 fn a_film_is_named_with_ample_memory(rt: HostRuntime) {
     check_files(&rt, rt.alloc(), Memory::Ample);
+    check_queues(&rt, rt.alloc(), Memory::Ample);
 }
 
 #[test]
 fn a_film_is_named_or_memory_is_wanting(rt: HostRuntime) {
     check_files(&rt, rt.alloc(), Memory::Refusable);
+    check_queues(&rt, rt.alloc(), Memory::Refusable);
 }
 
 /// The words that ask for nothing, and whether they are a fault.

@@ -7,6 +7,8 @@ use ls_testing::{Memory, Mishap, Sink};
 use std::fs;
 use std::io::Write;
 use std::process::Abort;
+use std::sync::Wait;
+use std::thread::Threads;
 
 /// A status, and what was written to output and to errors.
 type Ending<'a, 'b> = (u8, &'a [u8], &'b [u8]);
@@ -15,12 +17,15 @@ const FAILED_OUTPUT: &[u8] = b"jlsrec: output failed\n";
 
 /// Runs the program over words and over writers to which this happens. Nothing, if memory may be
 /// refused and was before the run.
-fn run_words<R: Files + Abort + AllocGlobal>(
+fn run_words<R: Files + Abort + AllocGlobal + Threads + Wait + Sync>(
     rt: &R,
     memory: Memory,
     words: &[&str],
     mishaps: (Mishap, Mishap),
-) -> Option<(u8, Sink, Sink)> {
+) -> Option<(u8, Sink, Sink)>
+where
+    R::File: Send,
+{
     let Ok(words) = words_of(rt.alloc(), words) else {
         check(rt, "no memory for words", memory == Memory::Refusable);
         return None;
@@ -58,13 +63,16 @@ fn is_memory_wanting(errors: &[u8]) -> bool {
 }
 
 /// Runs a command over a file, and compares.
-fn check_file<R: Files + Abort + AllocGlobal>(
+fn check_file<R: Files + Abort + AllocGlobal + Threads + Wait + Sync>(
     rt: &R,
     memory: Memory,
     words: [&str; 2],
     mishap: Mishap,
     want: Ending<'_, '_>,
-) {
+)
+where
+    R::File: Send,
+{
     let mishaps = (mishap, Mishap::Nothing);
     let Some((status, output, errors)) = run_words(rt, memory, &words, mishaps) else {
         return;
@@ -74,14 +82,17 @@ fn check_file<R: Files + Abort + AllocGlobal>(
 }
 
 /// Runs a command over a file of these bytes, which is made for it, and compares.
-fn check_film<R: Files + Abort + AllocGlobal>(
+fn check_film<R: Files + Abort + AllocGlobal + Threads + Wait + Sync>(
     rt: &R,
     memory: Memory,
     words: [&str; 2],
     film: &[u8],
     mishap: Mishap,
     want: Ending<'_, '_>,
-) {
+)
+where
+    R::File: Send,
+{
     let [_, file] = words;
     if fs::write(rt, file, film).is_ok() {
         check_file(rt, memory, words, mishap, want);
@@ -99,7 +110,7 @@ fn said(rt: &impl Abort, file: &str, text: &str) -> Sink {
 }
 
 /// The same of a command that is to fail with this text, and with this output before.
-fn check_fault<R: Files + Abort + AllocGlobal>(
+fn check_fault<R: Files + Abort + AllocGlobal + Threads + Wait + Sync>(
     rt: &R,
     memory: Memory,
     words: [&str; 2],
@@ -107,7 +118,10 @@ fn check_fault<R: Files + Abort + AllocGlobal>(
     mishap: Mishap,
     output: &[u8],
     text: &str,
-) {
+)
+where
+    R::File: Send,
+{
     let errors = said(rt, words[1], text);
     check_film(
         rt,
@@ -120,12 +134,15 @@ fn check_fault<R: Files + Abort + AllocGlobal>(
 }
 
 /// That a command fails with this text where there is no film to read.
-fn check_unread<R: Files + Abort + AllocGlobal>(
+fn check_unread<R: Files + Abort + AllocGlobal + Threads + Wait + Sync>(
     rt: &R,
     memory: Memory,
     words: [&str; 2],
     text: &str,
-) {
+)
+where
+    R::File: Send,
+{
     let errors = said(rt, words[1], text);
     let want = (1, b"".as_slice(), errors.written());
     check_file(rt, memory, words, Mishap::Nothing, want);
@@ -146,13 +163,16 @@ const BAD_SECOND_FRAME: &[u8] = b"P5\n1 1\n255\n\x00P5 1 1 7\n\x08";
 
 /// That a command over this file does as it should with films and bad films, and if no film can be read. `whole` is what
 /// it writes of `FILM`, `first` of `BLACK`.
-fn check_command<R: Files + Abort + AllocGlobal>(
+fn check_command<R: Files + Abort + AllocGlobal + Threads + Wait + Sync>(
     rt: &R,
     memory: Memory,
     words: [&str; 2],
     whole: &[u8],
     first: &[u8],
-) {
+)
+where
+    R::File: Send,
+{
     let nothing = Mishap::Nothing;
     check_film(rt, memory, words, FILM, nothing, (0, whole, b""));
     check_film(rt, memory, words, b"", nothing, (0, b"", b""));
@@ -168,7 +188,14 @@ fn check_command<R: Files + Abort + AllocGlobal>(
 }
 
 /// A listing goes by way of a buffer, so that a write fails when that is flushed.
-fn check_listings<R: Files + Abort + AllocGlobal>(rt: &R, memory: Memory, file: &str) {
+fn check_listings<R: Files + Abort + AllocGlobal + Threads + Wait + Sync>(
+    rt: &R,
+    memory: Memory,
+    file: &str,
+)
+where
+    R::File: Send,
+{
     let words = ["list", file];
     check_command(rt, memory, words, FILM_LINES, FIRST_LINE);
     for mishap in [
@@ -203,7 +230,14 @@ fn films_are_listed_or_memory_is_wanting(rt: HostRuntime) {
 }
 
 /// Each codestream goes out by itself, so that a fault says how many bytes did.
-fn check_codings<R: Files + Abort + AllocGlobal>(rt: &R, memory: Memory, file: &str) {
+fn check_codings<R: Files + Abort + AllocGlobal + Threads + Wait + Sync>(
+    rt: &R,
+    memory: Memory,
+    file: &str,
+)
+where
+    R::File: Send,
+{
     let words = ["code", file];
     check_command(rt, memory, words, FILM_CODESTREAMS, FIRST_CODESTREAM);
     let none = "output failed after 0 bytes";
@@ -307,7 +341,14 @@ fn recording_of(
 }
 
 /// Each image goes out by itself, so that a fault says how many bytes did.
-fn check_playing<R: Files + Abort + AllocGlobal>(rt: &R, memory: Memory, file: &str) {
+fn check_playing<R: Files + Abort + AllocGlobal + Threads + Wait + Sync>(
+    rt: &R,
+    memory: Memory,
+    file: &str,
+)
+where
+    R::File: Send,
+{
     let words = ["play", file];
     let nothing = Mishap::Nothing;
     check_film(rt, memory, words, FILM_CODESTREAMS, nothing, (0, FILM, b""));
@@ -403,7 +444,10 @@ fn check_answer(rt: &impl Abort, memory: Memory, got: Ending<'_, '_>, want: u8) 
     }
 }
 
-fn check_answers<R: Files + Abort + AllocGlobal>(rt: &R, memory: Memory) {
+fn check_answers<R: Files + Abort + AllocGlobal + Threads + Wait + Sync>(rt: &R, memory: Memory)
+where
+    R::File: Send,
+{
     let nothing = (Mishap::Nothing, Mishap::Nothing);
     for (words, want) in ANSWERED {
         let Some((status, output, errors)) = run_words(rt, memory, words, nothing) else {
@@ -443,7 +487,10 @@ const UNSAID: [(&[&str], Mishap, u8); 4] = [
 ];
 
 /// With a writer for errors that refuses, the status stays, and nothing more is written.
-fn check_unsaid<R: Files + Abort + AllocGlobal>(rt: &R, memory: Memory) {
+fn check_unsaid<R: Files + Abort + AllocGlobal + Threads + Wait + Sync>(rt: &R, memory: Memory)
+where
+    R::File: Send,
+{
     for (words, mishap, want) in UNSAID {
         let mishaps = (mishap, Mishap::Fails(0));
         let Some((status, output, errors)) = run_words(rt, memory, words, mishaps) else {
@@ -525,7 +572,7 @@ const STEPS_LINES: &[u8] =
 
 /// Runs `replay` over a file of these bytes, which is made for it, and compares. The text is what is said after the names of
 /// program and file, if anything is.
-fn check_replay<R: Files + Abort + AllocGlobal>(
+fn check_replay<R: Files + Abort + AllocGlobal + Threads + Wait + Sync>(
     rt: &R,
     memory: Memory,
     file: &str,
@@ -533,7 +580,10 @@ fn check_replay<R: Files + Abort + AllocGlobal>(
     steps: &[u8],
     mishap: Mishap,
     want: Ending<'_, '_>,
-) {
+)
+where
+    R::File: Send,
+{
     let [sources, capacity] = numbers;
     let words = ["replay", "--sources", sources, "--capacity", capacity, file];
     if fs::write(rt, file, steps).is_ok() {
@@ -565,7 +615,14 @@ const BAD_NUMBERS: [([&str; 2], &[u8]); 5] = [
     (["2", "257"], b"jlsrec: capacity\n"),
 ];
 
-fn check_replays<R: Files + Abort + AllocGlobal>(rt: &R, memory: Memory, file: &str) {
+fn check_replays<R: Files + Abort + AllocGlobal + Threads + Wait + Sync>(
+    rt: &R,
+    memory: Memory,
+    file: &str,
+)
+where
+    R::File: Send,
+{
     let nothing = Mishap::Nothing;
     let two = ["2", "2"];
     let want = (0, STEPS_LINES, b"".as_slice());
@@ -608,12 +665,15 @@ fn steps_are_replayed_or_memory_is_wanting(rt: HostRuntime) {
 }
 
 /// That `replay` says this of a file that can't be read, whatever the numbers.
-fn check_unread_steps<R: Files + Abort + AllocGlobal>(
+fn check_unread_steps<R: Files + Abort + AllocGlobal + Threads + Wait + Sync>(
     rt: &R,
     memory: Memory,
     file: &str,
     text: &str,
-) {
+)
+where
+    R::File: Send,
+{
     let words = ["replay", "--sources", "0", "--capacity", "0", file];
     let nothing = (Mishap::Nothing, Mishap::Nothing);
     let Some((status, output, errors)) = run_words(rt, memory, &words, nothing) else {
@@ -644,4 +704,278 @@ fn steps_that_cannot_be_read_are_said_or_memory_is_wanting(rt: HostRuntime) {
         "can't open",
     );
     check_unread_steps(&rt, Memory::Refusable, ".", "read failed");
+}
+
+/// Two films by their names, the words that record them, and what is then said and written.
+#[derive(Clone, Copy)]
+struct Recorded {
+    names: [&'static str; 2],
+    words: &'static [&'static str],
+    films: [&'static [u8]; 2],
+    said: Ending<'static, 'static>,
+    recordings: [&'static [u8]; 2],
+}
+
+/// Makes two films, records them, compares what is said and written, and removes all four files.
+fn check_recorded<R: Files + Abort + AllocGlobal + Threads + Wait + Sync>(
+    rt: &R,
+    memory: Memory,
+    case: Recorded,
+)
+where
+    R::File: Send,
+{
+    let [left, right] = case.names;
+    let left_name: Result<String, _> = format!(in rt.alloc(); "{left}.jls");
+    let right_name: Result<String, _> = format!(in rt.alloc(); "{right}.jls");
+    let (Ok(left_made), Ok(right_made)) = (left_name, right_name) else {
+        check(rt, "no memory for names", memory == Memory::Refusable);
+        return;
+    };
+    let films = fs::write(rt, left, case.films[0]).is_ok()
+        && fs::write(rt, right, case.films[1]).is_ok();
+    check(
+        rt,
+        "the films aren't written",
+        films || memory == Memory::Refusable,
+    );
+    let nothing = (Mishap::Nothing, Mishap::Nothing);
+    if let Some((status, output, errors)) = run_words(rt, memory, case.words, nothing) {
+        if memory == Memory::Refusable && status == 1 {
+            check(rt, left, errors.written().starts_with(b"jlsrec: "));
+        } else {
+            check_status(rt, left, status, case.said.0);
+            check_bytes(rt, left, output.written(), case.said.1);
+            check_bytes(rt, left, errors.written(), case.said.2);
+            check_made(rt, memory, &left_made, case.recordings[0]);
+            check_made(rt, memory, &right_made, case.recordings[1]);
+        }
+    }
+    for file in [left, right, left_made.as_str(), right_made.as_str()] {
+        let _gone = fs::remove_file(rt, file);
+    }
+}
+
+/// That a file has these bytes.
+fn check_made<R: Files + Abort + AllocGlobal>(rt: &R, memory: Memory, file: &str, want: &[u8]) {
+    match fs::read(rt, file) {
+        Ok(bytes) => check_bytes(rt, file, &bytes, want),
+        Err(_) => check(rt, file, memory == Memory::Refusable),
+    }
+}
+
+#[test]
+fn films_are_recorded_with_ample_memory(rt: HostRuntime) {
+    let case = Recorded {
+        names: ["left_with_ample_memory.pgm", "right_with_ample_memory.pgm"],
+        words: &[
+            "record",
+            "left_with_ample_memory.pgm",
+            "right_with_ample_memory.pgm",
+        ],
+        films: [FILM, BLACK],
+        said: (
+            0,
+            b"left_with_ample_memory.pgm: 3 frames\nright_with_ample_memory.pgm: 1 frames\n",
+            b"",
+        ),
+        recordings: [FILM_CODESTREAMS, FIRST_CODESTREAM],
+    };
+    check_recorded(&rt, Memory::Ample, case);
+}
+
+#[test]
+fn films_are_recorded_or_memory_is_wanting(rt: HostRuntime) {
+    let case = Recorded {
+        names: ["left_if_memory_is.pgm", "right_if_memory_is.pgm"],
+        words: &["record", "left_if_memory_is.pgm", "right_if_memory_is.pgm"],
+        films: [FILM, BLACK],
+        said: (
+            0,
+            b"left_if_memory_is.pgm: 3 frames\nright_if_memory_is.pgm: 1 frames\n",
+            b"",
+        ),
+        recordings: [FILM_CODESTREAMS, FIRST_CODESTREAM],
+    };
+    check_recorded(&rt, Memory::Refusable, case);
+}
+
+/// Recordings of the films `one.pgm` and `two.pgm`: the words, the films, what is said, and what is written.
+const RECORDED: [(&[&str], [&[u8]; 2], Ending<'static, 'static>, [&[u8]; 2]); 5] = [
+    (
+        &[
+            "record",
+            "--workers",
+            "4",
+            "--queue=1",
+            "--window",
+            "1",
+            "one.pgm",
+            "two.pgm",
+        ],
+        [FILM, BLACK],
+        (0, b"one.pgm: 3 frames\ntwo.pgm: 1 frames\n", b""),
+        [FILM_CODESTREAMS, FIRST_CODESTREAM],
+    ),
+    (
+        &["record", "one.pgm", "two.pgm"],
+        [b"", BLACK],
+        (0, b"one.pgm: 0 frames\ntwo.pgm: 1 frames\n", b""),
+        [b"", FIRST_CODESTREAM],
+    ),
+    (
+        &["record", "one.pgm", "two.pgm"],
+        [BAD_SECOND_FRAME, BLACK],
+        (
+            1,
+            b"two.pgm: 1 frames\n",
+            b"jlsrec: one.pgm: frame 1: sample too large\n",
+        ),
+        [FIRST_CODESTREAM, FIRST_CODESTREAM],
+    ),
+    (
+        &["record", "--preset", "003,7,21,064", "one.pgm", "two.pgm"],
+        [b"P5\n1 1\n255\n\x00P5\n1 1\n1\n\x01", BLACK],
+        (
+            1,
+            b"two.pgm: 1 frames\n",
+            b"jlsrec: one.pgm: frame 1: bad presets: T1\n",
+        ),
+        [FIRST_CODESTREAM, FIRST_CODESTREAM],
+    ),
+    (
+        &["record", "--preset=0,0,0,32", "one.pgm", "two.pgm"],
+        [BLACK, b""],
+        (0, b"one.pgm: 1 frames\ntwo.pgm: 0 frames\n", b""),
+        [
+            b"\xff\xd8\
+\xff\xf7\x00\x0b\x08\x00\x01\x00\x01\x01\x01\x11\x00\
+\xff\xf8\x00\x0d\x01\x00\xff\x00\x03\x00\x07\x00\x15\x00\x20\
+\xff\xda\x00\x08\x01\x01\x00\x00\x00\x00\x80\xff\xd9",
+            b"",
+        ],
+    ),
+];
+
+#[test]
+fn each_film_has_its_line_and_its_recording_with_ample_memory(rt: HostRuntime) {
+    for (words, films, said, recordings) in RECORDED {
+        let case = Recorded {
+            names: ["one.pgm", "two.pgm"],
+            words,
+            films,
+            said,
+            recordings,
+        };
+        check_recorded(&rt, Memory::Ample, case);
+    }
+}
+
+/// Words of `record` that are refused before a film is read: status, and what is said.
+const UNRECORDED: [(&[&str], u8, &[u8]); 13] = [
+    (
+        &["record", "--preset", "1,2,3", "x"],
+        2,
+        b"jlsrec: bad preset\n",
+    ),
+    (
+        &["record", "--preset", "1,2,3,4,5", "x"],
+        2,
+        b"jlsrec: bad preset\n",
+    ),
+    (
+        &["record", "--preset", "1,2,3,65536", "x"],
+        2,
+        b"jlsrec: bad preset\n",
+    ),
+    (
+        &["record", "--preset", "1,2,3,+4", "x"],
+        2,
+        b"jlsrec: bad preset\n",
+    ),
+    (
+        &["record", "--preset", "1,,3,4", "x"],
+        2,
+        b"jlsrec: bad preset\n",
+    ),
+    (
+        &["record", "--preset", "1, 2,3,4", "x", "x"],
+        2,
+        b"jlsrec: bad preset\n",
+    ),
+    (
+        &[
+            "record", "a", "b", "c", "d", "e", "f", "g", "h", "i", "j", "k", "l", "m", "n", "o",
+            "p", "a",
+        ],
+        2,
+        b"jlsrec: at most 16 files\n",
+    ),
+    (
+        &["record", "a", "b", "b", "a"],
+        2,
+        b"jlsrec: a: given twice\n",
+    ),
+    (
+        &["record", "a", "a.jls"],
+        2,
+        b"jlsrec: a.jls: given twice\n",
+    ),
+    (
+        &["record", "a.jls", "b", "a"],
+        2,
+        b"jlsrec: a.jls: given twice\n",
+    ),
+    (
+        &["record", "missing.pgm"],
+        1,
+        b"jlsrec: missing.pgm: can't open\n",
+    ),
+    (
+        &["record", ".", "missing.pgm"],
+        1,
+        b"jlsrec: missing.pgm: can't open\n",
+    ),
+    (&["record", "."], 1, b"jlsrec: .: frame 0: read failed\n"),
+];
+
+#[test]
+fn recordings_that_do_not_begin_are_said_with_ample_memory(rt: HostRuntime) {
+    for (words, status, text) in UNRECORDED {
+        let nothing = (Mishap::Nothing, Mishap::Nothing);
+        let ending = run_words(&rt, Memory::Ample, words, nothing);
+        let Some((got, output, errors)) = ending else {
+            continue;
+        };
+        check_status(&rt, "a status", got, status);
+        check_bytes(&rt, "no output", output.written(), b"");
+        check_bytes(&rt, "what is said", errors.written(), text);
+    }
+    let _gone = fs::remove_file(&rt, "..jls");
+}
+
+/// Words of `record` that `clap` refuses.
+const REFUSED: [&[&str]; 8] = [
+    &["record"],
+    &["record", "--workers", "0", "x"],
+    &["record", "--workers", "17", "x"],
+    &["record", "--queue", "0", "x"],
+    &["record", "--queue", "257", "x"],
+    &["record", "--window", "0", "x"],
+    &["record", "--window", "65", "x"],
+    &["record", "--nope", "x"],
+];
+
+#[test]
+fn numbers_of_a_recording_out_of_range_are_misused_with_ample_memory(rt: HostRuntime) {
+    for words in REFUSED {
+        let nothing = (Mishap::Nothing, Mishap::Nothing);
+        let ending = run_words(&rt, Memory::Ample, words, nothing);
+        let Some((got, output, errors)) = ending else {
+            continue;
+        };
+        check_status(&rt, "a status", got, 2);
+        check_bytes(&rt, "no output", output.written(), b"");
+        check(&rt, "a text", errors.written().starts_with(b"error: "));
+    }
 }
