@@ -1,6 +1,20 @@
 //! Recordings: joined codestreams, a film's frames coded one after the other.
 //!
-//! What it hands on for recording: an order is a frame with the parameters to code it with (`specs/Orders.antt`); a piece is the
+//! Films are recorded side by side (`record`), each by a lane of its own, and workers code the frames of all; what came of each film, and
+//! what the account counts, says `specs/View/Recordings.antt`.
+//!
+//! ```
+//! let films = vec![in alloc; (reader, writer, tuning)]?;
+//! let recording = match record(rt, alloc, films, 2, 8, 4, &Open) {
+//!     Ok(recording) => recording,
+//!     Err((fault, films)) => ..,
+//! };
+//! for track in recording.tracks {
+//!     // .. track.result ..
+//! }
+//! ```
+//!
+//! What it is made of: an order is a frame with the parameters to code it with (`specs/Orders.antt`); a piece is the
 //! codestream of an order, whoever made it; a collector puts the pieces of a source in order (`specs/Collecting.antt`); a lane writes
 //! exactly the codestreams of the frames that its reader gave, or says where it stopped (`specs/View/Lanes.antt`).
 //!
@@ -25,8 +39,8 @@
 //! ```
 //!
 //! In reading order: `orders` (what is to be coded), `pieces` (what was coded), `collector` (pieces in order), `delivery` (how they come
-//! to their lane), `lane` (a film's way from its reader to its writer, `specs/View/Lanes.antt`), `faults` (why a recording isn't begun);
-//! `playing`; `laws`.
+//! to their lane), `lane` (a film's way from its reader to its writer, `specs/View/Lanes.antt`), `working` (what a worker does), `recording`
+//! with its threads, `faults` (why a recording isn't begun); `playing`; `laws`.
 #![tactic(auto)]
 
 pub mod collector;
