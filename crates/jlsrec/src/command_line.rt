@@ -84,9 +84,9 @@ const RECORD_HELP: &str = "\
 Records the films FILE.. side by side: writes beside each FILE a file FILE.jls, of a codestream of JPEG-LS
 (ITU-T T.87) for each of its frames. A FILE may be a named pipe that a camera writes to.
 
-Each film has a lane of its own, which reads its frames and writes their codestreams in order, each as
-soon as its turn has come; the workers code the frames of all films. A film that ends early or breaks
-ends its own lane, and no other. Once all have ended, a line tells of each FILE that was recorded whole,
+Each film has a lane of its own, which reads its frames and writes their codestreams in order, up to
+--window frames behind; the workers code the frames of all films. A film that ends early or breaks ends
+its own lane, and no other. Once all have ended, a line tells of each FILE that was recorded whole,
 in their order:
   FILE: N frames
 

@@ -46,7 +46,8 @@ pub struct Recording<R, W> {
 /// Fails for the first of `Sources`, `Workers`, `Capacity` and `Window` that is so; else for `NoMemory` only if an allocation fails, and
 /// for `NotStarted` only if no thread can be made for a worker. Then the films come back, with nothing read or written.
 ///
-/// All that it needs it takes before it starts a thread. It waits for its threads; nothing is proved of when they end.
+/// The queue, the boxes and the room for what its threads answer are taken before it starts a thread; lanes and workers ask for memory as they
+/// go. It waits for its threads; nothing is proved of when they end.
 pub fn record<Rt: Threads + Wait + Sync, R: Feed + Send + Drop, W: Outlet + Send + Drop, G: Gate>(
     rt: &Rt,
     alloc: Global,
