@@ -1,12 +1,12 @@
 -- Lists of seats, lanes and tracks as they grow.
-use Rattle.std.proofs.Common.{◌≡◌, ℕ, zero, suc, ◌+◌, ◌<◌, ◌≤◌, ◌⊎◌, inl, inr, Bool, true, false, true≢false, ◌&&◌, ◌||◌, ◌==◌, List, [], ◌∷◌, ◌++◌, length, refl, sym, ap, subst, ◌∙◌, arith, append_assoc, append-nil}
+use Rattle.std.proofs.Common.{◌≡◌, ℕ, suc, ◌+◌, ◌<◌, ◌≤◌, ◌⊎◌, inl, inr, Bool, true, false, true≢false, ◌&&◌, ◌||◌, ◌==◌, List, [], ◌∷◌, ◌++◌, length, refl, sym, ap, subst, ◌∙◌, arith, append_assoc, append-nil}
 use Rattle.std.specs.List.{AllByRecursion}
+use Rattle.std.proofs.lemmas.List.{length_push}
 use Rattle.ls_queue.specs.declared.running.WorkerSeat.{WorkerSeat}
 use Rattle.std.specs.Prelude.{slice_index_or, Option, Result, Ok, Err, IfOk, IfErr, MatchResult, map}
 use Rattle.ls_frame.specs.Picture.{Picture}
 use Rattle.ls_recorder.specs.declared.lane.LaneFault.{LaneFault}
 use Rattle.ls_recorder.specs.View.Lanes.{Records, with_tuning}
-use Rattle.std.specs.List.{remove}
 use Rattle.std.proofs.lemmas.Bool.Decides.{eqb_tells}
 use Rattle.std.proofs.Math.Nat.{eq-or-lt_of_le}
 use Rattle.ls_queue.specs.declared.running.Ended.{Ended}
@@ -26,10 +26,6 @@ use Rattle.ls_recorder.specs.declared.delivery.ends.Outbox.{Outbox}
 use Rattle.ls_recorder.specs.Boxes.{AreFrom, LeadTo}
 use Rattle.ls_recorder.specs.View.Recordings.{IsLaneEnd, IsStarted, AreStarted, AreDone, AreTracks, AreCounted, LeadToAll}
 
-pub all-more : {A : Type 0} (P : A → Type 0) (xs : List A) (x : A) → AllByRecursion P xs → P x → AllByRecursion P (xs ++ x ∷ [])
-all-more P [] x all last = (last, _)
-all-more P (y ∷ ys) x all last = (all.0, all-more P ys x all.1 last)
-
 and_both : (a b : Bool) → a ≡ true → b ≡ true → (a && b) ≡ true
 and_both true b is is' = is'
 and_both false b is is' = absurd (true≢false (sym is))
@@ -45,15 +41,6 @@ and_right false b is = absurd (true≢false (sym is))
 pub all_done-more : {X : Type 0} (seats : List (WorkerSeat X)) (seat : WorkerSeat X) → all_done seats ≡ true → is_done seat ≡ true → all_done (seats ++ seat ∷ []) ≡ true
 all_done-more [] seat all last = and_both (is_done seat) true last refl
 all_done-more (s ∷ ss) seat all last = and_both (is_done s) _ (and_left (is_done s) _ all) (all_done-more ss seat (and_right (is_done s) _ all) last)
-
--- the first element taken off a vector, in the words of `Vec::remove`
-pub took_first : {A : Type 0} (old new : List A) (e : A) → e ≡ slice_index_or old 0 e → new ≡ remove old 0 → length new + 1 ≡ length old → old ≡ e ∷ new
-took_first [] new e is rest size = absurd (omega arith)
-took_first (x ∷ xs) new e is rest size = λ i. sym is i ∷ sym rest i
-
-pub none_left : {A : Type 0} (l : List A) → length l ≡ 0 → l ≡ []
-none_left [] e = refl
-none_left (x ∷ xs) e = absurd (omega arith)
 
 or_first : (a b : Bool) → a ≡ true → (a || b) ≡ true
 or_first true b is = refl
@@ -84,10 +71,6 @@ below s n less = elim (eq-or-lt_of_le {n = s} {m = n} (omega arith)) [ inl same 
 
 pub each-more : {X : Type 0} (es : List (Ended X)) (e : Ended X) (n : ℕ) → ((s : ℕ) → s < n → has_end s es ≡ true) → e.source ≡ n → (s : ℕ) → s < n + 1 → has_end s (es ++ e ∷ []) ≡ true
 each-more es e n each is s less = elim (below s n less) [ inl h ↦ has_end-more s es e (each s h) | inr h ↦ has_end-last s es e (is ∙ h) ]
-
-pub length-more : {A : Type 0} (xs : List A) (x : A) → length (xs ++ x ∷ []) ≡ length xs + 1
-length-more [] x = refl
-length-more (y ∷ ys) x = let h = length-more ys x in omega arith
 
 module _ {R W : Type 0} (remaining : R → Option (List ℕ)) (failed_reads : R → ℕ) (contents : W → Option (List ℕ)) (failed_writes : W → ℕ) where
   pub started-more : (queue : Queue Ordered) (s n : ℕ) (films : List (R × W × Tuning)) (lanes : List (Lane R W)) (film : R × W × Tuning) (l : Lane R W)
@@ -127,7 +110,7 @@ module _ {R W : Type 0} (remaining : R → Option (List ℕ)) (failed_reads : R 
         fs,
         append_assoc done (f ∷ []) fs ∙ whole,
         done-more remaining failed_reads contents failed_writes queue 0 (length done) done es ts f e t ended (omega arith) (end (length done) f both.0),
-        subst (λ n. AreStarted remaining failed_reads contents failed_writes queue n fs rest) (sym (length-more done f) ∙ refl) (subst (λ n. AreStarted remaining failed_reads contents failed_writes queue n fs rest) (omega arith) both.1),
+        subst (λ n. AreStarted remaining failed_reads contents failed_writes queue n fs rest) (sym (length_push done f) ∙ refl) (subst (λ n. AreStarted remaining failed_reads contents failed_writes queue n fs rest) (omega arith) both.1),
       )
 
   -- no lane is left
@@ -232,7 +215,7 @@ length-with_tuning tuning (f ∷ fs) = ap suc (length-with_tuning tuning fs)
 pub recorded-count : (tuning : Tuning) (items : List Ordered) (read read' written written' : Option (List ℕ)) (r : Result ℕ LaneFault) (count : ℕ) → count ≡ length items
     → IfOk r (Records tuning items read read' written written') → IfOk r (λ n. count ≡ n)
 recorded-count tuning items read read' written written' (Ok n) count is records =
-    is ∙ (ap length records.put ∙ (length-with_tuning tuning records.run.frames ∙ records.run.count))
+    is ∙ (ap length records.put.0 ∙ (length-with_tuning tuning records.run.frames ∙ records.run.count))
 recorded-count tuning items read read' written written' (Err fault) count is records = records
 
 -- ---- outboxes lead to all boxes

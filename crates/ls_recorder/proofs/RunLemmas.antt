@@ -1,10 +1,12 @@
 -- A lane's run: what it read and what it wrote of that, and how it ends.
 use Rattle.std.proofs.Common.{◌≡◌, ℕ, ◌+◌, ◌≤◌, inl, inr, Bool, true, false, List, [], ◌∷◌, ◌++◌, length, map, Option, refl, sym, ap, subst, ◌∙◌, arith, append_assoc, append-nil, IsTrue}
+use Rattle.std.specs.Prelude.{Ok}
 use Rattle.std.specs.Io.KnownBytes.{Appends}
 use Rattle.std.proofs.KnownBytes.{Appends-nil}
 use Rattle.std.proofs.lemmas.List.{length_push, map-append}
 use Rattle.ls_frame.specs.declared.tuning.Tuning.{Tuning}
 use Rattle.ls_frame.specs.Picture.{Picture}
+use Rattle.ls_frame.specs.Parameters.{explicit_parameters}
 use Rattle.ls_frame.specs.Tuning.{tuned}
 use Rattle.ls_frame.specs.Netpbm.{IsImageOf}
 use Rattle.ls_frame.specs.Faults.{IsBroken, blames_bytes}
@@ -19,20 +21,21 @@ use Rattle.ls_recorder.specs.declared.lane.LaneFault.{LaneFault}
 use Rattle.ls_recorder.specs.declared.lane.LaneFault.TheVariants.{Input, Output, NoMemory, Misfit, Lost, NotStarted, TooMany, Tuning as BadTuning}
 use Rattle.ls_recorder.specs.Orders.{Ordered}
 use Rattle.ls_recorder.specs.Collecting.{Collection, new_collection}
-use Rattle.ls_recorder.specs.View.Lanes.{with_tuning, tuned_file, WroteFront, StopsWriting, orders_in, IsWriting, StopsReading, Records, HasPut, StopsLane, ReadsSo, blames_reader, blames_writer}
+use Rattle.ls_recorder.specs.View.Lanes.{with_tuning, AreOrdersOf, tuned_file, WroteFront, StopsWriting, orders_in, IsWriting, StopsReading, Records, HasPut, StopsLane, ReadsSo, blames_reader, blames_writer}
 use Rattle.ls_recorder.proofs.LaneLemmas.{writes-front}
+use Rattle.ls_recorder.proofs.ListLemmas.{all-more}
 
 -- what was read so far, all of which was put
 pub record HasRead (tuning : Tuning) (items : List Ordered) (read now : Option (List ℕ)) (n : ℕ) : Type 0 where
   pub frames : List Picture
   pub count : length frames ≡ n
   pub gave : GaveFrames IsImageOf read now frames
-  pub put : items ≡ with_tuning tuning frames
+  pub put : AreOrdersOf tuning frames items
 
 -- ---- the beginning
 
 pub HasRead-none : (tuning : Tuning) (items : List Ordered) (read : Option (List ℕ)) → items ≡ [] → HasRead tuning items read read 0
-HasRead-none tuning items read none = record { frames = []; count = refl; gave = GaveFrames-none IsImageOf read; put = none }
+HasRead-none tuning items read none = record { frames = []; count = refl; gave = GaveFrames-none IsImageOf read; put = (none, _) }
 
 pub IsWriting-none : (items : List Ordered) (start : Option (List ℕ)) (source window : ℕ) → items ≡ [] → IsWriting items start start (new_collection source window) 0
 IsWriting-none items start source window none = record { done = []; items_are = none; wrote = Appends-nil start; bytes_are = refl }
@@ -43,14 +46,18 @@ WroteFront-none items start = record { count = 0; front = omega arith; wrote = A
 -- ---- one frame more
 
 pub HasRead-more : (tuning : Tuning) (items items' : List Ordered) (read mid new : Option (List ℕ)) (n : ℕ) (order : Ordered) → HasRead tuning items read mid n
-    → order.1 ≡ tuned tuning order.0.maxval → Gave mid new (λ image. IsImageOf image order.0) → items' ≡ items ++ order ∷ [] → HasRead tuning items' read new (n + 1)
-HasRead-more tuning items items' read mid new n order run tune next put =
+    → order.1 ≡ tuned tuning order.0.maxval → explicit_parameters (tuned tuning order.0.maxval) ≡ Ok order.1 → Gave mid new (λ image. IsImageOf image order.0)
+    → items' ≡ items ++ order ∷ [] → HasRead tuning items' read new (n + 1)
+HasRead-more tuning items items' read mid new n order run tune given next put =
     let same : order ≡ (order.0, tuned tuning order.0.maxval) = (λ i. (order.0, tune i)) in
     record {
       frames = run.frames ++ order.0 ∷ [];
       count = length_push run.frames order.0 ∙ ap (λ k. k + 1) run.count;
       gave = GaveFrames-more IsImageOf read mid new run.frames order.0 run.gave next;
-      put = put ∙ ap (λ l. l ++ order ∷ []) run.put ∙ ap (λ o. with_tuning tuning run.frames ++ o ∷ []) same ∙ sym (map-append (λ (f : Picture). (f, tuned tuning f.maxval)) run.frames (order.0 ∷ []));
+      put = (
+        put ∙ ap (λ l. l ++ order ∷ []) run.put.0 ∙ ap (λ o. with_tuning tuning run.frames ++ o ∷ []) same ∙ sym (map-append (λ (f : Picture). (f, tuned tuning f.maxval)) run.frames (order.0 ∷ [])),
+        all-more _ run.frames order.0 run.put.1 (given ∙ ap Ok tune),
+      );
     }
 
 pub IsWriting-more : (items items' : List Ordered) (start now : Option (List ℕ)) (c c' : Collection) (bytes : ℕ) (order : Ordered) → IsWriting items start now c bytes
@@ -84,7 +91,7 @@ module _ (tuning : Tuning) (items : List Ordered) (read mid : Option (List ℕ))
 
   wrote-tuned : (start now : Option (List ℕ)) (c : Collection) (bytes : ℕ) (run : HasRead tuning items read mid n) → IsWriting items start now c bytes → length c.slots ≤ 0
       → Appends start now (tuned_file tuning run.frames)
-  wrote-tuned start now c bytes run writing none = subst (λ l. Appends start now (file l)) run.put (wrote-all items start now c bytes writing none)
+  wrote-tuned start now c bytes run writing none = subst (λ l. Appends start now (file l)) run.put.0 (wrote-all items start now c bytes writing none)
 
   -- the end of the input
   pub records-all : (new start now : Option (List ℕ)) (c : Collection) (bytes : ℕ) → HasRead tuning items read mid n → n ≤ most_frames → WasAtEnd mid new

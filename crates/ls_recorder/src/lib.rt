@@ -5,7 +5,7 @@
 //!
 //! ```
 //! let films = vec![in alloc; (reader, writer, tuning)]?;
-//! let recording = match record(rt, alloc, films, 2, 8, 4, &Open) {
+//! let recording = match record(rt, alloc, films, 2, 8, 4, &OpenGate) {
 //!     Ok(recording) => recording,
 //!     Err((fault, films)) => ..,
 //! };
@@ -46,6 +46,7 @@
 pub mod collector;
 pub mod delivery;
 pub mod faults;
+pub mod headline;
 pub mod lane;
 pub mod laws;
 pub mod orders;
@@ -59,9 +60,10 @@ pub mod working;
 pub use collector::{Collector, CollectorFault, MOST_WINDOW, Misfit};
 pub use delivery::{Answer, Inbox, Outbox, boxes};
 pub use faults::RecordFault;
+pub use headline::{Replayed, record_and_play};
 pub use lane::{LaneEnd, LaneFault};
 pub use orders::Order;
 pub use pieces::{Coded, Uncoded};
 pub use playing::{PlayFault, play, play_bytes};
 pub use recording::{Recording, Track, record};
-pub use working::{Gate, Moment, Open, Worked, work};
+pub use working::{Gate, Moment, OpenGate, Worked, work};

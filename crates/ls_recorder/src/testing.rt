@@ -1,12 +1,15 @@
-//! Recordings, and orders of single pixels, for the tests.
+//! Films, recordings, and orders of single pixels, for the tests.
 ghost use Rattle.std.specs.Prelude.{◌≡◌, [], IfSome};
 ghost use Rattle.ls_queue.specs.Running.{AreAllSources, IsSourceSeat, items_put};
 
 use crate::orders::Order;
 use crate::pieces::Coded;
-use ls_frame::{Frame, Kind, Presets};
+use ls_frame::{Frame, Kind, Presets, Tuning};
 use ls_queue::{Job, Queue, SourceSeat};
+use ls_testing::{Mishap, Sink};
 use std::alloc::Global;
+use std::fmt::Display;
+use std::io::Write;
 use std::process::Abort;
 use std::sync::Arc;
 
@@ -33,9 +36,59 @@ pub const COLOUR: &[u8] = b"\xff\xd8\
 \xff\xda\x00\x08\x01\x02\x00\x00\x00\x00\x80\
 \xff\xda\x00\x08\x01\x03\x00\x00\x00\x00\x80\xff\xd9";
 
+/// Each parameter by default.
+pub const DEFAULTS: Tuning = Tuning {
+    t1: 0,
+    t2: 0,
+    t3: 0,
+    reset: 0,
+};
+
+/// Three images: that of T.87's Annex H.3, 4 by 4, a black and a white pixel.
+pub const THREE: &[u8] = b"P5\n4 4\n255\n\
+\x00\x00\x5a\x4a\x44\x32\x2b\xcd\x40\x91\x91\x91\x64\x91\x91\x91\
+P5\n1 1\n255\n\x00P5\n1 1\n255\n\xff";
+
+pub const THREE_CODED: &[u8] = b"\xff\xd8\
+\xff\xf7\x00\x0b\x08\x00\x04\x00\x04\x01\x01\x11\x00\
+\xff\xda\x00\x08\x01\x01\x00\x00\x00\x00\
+\xc0\x00\x00\x6c\x80\x20\x8e\x01\xc0\x00\x00\x57\x40\x00\x00\x6e\xe6\x00\x00\x01\xbc\x18\x00\
+\x00\x05\xd8\x00\x00\x91\x60\xff\xd9\
+\xff\xd8\
+\xff\xf7\x00\x0b\x08\x00\x01\x00\x01\x01\x01\x11\x00\
+\xff\xda\x00\x08\x01\x01\x00\x00\x00\x00\x80\xff\xd9\
+\xff\xd8\
+\xff\xf7\x00\x0b\x08\x00\x01\x00\x01\x01\x01\x11\x00\
+\xff\xda\x00\x08\x01\x01\x00\x00\x00\x00\x40\xff\xd9";
+
+/// Twelve black samples in a row; and two rows of three black samples and one of 9.
+pub const RUNS: &[u8] = b"P5\n12 1\n255\n\x00\x00\x00\x00\x00\x00\x00\x00\x00\x00\x00\x00\
+P5\n4 2\n255\n\x00\x00\x00\x09\x00\x00\x00\x09";
+
+pub const RUNS_CODED: &[u8] = b"\xff\xd8\
+\xff\xf7\x00\x0b\x08\x00\x01\x00\x0c\x01\x01\x11\x00\
+\xff\xda\x00\x08\x01\x01\x00\x00\x00\x00\xff\x00\xff\xd9\
+\xff\xd8\
+\xff\xf7\x00\x0b\x08\x00\x02\x00\x04\x01\x01\x11\x00\
+\xff\xda\x00\x08\x01\x01\x00\x00\x00\x00\xe0\xbb\x00\xff\xd9";
+
+/// How many workers there are, and the window.
+pub const MEANS: [(usize, usize); 6] = [(1, 1), (1, 8), (2, 1), (2, 8), (4, 1), (4, 8)];
+
 /// That a check of this name went right. It wasn't made if memory was refused before, which isn't right if there was ample.
 pub fn check(rt: &impl Abort, name: &str, right: Option<bool>, ample: bool) {
     assert_eq!(rt; right.unwrap_or(!ample), true, "{name}");
+}
+
+/// That a fault has this text.
+pub fn check_text<F: Display + Drop>(rt: &impl Abort, fault: F, text: &str) {
+    let mut sink = Sink::new(4096, Mishap::Nothing);
+    let written = write!(sink, "{fault}").is_ok();
+    assert_eq!(rt;
+        (written, sink.written()),
+        (true, text.as_bytes()),
+        "{text}"
+    );
 }
 
 /// An order for a gray pixel of this sample up to 255, with the default thresholds and this RESET. `None` if memory is refused.

@@ -25,9 +25,9 @@ pub trait Gate: Sync {
 }
 
 /// The gate that holds nobody up.
-pub struct Open;
+pub struct OpenGate;
 
-impl Gate for Open {
+impl Gate for OpenGate {
     fn pass(&self, _source: u8, _number: u64, _moment: Moment) {}
 }
 

@@ -1,7 +1,7 @@
 //! The command `record`: films are opened, their recordings made, and what came of each is said.
 use crate::program::{DONE, FAILED, USAGE, misused, no_memory, say, say_unopened};
 use ls_frame::{Buffered, Counted, Outlet, Tuning, write_bytes};
-use ls_recorder::{Open, Track, record};
+use ls_recorder::{OpenGate, Track, record};
 use std::alloc::Global;
 use std::fs::File;
 use std::rt::Files;
@@ -56,7 +56,7 @@ where
         task.workers,
         task.queue,
         task.window,
-        &Open,
+        &OpenGate,
     ) {
         Ok(recording) => say_tracks(alloc, files, &recording.tracks, output, errors),
         Err((fault, _films)) => {

@@ -1,6 +1,7 @@
 -- What a lane did: of its reader's known bytes before and after, of its writer's, and of what its seat put.
 use Rattle.std.specs.Prelude.{◌≡◌, ◌≢◌, ◌⊎◌, ℕ, ◌<◌, ◌≤◌, Bool, true, false, IsTrue, List, [], ◌∷◌, ◌++◌, length, map, take, Option, Result, Ok, Err}
 use Rattle.std.specs.Io.KnownBytes.{Appends}
+use Rattle.std.specs.List.{AllByRecursion}
 use Rattle.ls_frame.specs.declared.tuning.Tuning.{Tuning}
 use Rattle.ls_frame.specs.declared.presets.PresetFault.{PresetFault}
 use Rattle.ls_frame.specs.declared.netpbm.NetpbmFault.{NetpbmFault}
@@ -25,6 +26,14 @@ use Rattle.ls_recorder.specs.declared.lane.LaneFault.TheVariants.{Input, Output,
 -- frames with the parameters that a tuning gives for each
 abbrev pub with_tuning : Tuning → List Picture → List Ordered
 with_tuning tuning frames = map (λ (f : Picture). (f, tuned tuning f.maxval)) frames
+
+-- the tuning gives parameters for each of these frames
+abbrev pub AreTuned : Tuning → List Picture → Type 0
+AreTuned tuning frames = AllByRecursion (λ (f : Picture). explicit_parameters (tuned tuning f.maxval) ≡ Ok (tuned tuning f.maxval)) frames
+
+-- the items are these frames, each with the parameters that the tuning gives for it
+abbrev pub AreOrdersOf : Tuning → List Picture → List Ordered → Type 0
+AreOrdersOf tuning frames items = (items ≡ with_tuning tuning frames) × AreTuned tuning frames
 
 -- their codestreams
 abbrev pub tuned_file : Tuning → List Picture → List ℕ
@@ -101,25 +110,25 @@ module _ (tuning : Tuning) (items : List Ordered) (read read' written written' :
   -- The reader is at its end, it gave a film of n frames, all of which were put, and their codestreams were written.
   pub record Records (n : ℕ) : Type 0 where
     pub run : Completes IsImageOf (tuned_file tuning) read read' written written' n
-    pub put : items ≡ with_tuning tuning run.frames
+    pub put : AreOrdersOf tuning run.frames items
 
   -- the input begins with the frames that were put
   pub record HasPut : Type 0 where
     pub frames : List Picture
     pub few : length frames ≤ most_frames
     pub begins : BeginsWithFrames IsImageOf read frames
-    pub put : items ≡ with_tuning tuning frames
+    pub put : AreOrdersOf tuning frames items
 
   -- Frame m can't be read; those before it were put, and their codestreams were written.
   pub record RecordsBefore (m : ℕ) (fault : NetpbmFault) : Type 0 where
     pub run : StopsAtInput IsImageOf (tuned_file tuning) read read' written written' m (λ rest. IsTrue (blames_bytes fault) → IsBroken rest fault)
-    pub put : items ≡ with_tuning tuning run.frames
+    pub put : AreOrdersOf tuning run.frames items
     pub known : fault ≢ netpbm.NoMemory
 
   -- One frame too many: those before it were put, and their codestreams were written.
   pub record RecordsMost : Type 0 where
     pub run : StopsAtMost IsImageOf (tuned_file tuning) read read' written written'
-    pub put : items ≡ with_tuning tuning run.frames
+    pub put : AreOrdersOf tuning run.frames items
 
   -- The tuning gives no parameters for frame m; those before it were put, and their codestreams were written.
   pub record RecordsUntuned (m : ℕ) (fault : PresetFault) : Type 0 where
@@ -129,7 +138,7 @@ module _ (tuning : Tuning) (items : List Ordered) (read read' written written' :
     pub few : length frames < most_frames
     pub gave : GaveFrames IsImageOf read read' (frames ++ last ∷ [])
     pub fault_is : explicit_parameters (tuned tuning last.maxval) ≡ Err fault
-    pub put : items ≡ with_tuning tuning frames
+    pub put : AreOrdersOf tuning frames items
     pub wrote : Appends written written' (tuned_file tuning frames)
 
   -- what each fault says of the lane

@@ -1,6 +1,6 @@
 -- What a recording did: each lane for its film, the workers, and the account.
-use Rattle.std.specs.Prelude.{◌≡◌, ◌⊎◌, ℕ, suc, ◌<◌, ◌≤◌, ◌==◌, ◌||◌, nat_lt, if◌then◌else◌, true, List, [], ◌∷◌, length, Option, Some, None, Result, Ok, Err, IfOk, MatchResult, slice_index_or, vec_capacity}
-use Rattle.std.specs.List.{AllByRecursion}
+use Rattle.std.specs.Prelude.{◌≡◌, ◌⊎◌, ℕ, suc, ◌≤◌, ◌==◌, ◌||◌, nat_lt, if◌then◌else◌, true, List, [], ◌∷◌, length, Option, Some, None, Err, IfOk, MatchResult, slice_index_or, vec_capacity}
+use Rattle.std.specs.List.{AllByRecursion, AllZip}
 use Rattle.std.specs.declared.sync.atomic.AtomicBool.{AtomicBool}
 use Rattle.std.specs.declared.thread.PromisedHandle.{PromisedHandle}
 use Rattle.ls_frame.specs.declared.tuning.Tuning.{Tuning}
@@ -8,7 +8,7 @@ use Rattle.ls_frame.specs.View.Devices.{count_after}
 use Rattle.ls_queue.specs.declared.faults.TheConstants.{MOST_SOURCES, MOST_CAPACITY, MOST_WORKERS}
 use Rattle.ls_queue.specs.declared.running.Queue.{Queue}
 use Rattle.ls_queue.specs.declared.running.Ended.{Ended}
-use Rattle.ls_queue.specs.Running.{IsEnded, IsWorkerSeat, is_done, items_ended, puts_of, parts_of, IsFinished, IsCloser, AreAllSources, AreWorkerSeats, all_done, sources_of, workers_of}
+use Rattle.ls_queue.specs.Running.{IsEnded, IsWorkerSeat, is_done, puts_of, parts_of, IsFinished, IsCloser, AreAllSources, AreWorkerSeats, all_done, sources_of, workers_of}
 use Rattle.ls_recorder.specs.declared.collector.TheConstants.{MOST_WINDOW}
 use Rattle.ls_recorder.specs.declared.delivery.ends.Outbox.{Outbox}
 use Rattle.ls_recorder.specs.declared.faults.RecordFault.{RecordFault}
@@ -56,10 +56,7 @@ module _ {R W : Type 0} (remaining : R → Option (List ℕ)) (failed_reads : R 
 
   -- a track for each film, in their order
   abbrev pub AreTracks : List (R × W × Tuning) → List (Track R W) → Type 0
-  AreTracks [] [] = Unit {0}
-  AreTracks [] (t ∷ ts) = ⊥
-  AreTracks (f ∷ fs) [] = ⊥
-  AreTracks (f ∷ fs) (t ∷ ts) = IsTrack f t × AreTracks fs ts
+  AreTracks films tracks = AllZip IsTrack films tracks
 
   -- how the lane of source s ended: its track, and how many items it put
   pub record IsLaneEnd (queue : Queue Ordered) (s : ℕ) (tuning : Tuning) (reader : R) (writer : W) (end : LaneEnd R W) : Type 0 where

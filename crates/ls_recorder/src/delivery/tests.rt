@@ -36,6 +36,14 @@ fn one_box<R: Wait>(rt: &R, alloc: Global) -> Option<(Inbox, Outbox)> {
     }
 }
 
+/// Whether the next answer in a box is the piece of this number.
+fn comes<R: Wait>(rt: &R, inbox: &mut Inbox, number: u64) -> bool {
+    match inbox.recv(rt) {
+        Some(Ok(piece)) => piece.number() == number,
+        _ => false,
+    }
+}
+
 /// Whether what is sent comes out, and nothing when nobody is left to send. `None` if memory is refused.
 fn an_answer_comes_out<R: Wait>(rt: &R, alloc: Global) -> Option<bool> {
     let (mut inbox, mut outbox) = one_box(rt, alloc)?;
@@ -43,10 +51,7 @@ fn an_answer_comes_out<R: Wait>(rt: &R, alloc: Global) -> Option<bool> {
     if outbox.sources() == 0 || outbox.send(rt, 0, Ok(piece)).is_err() {
         return Some(false);
     }
-    let right = match inbox.recv(rt) {
-        Some(Ok(piece)) => piece.number() == 5,
-        _ => false,
-    };
+    let right = comes(rt, &mut inbox, 5);
     drop(outbox);
     Some(right && inbox.recv(rt).is_none())
 }
@@ -69,9 +74,37 @@ fn an_answer_comes_back<R: Wait>(rt: &R, alloc: Global) -> Option<bool> {
     Some(right)
 }
 
+/// Whether what two workers send to two sources comes out of the box of each. `None` if memory is refused.
+fn each_box_is_of_its_source<R: Wait>(rt: &R, alloc: Global) -> Option<bool> {
+    let (mut inboxes, mut outboxes) = boxes(rt, alloc, 2, 2, 2).ok()?;
+    let mut second = inboxes.pop()?;
+    let mut first = inboxes.pop()?;
+    let mut other = outboxes.pop()?;
+    let mut one = outboxes.pop()?;
+    if one.sources() < 2 || other.sources() < 2 {
+        return Some(false);
+    }
+    let sent = one
+        .send(rt, 1, Ok(pixel_piece(alloc, 1, 5, 0, 64)?))
+        .is_ok()
+        && other
+            .send(rt, 0, Ok(pixel_piece(alloc, 0, 6, 0, 64)?))
+            .is_ok()
+        && other
+            .send(rt, 1, Ok(pixel_piece(alloc, 1, 7, 0, 64)?))
+            .is_ok();
+    drop(one);
+    drop(other);
+    let came = comes(rt, &mut first, 6) && comes(rt, &mut second, 5) && comes(rt, &mut second, 7);
+    let sources = first.source == 0 && second.source == 1;
+    Some(sent && came && sources && first.recv(rt).is_none() && second.recv(rt).is_none())
+}
+
 fn check_box<R: Wait + Abort>(rt: &R, alloc: Global, ample: bool) {
     check(rt, "a box", an_answer_comes_out(rt, alloc), ample);
     check(rt, "no lane", an_answer_comes_back(rt, alloc), ample);
+    let each = each_box_is_of_its_source(rt, alloc);
+    check(rt, "two boxes", each, ample);
 }
 
 #[test]

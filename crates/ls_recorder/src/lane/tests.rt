@@ -1,33 +1,39 @@
 use super::*;
 use crate::collector::Misfit;
-use crate::delivery::boxes;
-use crate::testing::{check, first_seat, pixel_piece};
+use crate::delivery::{Answer, boxes};
+use crate::pieces::Uncoded;
+use crate::testing::{DEFAULTS, check, check_text, first_seat, pixel_piece};
 use ls_frame::Counted;
 use ls_queue::open;
 use ls_testing::films::{BLACK, FIRST_CODESTREAM, TWO_CODESTREAMS, TWO_IMAGES};
 use ls_testing::{Mishap, Pieces, Sink};
-use std::io::Write;
-use std::process::Abort;
 
-/// A lane that is alone: what it reads, with which tuning and window, the pieces that lie in its box (the number of each, and the
-/// sample of its pixel), what happens to its writer; and then what it answers, how many frames it put, and what it wrote.
+/// What lies in a lane's box: the piece of this number, of a pixel of this sample; or that it couldn't be coded.
+#[derive(Clone, Copy, Drop)]
+enum Sent {
+    Piece(u64, u16),
+    Uncoded(u64),
+}
+
+/// A lane that is alone: what it reads, with which tuning and window, what lies in its box, and what happens to its writer; and then
+/// what it answers, how many frames it put, and what it wrote.
 struct Case {
     film: &'static [u8],
-    tuning: (u16, u16, u16, u16),
+    tuning: Tuning,
     window: usize,
-    pieces: &'static [(u64, u16)],
+    answers: &'static [Sent],
     mishap: Mishap,
     result: Result<u64, LaneFault>,
     put: u64,
     written: &'static [u8],
 }
 
-const CASES: [Case; 9] = [
+const CASES: [Case; 11] = [
     Case {
         film: b"",
-        tuning: (0, 0, 0, 0),
+        tuning: DEFAULTS,
         window: 1,
-        pieces: &[],
+        answers: &[],
         mishap: Mishap::Nothing,
         result: Ok(0),
         put: 0,
@@ -35,9 +41,9 @@ const CASES: [Case; 9] = [
     },
     Case {
         film: TWO_IMAGES,
-        tuning: (0, 0, 0, 0),
+        tuning: DEFAULTS,
         window: 1,
-        pieces: &[(0, 0), (1, 255)],
+        answers: &[Sent::Piece(0, 0), Sent::Piece(1, 255)],
         mishap: Mishap::Nothing,
         result: Ok(2),
         put: 2,
@@ -45,9 +51,14 @@ const CASES: [Case; 9] = [
     },
     Case {
         film: TWO_IMAGES,
-        tuning: (3, 7, 21, 64),
+        tuning: Tuning {
+            t1: 3,
+            t2: 7,
+            t3: 21,
+            reset: 64,
+        },
         window: 2,
-        pieces: &[(1, 255), (0, 0)],
+        answers: &[Sent::Piece(1, 255), Sent::Piece(0, 0)],
         mishap: Mishap::Nothing,
         result: Ok(2),
         put: 2,
@@ -55,9 +66,9 @@ const CASES: [Case; 9] = [
     },
     Case {
         film: TWO_IMAGES,
-        tuning: (0, 0, 0, 0),
+        tuning: DEFAULTS,
         window: 1,
-        pieces: &[],
+        answers: &[],
         mishap: Mishap::Nothing,
         result: Err(LaneFault::Lost),
         put: 1,
@@ -65,9 +76,9 @@ const CASES: [Case; 9] = [
     },
     Case {
         film: BLACK,
-        tuning: (0, 0, 0, 0),
+        tuning: DEFAULTS,
         window: 1,
-        pieces: &[(0, 255)],
+        answers: &[Sent::Piece(0, 255)],
         mishap: Mishap::Nothing,
         result: Err(LaneFault::Misfit(Misfit::OtherFrame)),
         put: 1,
@@ -75,9 +86,14 @@ const CASES: [Case; 9] = [
     },
     Case {
         film: BLACK,
-        tuning: (0, 0, 0, 32),
+        tuning: Tuning {
+            t1: 0,
+            t2: 0,
+            t3: 0,
+            reset: 32,
+        },
         window: 1,
-        pieces: &[(0, 0)],
+        answers: &[Sent::Piece(0, 0)],
         mishap: Mishap::Nothing,
         result: Err(LaneFault::Misfit(Misfit::OtherFrame)),
         put: 1,
@@ -85,19 +101,49 @@ const CASES: [Case; 9] = [
     },
     Case {
         film: BLACK,
-        tuning: (10, 0, 0, 0),
+        tuning: Tuning {
+            t1: 10,
+            t2: 0,
+            t3: 0,
+            reset: 0,
+        },
         window: 1,
-        pieces: &[],
+        answers: &[],
         mishap: Mishap::Nothing,
         result: Err(LaneFault::Tuning(0, PresetFault::T2Range)),
         put: 0,
         written: b"",
     },
     Case {
+        film: b"P5\n1 1\n255\n\x00P5\n1 1\n1\n\x01",
+        tuning: Tuning {
+            t1: 3,
+            t2: 7,
+            t3: 21,
+            reset: 64,
+        },
+        window: 2,
+        answers: &[Sent::Piece(0, 0)],
+        mishap: Mishap::Nothing,
+        result: Err(LaneFault::Tuning(1, PresetFault::T1Range)),
+        put: 1,
+        written: FIRST_CODESTREAM,
+    },
+    Case {
+        film: TWO_IMAGES,
+        tuning: DEFAULTS,
+        window: 2,
+        answers: &[Sent::Piece(0, 0), Sent::Uncoded(1)],
+        mishap: Mishap::Nothing,
+        result: Err(LaneFault::NoMemory),
+        put: 2,
+        written: FIRST_CODESTREAM,
+    },
+    Case {
         film: b"P5\n1 1\n255\n\x00P5 1 1 7\n\x08",
-        tuning: (0, 0, 0, 0),
+        tuning: DEFAULTS,
         window: 4,
-        pieces: &[(0, 0)],
+        answers: &[Sent::Piece(0, 0)],
         mishap: Mishap::Nothing,
         result: Err(LaneFault::Input(1, NetpbmFault::SampleTooLarge)),
         put: 1,
@@ -105,15 +151,23 @@ const CASES: [Case; 9] = [
     },
     Case {
         film: BLACK,
-        tuning: (0, 0, 0, 0),
+        tuning: DEFAULTS,
         window: 1,
-        pieces: &[(0, 0)],
+        answers: &[Sent::Piece(0, 0)],
         mishap: Mishap::Fails(2),
         result: Err(LaneFault::Output(10)),
         put: 1,
         written: b"\xff\xd8\xff\xf7\x00\x0b\x08\x00\x01\x00",
     },
 ];
+
+/// What a worker would send. `None` if memory is refused.
+fn answer_of(alloc: Global, sent: Sent) -> Option<Answer> {
+    match sent {
+        Sent::Piece(number, sample) => Some(Ok(pixel_piece(alloc, 0, number, sample, 64)?)),
+        Sent::Uncoded(number) => Some(Err(Uncoded { source: 0, number })),
+    }
+}
 
 /// Whether a lane goes as it should. `None` if memory is refused.
 fn is_right<R: Wait>(rt: &R, alloc: Global, case: &Case) -> Option<bool> {
@@ -125,20 +179,26 @@ fn is_right<R: Wait>(rt: &R, alloc: Global, case: &Case) -> Option<bool> {
     let (mut inboxes, mut outboxes) = boxes(rt, alloc, 1, 1, 8).ok()?;
     let inbox = inboxes.pop()?;
     let mut outbox = outboxes.pop()?;
-    for (number, sample) in case.pieces {
-        let piece = pixel_piece(alloc, 0, *number, *sample, 64)?;
-        if outbox.sources() == 0 || outbox.send(rt, 0, Ok(piece)).is_err() {
+    for sent in case.answers {
+        let answer = answer_of(alloc, *sent)?;
+        if outbox.sources() == 0 || outbox.send(rt, 0, answer).is_err() {
             return Some(false);
         }
     }
     drop(outbox);
-    let (t1, t2, t3, reset) = case.tuning;
-    let tuning = Tuning { t1, t2, t3, reset };
     let reader = Counted::new(Pieces::new(case.film, 3, None));
     let writer = Counted::new(Sink::new(5, case.mishap));
     let window = case.window.max(1).min(64);
     let end = lane(
-        rt, alloc, &queue, seat, inbox, window, tuning, reader, writer,
+        rt,
+        alloc,
+        &queue,
+        seat,
+        inbox,
+        window,
+        case.tuning,
+        reader,
+        writer,
     );
     let sink = end.writer.into_inner();
     Some(end.result == case.result && end.ended.count == case.put && sink.written() == case.written)
@@ -168,17 +228,6 @@ const TEXTS: [(LaneFault, &str); 8] = [
         "frame 1: bad presets: T1",
     ),
 ];
-
-/// That a fault has this text.
-fn check_text(rt: &impl Abort, fault: LaneFault, text: &str) {
-    let mut sink = Sink::new(4096, Mishap::Nothing);
-    let written = write!(sink, "{fault}").is_ok();
-    assert_eq!(rt;
-        (written, sink.written()),
-        (true, text.as_bytes()),
-        "{text}"
-    );
-}
 
 #[test]
 fn faults_have_their_texts(rt: HostRuntime) {

@@ -1,10 +1,9 @@
 use super::*;
-use crate::testing::{ANNEX_H, ANNEX_H_IMAGE, COLOUR, TWO_VALUES};
+use crate::testing::{ANNEX_H, ANNEX_H_IMAGE, COLOUR, TWO_VALUES, check_text};
 use ls_frame::PresetFault;
 use ls_stream::What;
 use ls_testing::films::{TWO_CODESTREAMS, TWO_IMAGES};
 use ls_testing::{Mishap, Pieces, Sink};
-use std::io::Write;
 use std::process::Abort;
 
 /// What playing answered, what it wrote, and how many of its reader's and its writer's calls failed.
@@ -176,17 +175,6 @@ const TEXTS: [(PlayFault, &str); 12] = [
     (PlayFault::NoMemory, "no memory"),
     (PlayFault::TooMuch, "too many frames"),
 ];
-
-/// That a fault has this text.
-fn check_text(rt: &impl Abort, fault: PlayFault, text: &str) {
-    let mut sink = Sink::new(4096, Mishap::Nothing);
-    let written = write!(sink, "{fault}").is_ok();
-    assert_eq!(rt;
-        (written, sink.written()),
-        (true, text.as_bytes()),
-        "{text}"
-    );
-}
 
 #[test]
 fn faults_have_their_texts(rt: HostRuntime) {

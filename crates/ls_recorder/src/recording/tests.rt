@@ -1,80 +1,38 @@
 ghost use Rattle.std.specs.Prelude.{◌≡◌, length, IfSome};
 
 use super::*;
-use crate::testing::check;
-use crate::working::{Moment, Open};
+use crate::testing::{ANNEX_H, DEFAULTS, MEANS, RUNS, RUNS_CODED, THREE, THREE_CODED, check};
+use crate::working::{Moment, OpenGate};
 use ls_frame::{Counted, NetpbmFault};
 use ls_testing::films::{BLACK, FIRST_CODESTREAM, TWO_CODESTREAMS, TWO_IMAGES};
-use ls_testing::{Mishap, Sink};
+use ls_testing::{Mishap, Pieces, Sink};
 use std::hint::spin_loop;
 use std::process::Abort;
 use std::sync::atomic::{AtomicBool, Ordering};
-
-/// Each parameter by default.
-const DEFAULTS: Tuning = Tuning {
-    t1: 0,
-    t2: 0,
-    t3: 0,
-    reset: 0,
-};
-
-/// Three images: that of T.87's Annex H.3, 4 by 4, a black and a white pixel.
-const THREE: &[u8] = b"P5\n4 4\n255\n\
-\x00\x00\x5a\x4a\x44\x32\x2b\xcd\x40\x91\x91\x91\x64\x91\x91\x91\
-P5\n1 1\n255\n\x00P5\n1 1\n255\n\xff";
-
-const THREE_CODED: &[u8] = b"\xff\xd8\
-\xff\xf7\x00\x0b\x08\x00\x04\x00\x04\x01\x01\x11\x00\
-\xff\xda\x00\x08\x01\x01\x00\x00\x00\x00\
-\xc0\x00\x00\x6c\x80\x20\x8e\x01\xc0\x00\x00\x57\x40\x00\x00\x6e\xe6\x00\x00\x01\xbc\x18\x00\
-\x00\x05\xd8\x00\x00\x91\x60\xff\xd9\
-\xff\xd8\
-\xff\xf7\x00\x0b\x08\x00\x01\x00\x01\x01\x01\x11\x00\
-\xff\xda\x00\x08\x01\x01\x00\x00\x00\x00\x80\xff\xd9\
-\xff\xd8\
-\xff\xf7\x00\x0b\x08\x00\x01\x00\x01\x01\x01\x11\x00\
-\xff\xda\x00\x08\x01\x01\x00\x00\x00\x00\x40\xff\xd9";
-
-/// Twelve black samples in a row; and two rows of three black samples and one of 9.
-const RUNS: &[u8] = b"P5\n12 1\n255\n\x00\x00\x00\x00\x00\x00\x00\x00\x00\x00\x00\x00\
-P5\n4 2\n255\n\x00\x00\x00\x09\x00\x00\x00\x09";
-
-const RUNS_CODED: &[u8] = b"\xff\xd8\
-\xff\xf7\x00\x0b\x08\x00\x01\x00\x0c\x01\x01\x11\x00\
-\xff\xda\x00\x08\x01\x01\x00\x00\x00\x00\xff\x00\xff\xd9\
-\xff\xd8\
-\xff\xf7\x00\x0b\x08\x00\x02\x00\x04\x01\x01\x11\x00\
-\xff\xda\x00\x08\x01\x01\x00\x00\x00\x00\xe0\xbb\x00\xff\xd9";
 
 /// The image of Annex H.3, and then one whose sample is over its maxval.
 const SPOILT: &[u8] = b"P5\n4 4\n255\n\
 \x00\x00\x5a\x4a\x44\x32\x2b\xcd\x40\x91\x91\x91\x64\x91\x91\x91\
 P5\n1 1\n7\n\x08";
 
-const ANNEX_H_CODED: &[u8] = b"\xff\xd8\
-\xff\xf7\x00\x0b\x08\x00\x04\x00\x04\x01\x01\x11\x00\
-\xff\xda\x00\x08\x01\x01\x00\x00\x00\x00\
-\xc0\x00\x00\x6c\x80\x20\x8e\x01\xc0\x00\x00\x57\x40\x00\x00\x6e\xe6\x00\x00\x01\xbc\x18\x00\
-\x00\x05\xd8\x00\x00\x91\x60\xff\xd9";
-
 /// A film in memory, what it is recorded to, and its tuning.
-type Film = (Counted<&'static [u8]>, Counted<Sink>, Tuning);
+type Film = (Counted<Pieces<'static>>, Counted<Sink>, Tuning);
 
-/// These films in memory, with writers that take so many bytes a call; the first one's meets this. `None` if memory is refused.
-fn films_of(
-    alloc: Global,
-    films: [&'static [u8]; 2],
-    most: usize,
-    mishap: Mishap,
-) -> Option<Vec<Film>>
+/// A film in memory, of which at most so many bytes are read and written a call. The read of this number fails, and the writer
+/// meets this.
+fn film_of(film: &'static [u8], most: usize, failing: Option<usize>, mishap: Mishap) -> Film {
+    let reader = Counted::new(Pieces::new(film, most, failing));
+    (reader, Counted::new(Sink::new(most, mishap)), DEFAULTS)
+}
+
+/// A film and another, to which nothing happens. `None` if memory is refused.
+fn beside(alloc: Global, first: Film, other: &'static [u8]) -> Option<Vec<Film>>
     ensures { IfSome result (λ films. length films.items ≡ 2) }
 {
-    let mut all = Vec::with_capacity(alloc, 2).ok()?;
-    let first = Counted::new(Sink::new(most, mishap));
-    let second = Counted::new(Sink::new(most, Mishap::Nothing));
-    all.push_reserved((Counted::new(films[0]), first, DEFAULTS));
-    all.push_reserved((Counted::new(films[1]), second, DEFAULTS));
-    Some(all)
+    let mut films = Vec::with_capacity(alloc, 2).ok()?;
+    films.push_reserved(first);
+    films.push_reserved(film_of(other, 4096, None, Mishap::Nothing));
+    Some(films)
 }
 
 /// How a lane ended, and what it wrote.
@@ -82,7 +40,7 @@ type Outcome<'a> = (Result<u64, LaneFault>, &'a [u8]);
 
 /// Whether a track ended so. If memory may be refused, it may also say so, and have written the first bytes alone.
 fn ended(
-    track: Track<Counted<&'static [u8]>, Counted<Sink>>,
+    track: Track<Counted<Pieces<'static>>, Counted<Sink>>,
     want: Outcome<'_>,
     ample: bool,
 ) -> bool {
@@ -104,7 +62,7 @@ fn records<R: Threads + Wait + Sync>(
 ) -> Option<bool>
     requires { length films.items ≡ 2 }
 {
-    let recording = match record(rt, alloc, films, workers, 8, window, &Open) {
+    let recording = match record(rt, alloc, films, workers, 8, window, &OpenGate) {
         Ok(recording) => recording,
         Err((fault, _films)) => {
             let refused = fault == RecordFault::NoMemory || fault == RecordFault::NotStarted;
@@ -123,21 +81,18 @@ fn records<R: Threads + Wait + Sync>(
 }
 
 /// Whether the account counts a track's frames, if it was recorded whole.
-fn is_counted(track: &Track<Counted<&'static [u8]>, Counted<Sink>>, count: u64) -> bool {
+fn is_counted(track: &Track<Counted<Pieces<'static>>, Counted<Sink>>, count: u64) -> bool {
     match track.result {
         Ok(frames) => frames == count,
         Err(_) => true,
     }
 }
 
-/// How many workers there are, and the window.
-const MEANS: [(usize, usize); 6] = [(1, 1), (1, 8), (2, 1), (2, 8), (4, 1), (4, 8)];
-
 fn check_recordings<R: Threads + Wait + Sync + Abort>(rt: &R, alloc: Global, ample: bool) {
     for (workers, window) in MEANS {
-        let films = films_of(alloc, [THREE, RUNS], 4096, Mishap::Nothing);
+        let first = film_of(THREE, 4096, None, Mishap::Nothing);
         let want = [(Ok(3), THREE_CODED), (Ok(2), RUNS_CODED)];
-        let right = match films {
+        let right = match beside(alloc, first, RUNS) {
             Some(films) => records(rt, alloc, films, workers, window, want, ample),
             None => None,
         };
@@ -155,26 +110,61 @@ fn films_are_recorded_or_memory_is_wanting(rt: HostRuntime) {
     check_recordings(&rt, rt.alloc(), false);
 }
 
-/// Whether a spoilt film ends its own lane alone. `None` if memory is refused.
-fn spoilt_film<R: Threads + Wait + Sync>(rt: &R, alloc: Global) -> Option<bool> {
-    let films = films_of(alloc, [SPOILT, BLACK], 4096, Mishap::Nothing)?;
-    let fault = LaneFault::Input(1, NetpbmFault::SampleTooLarge);
-    let want = [(Err(fault), ANNEX_H_CODED), (Ok(1), FIRST_CODESTREAM)];
-    records(rt, alloc, films, 2, 4, want, true)
-}
-
-/// Whether a writer that takes ten bytes a call, and fails at the fourth, ends its own lane alone. `None` if memory is refused.
-fn failed_write<R: Threads + Wait + Sync>(rt: &R, alloc: Global) -> Option<bool> {
-    let films = films_of(alloc, [THREE, RUNS], 10, Mishap::Fails(3))?;
-    let part = &THREE_CODED[..30];
-    let want = [(Err(LaneFault::Output(30)), part), (Ok(2), RUNS_CODED)];
-    records(rt, alloc, films, 2, 4, want, true)
+/// Whether a film that ends so leaves the black pixel beside it whole. `None` if memory is refused.
+fn ends_alone<R: Threads + Wait + Sync>(
+    rt: &R,
+    alloc: Global,
+    film: Film,
+    want: Outcome<'_>,
+) -> Option<bool> {
+    let films = beside(alloc, film, BLACK)?;
+    records(
+        rt,
+        alloc,
+        films,
+        2,
+        4,
+        [want, (Ok(1), FIRST_CODESTREAM)],
+        true,
+    )
 }
 
 #[test]
-fn one_lanes_fault_touches_no_other_with_ample_memory(rt: HostRuntime) {
-    check(&rt, "a spoilt film", spoilt_film(&rt, rt.alloc()), true);
-    check(&rt, "a failed write", failed_write(&rt, rt.alloc()), true);
+fn a_spoilt_film_ends_its_own_lane_with_ample_memory(rt: HostRuntime) {
+    let fault = LaneFault::Input(1, NetpbmFault::SampleTooLarge);
+    let film = film_of(SPOILT, 4096, None, Mishap::Nothing);
+    let right = ends_alone(&rt, rt.alloc(), film, (Err(fault), ANNEX_H));
+    check(&rt, "a spoilt film", right, true);
+}
+
+#[test]
+fn a_failed_read_ends_its_own_lane_with_ample_memory(rt: HostRuntime) {
+    // Byte by byte: twelve of each image, and the end.
+    for call in 0..25 {
+        let before = call / 12;
+        let fault = LaneFault::Input(before as u64, NetpbmFault::Io);
+        let want = (Err(fault), &TWO_CODESTREAMS[..28 * before]);
+        let film = film_of(TWO_IMAGES, 1, Some(call), Mishap::Nothing);
+        let right = ends_alone(&rt, rt.alloc(), film, want);
+        check(&rt, "a failed read", right, true);
+    }
+}
+
+#[test]
+fn a_failed_write_ends_its_own_lane_with_ample_memory(rt: HostRuntime) {
+    for call in 0..56 {
+        let want = (
+            Err(LaneFault::Output(call as u64)),
+            &TWO_CODESTREAMS[..call],
+        );
+        let film = film_of(TWO_IMAGES, 1, None, Mishap::Fails(call));
+        let right = ends_alone(&rt, rt.alloc(), film, want);
+        check(&rt, "a failed write", right, true);
+    }
+    let want = (Err(LaneFault::Output(30)), &THREE_CODED[..30]);
+    let film = film_of(THREE, 10, None, Mishap::Fails(3));
+    let right = ends_alone(&rt, rt.alloc(), film, want);
+    check(&rt, "the fourth write", right, true);
 }
 
 /// Numbers that a recording of one film can't be made with: workers, capacity, window.
@@ -197,10 +187,9 @@ fn refuses<R: Threads + Wait + Sync>(
 ) -> Option<bool> {
     let mut films: Vec<Film> = Vec::new(alloc);
     for _film in 0..count {
-        let writer = Counted::new(Sink::new(1, Mishap::Nothing));
-        films.push((Counted::new(BLACK), writer, DEFAULTS)).ok()?;
+        films.push(film_of(BLACK, 1, None, Mishap::Nothing)).ok()?;
     }
-    match record(rt, alloc, films, numbers.0, numbers.1, numbers.2, &Open) {
+    match record(rt, alloc, films, numbers.0, numbers.1, numbers.2, &OpenGate) {
         Ok(_) => Some(false),
         Err((fault, films)) => Some(fault == want && films.len() == count),
     }
@@ -263,8 +252,7 @@ fn coded_side_by_side<R: Threads + Wait + Sync>(rt: &R, alloc: Global) -> Option
         late: AtomicBool::new(false),
     };
     let mut films = Vec::with_capacity(alloc, 1).ok()?;
-    let writer = Counted::new(Sink::new(4096, Mishap::Nothing));
-    films.push_reserved((Counted::new(TWO_IMAGES), writer, DEFAULTS));
+    films.push_reserved(film_of(TWO_IMAGES, 4096, None, Mishap::Nothing));
     let Ok(recording) = record(rt, alloc, films, 2, 8, 2, &gate) else {
         return None;
     };

@@ -1,4 +1,4 @@
-use Rattle.std.proofs.Common.{◌≡◌, ◌+◌, ◌≤◌, length}
+use Rattle.std.proofs.Common.{◌+◌, ◌≤◌, length}
 use Rattle.ls_queue.specs.Running.{IsWorkerSeat, jobs_taken, sources_of}
 use Rattle.ls_recorder.proofs.working.work.Given as goal
 

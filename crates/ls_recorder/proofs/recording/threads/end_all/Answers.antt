@@ -1,6 +1,8 @@
-use Rattle.std.proofs.Common.{rules, ◌≡◌, ◌+◌, ◌<◌, ◌++◌, ◌∷◌, [], ℕ, true, length, sym, ap, subst, ◌∙◌, arith}
+use Rattle.std.proofs.Common.{◌≡◌, ◌+◌, ◌∷◌, true, length, sym, ap, subst, ◌∙◌, arith}
 use Rattle.ls_queue.specs.Running.{AreNewSources, AreEnds, has_end}
-use Rattle.ls_recorder.proofs.RecordingLemmas.{took_first, all-more, each-more, length-more}
+use Rattle.std.proofs.lemmas.List.{length_push}
+use Rattle.ls_recorder.proofs.ListLemmas.{took_first, all-more}
+use Rattle.ls_recorder.proofs.RecordingLemmas.{each-more}
 use Rattle.ls_recorder.proofs.recording.threads.end_all.Goals as goal
 
 pub loop-seats-preserved : goal.loop-seats-preserved
@@ -13,7 +15,7 @@ loop-seats-preserved g c =
     let size : length rest + 1 ≡ length c.loop-seats.seats.items = omega (arith, c.remove-seat.ensures.len, c.remove-seat.new.self.ok, c.loop-seats.seats.ok) in
     let first : c.loop-seats.seats.items ≡ seat ∷ rest = took_first c.loop-seats.seats.items rest seat c.remove-seat.ensures.value c.remove-seat.ensures.items size in
     let left = subst (AreNewSources c.args.queue.now.channel (length ended)) first before.left in
-    let more : length c.push_reserved.new.self.items ≡ length ended + 1 = ap length c.push_reserved.ensures.items ∙ length-more ended end in
+    let more : length c.push_reserved.new.self.items ≡ length ended + 1 = ap length c.push_reserved.ensures.items ∙ length_push ended end in
     record {
       left = subst (λ n. AreNewSources c.args.queue.now.channel n rest) (omega arith) left.1;
       ended = subst (AreEnds c.args.queue.now) (sym c.push_reserved.ensures.items) (all-more _ ended end before.ended c.end.ensures.ended);

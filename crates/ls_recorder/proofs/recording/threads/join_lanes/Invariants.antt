@@ -1,4 +1,4 @@
-use Rattle.std.proofs.Common.{◌≡◌, ℕ, ◌+◌, List, ◌++◌, length, vec_capacity}
+use Rattle.std.proofs.Common.{◌≡◌, ◌+◌, List, ◌++◌, length, vec_capacity}
 use Rattle.ls_frame.specs.declared.tuning.Tuning.{Tuning}
 use Rattle.ls_recorder.specs.View.Recordings.{AreStarted, AreDone}
 use Rattle.ls_recorder.proofs.recording.threads.join_lanes.Given as goal

@@ -1,7 +1,8 @@
-use Rattle.std.proofs.Common.{rules, ◌≡◌, ◌+◌, [], ◌∷◌, ◌++◌, length, subst, sym, vec_capacity, true, arith}
+use Rattle.std.proofs.Common.{rules, ◌≡◌, [], ◌∷◌, ◌++◌, subst, sym, true}
 use Rattle.ls_queue.specs.Running.{AreWorkerSeats, all_done, IsWorkerSeat}
 use Rattle.ls_recorder.specs.View.Recordings.{AreWorking}
-use Rattle.ls_recorder.proofs.RecordingLemmas.{all-more, all_done-more}
+use Rattle.ls_recorder.proofs.ListLemmas.{all-more}
+use Rattle.ls_recorder.proofs.RecordingLemmas.{all_done-more}
 use Rattle.ls_recorder.proofs.recording.threads.join_workers.Goals as goal
 
 pub loop-working-preserved : goal.loop-working-preserved

@@ -1,4 +1,4 @@
-use Rattle.std.proofs.Common.{◌≡◌, ℕ, ◌+◌, ◌<◌, ◌≤◌, true, length, vec_capacity}
+use Rattle.std.proofs.Common.{◌≡◌, ◌+◌, true, length, vec_capacity}
 use Rattle.ls_queue.specs.Running.{AreWorkerSeats, all_done}
 use Rattle.ls_recorder.specs.View.Recordings.{AreWorking}
 use Rattle.ls_recorder.proofs.recording.threads.join_workers.Given as goal

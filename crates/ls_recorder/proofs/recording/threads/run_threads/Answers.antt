@@ -1,5 +1,4 @@
-use Rattle.std.proofs.Common.{rules, ◌≡◌, ◌+◌, ◌<◌, ◌≤◌, length, sym, ap, subst, ◌∙◌, refl, arith, vec_capacity}
-use Rattle.ls_queue.specs.Running.{AreEnds, sources_of}
+use Rattle.std.proofs.Common.{arith}
 use Rattle.ls_recorder.proofs.RecordingLemmas.{done-ends, done-each}
 use Rattle.ls_recorder.proofs.recording.threads.run_threads.Goals as goal
 

@@ -1,6 +1,8 @@
-use Rattle.std.proofs.Common.{rules, ◌≡◌, ◌+◌, ◌<◌, ◌++◌, ◌∷◌, [], length, sym, ap, subst, ◌∙◌, refl, arith, append_assoc}
+use Rattle.std.proofs.Common.{◌≡◌, ◌+◌, ◌++◌, ◌∷◌, [], length, sym, ap, subst, ◌∙◌, refl, arith, append_assoc}
 use Rattle.ls_recorder.specs.View.Recordings.{AreStarted}
-use Rattle.ls_recorder.proofs.RecordingLemmas.{took_first, length-more, started-more, seat-first, inbox-first}
+use Rattle.std.proofs.lemmas.List.{length_push}
+use Rattle.ls_recorder.proofs.ListLemmas.{took_first}
+use Rattle.ls_recorder.proofs.RecordingLemmas.{started-more, seat-first, inbox-first}
 use Rattle.ls_recorder.proofs.recording.threads.start_lanes.Goals as goal
 
 pub loop-alloc-init : goal.loop-alloc-init
@@ -42,7 +44,7 @@ loop-alloc-preserved g c =
     record {
       done = before.done ++ film ∷ [];
       whole = append_assoc before.done (film ∷ []) films ∙ (ap (λ l. before.done ++ l) (sym first_film) ∙ before.whole);
-      count = (let n = before.count in let m = length-more before.done film in omega arith);
+      count = (let n = before.count in let m = length_push before.done film in omega arith);
       started = subst (λ l. AreStarted g.R.Read.remaining g.R.Feed.failed_reads g.W.Write.contents g.W.Outlet.failed_writes c.args.queue.now 0 (before.done ++ film ∷ []) l) (sym c.push_reserved.ensures.items)
           (started-more g.R.Read.remaining g.R.Feed.failed_reads g.W.Write.contents g.W.Outlet.failed_writes c.args.queue.now 0 c.loop-alloc.source before.done c.loop-alloc.lanes.items film c.start_lane.result before.started (let n = before.count in omega arith) c.start_lane.ensures);
       lanes = (let n = before.lanes in omega arith);

@@ -1,0 +1,134 @@
+-- Films that are recorded and played back, one after the other.
+use Rattle.std.proofs.Common.{◌≡◌, inl, inr, ℕ, ◌<◌, ◌≤◌, List, [], ◌∷◌, ◌++◌, length, Option, Some, refl, sym, ap, subst, ◌∙◌, arith}
+use Rattle.std.proofs.lemmas.List.{length-map, length-append}
+use Rattle.std.specs.Prelude.{None, Result, Ok, Err, IfOk, MatchResult}
+use Rattle.std.specs.List.{AllByRecursion, AllZip}
+use Rattle.std.specs.Borrow.{Bor}
+use Rattle.ls_frame.specs.declared.tuning.Tuning.{Tuning}
+use Rattle.ls_frame.specs.declared.presets.PresetFault.{PresetFault}
+use Rattle.ls_frame.specs.Picture.{Picture}
+use Rattle.ls_frame.specs.Parameters.{Parameters, IsLegal, default_parameters, preset_fault, unless_fault, explicit_parameters}
+use Rattle.ls_frame.specs.Tuning.{tuned}
+use Rattle.ls_frame.specs.declared.frame.Kind.{Kind}
+use Rattle.ls_frame.specs.declared.frame.Kind.TheVariants.{Gray, Color}
+use Rattle.ls_frame.specs.Netpbm.{magic, IsImageOf}
+use Rattle.ls_film.specs.Film.{IsFilm}
+use Rattle.ls_film.specs.Coding.{file, with_defaults, default_file}
+use Rattle.ls_film.proofs.OneFilmLemmas.{one_film}
+use Rattle.ls_recorder.specs.declared.playing.PlayFault.{PlayFault}
+use Rattle.ls_recorder.specs.declared.recording.Track.{Track}
+use Rattle.ls_recorder.specs.declared.headline.Replayed.{Replayed}
+use Rattle.ls_recorder.specs.Orders.{Ordered}
+use Rattle.ls_recorder.specs.View.Lanes.{with_tuning, AreTuned, tuned_file, Records}
+use Rattle.ls_recorder.specs.View.Playing.{IsCodable, frames_of}
+use Rattle.ls_recorder.specs.View.Recordings.{IsTrack, AreTracks}
+use Rattle.ls_recorder.proofs.ListLemmas.{zip-through, zip-weaker}
+use Rattle.ls_recorder.specs.View.Headline.{by_default, ComesBack, ComeBack, PlaysBack, IntoMemory, held_by, IsUnrecorded, IsPlayed}
+
+-- ---- a film of Netpbm images is of one list of frames
+
+some_magic : (kind : Kind) → 0 < length (magic kind)
+some_magic Gray = omega arith
+some_magic Color = omega arith
+
+some_front : (front rest : List ℕ) → 0 < length front → 0 < length (front ++ rest)
+some_front front rest some = omega (arith, length-append front rest)
+
+some_image : (bytes : List ℕ) (f : Picture) → IsImageOf bytes f → 0 < length bytes
+some_image bytes f image =
+    rw image.whole (some_front _ _ (some_front _ _ (some_front _ _ (some_front _ _ (some_front _ _ (some_magic image.heading.kind))))))
+
+module _ (only : (front rest : List ℕ) (f g : Picture) → IsImageOf front f → IsImageOf (front ++ rest) g → rest ≡ [])
+    (same : (bytes : List ℕ) (f g : Picture) → IsImageOf bytes f → IsImageOf bytes g → f ≡ g) where
+  one_netpbm_film : (film : List ℕ) (frames others : List Picture) → IsFilm IsImageOf film frames → IsFilm IsImageOf film others → others ≡ frames
+  one_netpbm_film = one_film IsImageOf some_image (λ one other rest f g first second is. only one rest f g first (rw (sym is) second)) same
+
+-- ---- tuned frames
+
+tuned_frames : (tuning : Tuning) (frames : List Picture) → frames_of (with_tuning tuning frames) ≡ frames
+tuned_frames tuning [] = refl
+tuned_frames tuning (f ∷ frames) = ap (λ rest. f ∷ rest) (tuned_frames tuning frames)
+
+tuned_maxval : (tuning : Tuning) (maxval : ℕ) → (tuned tuning maxval).maxval ≡ maxval
+unfolding tuned
+tuned_maxval tuning maxval = refl
+
+no_fault : (o : Option PresetFault) (p : Parameters) → unless_fault o p ≡ Ok p → o ≡ None
+no_fault None p is = refl
+no_fault (Some fault) p is = let clash : ⊥ = cc in absurd clash
+
+none_at_fault : (p : Parameters) → explicit_parameters p ≡ Ok p → preset_fault p ≡ None
+unfolding explicit_parameters
+none_at_fault p is = no_fault (preset_fault p) p is
+
+tuned_codable : ((p : Parameters) → p.maxval ≤ 65535 → preset_fault p ≡ None → IsLegal p) → (tuning : Tuning) (bytes : List ℕ) (frames : List Picture) → IsFilm IsImageOf bytes frames
+    → AreTuned tuning frames → AllByRecursion IsCodable (with_tuning tuning frames)
+tuned_codable legal tuning bytes [] none given = tt
+tuned_codable legal tuning bytes (f ∷ frames) film given =
+    let maxval = tuned_maxval tuning f.maxval in (
+      record {
+        frame = film.3.frame;
+        legal = legal (tuned tuning f.maxval) (omega (arith, maxval, film.3.frame.maxval)) (none_at_fault (tuned tuning f.maxval) given.0);
+        maxval = maxval;
+      },
+      tuned_codable legal tuning film.1 frames film.4 given.1,
+    )
+
+tuned_by_default : ((maxval : ℕ) → (default_parameters maxval).maxval ≡ maxval) → (maxval : ℕ) → tuned by_default maxval ≡ default_parameters maxval
+unfolding tuned
+tuned_by_default law maxval = let d = default_parameters maxval in let same = law maxval in
+    λ i. record { maxval = sym same i; t1 = d.t1; t2 = d.t2; t3 = d.t3; reset = d.reset }
+
+all_by_default : ((maxval : ℕ) → (default_parameters maxval).maxval ≡ maxval) → (frames : List Picture) → with_tuning by_default frames ≡ with_defaults frames
+all_by_default law [] = refl
+all_by_default law (f ∷ frames) =
+    let here = tuned_by_default law f.maxval in
+    let rest = all_by_default law frames in
+    λ i. (f, here i) ∷ rest i
+
+-- ---- one film
+
+only_ok : {A E : Type 0} (r : Result A E) (P : A → Type 0) (Q : E → Type 0) (G : A → Type 0) → MatchResult r P Q → ((x : A) → P x → G x) → IfOk r G
+only_ok (Ok x) P Q G is then = then x is
+only_ok (Err e) P Q G is then = tt
+
+module _ (maxval : (maxval : ℕ) → (default_parameters maxval).maxval ≡ maxval) (legal : (p : Parameters) → p.maxval ≤ 65535 → preset_fault p ≡ None → IsLegal p)
+    (only : (front rest : List ℕ) (f g : Picture) → IsImageOf front f → IsImageOf (front ++ rest) g → rest ≡ [])
+    (same : (bytes : List ℕ) (f g : Picture) → IsImageOf bytes f → IsImageOf bytes g → f ≡ g) where
+  whole_film : (bytes recording shown : List ℕ) (left : Option (List ℕ)) (tuning : Tuning) (items : List Ordered) (played : Result ℕ PlayFault) (n : ℕ)
+      → Records tuning items (Some bytes) left (Some []) (Some recording) n → PlaysBack recording shown played → ComesBack bytes tuning recording shown played n
+  whole_film bytes recording shown left tuning items played n records plays =
+      let run = records.run in
+      let film : IsFilm IsImageOf bytes run.frames = (run.gave refl).2 in
+      let codable = tuned_codable legal tuning bytes run.frames film records.put.1 in
+      let size : length (with_tuning tuning run.frames) ≡ length run.frames = length-map run.frames _ in
+      let shows = plays (with_tuning tuning run.frames) (omega (arith, size, run.few)) codable run.wrote in
+      record {
+        frames = run.frames;
+        count = run.count;
+        film = film;
+        recorded = run.wrote;
+        coded = λ default alone m text.
+            let others : text.frames ≡ run.frames = one_netpbm_film only same bytes run.frames text.frames film text.whole in
+            run.wrote ∙ ap (λ t. tuned_file t run.frames) default ∙ ap file (all_by_default maxval run.frames) ∙ ap default_file (sym others) ∙ sym text.wrote;
+        plays = rw (tuned_frames tuning run.frames, size ∙ run.count) at shows;
+      }
+
+  module _ (failed_reads : Bor (List ℕ) → ℕ) (failed_writes : IntoMemory → ℕ) where
+    one_back : (film : Bor (List ℕ) × Tuning) (lane : Bor (List ℕ) × IntoMemory × Tuning) (track : Track (Bor (List ℕ)) IntoMemory) (r : Replayed) → IsUnrecorded film lane
+        → IsTrack (λ b. Some b.now) failed_reads held_by failed_writes lane track → IsPlayed track r
+        → IfOk r.recorded (ComesBack film.0.now film.1 r.recording.items r.shown.items r.played)
+    one_back film lane track r fresh done played =
+        let G = ComesBack film.0.now film.1 r.recording.items r.shown.items r.played in
+        elim done.did [
+          | inl refused ↦ subst (λ x. IfOk x G) (sym (played.recorded ∙ refused.0)) tt
+          | inr ran ↦ subst (λ x. IfOk x G) (sym played.recorded)
+              (only_ok track.result _ _ G ran (λ n records. whole_film film.0.now r.recording.items r.shown.items _ film.1 done.items r.played n
+              (rw (ap (λ (b : Bor (List ℕ)). b.now) fresh.reader, fresh.tuning, fresh.empty, played.recording) at records) played.plays))
+        ]
+
+    pub all_back : (films : List (Bor (List ℕ) × Tuning)) (lanes : List (Bor (List ℕ) × IntoMemory × Tuning)) (tracks : List (Track (Bor (List ℕ)) IntoMemory)) (replayed : List Replayed)
+        → AllZip IsUnrecorded films lanes → AreTracks (λ b. Some b.now) failed_reads held_by failed_writes lanes tracks → AllZip IsPlayed tracks replayed → ComeBack films replayed
+    all_back films lanes tracks replayed fresh done played =
+        zip-weaker _ _ films replayed (λ film r all. one_back film all.1.0 all.0 r all.1.1 all.1.2 all.2)
+        (zip-through _ _ films tracks replayed (zip-through _ _ films lanes tracks fresh done) played)

@@ -1,0 +1,61 @@
+-- Lists that grow at their ends, and vectors that elements are taken off from the front.
+use Rattle.std.proofs.Common.{◌≡◌, ◌+◌, List, [], ◌∷◌, ◌++◌, length, refl, sym, ap, subst, ◌∙◌, arith, append_assoc, append-nil}
+use Rattle.std.specs.Prelude.{slice_index_or}
+use Rattle.std.specs.List.{AllByRecursion, AllZip, remove}
+
+pub all-more : {A : Type 0} (P : A → Type 0) (xs : List A) (x : A) → AllByRecursion P xs → P x → AllByRecursion P (xs ++ x ∷ [])
+all-more P [] x all last = (last, _)
+all-more P (y ∷ ys) x all last = (all.0, all-more P ys x all.1 last)
+
+-- two lists beside each other grow by an element each
+pub zip-more : {A B : Type 0} (R : A → B → Type 0) (xs : List A) (ys : List B) (x : A) (y : B) → AllZip R xs ys → R x y → AllZip R (xs ++ x ∷ []) (ys ++ y ∷ [])
+zip-more R [] [] x y all last = (last, tt)
+zip-more R [] (v ∷ vs) x y all last = absurd all
+zip-more R (u ∷ us) [] x y all last = absurd all
+zip-more R (u ∷ us) (v ∷ vs) x y all last = (all.0, zip-more R us vs x y all.1 last)
+
+-- the first elements are beside zs, and the others are left
+abbrev pub ZippedSoFar : {A B : Type 0} → (A → B → Type 0) → List A → List A → List B → Type 0
+ZippedSoFar {A} R all left zs = (done : List A) × (done ++ left ≡ all) × AllZip R done zs
+
+pub zipped-none : {A B : Type 0} (R : A → B → Type 0) (all : List A) (zs : List B) → zs ≡ [] → ZippedSoFar R all all zs
+zipped-none R all zs none = ([], refl, subst (AllZip R []) (sym none) tt)
+
+pub zipped-more : {A B : Type 0} (R : A → B → Type 0) (all left rest : List A) (zs : List B) (x : A) (z : B) → ZippedSoFar R all left zs → left ≡ x ∷ rest → R x z
+    → ZippedSoFar R all rest (zs ++ z ∷ [])
+zipped-more R all left rest zs x z before first last =
+    (before.0 ++ x ∷ [], append_assoc before.0 (x ∷ []) rest ∙ ap (λ l. before.0 ++ l) (sym first) ∙ before.1, zip-more R before.0 zs x z before.2 last)
+
+pub zipped-all : {A B : Type 0} (R : A → B → Type 0) (all left : List A) (zs : List B) → ZippedSoFar R all left zs → left ≡ [] → AllZip R all zs
+zipped-all R all left zs before none = subst (λ l. AllZip R l zs) (sym (append-nil before.0) ∙ ap (λ l. before.0 ++ l) (sym none) ∙ before.1) before.2
+
+-- three lists beside one another
+pub zip-through : {A B C : Type 0} (R : A → B → Type 0) (S : B → C → Type 0) (xs : List A) (ys : List B) (zs : List C) → AllZip R xs ys → AllZip S ys zs
+    → AllZip (λ x z. (y : B) × R x y × S y z) xs zs
+zip-through R S [] [] [] first second = tt
+zip-through R S [] [] (z ∷ zs) first second = absurd second
+zip-through R S [] (y ∷ ys) zs first second = absurd first
+zip-through R S (x ∷ xs) [] zs first second = absurd first
+zip-through R S (x ∷ xs) (y ∷ ys) [] first second = absurd second
+zip-through R S (x ∷ xs) (y ∷ ys) (z ∷ zs) first second = ((y, first.0, second.0), zip-through R S xs ys zs first.1 second.1)
+
+pub zip-weaker : {A B : Type 0} (R S : A → B → Type 0) (xs : List A) (ys : List B) → ((x : A) (y : B) → R x y → S x y) → AllZip R xs ys → AllZip S xs ys
+zip-weaker R S [] [] weaker all = tt
+zip-weaker R S [] (y ∷ ys) weaker all = absurd all
+zip-weaker R S (x ∷ xs) [] weaker all = absurd all
+zip-weaker R S (x ∷ xs) (y ∷ ys) weaker all = (weaker x y all.0, zip-weaker R S xs ys weaker all.1)
+
+-- the first element taken off a vector, in the words of `Vec::remove`
+pub took_first : {A : Type 0} (old new : List A) (e : A) → e ≡ slice_index_or old 0 e → new ≡ remove old 0 → length new + 1 ≡ length old → old ≡ e ∷ new
+took_first [] new e is rest size = absurd (omega arith)
+took_first (x ∷ xs) new e is rest size = λ i. sym is i ∷ sym rest i
+
+pub none_left : {A : Type 0} (l : List A) → length l ≡ 0 → l ≡ []
+none_left [] e = refl
+none_left (x ∷ xs) e = absurd (omega arith)
+
+pub zip-length : {A B : Type 0} (R : A → B → Type 0) (xs : List A) (ys : List B) → AllZip R xs ys → length xs ≡ length ys
+zip-length R [] [] all = refl
+zip-length R [] (y ∷ ys) all = absurd all
+zip-length R (x ∷ xs) [] all = absurd all
+zip-length R (x ∷ xs) (y ∷ ys) all = let rest = zip-length R xs ys all.1 in omega arith

@@ -1,0 +1,21 @@
+use Rattle.std.proofs.Common.{◌≡◌, ◌+◌, ◌∷◌, length, sym, subst, arith}
+use Rattle.ls_recorder.specs.View.Headline.{IsPlayed}
+use Rattle.ls_recorder.proofs.ListLemmas.{ZippedSoFar, took_first, zipped-more}
+use Rattle.ls_recorder.proofs.headline.play_all.Goals as goal
+
+pub loop-alloc-preserved : goal.loop-alloc-preserved
+loop-alloc-preserved c =
+    let inv = c.loop-alloc.invariant in
+    let all = c.args.tracks.items in
+    let left = c.loop-alloc.tracks.items in
+    let rest = c.remove-track.new.self.items in
+    let track = c.remove-track.result in
+    let replayed = c.loop-alloc.replayed.items in
+    let size : length rest + 1 ≡ length left = omega (arith, c.remove-track.ensures.len, c.remove-track.new.self.ok, c.loop-alloc.tracks.ok) in
+    let first : left ≡ track ∷ rest = took_first left rest track c.remove-track.ensures.value c.remove-track.ensures.items size in
+    record {
+      tracks = subst (ZippedSoFar IsPlayed all rest) (sym c.push_reserved.ensures.items)
+          (zipped-more IsPlayed all left rest replayed track _ inv.tracks first c.play_back.ensures);
+      sum = (let s = inv.sum in let m = c.push_reserved.ensures.len in omega (arith, size, m, c.push_reserved.new.self.ok, c.loop-alloc.replayed.ok));
+      room = omega (arith, inv.room, c.push_reserved.ensures.capacity);
+    }

@@ -1,0 +1,120 @@
+//! What the recorder is for, in one function: films are recorded side by side, and what was recorded of each is played back.
+ghost use Rattle.std.specs.Prelude.{◌≡◌, ◌≤◌, [], length, vec_capacity, IfOk};
+ghost use Rattle.std.specs.List.{AllZip};
+ghost use Rattle.ls_recorder.specs.View.Headline.{IsUnrecorded, IsPlayed, ComeBack};
+
+use crate::faults::RecordFault;
+use crate::lane::LaneFault;
+use crate::playing::{PlayFault, play_bytes};
+use crate::recording::{Track, record};
+use crate::working::Gate;
+use ls_frame::laws::{
+    default_parameters_are_legal, images_have_one_frame, no_image_begins_another,
+    parameters_are_legal_or_at_fault,
+};
+use ls_frame::{Counted, Tuning};
+use std::alloc::{AllocError, Global};
+use std::sync::Wait;
+use std::thread::Threads;
+
+/// A film in memory that was recorded and played back.
+#[derive(Drop)]
+pub struct Replayed {
+    /// Its recording, as far as it was written.
+    pub recording: Vec<u8>,
+    /// How many frames were recorded, or why that stopped.
+    pub recorded: Result<u64, LaneFault>,
+    /// What the recording shows, as far as it was played.
+    pub shown: Vec<u8>,
+    /// How many frames were played, or why that stopped.
+    pub played: Result<u64, PlayFault>,
+}
+
+/// Records films side by side, each with its tuning, and plays back what was recorded of each.
+///
+/// With any number of workers, any capacity and any window, and in whatever order the threads run: of each film that was recorded
+/// whole (`recorded` is `Ok`), the recording is the codestreams of all its frames, in order, with nothing between; if its tuning is
+/// all zeros, that is what `ls_film::code_film` writes of the film. Playing it shows exactly the film's frames, each as its
+/// canonical Netpbm image, unless memory is refused.
+///
+/// Fails as `record` does, or for want of memory.
+pub fn record_and_play<Rt: Threads + Wait + Sync, G: Gate>(
+    rt: &Rt,
+    alloc: Global,
+    films: Vec<(&[u8], Tuning)>,
+    workers: usize,
+    capacity: usize,
+    window: usize,
+    gate: &G,
+) -> Result<Vec<Replayed>, RecordFault>
+    ensures { IfOk result (λ replayed. ComeBack films.entry.items replayed.items) }
+{
+    default_parameters_are_legal();
+    parameters_are_legal_or_at_fault();
+    no_image_begins_another();
+    images_have_one_frame();
+    let Ok(room) = Vec::with_capacity(alloc, films.len()) else {
+        return Err(RecordFault::NoMemory);
+    };
+    let Ok(unrecorded) = unrecorded(alloc, films) else {
+        return Err(RecordFault::NoMemory);
+    };
+    match record(rt, alloc, unrecorded, workers, capacity, window, gate) {
+        Ok(recording) => Ok(play_all(alloc, recording.tracks, room)),
+        Err((fault, _unrecorded)) => Err(fault),
+    }
+}
+
+/// A film in memory, and where its recording goes.
+type Unrecorded<'a> = (&'a [u8], Counted<Vec<u8>>, Tuning);
+
+/// Films, each with an empty recording.
+fn unrecorded<'a>(
+    alloc: Global,
+    mut films: Vec<(&'a [u8], Tuning)>,
+) -> Result<Vec<Unrecorded<'a>>, AllocError>
+    ensures are { IfOk result (λ made. AllZip IsUnrecorded films.entry.items made.items) }
+    ensures len { IfOk result (λ made. length made.items ≡ length films.entry.items) }
+{
+    let mut made = Vec::with_capacity(alloc, films.len())?;
+    while !films.is_empty() {
+        let (film, tuning) = films.remove(0);
+        made.push_reserved((film, Counted::new(Vec::new(alloc)), tuning));
+    }
+    Ok(made)
+}
+
+/// Plays back what was recorded of each film. It requires room for as many answers.
+fn play_all(
+    alloc: Global,
+    mut tracks: Vec<Track<&[u8], Counted<Vec<u8>>>>,
+    room: Vec<Replayed>,
+) -> Vec<Replayed>
+    requires room { length tracks.items ≤ vec_capacity room }
+    requires none { room.items ≡ [] }
+    ensures { AllZip IsPlayed tracks.entry.items result.items }
+{
+    let mut replayed = room;
+    while !tracks.is_empty() {
+        let track = tracks.remove(0);
+        replayed.push_reserved(play_back(alloc, track));
+    }
+    replayed
+}
+
+/// Plays back what was recorded of a film.
+fn play_back(alloc: Global, track: Track<&[u8], Counted<Vec<u8>>>) -> Replayed
+    ensures { IsPlayed track.entry result }
+{
+    let recording = track.writer.into_inner();
+    let (shown, played) = play_bytes(alloc, &recording);
+    Replayed {
+        recording,
+        recorded: track.result,
+        shown,
+        played,
+    }
+}
+
+#[cfg(test)]
+mod tests;
