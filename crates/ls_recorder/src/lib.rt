@@ -38,9 +38,11 @@
 //! };
 //! ```
 //!
+//! Both together: films that are recorded come back (`record_and_play`, `specs/View/Headline.antt`).
+//!
 //! In reading order: `orders` (what is to be coded), `pieces` (what was coded), `collector` (pieces in order), `delivery` (how they come
 //! to their lane), `lane` (a film's way from its reader to its writer, `specs/View/Lanes.antt`), `working` (what a worker does), `recording`
-//! with its threads, `faults` (why a recording isn't begun); `playing`; `laws`.
+//! with its threads, `faults` (why a recording isn't begun); `playing`; `laws`; `headline`.
 #![tactic(auto)]
 
 pub mod collector;
