@@ -7,6 +7,7 @@ ghost use Rattle.ls_bits.specs.Golomb.{IsGolomb, most_value, TakesWord, GolombFa
 
 use crate::window::{Window, joined};
 use std::marker::Model;
+use std::mem;
 use thiserror::Error;
 
 /// Why bits can't be taken. After a fault nothing is promised of where the source stands.
@@ -99,12 +100,23 @@ impl<'a> BitSource<'a> {
         if let Some(value) = self.window.take_short(k, glimit - qbpp - 1, most(qbpp)) {
             return Ok(value);
         }
-        self.read_any_golomb(k, glimit, qbpp)
+        self.read_long_golomb(k, glimit, qbpp)
+    }
+
+    /// As `read_golomb`, whatever is in front. The window goes there and back by value, so that it can be in registers here.
+    #[inline(always)]
+    fn read_long_golomb(&mut self, k: u32, glimit: u32, qbpp: u32) -> Result<u32, CodeFault>
+        requires { IsGolomb k glimit qbpp }
+        ensures ok { IfOk result (λ v. TakesWord k glimit qbpp self.old v self.new) }
+        ensures fault { IfErr result (λ fault. GolombFault k glimit qbpp self.old fault) }
+    {
+        let window = mem::replace(&mut self.window, Window::new(&[]));
+        let read = read_apart(window, k, glimit, qbpp);
+        self.window = read.window;
+        read.value
     }
 
     /// As `read_golomb`, whatever is in front.
-    #[cold]
-    #[inline(never)]
     fn read_any_golomb(&mut self, k: u32, glimit: u32, qbpp: u32) -> Result<u32, CodeFault>
         requires { IsGolomb k glimit qbpp }
         ensures ok { IfOk result (λ v. TakesWord k glimit qbpp self.old v self.new) }
@@ -126,6 +138,29 @@ impl<'a> BitSource<'a> {
             }
             Ok(value)
         }
+    }
+}
+
+/// What was read out of a window, and the window afterwards.
+#[derive(Drop)]
+struct Read<'a> {
+    window: Window<'a>,
+    value: Result<u32, CodeFault>,
+}
+
+/// The code word in front of a window, whatever it is.
+#[cold]
+#[inline(never)]
+fn read_apart<'a>(window: Window<'a>, k: u32, glimit: u32, qbpp: u32) -> Read<'a>
+    requires { IsGolomb k glimit qbpp }
+    ensures ok { IfOk result.value (λ v. TakesWord k glimit qbpp window.entry.bits v result.window.bits) }
+    ensures fault { IfErr result.value (λ fault. GolombFault k glimit qbpp window.entry.bits fault) }
+{
+    let mut source = BitSource { window };
+    let value = source.read_any_golomb(k, glimit, qbpp);
+    Read {
+        window: source.window,
+        value,
     }
 }
 

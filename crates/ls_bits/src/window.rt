@@ -82,7 +82,7 @@ impl<'a> Window<'a> {
             return None;
         }
         let zeros = leading_zeros(self.word, self.held);
-        if zeros >= SHORT || zeros >= most {
+        if zeros >= most.min(SHORT) {
             return None;
         }
         let left = self.held - (zeros + 1) - k;
@@ -164,6 +164,7 @@ impl<'a> Window<'a> {
     }
 
     /// As `refill`, byte by byte, until `ENOUGH` bits are held.
+    #[inline(always)]
     fn refill_by_bytes(&mut self)
         ensures bits { self.new.bits ≡ self.old.bits }
         ensures enough { (ENOUGH ≤ self.new.held) ⊎ (length self.new.bits ≤ self.new.held) }

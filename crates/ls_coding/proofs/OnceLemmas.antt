@@ -1,20 +1,19 @@
 -- After lawful events no two samples have words that the same bits begin with.
-use Rattle.std.proofs.Common.{◌≡◌, ℕ, zero, suc, ◌+◌, ◌-◌, ◌*◌, ◌<◌, ◌≤◌, Bool, true, false, ℤ, pos, negsuc, neg_ℤ, ◌+ℤ◌, ◌-ℤ◌, ◌≤ℤ◌, List, ◌∷◌, ◌++◌, refl, sym, ◌∙◌, ap, subst, arith}
-use Rattle.std.specs.Prelude.{int_le, int_lt, unsigned_abs}
+use Rattle.std.proofs.Common.{◌≡◌, ℕ, ◌+◌, ◌*◌, ◌<◌, ◌≤◌, Bool, true, false, ℤ, pos, negsuc, List, ◌++◌, sym, ◌∙◌, ap, arith}
+use Rattle.std.specs.Prelude.{int_le}
 use Rattle.std.proofs.lemmas.Bool.{cond-true, le-leb}
 use Rattle.std.proofs.lemmas.Int.{ints}
-use Rattle.ls_frame.specs.Parameters.{Parameters, IsLegal, range_of, qbpp_of, limit_of}
-use Rattle.ls_bits.specs.Golomb.{IsGolomb, code_word, most_value, TakesWord}
+use Rattle.ls_frame.specs.Parameters.{Parameters, IsLegal, qbpp_of, limit_of}
+use Rattle.ls_bits.specs.Golomb.{IsGolomb, most_value}
 use Rattle.ls_bits.proofs.GolombLaws.{same_word}
 use Rattle.ls_coding.specs.declared.neighbours.Neighbours.{Neighbours}
 use Rattle.ls_coding.specs.Samples.{AreSamples, Interrupts}
-use Rattle.ls_coding.specs.Contexts.{Context, context_of, signed}
-use Rattle.ls_coding.specs.Errors.{IsReduced, error_of, predicted, mapped_error, is_inverted}
+use Rattle.ls_coding.specs.Contexts.{context_of}
+use Rattle.ls_coding.specs.Errors.{error_of, mapped_error, is_inverted}
 use Rattle.ls_coding.specs.Stats.{Stats}
-use Rattle.ls_coding.specs.Interruptions.{Counts, counts, ri_type_of, ri_value, interruption_negative, interruption_prediction, interruption_error, interruption_value, interruption_k, map_of}
+use Rattle.ls_coding.specs.Interruptions.{Counts, ri_type_of, interruption_negative, interruption_prediction, interruption_error, interruption_value, interruption_k}
 use Rattle.ls_coding.specs.Numbers.{golomb_parameter}
-use Rattle.ls_coding.specs.Runs.{order, run_of, index_at}
-use Rattle.ls_coding.specs.Events.{Event, stats_after_events, counts_after_events, run_index_after_events, regular_error_of, regular_word, interruption_word, golomb_bits}
+use Rattle.ls_coding.specs.Events.{Event, stats_after_events, counts_after_events, regular_error_of, regular_word, interruption_word, golomb_bits}
 use Rattle.ls_coding.specs.Lawful.{IsLawful}
 use Rattle.ls_coding.specs.View.States.{Coding, stats_in, context_in, regular_error_in, regular_word_in, interruption_word_in}
 use Rattle.ls_coding.proofs.CostLemmas.{regular_error_of-reduced, interruption_error-reduced, prediction_of, stats_after_events-sound, counts_after_events-sound}

@@ -14,8 +14,7 @@ ghost use Rattle.ls_coding.specs.View.Fields.{regular_at, all_regular, interrupt
 
 use crate::context::Context;
 use crate::error::{
-    error_of, golomb_parameter, is_inverted, is_reduced, mapped_error, predicted, sample_of,
-    unmapped_error,
+    error_of, golomb_parameter, is_reduced, mapped_error, predicted, sample_of, unmapped_error,
 };
 use crate::interruption::{
     count_interruption, interruption_error_of, interruption_k, interruption_negative,
@@ -166,8 +165,7 @@ impl Counters {
             IfErr result (λ fault. NoSample (λ one. one ≤ self.old.presets.maxval) value_of value) }
         ensures parameters { self.new.presets ≡ self.old.presets }
     {
-        let inverted = is_inverted(k, self.b[number], self.n[number]);
-        let error = unmapped_error(inverted, value);
+        let error = unmapped_error(k, self.b[number], self.n[number], value);
         if !is_reduced(self.presets.range(), error) {
             return Err(CodeFault::NotCanonical);
         }

@@ -99,7 +99,7 @@ fn reciprocal(n: u32) -> u32
 }
 
 /// Whether the odd mapped errors are those of the errors from 0 on (A.5.2).
-pub fn is_inverted(k: u32, b: i32, n: u32) -> bool
+fn is_inverted(k: u32, b: i32, n: u32) -> bool
     requires few { n ≤ 65536 }
     requires low { neg_ℤ (pos 131072) ≤ℤ b }
     requires high { b ≤ℤ pos 131072 }
@@ -146,8 +146,25 @@ fn folded_error(error: i32) -> u32
     twice as u32
 }
 
-/// The error that is mapped to this (A.5.2).
-pub fn unmapped_error(inverted: bool, value: u32) -> i32
+/// The error that is mapped to this (A.5.2), in a context with these k, B and N.
+pub fn unmapped_error(k: u32, b: i32, n: u32, value: u32) -> i32
+    requires few { n ≤ 65536 }
+    requires mean_low { neg_ℤ (pos 131072) ≤ℤ b }
+    requires mean_high { b ≤ℤ pos 131072 }
+    requires value { value ≤ 65536 }
+    ensures value { mapped_error (is_inverted k b n) result ≡ value }
+    ensures only { (e : ℤ) → mapped_error (is_inverted k b n) e ≡ value → e ≡ result }
+    ensures low { neg_ℤ (pos 32769) ≤ℤ result }
+    ensures high { result ≤ℤ pos 32769 }
+{
+    if k != 0 {
+        return unfolded_error(value);
+    }
+    uninverted_error(is_inverted(k, b, n), value)
+}
+
+/// The error that is mapped to this, where inverting changes bit 0.
+fn uninverted_error(inverted: bool, value: u32) -> i32
     requires { value ≤ 65536 }
     ensures value { mapped_error inverted result ≡ value }
     ensures only { (e : ℤ) → mapped_error inverted e ≡ value → e ≡ result }
@@ -157,6 +174,18 @@ pub fn unmapped_error(inverted: bool, value: u32) -> i32
     let half = (value / 2) as i32;
     let odd = value % 2 == 1;
     if odd == inverted { half } else { -1 - half }
+}
+
+/// The error that is mapped to this if the odd mapped errors are those of the errors below 0.
+fn unfolded_error(value: u32) -> i32
+    requires { value ≤ 65536 }
+    ensures value { mapped_error false result ≡ value }
+    ensures only { (e : ℤ) → mapped_error false e ≡ value → e ≡ result }
+    ensures low { neg_ℤ (pos 32769) ≤ℤ result }
+    ensures high { result ≤ℤ pos 32769 }
+{
+    let half = (value / 2) as i32;
+    if value % 2 == 1 { -1 - half } else { half }
 }
 
 /// The edge-detecting predictor (A.4.1).

@@ -25,7 +25,8 @@ pub struct Decoder<'a> {
     qbpp: u32,
     /// The regions of all gradients.
     regions: &'a Regions,
-    state: State,
+    /// It stands elsewhere, so that the rest of the decoder can be in registers.
+    state: &'a mut State,
     source: BitSource<'a>,
 }
 
@@ -36,9 +37,9 @@ impl<'a> Model for Decoder<'a> {
 
     ghost Value = { Unread };
 
-    ghost view = { λ d. record { state = d.state; bits = d.source } };
+    ghost view = { λ d. record { state = d.state.now; bits = d.source } };
 
-    ghost invariant = { λ d. (d.state.parameters ≡ d.presets) × (d.qbpp ≡ qbpp_of d.presets.maxval) × IsLegal d.presets × (d.regions.now ≡ d.presets) };
+    ghost invariant = { λ d. (d.state.now.parameters ≡ d.presets) × (d.qbpp ≡ qbpp_of d.presets.maxval) × IsLegal d.presets × (d.regions.now ≡ d.presets) };
 }
 
 /// A run that was read: how many samples it has, and whether a sample interrupts it before the line's end.
@@ -49,10 +50,16 @@ pub struct FoundRun {
 }
 
 impl<'a> Decoder<'a> {
-    /// The start of a scan, of this data.
-    pub fn new(presets: &Presets, regions: &'a Regions, bytes: &'a [u8]) -> Decoder<'a>
+    /// The start of a scan, of this data, with the state of a scan's start.
+    pub fn new(
+        presets: &Presets,
+        regions: &'a Regions,
+        state: &'a mut State,
+        bytes: &'a [u8],
+    ) -> Decoder<'a>
         requires is_data { IsData bytes.now }
         requires regions { regions.now ≡ presets.now }
+        requires state { state.old ≡ state_of presets.now [] }
         ensures parameters { result.state.parameters ≡ presets.now }
         ensures state { result.state ≡ state_of presets.now [] }
         ensures bits { result.bits ≡ unstuff bytes.now }
@@ -62,7 +69,7 @@ impl<'a> Decoder<'a> {
             presets: *presets,
             qbpp: presets.qbpp(),
             regions,
-            state: State::new(presets),
+            state,
             source: BitSource::new(bytes),
         }
     }

@@ -15,7 +15,7 @@ use crate::decode::row::decode_row;
 use crate::lines::clear;
 use crate::shape::Shape;
 use ls_bits::CodeFault;
-use ls_coding::Regions;
+use ls_coding::{Regions, State};
 use ls_frame::Presets;
 
 /// Why a scan's data isn't that of a plane.
@@ -57,7 +57,8 @@ pub fn decode_scan(
     ensures len { length samples.new ≡ length samples.old }
     ensures lines { lines.new ≡ lines.old }
 {
-    let mut decoder = Decoder::new(presets, regions, bytes);
+    let mut state = State::new(presets);
+    let mut decoder = Decoder::new(presets, regions, &mut state, bytes);
     let read = decode_plane(
         &mut decoder,
         &mut lines.above,

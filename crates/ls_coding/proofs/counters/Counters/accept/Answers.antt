@@ -14,8 +14,7 @@ pub returns-then-not-is_reduced-clause-none : goal.returns-then-not-is_reduced-c
 returns-then-not-is_reduced-clause-none c sample within same =
     let s = stats_at c.args.self.now.a c.args.self.now.b c.args.self.now.c c.args.self.now.n c.args.number in
     let e : ℤ = error_of c.args.self.now.presets c.args.negative (pos c.args.prediction) sample in
-    let inverted : c.is_inverted-inverted.result ≡ is_inverted c.args.k s.b s.n =
-    c.is_inverted-inverted.ensures ∙ ap (λ z. is_inverted c.args.k z s.n) (mean_is c.args.self.now.presets.reset _ s (c.requires.sound.all.regular c.args.number c.requires.number) (omega arith)) in
+    let inverted = ap (λ z. is_inverted c.args.k z s.n) (mean_is c.args.self.now.presets.reset _ s (c.requires.sound.all.regular c.args.number c.requires.number) (omega arith)) in
     let found : e ≡ c.unmapped_error-error.result = c.unmapped_error-error.ensures.only e (ap (λ l. mapped_error l e) inverted ∙ same) in
     let reduced : IsReduced (range_of c.args.self.now.presets.maxval) e = error_of-reduced c.args.self.now.presets c.args.prediction sample c.args.negative c.requires.prediction within in
     let passed : IsReduced (range_of c.args.self.now.presets.maxval) (to_z w32 (of_z w32 c.unmapped_error-error.result)) =
@@ -31,13 +30,12 @@ add-requires-clause-error c = rw c.range.ensures at (c.is_reduced.ensures.0 c.if
 pub returns-clause-ok : goal.returns-clause-ok
 returns-clause-ok c =
     let s = stats_at c.args.self.now.a c.args.self.now.b c.args.self.now.c c.args.self.now.n c.args.number in
-    let inverted : c.is_inverted-inverted.result ≡ is_inverted c.args.k s.b s.n =
-    c.is_inverted-inverted.ensures ∙ ap (λ z. is_inverted c.args.k z s.n) (mean_is c.args.self.now.presets.reset _ s (c.requires.sound.all.regular c.args.number c.requires.number) (omega arith)) in
+    let inverted = ap (λ z. is_inverted c.args.k z s.n) (mean_is c.args.self.now.presets.reset _ s (c.requires.sound.all.regular c.args.number c.requires.number) (omega arith)) in
     let passed : to_z w32 (of_z w32 c.unmapped_error-error.result) ≡ c.unmapped_error-error.result = through c.unmapped_error-error.result c.unmapped_error-error.type_inv in
     record {
       is_sample = c.sample_of-sample.ensures.within;
       has_value = ap (λ l. mapped_error l (error_of c.args.self.now.presets c.args.negative (pos c.args.prediction) c.sample_of-sample.result)) (sym inverted)
-          ∙ ap (mapped_error c.is_inverted-inverted.result) (c.sample_of-sample.ensures.error ∙ passed) ∙ c.unmapped_error-error.ensures.value;
+          ∙ ap (mapped_error _) (c.sample_of-sample.ensures.error ∙ passed) ∙ c.unmapped_error-error.ensures.value;
       only = λ other within same. c.sample_of-sample.ensures.only other within
           (c.unmapped_error-error.ensures.only (error_of c.args.self.now.presets c.args.negative (pos c.args.prediction) other) (ap (λ l. mapped_error l (error_of c.args.self.now.presets c.args.negative (pos c.args.prediction) other)) inverted ∙ same) ∙ sym passed);
     }

@@ -17,7 +17,7 @@ use Rattle.ls_stream.proofs.decode.decoder.Decoder.decode_interruption.Goals as 
 
 pub returns-in_err-value-clause-none : goal.returns-in_err-value-clause-none
 returns-in_err-value-clause-none c =
-    let s : Coding = c.self.inside.state in
+    let s : Coding = c.self.inside.state.now in
     let n : Neighbours = c.args.neighbours.now in
     let plan = c.plan_interruption-plan.result in
     let maxval : ℕ = s.parameters.maxval in
@@ -38,7 +38,7 @@ returns-in_err-value-clause-none c =
 
 pub returns-clause-only : goal.returns-clause-only
 returns-clause-only c =
-    let s : Coding = c.self.inside.state in
+    let s : Coding = c.self.inside.state.now in
     let n : Neighbours = c.args.neighbours.now in
     let plan = c.plan_interruption-plan.result in
     let maxval : ℕ = s.parameters.maxval in
@@ -61,7 +61,7 @@ returns-clause-only c =
 
 pub returns-clause-none : goal.returns-clause-none
 returns-clause-none c =
-    let s : Coding = c.self.inside.state in
+    let s : Coding = c.self.inside.state.now in
     let n : Neighbours = c.args.neighbours.now in
     let plan = c.plan_interruption-plan.result in
     let maxval : ℕ = s.parameters.maxval in
@@ -86,7 +86,7 @@ returns-clause-none c =
 
 pub returns-in_err-value-clause-fault : goal.returns-in_err-value-clause-fault
 returns-in_err-value-clause-fault c =
-    let s : Coding = c.self.inside.state in
+    let s : Coding = c.self.inside.state.now in
     let n : Neighbours = c.args.neighbours.now in
     let maxval : ℕ = s.parameters.maxval in
     let qbpp = c.self.invariant.1 ∙ ap (λ (p : Parameters). qbpp_of p.maxval) (sym c.self.invariant.0) in
@@ -98,7 +98,7 @@ returns-in_err-value-clause-fault c =
 
 pub returns-clause-fault : goal.returns-clause-fault
 returns-clause-fault c =
-    let s : Coding = c.self.inside.state in
+    let s : Coding = c.self.inside.state.now in
     let n : Neighbours = c.args.neighbours.now in
     let maxval : ℕ = s.parameters.maxval in
     let qbpp = c.self.invariant.1 ∙ ap (λ (p : Parameters). qbpp_of p.maxval) (sym c.self.invariant.0) in

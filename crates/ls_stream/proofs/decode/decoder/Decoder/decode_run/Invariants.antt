@@ -10,14 +10,14 @@ use Rattle.ls_stream.proofs.decode.decoder.Decoder.decode_run.Given as goal
 abbrev pub invariant-ones : goal.invariant-ones
 invariant-ones l = record {
   short : l.count < l.left;
-  whole : l.self-inside.state.broken ≡ false;
-  parameters : l.self-inside.state.parameters ≡ l.self-inside.presets;
+  whole : l.self-inside.state.now.broken ≡ false;
+  parameters : l.self-inside.state.now.parameters ≡ l.self-inside.presets;
   qbpp : l.self-inside.qbpp ≡ qbpp_of l.self-inside.presets.maxval;
   legal : IsLegal l.self-inside.presets;
   regions : l.self-inside.regions.now ≡ l.self-inside.presets;
-  breaks : (fault : CodeFault) → BreaksRun l.self-inside.state.run_index (l.left - l.count) l.self-inside.source fault → BreaksRun l.fn.self.state.run_index l.left l.fn.self.bits fault;
-  in_run : IsInRun l.left l.count l.fn.self.state.run_index l.self-inside.state.run_index l.fn.self.bits l.self-inside.source;
-  states : (count : ℕ) (broken : Bool) → run_after l.self-inside.state (run_of count broken) ≡ run_after l.fn.self.state (run_of (l.count + count) broken);
+  breaks : (fault : CodeFault) → BreaksRun l.self-inside.state.now.run_index (l.left - l.count) l.self-inside.source fault → BreaksRun l.fn.self.state.run_index l.left l.fn.self.bits fault;
+  in_run : IsInRun l.left l.count l.fn.self.state.run_index l.self-inside.state.now.run_index l.fn.self.bits l.self-inside.source;
+  states : (count : ℕ) (broken : Bool) → run_after l.self-inside.state.now (run_of count broken) ≡ run_after l.fn.self.state (run_of (l.count + count) broken);
 }
 
 abbrev pub decreases-ones : goal.decreases-ones
