@@ -5,12 +5,17 @@ ghost use Rattle.crossbeam_channel.specs.Ends.{sends_on, receives_on};
 
 use crate::pieces::{Coded, Uncoded};
 use crossbeam_channel::protocol::{Free, Split};
-use crossbeam_channel::{Pass, RuledReceiver, RuledSender};
+use crossbeam_channel::{Pass, RuledReceiver, RuledSender, TryRecvError};
 use std::alloc::AllocError;
+use std::hint::spin_loop;
 use std::sync::Wait;
 
 /// What a worker answers to a job: its piece, or that it couldn't be coded.
 pub type Answer = Result<Coded, Uncoded>;
+
+/// How often a lane looks into its box before it sleeps: for about as long as a small frame takes to code, since to be woken takes
+/// longer, and costs the worker that wakes it as much.
+const LOOKS: usize = 400;
 
 /// A pass of a box says nothing, and so does each pass that is made of it.
 pub struct Another;
@@ -52,6 +57,13 @@ impl Inbox {
     pub fn recv<R: Wait>(&mut self, rt: &R) -> Option<Answer>
         ensures { self.new.source ≡ self.old.source }
     {
+        for _look in 0..LOOKS {
+            match self.exit.try_recv_as::<Free, R>(rt, &mut self.pass) {
+                Ok(answer) => return Some(answer),
+                Err(TryRecvError::Disconnected) => return None,
+                Err(TryRecvError::Empty) => spin_loop(),
+            }
+        }
         self.exit.recv_as::<Free, R>(rt, &mut self.pass).ok()
     }
 }

@@ -1,0 +1,5 @@
+use Rattle.std.proofs.Common.{◌≡◌}
+use Rattle.ls_recorder.proofs.delivery.ends.Inbox.recv.Given as goal
+
+abbrev pub invariant-loop-look : goal.invariant-loop-look
+invariant-loop-look g l = l.self.source ≡ l.fn.self.source
