@@ -33,7 +33,7 @@ mod testing;
 pub mod tuning;
 
 pub use buffered::Buffered;
-pub use device::{Counted, Failed, Feed, Outlet};
+pub use device::{Counted, Failed, Feed, FeedFault, Outlet};
 pub use frame::{Frame, FrameFault, Kind};
 pub use netpbm::{NetpbmFault, first_frame, next_frame, write_frame};
 pub use output::{WriteFault, write_bytes};
