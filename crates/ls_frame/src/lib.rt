@@ -8,7 +8,7 @@
 //! writers and frames are seen as what these definitions speak of is in `specs/View`.
 //!
 //! ```
-//! let mut reader = Counted::new(Buffered::new(alloc, file)?);
+//! let mut reader = Buffered::new(alloc, Counted::new(file))?;
 //! while let Some(frame) = next_frame(alloc, &mut reader)? {
 //!     let presets = Presets::default_of(frame.maxval());
 //!     // .. frame.width(), frame.samples(), presets.t1() ..

@@ -1,4 +1,4 @@
-use Rattle.std.proofs.Common.{◌≡◌, ◌≢◌, ◌+◌, ◌-◌, length, take, sym, subst, arith}
+use Rattle.std.proofs.Common.{◌≡◌, ◌≢◌, ◌+◌, ◌-◌, length, take, subst, arith}
 use Rattle.std.specs.List.{AllByRecursion}
 use Rattle.ls_frame.proofs.MarkLemmas.{unmarked-front}
 use Rattle.ls_frame.proofs.buffered.count_until.Goals as goal

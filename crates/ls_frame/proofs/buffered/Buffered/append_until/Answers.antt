@@ -1,4 +1,4 @@
-use Rattle.std.proofs.Common.{rules, arith, ◌≡◌, ◌≢◌, ◌+◌, ◌-◌, Some, sym, subst, take, get_or, slice_range}
+use Rattle.std.proofs.Common.{rules, ◌≡◌, ◌≢◌, ◌+◌, ◌-◌, Some, sym, subst, take, get_or, slice_range}
 use Rattle.std.specs.List.{AllByRecursion}
 use Rattle.ls_frame.specs.View.Known.{TakesUntil}
 use Rattle.ls_frame.proofs.MarkLemmas.{piece-until}
