@@ -31,14 +31,14 @@ pub fn check_so(rt: &impl Abort, case: &str, at: usize, holds: bool) {
 
 /// A call of `feed_until` by its mark and how many bytes it may take, what it answers, the bytes taken by it and those before it, and how
 /// many reads failed by then.
-pub type Take = (u8, usize, Result<Option<u8>, FeedFault>, &'static [u8], u64);
+pub type Take<'a> = (u8, usize, Result<Option<u8>, FeedFault>, &'a [u8], u64);
 
 /// That calls of `feed_until` take this, up to a call for which memory is wanting; whether none was.
 pub fn check_takes<R: Feed>(
     rt: &impl Abort,
     reader: &mut R,
     bytes: &mut Vec<u8>,
-    takes: &[Take],
+    takes: &[Take<'_>],
 ) -> bool {
     for (at, (mark, most, want, taken, failures)) in takes.iter().enumerate() {
         let before = bytes.len();

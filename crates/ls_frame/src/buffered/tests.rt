@@ -56,7 +56,7 @@ fn failures_below_are_counted_with_ample_memory(rt: HostRuntime) -> Result<(), A
 
 /// Of five bytes three are taken at once; the second piece fails twice, and the third time gives the others. A mark stands in a piece, in
 /// none, and at the end of one.
-const TAKES: [Take; 8] = [
+const TAKES: [Take<'static>; 8] = [
     (b'x', 1, Ok(Some(b'a')), b"a", 0),
     (b'b', 9, Ok(Some(b'b')), b"ab", 0),
     (b'd', 9, Ok(Some(b'c')), b"abc", 0),
@@ -68,7 +68,7 @@ const TAKES: [Take; 8] = [
 ];
 
 /// Of six bytes three are taken at once. A mark stands at the front of a piece, and in neither part of one.
-const MARKED: [Take; 6] = [
+const MARKED: [Take<'static>; 6] = [
     (b'd', 2, Ok(Some(b'b')), b"ab", 0),
     (b'd', 9, Ok(Some(b'c')), b"abc", 0),
     (b'd', 9, Ok(Some(b'd')), b"abcd", 0),

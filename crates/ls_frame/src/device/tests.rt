@@ -24,7 +24,7 @@ fn failed_feeds_are_counted_one_by_one(rt: HostRuntime) {
 }
 
 /// Where a reader doesn't say otherwise, a byte is taken at a time; of these three the second read fails.
-const TAKES: [Take; 6] = [
+const TAKES: [Take<'static>; 6] = [
     (b'x', 9, Ok(Some(b'a')), b"a", 0),
     (b'b', 9, Err(FeedFault::Io), b"a", 1),
     (b'b', 9, Ok(Some(b'b')), b"ab", 1),
@@ -44,7 +44,7 @@ fn bytes_are_taken_one_by_one_or_memory_is_wanting(rt: HostRuntime) {
 fn bytes_are_taken_one_by_one_with_ample_memory(rt: HostRuntime) {
     let mut reader = Counted::new(Pieces::new(b"abc", 2, &[1]));
     let mut bytes = Vec::new(rt.alloc());
-    let all = check_takes(&rt, &mut &mut reader, &mut bytes, &TAKES);
+    let all = check_takes(&rt, &mut reader, &mut bytes, &TAKES);
     check_so(&rt, "memory", 0, all);
 }
 
