@@ -137,7 +137,7 @@ where
     R: Files + AllocGlobal,
     E: Outlet,
     X: Display + Drop,
-    F: FnOnce(&mut Counted<Buffered<R::File>>) -> Result<u64, X> + Drop,
+    F: FnOnce(&mut Buffered<Counted<R::File>>) -> Result<u64, X> + Drop,
     requires { F.IsAlwaysCallable engine }
 {
     let alloc = rt.alloc();
@@ -148,11 +148,11 @@ where
             return FAILED;
         }
     };
-    let Ok(buffered) = Buffered::new(alloc, opened) else {
+    let Ok(mut reader) = Buffered::new(alloc, Counted::new(opened)) else {
         say(alloc, errors, format_args!("{file}: no memory"));
         return FAILED;
     };
-    match engine(&mut Counted::new(buffered)) {
+    match engine(&mut reader) {
         Ok(_frames) => DONE,
         Err(fault) => {
             say(alloc, errors, format_args!("{file}: {fault}"));

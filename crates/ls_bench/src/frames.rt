@@ -40,7 +40,7 @@ pub fn measure<R: Files + Clock + Print + Eprint + AllocGlobal>(
 /// The frames of a file.
 fn read_film<R: Files + AllocGlobal>(rt: &R, name: &str) -> Result<Vec<Frame>> {
     let opened = File::open(rt, name).context(format_args!("{name} can't be opened"))?;
-    let mut reader = Counted::new(Buffered::new(rt.alloc(), opened)?);
+    let mut reader = Buffered::new(rt.alloc(), Counted::new(opened))?;
     frames_of(rt.alloc(), &mut reader).context(format_args!("{name} is no film"))
 }
 

@@ -6,7 +6,7 @@
 //! so a film of codestreams is read by the same ones.
 //!
 //! ```
-//! let mut reader = Counted::new(Buffered::new(alloc, file)?);
+//! let mut reader = Buffered::new(alloc, Counted::new(file))?;
 //! let mut writer = Counted::new(rt.stdout());
 //! let frames = code_film(alloc, &mut reader, &mut writer)?;
 //! let (lines, ended) = list_bytes(alloc, film);

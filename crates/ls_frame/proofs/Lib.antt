@@ -5,6 +5,7 @@ pub mod GapLaws
 pub mod HeadingLaws
 pub mod ImageLaws
 pub mod KnownLemmas
+pub mod MarkLemmas
 pub mod NextLemmas
 pub mod NumberLaws
 pub mod ParameterLemmas

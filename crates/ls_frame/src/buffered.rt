@@ -1,7 +1,12 @@
 //! A reader that takes the bytes of another in pieces and hands them out.
-ghost use Rattle.std.specs.Prelude.{◌≡◌, ◌<◌, ◌≤◌, [], ◌++◌, IfOk, OnOk, length, take};
+ghost use Rattle.std.specs.Prelude.{◌≡◌, ◌≢◌, ◌-◌, ◌<◌, ◌≤◌, [], ◌∷◌, ◌++◌, IfOk, OnOk, OnErr, Some, IfSome, IfNone, is_err, length, take};
+ghost use Rattle.std.specs.List.{AllByRecursion};
 ghost use Rattle.std.specs.Io.KnownBytes.{Keeps, IsAtEnd};
+ghost use Rattle.ls_frame.specs.View.Devices.{count_after};
+ghost use Rattle.ls_frame.specs.View.Known.{TakesUntil};
 
+use crate::device::{Failed, Feed, FeedFault};
+use memchr::memchr;
 use std::alloc::{AllocError, Global};
 use std::io;
 use std::io::Read;
@@ -59,6 +64,24 @@ impl<R: Read> Buffered<R> {
     }
 }
 
+impl<R: Feed> Buffered<R> {
+    ghost use Rattle.ls_frame.specs.View.Pieces.{in_piece, inner_reader, left_in};
+
+    /// The same, by a read whose failure is counted.
+    fn fill_counted(&mut self) -> Result<(), Failed>
+        ensures known { Keeps (left_in R.remaining self.old) (left_in R.remaining self.new) }
+        ensures end { OnOk result (in_piece self.new ≡ [] → IsAtEnd (R.remaining (inner_reader self.new))) }
+        ensures failures { R.failed_reads (inner_reader self.new) ≡ count_after (is_err result) (R.failed_reads (inner_reader self.old)) }
+    {
+        if self.start == self.end {
+            self.start = 0;
+            self.end = 0;
+            self.end = self.inner.feed(&mut self.piece)?;
+        }
+        Ok(())
+    }
+}
+
 impl<R> Buffered<R> {
     ghost use Rattle.ls_frame.specs.View.Pieces.{in_piece, inner_reader};
 
@@ -76,6 +99,48 @@ impl<R> Buffered<R> {
         self.start = end;
         count
     }
+
+    /// Appends the front of the piece, up to and with the first `mark` and `most` bytes at most, to `bytes`. Answers the last of them;
+    /// there is none only if the piece was handed out.
+    fn append_until(
+        &mut self,
+        mark: u8,
+        most: usize,
+        bytes: &mut Vec<u8>,
+    ) -> Result<Option<u8>, AllocError>
+        requires some { 0 < most }
+        ensures taken { IfOk result (λ next. IfSome next
+            (TakesUntil mark most (Some (in_piece self.old)) (Some (in_piece self.new)) bytes.old.items bytes.new.items)) }
+        ensures end { IfOk result (λ next. IfNone next ((bytes.new.items ≡ bytes.old.items) × (in_piece self.old ≡ []) × (in_piece self.new ≡ []))) }
+        ensures nothing { OnErr result (bytes.new.items ≡ bytes.old.items) }
+        ensures inner { inner_reader self.new ≡ inner_reader self.old }
+    {
+        if self.start == self.end {
+            return Ok(None);
+        }
+        let piece = &self.piece[self.start..self.end];
+        let count = count_until(mark, most, piece);
+        bytes.extend_from_slice(&piece[..count])?;
+        let last = piece[count - 1];
+        self.start += count;
+        Ok(Some(last))
+    }
+}
+
+/// How many bytes there are up to and with the first `mark`, `most` at most.
+fn count_until(mark: u8, most: usize, bytes: &[u8]) -> usize
+    requires some { 0 < most }
+    requires any { 0 < length bytes.now }
+    ensures some { 0 < result }
+    ensures most { result ≤ most }
+    ensures within { result ≤ length bytes.now }
+    ensures unmarked { AllByRecursion (λ byte. byte ≢ mark) (take (result - 1) bytes.now) }
+{
+    let front = &bytes[..most.min(bytes.len())];
+    match memchr(mark, front) {
+        Some(place) => place + 1,
+        None => front.len(),
+    }
 }
 
 impl<R: Read> Read for Buffered<R> {
@@ -89,6 +154,39 @@ impl<R: Read> Read for Buffered<R> {
         }
         self.fill()?;
         Ok(self.hand_out(buf))
+    }
+}
+
+impl<R: Feed> Feed for Buffered<R> {
+    ghost use Rattle.ls_frame.specs.View.Pieces.{inner_reader};
+
+    ghost failed_reads = { λ b. R.failed_reads (inner_reader b) };
+
+    fn feed(&mut self, buf: &mut [u8]) -> Result<usize, Failed> {
+        if self.start == self.end && buf.len() >= PIECE {
+            return self.inner.feed(buf);
+        }
+        self.fill_counted()?;
+        Ok(self.hand_out(buf))
+    }
+
+    fn feed_until(
+        &mut self,
+        mark: u8,
+        most: usize,
+        bytes: &mut Vec<u8>,
+    ) -> Result<Option<u8>, FeedFault> {
+        if self.fill_counted().is_err() {
+            return Err(FeedFault::Io);
+        }
+        match self.append_until(mark, most, bytes) {
+            Ok(next) => Ok(next),
+            Err(AllocError) => Err(FeedFault::NoMemory),
+        }
+    }
+
+    fn failures(&self) -> u64 {
+        Feed::failures(&self.inner)
     }
 }
 

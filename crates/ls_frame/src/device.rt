@@ -1,8 +1,9 @@
 //! Readers and writers whose failed calls are counted.
-ghost use Rattle.std.specs.Prelude.{◌≡◌, ℕ, ◌<◌, List, OnOk, OnErr, IfOk, is_err, length};
+ghost use Rattle.std.specs.Prelude.{◌≡◌, ℕ, ◌<◌, List, OnOk, OnErr, IfOk, IfErr, IfSome, IfNone, is_err, length};
 ghost use Rattle.std.specs.Io.{ReadsAtMost, WritesAtMost};
 ghost use Rattle.std.specs.Io.KnownBytes.{Keeps, ReadConsumes, WriteAppends};
-ghost use Rattle.ls_frame.specs.View.Devices.{count_after};
+ghost use Rattle.ls_frame.specs.View.Devices.{count_after, failed_read};
+ghost use Rattle.ls_frame.specs.View.Known.{TakesUntil, WasAtEnd};
 
 use std::io;
 use std::io::{Read, Write};
@@ -11,9 +12,18 @@ use std::io::{Read, Write};
 #[derive(Clone, Copy, Debug, PartialEq, Eq)]
 pub struct Failed;
 
-/// A reader that counts its failed calls.
+/// Why no bytes were taken.
+#[derive(Clone, Copy, Debug, PartialEq, Eq)]
+pub enum FeedFault {
+    /// A read failed.
+    Io,
+    /// An allocation failed.
+    NoMemory,
+}
+
+/// A reader that counts its failed reads.
 pub trait Feed: Read {
-    /// How many calls of `feed` have failed.
+    /// How many reads, by `feed` or `feed_until`, have failed.
     ghost failed_reads: { Self → ℕ };
 
     /// Reads into `buf`, as `read` does. `Ok(0)` with room in `buf` is the end of input.
@@ -22,7 +32,37 @@ pub trait Feed: Read {
         ensures bytes { ReadConsumes (Self.remaining self.old) (Self.remaining self.new) result buf.new }
         ensures failures { failed_reads self.new ≡ count_after (is_err result) (failed_reads self.old) };
 
-    /// How many calls of `feed` have failed; the count stays at the greatest `u64`.
+    /// Reads some bytes and appends them to `bytes`: `most` of them at most, and none after the first `mark`. Answers the last of them;
+    /// `None` is the end of input.
+    ///
+    /// On a fault nothing is appended. After `NoMemory` nothing is said of the reader's place.
+    fn feed_until(
+        &mut self,
+        mark: u8,
+        most: usize,
+        bytes: &mut Vec<u8>,
+    ) -> Result<Option<u8>, FeedFault>
+        requires some { 0 < most }
+        ensures taken { IfOk result (λ next. IfSome next
+            (TakesUntil mark most (Self.remaining self.old) (Self.remaining self.new) bytes.old.items bytes.new.items)) }
+        ensures end { IfOk result (λ next. IfNone next
+            ((bytes.new.items ≡ bytes.old.items) × WasAtEnd (Self.remaining self.old) (Self.remaining self.new))) }
+        ensures nothing { OnErr result (bytes.new.items ≡ bytes.old.items) }
+        ensures fault { IfErr result (λ fault. fault ≡ FeedFault.Io → Keeps (Self.remaining self.old) (Self.remaining self.new)) }
+        ensures failures { failed_reads self.new ≡ count_after (failed_read result) (failed_reads self.old) }
+    {
+        let mut byte = [0u8; 1];
+        match self.feed(&mut byte) {
+            Err(Failed) => Err(FeedFault::Io),
+            Ok(0) => Ok(None),
+            Ok(_) => match bytes.push(byte[0]) {
+                Ok(()) => Ok(Some(byte[0])),
+                Err(_) => Err(FeedFault::NoMemory),
+            },
+        }
+    }
+
+    /// How many reads, by `feed` or `feed_until`, have failed; the count stays at the greatest `u64`.
     fn failures(&self) -> u64
         ensures { result ≡ failed_reads self.now };
 }
@@ -66,6 +106,15 @@ impl<R: Feed> Feed for &mut R {
 
     fn feed(&mut self, buf: &mut [u8]) -> Result<usize, Failed> {
         Feed::feed(&mut **self, buf)
+    }
+
+    fn feed_until(
+        &mut self,
+        mark: u8,
+        most: usize,
+        bytes: &mut Vec<u8>,
+    ) -> Result<Option<u8>, FeedFault> {
+        Feed::feed_until(&mut **self, mark, most, bytes)
     }
 
     fn failures(&self) -> u64 {

@@ -8,7 +8,7 @@
 //! writers and frames are seen as what these definitions speak of is in `specs/View`.
 //!
 //! ```
-//! let mut reader = Counted::new(Buffered::new(alloc, file)?);
+//! let mut reader = Buffered::new(alloc, Counted::new(file))?;
 //! while let Some(frame) = next_frame(alloc, &mut reader)? {
 //!     let presets = Presets::default_of(frame.maxval());
 //!     // .. frame.width(), frame.samples(), presets.t1() ..
@@ -33,7 +33,7 @@ mod testing;
 pub mod tuning;
 
 pub use buffered::Buffered;
-pub use device::{Counted, Failed, Feed, Outlet};
+pub use device::{Counted, Failed, Feed, FeedFault, Outlet};
 pub use frame::{Frame, FrameFault, Kind};
 pub use netpbm::{NetpbmFault, first_frame, next_frame, write_frame};
 pub use output::{WriteFault, write_bytes};

@@ -2,6 +2,7 @@
 ghost use Rattle.std.specs.Prelude.{◌≤◌};
 ghost use Rattle.ls_frame.specs.declared.testing.TheConstants.{ROOM};
 
+use crate::device::{Feed, FeedFault};
 use std::fmt::Debug;
 use std::io;
 use std::io::{Read, Write};
@@ -26,6 +27,31 @@ pub fn check_items<T: PartialEq + Debug>(
 /// That this holds.
 pub fn check_so(rt: &impl Abort, case: &str, at: usize, holds: bool) {
     assert!(rt; holds, "{case}, at {at}");
+}
+
+/// A call of `feed_until` by its mark and how many bytes it may take, what it answers, the bytes taken by it and those before it, and how
+/// many reads failed by then.
+pub type Take<'a> = (u8, usize, Result<Option<u8>, FeedFault>, &'a [u8], u64);
+
+/// That calls of `feed_until` take this, up to a call for which memory is wanting; whether none was.
+pub fn check_takes<R: Feed>(
+    rt: &impl Abort,
+    reader: &mut R,
+    bytes: &mut Vec<u8>,
+    takes: &[Take<'_>],
+) -> bool {
+    for (at, (mark, most, want, taken, failures)) in takes.iter().enumerate() {
+        let before = bytes.len();
+        let got = reader.feed_until(*mark, (*most).max(1), bytes);
+        if got == Err(FeedFault::NoMemory) {
+            check(rt, "bytes without memory", at, &bytes.len(), &before);
+            return false;
+        }
+        check(rt, "the last byte", at, &got, want);
+        check_items(rt, "bytes taken", at, bytes, taken);
+        check(rt, "failures", at, &Feed::failures(reader), failures);
+    }
+    true
 }
 
 /// A reader over memory that gives at most `most` bytes a call. Its calls of the numbers `failing`,

@@ -282,10 +282,6 @@ pub data_other : (byte : ℕ) → (byte ≡ 255 → ⊥) → GoesOn awaited.Data
 unfolding read_on
 data_other byte other = record { on = λ bytes. ap (λ n. segments_at (drop n (byte ∷ bytes))) (length-other byte bytes (ne_eqb byte 255 other)) }
 
-pub more_data : (place next : Awaited) (byte : ℕ) → place ≡ awaited.Data → next ≡ place → (byte ≡ 255 → ⊥) → GoesOn place byte next
-more_data place next byte is same other =
-    subst (GoesOn place byte) (sym same) (subst (λ p. GoesOn p byte p) (sym is) (data_other byte other))
-
 pub code_low : (byte : ℕ) → byte < 128 → GoesOn awaited.DataCode byte awaited.Data
 unfolding read_on
 code_low byte low = record { on = λ bytes. ap (λ n. segments_at (drop n (255 ∷ byte ∷ bytes))) (length-pair 255 byte bytes refl (lt-ltb byte 128 low)) }

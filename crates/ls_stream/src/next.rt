@@ -1,17 +1,17 @@
 //! Taking one codestream at a time off a reader, by its markers alone.
 mod awaited;
 
-ghost use Rattle.std.specs.Prelude.{◌≡◌, ◌⊎◌, ◌++◌, ℕ, List, length, IfOk, IfErr, IfSome, IfNone, MatchResult, MatchOption};
+ghost use Rattle.std.specs.Prelude.{◌≡◌, ◌≢◌, ◌<◌, ◌⊎◌, ◌++◌, ℕ, List, length, IfOk, IfErr, IfSome, IfNone, MatchResult, MatchOption};
 ghost use Rattle.ls_frame.specs.Picture.{Picture};
 ghost use Rattle.ls_frame.specs.View.Devices.{count_after};
-ghost use Rattle.ls_frame.specs.View.Known.{Tells, Gave, WasAtEnd, known};
+ghost use Rattle.ls_frame.specs.View.Known.{Tells, Gave, WasAtEnd, TakesUntil, known};
 ghost use Rattle.ls_stream.specs.Grammar.{Spells, most_bytes};
 ghost use Rattle.ls_stream.specs.View.Extents.{IsNext, with_left, failed_feed};
-ghost use Rattle.ls_stream.specs.View.Places.{GivesByte, GivesNext};
+ghost use Rattle.ls_stream.specs.View.Places.{GivesNext};
 ghost use Rattle.ls_stream.specs.View.Outlines.{outline_of};
 
 use awaited::Awaited;
-use ls_frame::{Failed, Feed};
+use ls_frame::{Feed, FeedFault};
 use std::alloc::Global;
 use thiserror::Error;
 
@@ -68,39 +68,39 @@ fn read_stream<R: Feed>(alloc: Global, reader: &mut R) -> Result<Option<Vec<u8>>
 {
     let mut bytes = Vec::new(alloc);
     let mut place = Awaited::Start;
-    for _count in 0..MOST_BYTES {
-        let byte = match next_byte(reader)? {
-            Some(byte) => byte,
+    'steps: while bytes.len() < MOST_BYTES {
+        let most = place.most_at_once(MOST_BYTES - bytes.len());
+        let last = match next_bytes(reader, most, &mut bytes)? {
+            Some(last) => last,
             None if bytes.is_empty() => return Ok(None),
             None => return Ok(Some(bytes)),
         };
-        if bytes.push(byte).is_err() {
-            return Err(NextFault::NoMemory);
-        }
-        match place {
-            // Most bytes are a scan's data, and are followed by more of it.
-            Awaited::Data if byte != 0xFF => {}
-            _ => match place.after(byte) {
-                Some(next) => place = next,
-                None => return Ok(Some(bytes)),
-            },
+        match place.after(last) {
+            Some(next) => place = next,
+            None => return Ok(Some(bytes)),
         }
     }
     Err(NextFault::TooLarge)
 }
 
-/// The next byte, or nothing at the end of input.
-#[tactic(auto, using(crate::proofs::FeedLemmas::one_fed))]
-fn next_byte<R: Feed>(reader: &mut R) -> Result<Option<u8>, NextFault>
-    ensures byte { IfOk result (GivesByte (R.remaining reader.old) (R.remaining reader.new)) }
-    ensures fault { IfErr result (λ fault. fault ≡ NextFault.Io) }
+/// Takes bytes up to and with the first FF, `most` at most, and answers the last of them; `None` at the end of input.
+fn next_bytes<R: Feed>(
+    reader: &mut R,
+    most: usize,
+    bytes: &mut Vec<u8>,
+) -> Result<Option<u8>, NextFault>
+    requires some { 0 < most }
+    ensures taken { IfOk result (λ next. IfSome next
+        (TakesUntil 255 most (R.remaining reader.old) (R.remaining reader.new) bytes.old.items bytes.new.items)) }
+    ensures end { IfOk result (λ next. IfNone next
+        ((bytes.new.items ≡ bytes.old.items) × WasAtEnd (R.remaining reader.old) (R.remaining reader.new))) }
+    ensures fault { IfErr result (λ fault. fault ≢ NextFault.TooLarge) }
     ensures failures { R.failed_reads reader.new ≡ count_after (failed_feed result) (R.failed_reads reader.old) }
 {
-    let mut byte = [0u8; 1];
-    match reader.feed(&mut byte) {
-        Err(Failed) => Err(NextFault::Io),
-        Ok(0) => Ok(None),
-        Ok(_) => Ok(Some(byte[0])),
+    match reader.feed_until(0xFF, most, bytes) {
+        Ok(next) => Ok(next),
+        Err(FeedFault::Io) => Err(NextFault::Io),
+        Err(FeedFault::NoMemory) => Err(NextFault::NoMemory),
     }
 }
 

@@ -23,7 +23,7 @@ pub struct Task<'a> {
 }
 
 /// A film: the file that it is read from, and the file that its codestreams are written to.
-type Film<F> = (Counted<Buffered<F>>, Counted<F>, Tuning);
+type Film<F> = (Buffered<Counted<F>>, Counted<F>, Tuning);
 
 /// Records films, says what came of each, and answers the status.
 pub fn record_films<R, W, E>(rt: &R, task: Task<'_>, output: &mut W, errors: &mut E) -> u8
@@ -97,7 +97,7 @@ where
 }
 
 /// Opens a film; or says why it can't, and gives the status.
-fn open_film<R, E>(rt: &R, file: &str, errors: &mut E) -> Result<Counted<Buffered<R::File>>, u8>
+fn open_film<R, E>(rt: &R, file: &str, errors: &mut E) -> Result<Buffered<Counted<R::File>>, u8>
 where
     R: Files + AllocGlobal,
     E: Outlet,
@@ -110,8 +110,8 @@ where
             return Err(FAILED);
         }
     };
-    match Buffered::new(alloc, opened) {
-        Ok(buffered) => Ok(Counted::new(buffered)),
+    match Buffered::new(alloc, Counted::new(opened)) {
+        Ok(buffered) => Ok(buffered),
         Err(_) => {
             say(alloc, errors, format_args!("{file}: no memory"));
             Err(FAILED)

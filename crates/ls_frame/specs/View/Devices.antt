@@ -1,6 +1,8 @@
 -- Readers and writers whose failed calls are counted.
-use Rattle.std.specs.Prelude.{ℕ, ◌+◌, ◌-◌, ◌^◌, min, Bool, if◌then◌else◌}
+use Rattle.std.specs.Prelude.{ℕ, ◌+◌, ◌-◌, ◌^◌, min, Bool, true, false, Result, Ok, Err, if◌then◌else◌}
 use Rattle.ls_frame.specs.declared.device.Counted.{Counted}
+use Rattle.ls_frame.specs.declared.device.FeedFault.{FeedFault}
+use Rattle.ls_frame.specs.declared.device.FeedFault.TheVariants.{Io, NoMemory}
 
 -- the count of failed calls after one more: it stays at the greatest `u64`
 abbrev pub risen : ℕ → ℕ
@@ -9,6 +11,15 @@ risen count = min (count + 1) (2 ^ 64 - 1)
 -- the count after a call: risen if the call failed, else as it was
 abbrev pub count_after : Bool → ℕ → ℕ
 count_after failed count = if failed then risen count else count
+
+-- whether it was a read that failed
+abbrev pub is_read_fault : FeedFault → Bool
+is_read_fault Io = true
+is_read_fault NoMemory = false
+
+abbrev pub failed_read : {X : Type 0} → Result X FeedFault → Bool
+failed_read (Ok x) = false
+failed_read (Err fault) = is_read_fault fault
 
 module _ {X : Type 0} where
   -- what a `Counted` wraps

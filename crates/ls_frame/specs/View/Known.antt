@@ -1,5 +1,7 @@
 -- What is known of a reader's bytes, and what it gave.
-use Rattle.std.specs.Prelude.{◌≡◌, ℕ, IsSome, List, [], ◌++◌, Option, unwrap_or}
+use Rattle.std.specs.Prelude.{◌≡◌, ◌≢◌, ℕ, ◌<◌, IsSome, List, [], ◌∷◌, ◌++◌, length, Option, unwrap_or}
+use Rattle.std.specs.List.{AllByRecursion}
+use Rattle.std.specs.Io.KnownBytes.{Consumes}
 
 -- The bytes of a reader are known, as those of one over memory are and those of a file aren't.
 abbrev pub Tells : Option (List ℕ) → Type 0
@@ -16,3 +18,11 @@ Gave old new P = Tells old → Tells new × (bytes : List ℕ) × (known old ≡
 -- The reader was at its end, and no byte was read.
 abbrev pub WasAtEnd : Option (List ℕ) → Option (List ℕ) → Type 0
 WasAtEnd old new = Tells old → Tells new × (known old ≡ []) × (known new ≡ [])
+
+-- The reader gave bytes that were appended to others: `most` of them at most, of which only the last may be the mark.
+pub record TakesUntil (mark most : ℕ) (old new : Option (List ℕ)) (before after : List ℕ) (last : ℕ) : Type 0 where
+  pub run : List ℕ
+  pub appended : after ≡ before ++ (run ++ last ∷ [])
+  pub given : Consumes old new (run ++ last ∷ [])
+  pub unmarked : AllByRecursion (λ byte. byte ≢ mark) run
+  pub few : length run < most

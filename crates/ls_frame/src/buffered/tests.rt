@@ -1,6 +1,6 @@
 use super::*;
 use crate::device::{Counted, Failed, Feed};
-use crate::testing::{Pieces, check, check_items};
+use crate::testing::{Pieces, Take, check, check_items, check_so, check_takes};
 use std::process::Abort;
 
 /// Reads so, by calls with room for so many: what each gives, its bytes, how many bytes were taken then, and how many calls failed.
@@ -46,6 +46,67 @@ fn bytes_go_out_before_a_failure_shows_with_ample_memory(
     Ok(())
 }
 
+#[test]
+fn failures_below_are_counted_with_ample_memory(rt: HostRuntime) -> Result<(), AllocError> {
+    let counted = Counted::new(Pieces::new(b"abcde", 3, &[1, 2]));
+    let mut reader = Buffered::new(rt.alloc(), counted)?;
+    check_feeds(&rt, &mut reader, STEPS);
+    Ok(())
+}
+
+/// Of five bytes three are taken at once; the second piece fails twice, and the third time gives the others. A mark stands in a piece, in
+/// none, and at the end of one.
+const TAKES: [Take<'static>; 8] = [
+    (b'x', 1, Ok(Some(b'a')), b"a", 0),
+    (b'b', 9, Ok(Some(b'b')), b"ab", 0),
+    (b'd', 9, Ok(Some(b'c')), b"abc", 0),
+    (b'd', 9, Err(FeedFault::Io), b"abc", 1),
+    (b'd', 9, Err(FeedFault::Io), b"abc", 2),
+    (b'e', 9, Ok(Some(b'e')), b"abcde", 2),
+    (b'e', 9, Ok(None), b"abcde", 2),
+    (b'x', 1, Ok(None), b"abcde", 2),
+];
+
+/// Of six bytes three are taken at once. A mark stands at the front of a piece, and in neither part of one.
+const MARKED: [Take<'static>; 6] = [
+    (b'd', 2, Ok(Some(b'b')), b"ab", 0),
+    (b'd', 9, Ok(Some(b'c')), b"abc", 0),
+    (b'd', 9, Ok(Some(b'd')), b"abcd", 0),
+    (b'd', 2, Ok(Some(b'f')), b"abcdef", 0),
+    (b'd', 2, Ok(None), b"abcdef", 0),
+    (b'd', 2, Ok(None), b"abcdef", 0),
+];
+
+#[test]
+fn bytes_are_taken_up_to_a_mark_or_memory_is_wanting(rt: HostRuntime) {
+    let counted = Counted::new(Pieces::new(b"abcde", 3, &[1, 2]));
+    if let Ok(mut reader) = Buffered::new(rt.alloc(), counted) {
+        let mut bytes = Vec::new(rt.alloc());
+        check_takes(&rt, &mut reader, &mut bytes, &TAKES);
+    }
+}
+
+#[test]
+fn bytes_are_taken_up_to_a_mark_with_ample_memory(rt: HostRuntime) -> Result<(), AllocError> {
+    let counted = Counted::new(Pieces::new(b"abcde", 3, &[1, 2]));
+    let mut reader = Buffered::new(rt.alloc(), counted)?;
+    let mut bytes = Vec::new(rt.alloc());
+    let all = check_takes(&rt, &mut reader, &mut bytes, &TAKES);
+    check_so(&rt, "memory", 0, all);
+    Ok(())
+}
+
+/// The same of a reader that is lent.
+#[test]
+fn a_lent_reader_takes_as_much_with_ample_memory(rt: HostRuntime) -> Result<(), AllocError> {
+    let counted = Counted::new(Pieces::new(b"abcdef", 3, &[]));
+    let mut reader = Buffered::new(rt.alloc(), counted)?;
+    let mut bytes = Vec::new(rt.alloc());
+    let all = check_takes(&rt, &mut &mut reader, &mut bytes, &MARKED);
+    check_so(&rt, "memory", 1, all);
+    Ok(())
+}
+
 /// So many bytes, each the number of its place, less what a byte can't hold.
 fn numbered(alloc: Global, count: usize) -> Result<Vec<u8>, AllocError> {
     let mut bytes = Vec::with_capacity(alloc, count)?;
@@ -82,6 +143,31 @@ fn pieces_join_with_ample_memory(rt: HostRuntime) -> Result<(), AllocError> {
             let mut reader = Buffered::new(rt.alloc(), bytes.as_slice())?;
             check_all(&rt, &mut reader, &bytes, room);
         }
+    }
+    Ok(())
+}
+
+/// How many calls take all that a reader has, by this mark.
+fn count_takes<R: Feed>(reader: &mut R, mark: u8, bytes: &mut Vec<u8>) -> usize {
+    for call in 0..PIECE {
+        match reader.feed_until(mark, usize::MAX, bytes) {
+            Ok(Some(_)) => {}
+            _ => return call,
+        }
+    }
+    PIECE
+}
+
+/// Each number of a place but the last ends a run of 251 bytes; a piece's end cuts one in two.
+#[test]
+fn pieces_join_by_marks_with_ample_memory(rt: HostRuntime) -> Result<(), AllocError> {
+    for (count, calls) in [(0, 0), (251, 1), (252, 2), (PIECE, 262), (PIECE + 251, 264)] {
+        let want = numbered(rt.alloc(), count)?;
+        let mut reader = Buffered::new(rt.alloc(), Counted::new(want.as_slice()))?;
+        let mut bytes = Vec::new(rt.alloc());
+        let got = count_takes(&mut reader, 250, &mut bytes);
+        check(&rt, "calls", count, &got, &calls);
+        check_items(&rt, "bytes", count, &bytes, &want);
     }
     Ok(())
 }

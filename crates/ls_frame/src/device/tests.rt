@@ -1,5 +1,5 @@
 use super::*;
-use crate::testing::{Mishap, Pieces, Sink, check, check_items, check_so};
+use crate::testing::{Mishap, Pieces, Sink, Take, check, check_items, check_so, check_takes};
 use std::process::Abort;
 
 #[test]
@@ -21,6 +21,31 @@ fn failed_feeds_are_counted_one_by_one(rt: HostRuntime) {
         check(&rt, "failures", i, &Feed::failures(&reader), &failures);
     }
     check(&rt, "bytes given", 0, &reader.into_inner().given, &3);
+}
+
+/// Where a reader doesn't say otherwise, a byte is taken at a time; of these three the second read fails.
+const TAKES: [Take<'static>; 6] = [
+    (b'x', 9, Ok(Some(b'a')), b"a", 0),
+    (b'b', 9, Err(FeedFault::Io), b"a", 1),
+    (b'b', 9, Ok(Some(b'b')), b"ab", 1),
+    (b'x', 1, Ok(Some(b'c')), b"abc", 1),
+    (b'x', 9, Ok(None), b"abc", 1),
+    (b'x', 1, Ok(None), b"abc", 1),
+];
+
+#[test]
+fn bytes_are_taken_one_by_one_or_memory_is_wanting(rt: HostRuntime) {
+    let mut reader = Counted::new(Pieces::new(b"abc", 2, &[1]));
+    let mut bytes = Vec::new(rt.alloc());
+    check_takes(&rt, &mut reader, &mut bytes, &TAKES);
+}
+
+#[test]
+fn bytes_are_taken_one_by_one_with_ample_memory(rt: HostRuntime) {
+    let mut reader = Counted::new(Pieces::new(b"abc", 2, &[1]));
+    let mut bytes = Vec::new(rt.alloc());
+    let all = check_takes(&rt, &mut reader, &mut bytes, &TAKES);
+    check_so(&rt, "memory", 0, all);
 }
 
 /// Steps of a writer that takes two bytes a call, and whose calls 1, 2 and 4 go wrong.

@@ -65,10 +65,6 @@ pub record IsPlaceAfter (place : Awaited) (bytes : List ℕ) : Type 0 where
 
 -- ---- what a function of the code gives
 
--- If the bytes are known: the next one, or nothing at the end.
-abbrev pub GivesByte : Option (List ℕ) → Option (List ℕ) → Option ℕ → Type 0
-GivesByte old new next = Tells old → Tells new × MatchOption next ((known old ≡ []) × (known new ≡ [])) (λ byte. known old ≡ byte ∷ known new)
-
 -- so many bytes were read that none may follow, and they are undecided
 pub record IsTooLong (old new : List ℕ) : Type 0 where
   pub read : List ℕ

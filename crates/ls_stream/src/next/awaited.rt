@@ -1,5 +1,5 @@
 //! What the next byte of a codestream is, by the markers before it.
-ghost use Rattle.std.specs.Prelude.{◌≡◌, IfSome, IfNone};
+ghost use Rattle.std.specs.Prelude.{◌≡◌, ◌<◌, ◌≤◌, ◌⊎◌, IfSome, IfNone};
 ghost use Rattle.ls_stream.specs.View.Places.{GoesOn, Ends, follows_of, place_of};
 
 use crate::marker::Marker;
@@ -36,6 +36,19 @@ pub enum Follows {
 }
 
 impl Awaited {
+    /// How many bytes may be taken at once, of so many at most: of a scan's data all up to an FF, else one.
+    pub fn most_at_once(self, most: usize) -> usize
+        requires { 0 < most }
+        ensures some { 0 < result }
+        ensures most { result ≤ most }
+        ensures one { (self ≡ Awaited.Data) ⊎ (result ≡ 1) }
+    {
+        match self {
+            Awaited::Data => most,
+            _ => 1,
+        }
+    }
+
     /// What the byte after this one is; `None` where the codestream ends with this byte, or shows by it that its markers break.
     #[tactic(auto, using(crate::proofs::PlaceLemmas::place_lemmas))]
     pub fn after(self, byte: u8) -> Option<Awaited>

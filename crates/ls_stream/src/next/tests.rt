@@ -2,8 +2,9 @@ use super::*;
 use crate::decode::{Decoded, decode_frame};
 use crate::faults::{StreamFault, What};
 use crate::testing::codestreams::{BLACK_AND_WHITE, CODESTREAMS};
-use ls_frame::Counted;
+use ls_frame::{Buffered, Counted};
 use ls_testing::Pieces;
+use std::alloc::AllocError;
 use std::process::Abort;
 use std::test::Fail;
 
@@ -70,6 +71,38 @@ fn check_first(
     check_fault(rt, at, &decoded, want);
     let same = are_same(&decoded, &decode_frame(alloc, bytes));
     check_count(rt, "the same", at, usize::from(same), 1);
+}
+
+/// How many bytes a reader has left.
+fn count_left<R: Feed>(reader: &mut R) -> usize {
+    let mut left: usize = 0;
+    for _ in 0..u32::MAX {
+        match reader.feed(&mut [0u8; 16]) {
+            Ok(0) | Err(_) => return left,
+            Ok(given) => left = left.saturating_add(given),
+        }
+    }
+    left
+}
+
+/// That so many of these bytes are taken off a buffered reader that is given so many at once, and that it has the others left.
+fn check_pieces(
+    rt: &impl Abort,
+    alloc: Global,
+    at: usize,
+    bytes: &[u8],
+    count: usize,
+    most: usize,
+) -> Result<(), AllocError> {
+    let counted = Counted::new(Pieces::new(bytes, most, None));
+    let mut reader = Buffered::new(alloc, counted)?;
+    let next = next_stream(alloc, &mut reader);
+    let first = bytes.get(..count).unwrap_or(bytes);
+    check_taken(rt, "off pieces", at, &next, Ok(Some(first)));
+    let left = bytes.len().saturating_sub(count);
+    check_count(rt, "left", at, count_left(&mut reader), left);
+    check_count(rt, "failures", at, Feed::failures(&reader) as usize, 0);
+    Ok(())
 }
 
 /// Bytes, how many of them the next codestream has, and the fault of decoding them.
@@ -163,6 +196,28 @@ fn bytes_are_taken_up_to_what_breaks_them_with_ample_memory(rt: HostRuntime) {
     }
 }
 
+/// Wherever the pieces are cut.
+#[test]
+fn broken_bytes_are_taken_off_pieces_with_ample_memory(rt: HostRuntime) -> Result<(), AllocError> {
+    for (at, (bytes, count, _)) in BROKEN.into_iter().enumerate() {
+        for most in [1, 5] {
+            check_pieces(&rt, rt.alloc(), at, bytes, count, most)?;
+        }
+    }
+    Ok(())
+}
+
+#[test]
+fn codestreams_are_taken_off_pieces_with_ample_memory(rt: HostRuntime) -> Result<(), Fail> {
+    for (at, (_, codestream, _)) in CODESTREAMS.into_iter().enumerate() {
+        let mut bytes = codestream.to_vec(rt.alloc())?;
+        bytes.extend_from_slice(codestream)?;
+        check_pieces(&rt, rt.alloc(), at, &bytes, codestream.len(), 7)?;
+        check_pieces(&rt, rt.alloc(), at, &bytes, codestream.len(), 1000)?;
+    }
+    Ok(())
+}
+
 #[test]
 fn codestreams_are_taken_whole_with_ample_memory(rt: HostRuntime) -> Result<(), Fail> {
     for (at, (_, codestream, _)) in CODESTREAMS.into_iter().enumerate() {
@@ -188,16 +243,15 @@ fn a_fill_byte_before_eoi_is_taken_with_ample_memory(rt: HostRuntime) -> Result<
     Ok(())
 }
 
-/// Takes two codestreams that stand behind one another, and then the end, by so many bytes a call.
-fn check_two(rt: &impl Abort, alloc: Global, joined: &[u8], most: usize) {
-    let mut reader = Counted::new(Pieces::new(joined, most, None));
+/// Takes two codestreams that stand behind one another, and then the end.
+fn check_two<R: Feed>(rt: &impl Abort, alloc: Global, reader: &mut R, most: usize) {
     for (at, codestream) in BLACK_AND_WHITE.into_iter().enumerate() {
-        let next = next_stream(alloc, &mut reader);
+        let next = next_stream(alloc, reader);
         check_taken(rt, "one of two", at, &next, Ok(Some(codestream)));
     }
-    let next = next_stream(alloc, &mut reader);
+    let next = next_stream(alloc, reader);
     check_taken(rt, "the end", most, &next, Ok(None));
-    check_count(rt, "failures", most, Feed::failures(&reader) as usize, 0);
+    check_count(rt, "failures", most, Feed::failures(reader) as usize, 0);
 }
 
 #[test]
@@ -206,21 +260,36 @@ fn joined_codestreams_are_taken_one_by_one_with_ample_memory(rt: HostRuntime) ->
     let mut joined = black.to_vec(rt.alloc())?;
     joined.extend_from_slice(white)?;
     for most in [1, 2, 56, 100] {
-        check_two(&rt, rt.alloc(), &joined, most);
+        let mut reader = Counted::new(Pieces::new(&joined, most, None));
+        check_two(&rt, rt.alloc(), &mut reader, most);
+        let counted = Counted::new(Pieces::new(&joined, most, None));
+        let mut reader = Buffered::new(rt.alloc(), counted)?;
+        check_two(&rt, rt.alloc(), &mut reader, most);
     }
     Ok(())
 }
 
+/// That a read of this number failed, once.
+fn check_failed<R: Feed>(rt: &impl Abort, alloc: Global, reader: &mut R, failing: usize) {
+    let next = next_stream(alloc, reader);
+    check_taken(rt, "a failed read", failing, &next, Err(NextFault::Io));
+    let failures = Feed::failures(reader) as usize;
+    check_count(rt, "failures", failing, failures, 1);
+}
+
 #[test]
-fn a_failed_read_is_named_and_counted_once_with_ample_memory(rt: HostRuntime) {
+fn a_failed_read_is_named_and_counted_once_with_ample_memory(
+    rt: HostRuntime,
+) -> Result<(), AllocError> {
     let [black, _] = BLACK_AND_WHITE;
     for failing in 0..black.len() {
         let mut reader = Counted::new(Pieces::new(black, 1, Some(failing)));
-        let next = next_stream(rt.alloc(), &mut reader);
-        check_taken(&rt, "a failed read", failing, &next, Err(NextFault::Io));
-        let failures = Feed::failures(&reader) as usize;
-        check_count(&rt, "failures", failing, failures, 1);
+        check_failed(&rt, rt.alloc(), &mut reader, failing);
+        let counted = Counted::new(Pieces::new(black, 1, Some(failing)));
+        let mut reader = Buffered::new(rt.alloc(), counted)?;
+        check_failed(&rt, rt.alloc(), &mut reader, failing);
     }
+    Ok(())
 }
 
 /// The answer is want of memory, or what it is with ample memory.
