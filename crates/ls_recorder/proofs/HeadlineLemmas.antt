@@ -1,6 +1,8 @@
 -- Films that are recorded and played back, one after the other.
 use Rattle.std.proofs.Common.{◌≡◌, inl, inr, ℕ, ◌<◌, ◌≤◌, List, [], ◌∷◌, ◌++◌, length, Option, Some, refl, sym, ap, subst, ◌∙◌, arith}
 use Rattle.std.proofs.lemmas.List.{length-map, length-append}
+use Rattle.std.proofs.lemmas.Option.{same_Some}
+use Rattle.std.proofs.lemmas.Result.{MatchResult-weaker}
 use Rattle.std.specs.Prelude.{None, Result, Ok, Err, IfOk, MatchResult}
 use Rattle.std.specs.List.{AllByRecursion, AllZip}
 use Rattle.std.specs.Borrow.{Bor}
@@ -17,13 +19,13 @@ use Rattle.ls_film.specs.Coding.{file, with_defaults, default_file}
 use Rattle.ls_film.proofs.OneFilmLemmas.{one_film}
 use Rattle.ls_recorder.specs.declared.playing.PlayFault.{PlayFault}
 use Rattle.ls_recorder.specs.declared.recording.Track.{Track}
-use Rattle.ls_recorder.specs.declared.headline.Replayed.{Replayed}
+use Rattle.ls_recorder.specs.declared.headline.PlayedBack.{PlayedBack}
 use Rattle.ls_recorder.specs.Orders.{Ordered}
 use Rattle.ls_recorder.specs.View.Lanes.{with_tuning, AreTuned, tuned_file, Records}
 use Rattle.ls_recorder.specs.View.Playing.{IsCodable, frames_of}
 use Rattle.ls_recorder.specs.View.Recordings.{IsTrack, AreTracks}
 use Rattle.ls_recorder.proofs.ListLemmas.{zip-through, zip-weaker}
-use Rattle.ls_recorder.specs.View.Headline.{by_default, ComesBack, ComeBack, PlaysBack, IntoMemory, held_by, IsUnrecorded, IsPlayed}
+use Rattle.ls_recorder.specs.View.Headline.{by_default, ComesBack, StopsShort, CameOf, ComeBack, PlaysBack, IntoMemory, held_by, IsUnrecorded, IsPlayed}
 
 -- ---- a film of Netpbm images is of one list of frames
 
@@ -88,10 +90,6 @@ all_by_default law (f ∷ frames) =
 
 -- ---- one film
 
-only_ok : {A E : Type 0} (r : Result A E) (P : A → Type 0) (Q : E → Type 0) (G : A → Type 0) → MatchResult r P Q → ((x : A) → P x → G x) → IfOk r G
-only_ok (Ok x) P Q G is then = then x is
-only_ok (Err e) P Q G is then = tt
-
 module _ (maxval : (maxval : ℕ) → (default_parameters maxval).maxval ≡ maxval) (legal : (p : Parameters) → p.maxval ≤ 65535 → preset_fault p ≡ None → IsLegal p)
     (only : (front rest : List ℕ) (f g : Picture) → IsImageOf front f → IsImageOf (front ++ rest) g → rest ≡ [])
     (same : (bytes : List ℕ) (f g : Picture) → IsImageOf bytes f → IsImageOf bytes g → f ≡ g) where
@@ -115,20 +113,27 @@ module _ (maxval : (maxval : ℕ) → (default_parameters maxval).maxval ≡ max
       }
 
   module _ (failed_reads : Bor (List ℕ) → ℕ) (failed_writes : IntoMemory → ℕ) where
-    one_back : (film : Bor (List ℕ) × Tuning) (lane : Bor (List ℕ) × IntoMemory × Tuning) (track : Track (Bor (List ℕ)) IntoMemory) (r : Replayed) → IsUnrecorded film lane
-        → IsTrack (λ b. Some b.now) failed_reads held_by failed_writes lane track → IsPlayed track r
-        → IfOk r.recorded (ComesBack film.0.now film.1 r.recording.items r.shown.items r.played)
+    one_back : (film : Bor (List ℕ) × Tuning) (lane : Bor (List ℕ) × IntoMemory × Tuning) (track : Track (Bor (List ℕ)) IntoMemory) (r : PlayedBack) → IsUnrecorded film lane
+        → IsTrack (λ b. Some b.now) failed_reads held_by failed_writes lane track → IsPlayed track r → CameOf film r
     one_back film lane track r fresh done played =
-        let G = ComesBack film.0.now film.1 r.recording.items r.shown.items r.played in
-        elim done.did [
-          | inl refused ↦ subst (λ x. IfOk x G) (sym (played.recorded ∙ refused.0)) tt
-          | inr ran ↦ subst (λ x. IfOk x G) (sym played.recorded)
-              (only_ok track.result _ _ G ran (λ n records. whole_film film.0.now r.recording.items r.shown.items _ film.1 done.items r.played n
-              (rw (ap (λ (b : Bor (List ℕ)). b.now) fresh.reader, fresh.tuning, fresh.empty, played.recording) at records) played.plays))
-        ]
+        let bytes = film.0.now in
+        let back = ComesBack bytes film.1 r.recording.items r.shown.items r.played in
+        let short = StopsShort bytes film.1 r.recording.items in
+        (
+          subst (λ x. MatchResult x back short) (sym played.recorded)
+              (elim done.did [
+                | inl refused ↦ subst (λ x. MatchResult x back short) (sym refused.0)
+                    (inl (refl, same_Some _ _ (sym played.recording ∙ ap held_by refused.2 ∙ fresh.empty)))
+                | inr ran ↦ MatchResult-weaker track.result
+                    (rw (ap (λ (b : Bor (List ℕ)). b.now) fresh.reader, fresh.tuning, fresh.empty, played.recording) at ran)
+                    (λ n records. whole_film bytes r.recording.items r.shown.items _ film.1 done.items r.played n records played.plays)
+                    (λ fault stops. inr (done.items, _, stops))
+              ]),
+          played.shows,
+        )
 
-    pub all_back : (films : List (Bor (List ℕ) × Tuning)) (lanes : List (Bor (List ℕ) × IntoMemory × Tuning)) (tracks : List (Track (Bor (List ℕ)) IntoMemory)) (replayed : List Replayed)
-        → AllZip IsUnrecorded films lanes → AreTracks (λ b. Some b.now) failed_reads held_by failed_writes lanes tracks → AllZip IsPlayed tracks replayed → ComeBack films replayed
-    all_back films lanes tracks replayed fresh done played =
-        zip-weaker _ _ films replayed (λ film r all. one_back film all.1.0 all.0 r all.1.1 all.1.2 all.2)
-        (zip-through _ _ films tracks replayed (zip-through _ _ films lanes tracks fresh done) played)
+    pub all_back : (films : List (Bor (List ℕ) × Tuning)) (lanes : List (Bor (List ℕ) × IntoMemory × Tuning)) (tracks : List (Track (Bor (List ℕ)) IntoMemory)) (played_back : List PlayedBack)
+        → AllZip IsUnrecorded films lanes → AreTracks (λ b. Some b.now) failed_reads held_by failed_writes lanes tracks → AllZip IsPlayed tracks played_back → ComeBack films played_back
+    all_back films lanes tracks played_back fresh done played =
+        zip-weaker _ _ films played_back (λ film r all. one_back film all.1.0 all.0 r all.1.1 all.1.2 all.2)
+        (zip-through _ _ films tracks played_back (zip-through _ _ films lanes tracks fresh done) played)

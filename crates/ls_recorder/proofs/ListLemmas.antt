@@ -1,7 +1,6 @@
--- Lists that grow at their ends, and vectors that elements are taken off from the front.
+-- Lists that grow at their ends, and lists beside one another.
 use Rattle.std.proofs.Common.{◌≡◌, ◌+◌, List, [], ◌∷◌, ◌++◌, length, refl, sym, ap, subst, ◌∙◌, arith, append_assoc, append-nil}
-use Rattle.std.specs.Prelude.{slice_index_or}
-use Rattle.std.specs.List.{AllByRecursion, AllZip, remove}
+use Rattle.std.specs.List.{AllByRecursion, AllZip}
 
 pub all-more : {A : Type 0} (P : A → Type 0) (xs : List A) (x : A) → AllByRecursion P xs → P x → AllByRecursion P (xs ++ x ∷ [])
 all-more P [] x all last = (last, _)
@@ -44,15 +43,6 @@ zip-weaker R S [] [] weaker all = tt
 zip-weaker R S [] (y ∷ ys) weaker all = absurd all
 zip-weaker R S (x ∷ xs) [] weaker all = absurd all
 zip-weaker R S (x ∷ xs) (y ∷ ys) weaker all = (weaker x y all.0, zip-weaker R S xs ys weaker all.1)
-
--- the first element taken off a vector, in the words of `Vec::remove`
-pub took_first : {A : Type 0} (old new : List A) (e : A) → e ≡ slice_index_or old 0 e → new ≡ remove old 0 → length new + 1 ≡ length old → old ≡ e ∷ new
-took_first [] new e is rest size = absurd (omega arith)
-took_first (x ∷ xs) new e is rest size = λ i. sym is i ∷ sym rest i
-
-pub none_left : {A : Type 0} (l : List A) → length l ≡ 0 → l ≡ []
-none_left [] e = refl
-none_left (x ∷ xs) e = absurd (omega arith)
 
 pub zip-length : {A B : Type 0} (R : A → B → Type 0) (xs : List A) (ys : List B) → AllZip R xs ys → length xs ≡ length ys
 zip-length R [] [] all = refl

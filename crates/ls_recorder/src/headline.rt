@@ -1,7 +1,8 @@
 //! What the recorder is for, in one function: films are recorded side by side, and what was recorded of each is played back.
-ghost use Rattle.std.specs.Prelude.{◌≡◌, ◌≤◌, [], length, vec_capacity, IfOk};
+ghost use Rattle.std.specs.Prelude.{◌≡◌, ◌⊎◌, ◌≤◌, [], None, Some, length, vec_capacity, IfOk, IfErr};
 ghost use Rattle.std.specs.List.{AllZip};
 ghost use Rattle.ls_recorder.specs.View.Headline.{IsUnrecorded, IsPlayed, ComeBack};
+ghost use Rattle.ls_recorder.specs.View.Recordings.{record_fault};
 
 use crate::faults::RecordFault;
 use crate::lane::LaneFault;
@@ -19,7 +20,7 @@ use std::thread::Threads;
 
 /// A film in memory that was recorded and played back.
 #[derive(Drop)]
-pub struct Replayed {
+pub struct PlayedBack {
     /// Its recording, as far as it was written.
     pub recording: Vec<u8>,
     /// How many frames were recorded, or why that stopped.
@@ -35,9 +36,11 @@ pub struct Replayed {
 /// With any number of workers, any capacity and any window, and in whatever order the threads run: of each film that was recorded
 /// whole (`recorded` is `Ok`), the recording is the codestreams of all its frames, in order, with nothing between; if its tuning is
 /// all zeros, that is what `ls_film::code_film` writes of the film. Playing it shows exactly the film's frames, each as its
-/// canonical Netpbm image, unless memory is refused.
+/// canonical Netpbm image, unless memory is refused. Of a film whose lane stopped, the recording is what its fault says
+/// (`LaneFault`), and playing that, if it is whole codestreams, shows their frames.
 ///
-/// Fails as `record` does, or for want of memory.
+/// Fails for `NoMemory` only if an allocation fails; else for the first of `Sources`, `Workers`, `Capacity` and `Window` that is so;
+/// else for `NotStarted` only if no thread can be made for a worker. Then nothing comes back.
 pub fn record_and_play<Rt: Threads + Wait + Sync, G: Gate>(
     rt: &Rt,
     alloc: Global,
@@ -46,8 +49,11 @@ pub fn record_and_play<Rt: Threads + Wait + Sync, G: Gate>(
     capacity: usize,
     window: usize,
     gate: &G,
-) -> Result<Vec<Replayed>, RecordFault>
-    ensures { IfOk result (λ replayed. ComeBack films.entry.items replayed.items) }
+) -> Result<Vec<PlayedBack>, RecordFault>
+    ensures comes_back { IfOk result (λ played_back. ComeBack films.entry.items played_back.items) }
+    ensures refused { IfErr result (λ fault. (fault ≡ RecordFault.NoMemory)
+        ⊎ ((record_fault (length films.entry.items) workers capacity window ≡ Some fault)
+        ⊎ ((record_fault (length films.entry.items) workers capacity window ≡ None) × (fault ≡ RecordFault.NotStarted)))) }
 {
     default_parameters_are_legal();
     parameters_are_legal_or_at_fault();
@@ -88,27 +94,27 @@ fn unrecorded<'a>(
 fn play_all(
     alloc: Global,
     mut tracks: Vec<Track<&[u8], Counted<Vec<u8>>>>,
-    room: Vec<Replayed>,
-) -> Vec<Replayed>
+    room: Vec<PlayedBack>,
+) -> Vec<PlayedBack>
     requires room { length tracks.items ≤ vec_capacity room }
     requires none { room.items ≡ [] }
     ensures { AllZip IsPlayed tracks.entry.items result.items }
 {
-    let mut replayed = room;
+    let mut played_back = room;
     while !tracks.is_empty() {
         let track = tracks.remove(0);
-        replayed.push_reserved(play_back(alloc, track));
+        played_back.push_reserved(play_back(alloc, track));
     }
-    replayed
+    played_back
 }
 
 /// Plays back what was recorded of a film.
-fn play_back(alloc: Global, track: Track<&[u8], Counted<Vec<u8>>>) -> Replayed
+fn play_back(alloc: Global, track: Track<&[u8], Counted<Vec<u8>>>) -> PlayedBack
     ensures { IsPlayed track.entry result }
 {
     let recording = track.writer.into_inner();
     let (shown, played) = play_bytes(alloc, &recording);
-    Replayed {
+    PlayedBack {
         recording,
         recorded: track.result,
         shown,

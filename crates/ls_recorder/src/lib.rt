@@ -62,7 +62,7 @@ pub mod working;
 pub use collector::{Collector, CollectorFault, MOST_WINDOW, Misfit};
 pub use delivery::{Answer, Inbox, Outbox, boxes};
 pub use faults::RecordFault;
-pub use headline::{Replayed, record_and_play};
+pub use headline::{PlayedBack, record_and_play};
 pub use lane::{LaneEnd, LaneFault};
 pub use orders::Order;
 pub use pieces::{Coded, Uncoded};

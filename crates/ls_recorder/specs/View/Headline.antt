@@ -1,5 +1,5 @@
 -- What comes of films in memory that are recorded side by side and played back.
-use Rattle.std.specs.Prelude.{◌≡◌, ◌≤◌, ℕ, List, [], length, Option, Some, Result, IfOk, MatchResult, Vec}
+use Rattle.std.specs.Prelude.{◌≡◌, ◌⊎◌, ◌≤◌, ℕ, List, [], length, Option, Some, Result, IfOk, MatchResult, Vec}
 use Rattle.std.specs.List.{AllByRecursion, AllZip}
 use Rattle.std.specs.Borrow.{Bor}
 use Rattle.std.specs.declared.alloc.Global.{Global}
@@ -12,12 +12,15 @@ use Rattle.ls_frame.specs.Netpbm.{IsImageOf}
 use Rattle.ls_film.specs.Film.{most_frames, IsFilm}
 use Rattle.ls_film.specs.Coding.{file, default_file}
 use Rattle.ls_film.specs.View.Memory.{IsTextOf}
+use Rattle.ls_recorder.specs.declared.lane.LaneFault.{LaneFault}
+use Rattle.ls_recorder.specs.declared.lane.LaneFault.TheVariants.{NotStarted}
 use Rattle.ls_recorder.specs.declared.playing.PlayFault.{PlayFault}
 use Rattle.ls_recorder.specs.declared.recording.Track.{Track}
-use Rattle.ls_recorder.specs.declared.headline.Replayed.{Replayed}
+use Rattle.ls_recorder.specs.declared.headline.PlayedBack.{PlayedBack}
+use Rattle.ls_recorder.specs.Orders.{Ordered}
 use Rattle.ls_recorder.specs.Showing.{show}
-use Rattle.ls_recorder.specs.View.Lanes.{tuned_file}
-use Rattle.ls_recorder.specs.View.Playing.{IsWantOfMemory, IsCodable, frames_of}
+use Rattle.ls_recorder.specs.View.Lanes.{tuned_file, StopsLane}
+use Rattle.ls_recorder.specs.View.Playing.{IsShownOf, IsWantOfMemory, IsCodable, frames_of}
 
 -- each parameter is left to its default
 abbrev pub by_default : Tuning
@@ -33,9 +36,22 @@ pub record ComesBack (bytes : List ℕ) (tuning : Tuning) (recording shown : Lis
   pub coded : tuning ≡ by_default → (alone : List ℕ) (m : ℕ) → IsTextOf default_file bytes alone m → recording ≡ alone
   pub plays : MatchResult played (λ m. (m ≡ n) × (shown ≡ show frames)) IsWantOfMemory
 
--- of each film there is what came of it; if it was recorded whole, it comes back
-abbrev pub ComeBack : List (Bor (List ℕ) × Tuning) → List Replayed → Type 0
-ComeBack films replayed = AllZip (λ f r. IfOk r.recorded (ComesBack f.0.now f.1 r.recording.items r.shown.items r.played)) films replayed
+-- The lane of a film stopped: it wasn't started, and nothing is recorded; or its recording is what the fault says.
+abbrev pub StopsShort : List ℕ → Tuning → List ℕ → LaneFault → Type 0
+StopsShort bytes tuning recording fault =
+    ((fault ≡ NotStarted) × (recording ≡ []))
+    ⊎ ((items : List Ordered) × (left : Option (List ℕ)) × StopsLane tuning items (Some bytes) left (Some []) (Some recording) fault)
+
+-- What came of a film: if it was recorded whole, it comes back, else its lane stopped short; and what was played is what its
+-- recording shows.
+abbrev pub CameOf : Bor (List ℕ) × Tuning → PlayedBack → Type 0
+CameOf film r =
+    MatchResult r.recorded (ComesBack film.0.now film.1 r.recording.items r.shown.items r.played) (StopsShort film.0.now film.1 r.recording.items)
+    × IfOk r.played (IsShownOf r.recording.items r.shown.items)
+
+-- of each film there is what came of it
+abbrev pub ComeBack : List (Bor (List ℕ) × Tuning) → List PlayedBack → Type 0
+ComeBack films played_back = AllZip CameOf films played_back
 
 -- ---- the steps
 
@@ -58,7 +74,8 @@ pub record IsUnrecorded (film : Bor (List ℕ) × Tuning) (lane : Bor (List ℕ)
   pub tuning : lane.2 ≡ film.1
 
 -- what a track recorded, and how that is played back
-pub record IsPlayed (track : Track (Bor (List ℕ)) IntoMemory) (replayed : Replayed) : Type 0 where
-  pub recorded : replayed.recorded ≡ track.result
-  pub recording : held_by track.writer ≡ Some replayed.recording.items
-  pub plays : PlaysBack replayed.recording.items replayed.shown.items replayed.played
+pub record IsPlayed (track : Track (Bor (List ℕ)) IntoMemory) (played_back : PlayedBack) : Type 0 where
+  pub recorded : played_back.recorded ≡ track.result
+  pub recording : held_by track.writer ≡ Some played_back.recording.items
+  pub plays : PlaysBack played_back.recording.items played_back.shown.items played_back.played
+  pub shows : IfOk played_back.played (IsShownOf played_back.recording.items played_back.shown.items)

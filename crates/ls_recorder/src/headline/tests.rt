@@ -4,10 +4,10 @@ use crate::working::OpenGate;
 use std::process::Abort;
 
 /// Whether of each film its recording is this, and what is played is the film; or memory was refused, if it may be.
-fn comes_back(replayed: &Replayed, film: &[u8], coded: &[u8], frames: u64, ample: bool) -> bool {
-    let recorded = (replayed.recorded, replayed.recording.as_slice()) == (Ok(frames), coded);
-    let played = (replayed.played, replayed.shown.as_slice()) == (Ok(frames), film);
-    recorded && (played || !ample) || !ample && replayed.recorded.is_err()
+fn comes_back(played_back: &PlayedBack, film: &[u8], coded: &[u8], frames: u64, ample: bool) -> bool {
+    let recorded = (played_back.recorded, played_back.recording.as_slice()) == (Ok(frames), coded);
+    let played = (played_back.played, played_back.shown.as_slice()) == (Ok(frames), film);
+    recorded && (played || !ample) || !ample && played_back.recorded.is_err()
 }
 
 /// Whether two films come back from a recording by so many workers with such a window. `None` if memory is refused.
@@ -21,9 +21,9 @@ fn two_come_back<R: Threads + Wait + Sync>(
     let mut films: Vec<(&[u8], Tuning)> = Vec::with_capacity(alloc, 2).ok()?;
     films.push_reserved((THREE, DEFAULTS));
     films.push_reserved((RUNS, DEFAULTS));
-    let mut replayed = record_and_play(rt, alloc, films, workers, 8, window, &OpenGate).ok()?;
-    let second = replayed.pop()?;
-    let first = replayed.pop()?;
+    let mut played_back = record_and_play(rt, alloc, films, workers, 8, window, &OpenGate).ok()?;
+    let second = played_back.pop()?;
+    let first = played_back.pop()?;
     let first = comes_back(&first, THREE, THREE_CODED, 3, ample);
     Some(first && comes_back(&second, RUNS, RUNS_CODED, 2, ample))
 }

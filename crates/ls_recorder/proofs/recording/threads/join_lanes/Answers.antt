@@ -1,6 +1,6 @@
 use Rattle.std.proofs.Common.{rules, ◌≡◌, ◌+◌, ◌++◌, ◌∷◌, [], length, sym, ap, subst, ◌∙◌, refl, arith}
 use Rattle.ls_recorder.specs.View.Recordings.{AreDone}
-use Rattle.ls_recorder.proofs.ListLemmas.{took_first, none_left}
+use Rattle.ls_queue.proofs.EndLemmas.{took_first, none_left}
 use Rattle.ls_recorder.proofs.RecordingLemmas.{joins, joined}
 use Rattle.ls_recorder.proofs.recording.threads.join_lanes.Goals as goal
 

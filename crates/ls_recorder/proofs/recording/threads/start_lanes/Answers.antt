@@ -1,7 +1,7 @@
 use Rattle.std.proofs.Common.{◌≡◌, ◌+◌, ◌++◌, ◌∷◌, [], length, sym, ap, subst, ◌∙◌, refl, arith, append_assoc}
 use Rattle.ls_recorder.specs.View.Recordings.{AreStarted}
 use Rattle.std.proofs.lemmas.List.{length_push}
-use Rattle.ls_recorder.proofs.ListLemmas.{took_first}
+use Rattle.ls_queue.proofs.EndLemmas.{took_first}
 use Rattle.ls_recorder.proofs.RecordingLemmas.{started-more, seat-first, inbox-first}
 use Rattle.ls_recorder.proofs.recording.threads.start_lanes.Goals as goal
 
