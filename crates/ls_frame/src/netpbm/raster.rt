@@ -20,11 +20,15 @@ const PIECE: usize = 65_536;
 /// How many bytes are widened to samples at once.
 const WIDENED: usize = 4096;
 
-/// Whether no sample is over `maxval`.
+/// Whether no sample is over `maxval`. It looks at all of them, since a loop that ends early is no vector code.
 fn are_within(samples: &[u16], maxval: u16) -> bool
     ensures { result ≡ are_within maxval samples.now }
 {
-    samples.iter().all(|sample| *sample <= maxval)
+    let mut within = true;
+    for sample in samples {
+        within &= *sample <= maxval;
+    }
+    within
 }
 
 /// Appends the samples that take one byte each, into room that is there.
