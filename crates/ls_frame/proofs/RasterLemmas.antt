@@ -1,6 +1,5 @@
 -- Samples in the bytes of a raster.
 use Rattle.std.proofs.Common.{◌≡◌, ℕ, zero, suc, ◌+◌, ◌-◌, ◌*◌, ◌/◌, ◌%◌, ◌&&◌, cond, leb, get_or, set, ◌⊎◌, inl, inr, Ok, Err, take, ◌<◌, ◌≤◌, Bool, true, false, List, [], ◌∷◌, ◌++◌, length, drop, refl, sym, ap, ◌∙◌, min, arith, append_assoc, append-nil}
-use Rattle.std.proofs.Math.Seq.{take-add}
 use Rattle.std.proofs.lemmas.List.{drop-drop, length-drop, length-take, length-take-le, length-append, get_or-take, take_more_set}
 use Rattle.std.proofs.lemmas.Bool.{and_parts, and_from, leb-true}
 use Rattle.std.specs.List.{AllByRecursion}
@@ -40,15 +39,6 @@ pub samples_of-all : (front bytes all : List ℕ) (i : ℕ) → front ++ samples
 samples_of-all front bytes all i said none =
     let short : length (drop (2 * i) bytes) < 2 = simp length-drop (omega arith) in
     sym (append-nil front) ∙ ap (λ s. front ++ s) (sym (samples_of-short (drop (2 * i) bytes) short)) ∙ said
-
--- the samples of n bytes more, which were widened
-pub widened-more : (front bytes widened : List ℕ) (done n : ℕ) → done + n ≤ length bytes → take (length (take n (drop done bytes))) widened ≡ take n (drop done bytes)
-    → (front ++ take done bytes) ++ take n widened ≡ front ++ take (done + n) bytes
-widened-more front bytes widened done n within laid =
-    let count : length (take n (drop done bytes)) ≡ n = length-take-le n (drop done bytes) (simp length-drop (omega (arith, within))) in
-    append_assoc front (take done bytes) (take n widened)
-    ∙ ap (λ s. front ++ (take done bytes ++ s)) (ap (λ k. take k widened) (sym count) ∙ laid)
-    ∙ ap (λ s. front ++ s) (sym (take-add done n bytes))
 
 -- ---- how many samples bytes say, and the byte of a sample begun
 

@@ -17,9 +17,6 @@ use std::alloc::Global;
 /// How many bytes of a raster are asked for at once: an even number.
 const PIECE: usize = 65_536;
 
-/// How many bytes are widened to samples at once.
-const WIDENED: usize = 4096;
-
 /// Whether no sample is over `maxval`. It looks at all of them, since a loop that ends early is no vector code.
 fn are_within(samples: &[u16], maxval: u16) -> bool
     ensures { result ≡ are_within maxval samples.now }
@@ -37,25 +34,8 @@ fn append_narrow(samples: &mut Vec<u16>, bytes: &[u8])
     ensures items { samples.new.items ≡ samples.old.items ++ samples_of false bytes.now }
     ensures room { vec_capacity samples.old ≤ vec_capacity samples.new }
 {
-    let mut widened = [0u16; WIDENED];
-    let mut done = 0;
-    while done < bytes.len() {
-        let end = done + WIDENED.min(bytes.len() - done);
-        widen(&mut widened, &bytes[done..end]);
-        match samples.extend_from_slice(&widened[..end - done]) {
-            Ok(()) => done = end,
-            Err(_) => unreachable!(),
-        }
-    }
-}
-
-/// Lays bytes, each as a sample, at the front of `widened`.
-fn widen(widened: &mut [u16; WIDENED], bytes: &[u8])
-    requires { length bytes.now ≤ length widened.old }
-    ensures { take (length bytes.now) widened.new ≡ bytes.now }
-{
-    for i in 0..bytes.len() {
-        widened[i] = u16::from(bytes[i]);
+    for byte in bytes {
+        samples.push_reserved(u16::from(*byte));
     }
 }
 
