@@ -1,18 +1,20 @@
 //! A scan that is being written: the events of its rows, as bits (T.87 Annex A).
-ghost use Rattle.std.specs.Prelude.{◌≡◌, ◌+◌, ◌-◌, ◌*◌, ◌<◌, ◌≤◌, ◌++◌, [], true, false, length, replicate, vec_len, vec_capacity};
+ghost use Rattle.std.specs.Prelude.{◌≡◌, ◌+◌, ◌-◌, ◌*◌, ◌<◌, ◌≤◌, ◌++◌, [], ℕ, true, false, length, replicate, vec_len, vec_capacity};
 ghost use Rattle.ls_frame.specs.Parameters.{qbpp_of, limit_of};
 ghost use Rattle.ls_bits.specs.Stuffing.{stuff};
 ghost use Rattle.ls_bits.specs.Golomb.{IsGolomb, code_word, most_value};
 ghost use Rattle.ls_bits.specs.View.Room.{Fits};
 ghost use Rattle.ls_coding.specs.Samples.{AreSamples, Interrupts};
-ghost use Rattle.ls_coding.specs.Contexts.{is_run, signed_context};
 ghost use Rattle.ls_coding.specs.Interruptions.{ri_type_of, interruption_error};
 ghost use Rattle.ls_coding.specs.Runs.{TailFits, run_of, run_bits, word_bits, tail_bits};
 ghost use Rattle.ls_coding.specs.Events.{golomb_bits};
 ghost use Rattle.ls_coding.specs.View.States.{state_of, context_in, regular_error_in, regular_word_in, interruption_word_in, regular_after, run_after, interruption_after};
+ghost use Rattle.ls_coding.specs.View.Calls.{MayCodeMirrored};
+ghost use Rattle.ls_coding.specs.View.Mirrors.{IsMirrored};
+ghost use Rattle.ls_coding.specs.declared.neighbours.Neighbours.{Neighbours};
 
 use ls_bits::RoomSink;
-use ls_coding::{Neighbours, RunWord, State, Tail, Word};
+use ls_coding::{Mirrored, Neighbours, RunWord, State, Tail, Word};
 use ls_frame::Presets;
 use std::marker::Model;
 
@@ -62,23 +64,22 @@ impl Coder {
         &self.presets
     }
 
-    /// Codes a sample of regular mode, whose context is known.
-    pub fn code_sample(&mut self, context: i16, neighbours: &Neighbours, sample: u16)
-        requires context { context ≡ signed_context self.old.state.parameters neighbours.now }
-        requires samples { AreSamples self.old.state.parameters.maxval neighbours.now }
-        requires sample { sample ≤ self.old.state.parameters.maxval }
-        requires regular { is_run neighbours.now ≡ false }
-        requires whole { self.old.state.broken ≡ false }
+    /// Codes a sample of regular mode, of which `mirror` was asked.
+    pub fn code_sample(&mut self, mirrored: Mirrored)
+        requires may { MayCodeMirrored self.old.state mirrored }
         requires room { Fits (length self.old.bits + limit_of self.old.state.parameters.maxval) self.old.room }
-        ensures bits { self.new.bits
-            ≡ self.old.bits ++ golomb_bits self.old.state.parameters (regular_word_in self.old.state neighbours.now sample) }
+        ensures bits { (neighbours : Neighbours) (sample : ℕ) → IsMirrored self.old.state.parameters neighbours sample mirrored
+            → self.new.bits ≡ self.old.bits ++ golomb_bits self.old.state.parameters (regular_word_in self.old.state neighbours sample) }
         ensures cost { length self.new.bits ≤ length self.old.bits + limit_of self.old.state.parameters.maxval }
-        ensures state { self.new.state ≡ regular_after self.old.state (context_in self.old.state neighbours.now).number
-            (regular_error_in self.old.state neighbours.now sample) }
+        ensures state { (neighbours : Neighbours) (sample : ℕ) → IsMirrored self.old.state.parameters neighbours sample mirrored
+            → self.new.state ≡ regular_after self.old.state (context_in self.old.state neighbours).number
+            (regular_error_in self.old.state neighbours sample) }
+        ensures whole { self.new.state.broken ≡ false }
+        ensures parameters { self.new.state.parameters ≡ self.old.state.parameters }
         ensures front { self.new.front ≡ self.old.front }
         ensures room { self.new.room ≡ self.old.room }
     {
-        let word = self.state.code_regular_at(context, neighbours, sample);
+        let word = self.state.code_regular_at(mirrored);
         put_word(&mut self.sink, self.qbpp, word);
     }
 
