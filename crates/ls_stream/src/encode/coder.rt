@@ -20,29 +20,31 @@ use std::marker::Model;
 
 /// The state of a scan's coding, and the sink of its bits.
 #[derive(Drop)]
-pub struct Coder {
+pub struct Coder<'a> {
     presets: Presets,
     /// The bits of an error (qbpp).
     qbpp: u32,
-    state: State,
+    /// It stands elsewhere, so that the rest of the coder can be in registers.
+    state: &'a mut State,
     sink: RoomSink,
 }
 
-impl Model for Coder {
+impl<'a> Model for Coder<'a> {
     ghost use Rattle.std.specs.Prelude.{◌≡◌};
     ghost use Rattle.ls_frame.specs.Parameters.{qbpp_of};
     ghost use Rattle.ls_stream.specs.View.Coded.{Written};
 
     ghost Value = { Written };
 
-    ghost view = { λ c. record { state = c.state; front = c.sink.front; room = c.sink.room; bits = c.sink.bits } };
+    ghost view = { λ c. record { state = c.state.now; front = c.sink.front; room = c.sink.room; bits = c.sink.bits } };
 
-    ghost invariant = { λ c. (c.state.parameters ≡ c.presets) × (c.qbpp ≡ qbpp_of c.presets.maxval) };
+    ghost invariant = { λ c. (c.state.now.parameters ≡ c.presets) × (c.qbpp ≡ qbpp_of c.presets.maxval) };
 }
 
-impl Coder {
-    /// The start of a scan, after the bytes that a vector has, into the room that it has.
-    pub fn new(presets: &Presets, bytes: Vec<u8>) -> Coder
+impl<'a> Coder<'a> {
+    /// The start of a scan, with the state of a scan's start, after the bytes that a vector has, into the room that it has.
+    pub fn new(presets: &Presets, state: &'a mut State, bytes: Vec<u8>) -> Coder<'a>
+        requires state { state.old ≡ state_of presets.now [] }
         ensures parameters { result.state.parameters ≡ presets.now }
         ensures state { result.state ≡ state_of presets.now [] }
         ensures front { result.front ≡ bytes.items }
@@ -52,7 +54,7 @@ impl Coder {
         Coder {
             presets: *presets,
             qbpp: presets.qbpp(),
-            state: State::new(presets),
+            state,
             sink: RoomSink::new(bytes),
         }
     }
@@ -121,8 +123,8 @@ impl Coder {
 
     /// The vector: the bytes that it had, and after them the bits of the scan, stuffed. Its capacity is at least what it was.
     pub fn finish(self) -> Vec<u8>
-        ensures bytes { result.items ≡ self.front ++ stuff self.bits }
-        ensures capacity { length self.front + self.room ≤ vec_capacity result }
+        ensures bytes { result.items ≡ self.entry.front ++ stuff self.entry.bits }
+        ensures capacity { length self.entry.front + self.entry.room ≤ vec_capacity result }
     {
         self.sink.finish()
     }

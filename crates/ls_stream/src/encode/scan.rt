@@ -15,6 +15,7 @@ use crate::encode::coder::Coder;
 use crate::encode::row::code_row;
 use crate::lines::{clear, fill_line};
 use crate::shape::{Shape, shape_of};
+use ls_coding::State;
 use ls_frame::{Frame, Presets};
 
 /// Codes the scan of a component, after the bytes that a vector has, into room that it has.
@@ -34,7 +35,8 @@ pub fn put_scan(
     ensures capacity { vec_capacity bytes ≤ vec_capacity result }
     ensures lines { lines.new ≡ lines.old }
 {
-    let mut coder = Coder::new(presets, bytes);
+    let mut state = State::new(presets);
+    let mut coder = Coder::new(presets, &mut state, bytes);
     code_plane(
         &mut coder,
         frame,
