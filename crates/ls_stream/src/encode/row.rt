@@ -17,6 +17,9 @@ use ls_frame::Presets;
 /// How many samples are looked at ahead. Those after a long run would be looked at in vain.
 const BLOCK: usize = 64;
 
+/// How many are after a run that passed over the end of its block, since where one run is others are.
+const SHORT_BLOCK: usize = 16;
+
 /// What `mirror` answers of the samples of a block, each part by itself, so that they are found side by side.
 #[derive(Drop)]
 pub struct Block {
@@ -46,10 +49,12 @@ pub fn code_row(coder: &mut Coder, above: &[u16], line: &[u16], width: usize)
         samples: [0; BLOCK],
     };
     let mut column = 0;
+    let mut size = BLOCK;
     'columns: while column < width {
-        let end = (column + BLOCK).min(width);
+        let end = (column + size).min(width);
         look_ahead(coder.presets(), above, line, &mut block, column, end);
         column = code_block(coder, above, line, &block, width, column, end);
+        size = if column > end { SHORT_BLOCK } else { BLOCK };
     }
 }
 
