@@ -7,6 +7,7 @@ ghost use Rattle.ls_bits.specs.View.Packing.{byte_bits, HasRoom, KeepsRest, HasN
 
 use std::alloc::AllocError;
 use std::marker::Model;
+use std::mem;
 
 /// The most bytes that the bits in the word and those of one put make.
 const MOST_BYTES: usize = 20;
@@ -142,8 +143,7 @@ impl Packer {
     }
 
     /// As `put_unary`, out of the way of the words that are common.
-    #[cold]
-    #[inline(never)]
+    #[inline(always)]
     fn put_escape(&mut self, zeros: u32, rest: u32, count: u32)
         requires room { HasRoom self.old (zeros + 1 + count) }
         requires count { count ≤ 17 }
@@ -152,7 +152,7 @@ impl Packer {
         ensures bits { self.new.bits ≡ self.old.bits ++ (zero_bits zeros ++ true ∷ bits_of count rest) }
         ensures rest { KeepsRest self.old self.new (zeros + 1 + count) }
     {
-        self.put_unary(zeros, rest, count);
+        self.put_by_bytes(led_by_one(rest, count), zeros + 1 + count);
     }
 
     /// Appends `value` in `count` bits, which the word can hold.
@@ -167,9 +167,8 @@ impl Packer {
         self.held += count;
     }
 
-    /// As `put`, byte by byte.
-    #[cold]
-    #[inline(never)]
+    /// As `put`, byte by byte. The packer goes there and back by value, so that it can be in registers here.
+    #[inline(always)]
     fn put_by_bytes(&mut self, value: u32, count: u32)
         requires room { HasRoom self.old count }
         requires count { count ≤ 64 }
@@ -177,14 +176,17 @@ impl Packer {
         ensures bits { self.new.bits ≡ self.old.bits ++ bits_of count value }
         ensures rest { KeepsRest self.old self.new count }
     {
-        self.put_out_bytes();
-        if count > 32 {
-            self.append(0, count - 32);
-            self.put_out_bytes();
-            self.append(value, 32);
-        } else {
-            self.append(value, count);
-        }
+        let packer = self.take();
+        *self = put_apart(packer, value, count);
+    }
+
+    /// Takes the packer out of its place, and leaves one without memory there.
+    #[inline(always)]
+    fn take(&mut self) -> Packer
+        ensures { result ≡ self.old }
+    {
+        let empty = Packer::new(Vec::new(*self.bytes.allocator()));
+        mem::replace(self, empty)
     }
 
     /// Puts out whole bytes until fewer than eight bits wait.
@@ -213,6 +215,27 @@ impl Packer {
         self.held = waiting;
         self.after_ff = byte == 0xff;
     }
+}
+
+/// As `put`, byte by byte.
+#[cold]
+#[inline(never)]
+fn put_apart(mut packer: Packer, value: u32, count: u32) -> Packer
+    requires room { HasRoom packer count }
+    requires count { count ≤ 64 }
+    requires value { value < 2 ^ count }
+    ensures bits { result.bits ≡ packer.bits ++ bits_of count value }
+    ensures rest { KeepsRest packer result count }
+{
+    packer.put_out_bytes();
+    if count > 32 {
+        packer.append(0, count - 32);
+        packer.put_out_bytes();
+        packer.append(value, 32);
+    } else {
+        packer.append(value, count);
+    }
+    packer
 }
 
 /// Appends the eight bytes of a word.

@@ -7,6 +7,7 @@ pub mod GolombParameterLemmas
 pub mod InterruptionLemmas
 pub mod InterruptionViews
 pub mod LawfulLemmas
+pub mod MirrorLemmas
 pub mod OnceLemmas
 pub mod RegularLemmas
 pub mod RunLaws

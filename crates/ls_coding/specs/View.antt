@@ -1,5 +1,6 @@
 pub mod Calls
 pub mod Fields
+pub mod Mirrors
 pub mod Plans
 pub mod Reached
 pub mod RegionTables

@@ -10,7 +10,7 @@ use ls_frame::Presets;
 /// The context of a sample with these neighbours and its sign, as one number (A.3.3, A.3.4): -364 to 364, negative if SIGN
 /// is -1, and in size the context's number. It is 0 exactly if the neighbours call for run mode.
 ///
-/// The number is 81 * Q1 + 9 * Q2 + Q3 of the regions; T.87 leaves the numbering open. `code_regular_at` of `State` takes it.
+/// The number is 81 * Q1 + 9 * Q2 + Q3 of the regions; T.87 leaves the numbering open. `plan_regular_at` of `State` takes it.
 /// Requires neighbours of at most the presets' `maxval`. Allocates nothing and cannot fail.
 pub fn signed_context(presets: &Presets, neighbours: &Neighbours) -> i16
     requires { AreSamples presets.now.maxval neighbours.now }

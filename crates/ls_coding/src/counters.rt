@@ -5,21 +5,24 @@ ghost use Rattle.ls_bits.specs.Golomb.{IsGolomb, most_value};
 ghost use Rattle.ls_coding.specs.Samples.{AreSamples, Interrupts};
 ghost use Rattle.ls_coding.specs.Contexts.{context_of};
 ghost use Rattle.ls_coding.specs.Errors.{IsReduced, error_of, is_inverted, mapped_error};
-ghost use Rattle.ls_coding.specs.Events.{regular_error_of, regular_word, interruption_word};
+ghost use Rattle.ls_coding.specs.Events.{regular_word, interruption_word};
 ghost use Rattle.ls_coding.specs.Numbers.{golomb_parameter};
 ghost use Rattle.ls_coding.specs.Stats.{first_a, first_stats, stats_step};
 ghost use Rattle.ls_coding.specs.Interruptions.{first_counts, counts_step, ri_value, ri_type_of, interruption_error, interruption_k, interruption_value};
+ghost use Rattle.ls_coding.specs.View.Mirrors.{mirrored_error};
 ghost use Rattle.ls_coding.specs.View.Plans.{regular_plan_by, interruption_plan_by, IsTheSample, NoSample};
 ghost use Rattle.ls_coding.specs.View.Fields.{regular_at, all_regular, interrupting_at, IsSound};
 
 use crate::context::Context;
 use crate::error::{
-    error_of, golomb_parameter, is_reduced, mapped_error, predicted, sample_of, unmapped_error,
+    error_of, golomb_parameter, is_reduced, mapped_error, mirrored_error, predicted, sample_of,
+    unmapped_error,
 };
 use crate::interruption::{
     count_interruption, interruption_error_of, interruption_k, interruption_negative,
     interruption_prediction, interruption_value, ri_type_of, ri_value,
 };
+use crate::mirrored::Mirrored;
 use crate::neighbours::Neighbours;
 use crate::plan::Plan;
 use crate::run::order;
@@ -78,31 +81,31 @@ impl Counters {
     }
 
     /// The word of a sample of regular mode, whose error is counted in its context.
-    pub fn code(&mut self, context: Context, neighbours: &Neighbours, sample: u16) -> Word
-        requires number { context.number ≡ (context_of self.old.presets neighbours.now).number }
-        requires negative { context.negative ≡ (context_of self.old.presets neighbours.now).negative }
-        requires within { context.number < 365 }
-        requires samples { AreSamples self.old.presets.maxval neighbours.now }
-        requires sample { sample ≤ self.old.presets.maxval }
+    pub fn code(&mut self, mirrored: Mirrored) -> Word
+        requires within { mirrored.context < 365 }
+        requires prediction { mirrored.prediction ≤ self.old.presets.maxval }
+        requires sample { mirrored.sample ≤ self.old.presets.maxval }
         requires sound { IsSound self.old }
-        ensures word { let context = context_of self.old.presets neighbours.now in
-            let counters = regular_at self.old context.number in
-            result ≡ regular_word self.old.presets counters (regular_error_of self.old.presets context counters neighbours.now sample) }
+        ensures word { let counters = regular_at self.old mirrored.context in
+            result ≡ regular_word self.old.presets counters (mirrored_error self.old.presets counters.c mirrored.prediction mirrored.sample) }
         ensures golomb { IsGolomb result.k result.glimit (qbpp_of self.old.presets.maxval) }
         ensures value { result.value ≤ most_value (qbpp_of self.old.presets.maxval) }
-        ensures contexts { let context = context_of self.old.presets neighbours.now in
-            let counters = regular_at self.old context.number in
+        ensures contexts { let counters = regular_at self.old mirrored.context in
             all_regular self.new
-            ≡ slice_set (all_regular self.old) context.number
-            (stats_step self.old.presets.reset counters (regular_error_of self.old.presets context counters neighbours.now sample)) }
+            ≡ slice_set (all_regular self.old) mirrored.context
+            (stats_step self.old.presets.reset counters (mirrored_error self.old.presets counters.c mirrored.prediction mirrored.sample)) }
         ensures ri_type_0 { interrupting_at self.new 0 ≡ interrupting_at self.old 0 }
         ensures ri_type_1 { interrupting_at self.new 1 ≡ interrupting_at self.old 1 }
         ensures sound { IsSound self.new }
         ensures parameters { self.new.presets ≡ self.old.presets }
     {
-        let number = context.number;
-        let prediction = predicted(self.presets, context.negative, self.c[number], neighbours);
-        let error = error_of(self.presets, context.negative, prediction, sample);
+        let number = usize::from(mirrored.context);
+        let error = mirrored_error(
+            self.presets,
+            self.c[number],
+            mirrored.prediction,
+            mirrored.sample,
+        );
         let k = self.parameter(number);
         let value = mapped_error(k, self.b[number], self.n[number], error);
         let glimit = self.limit;

@@ -5,6 +5,7 @@ ghost use Rattle.ls_coding.specs.Numbers.{golomb_parameter, clamped};
 ghost use Rattle.ls_coding.specs.Contexts.{signed};
 ghost use Rattle.ls_coding.specs.Samples.{AreSamples};
 ghost use Rattle.ls_coding.specs.Errors.{median, predicted, reduced, error_of, IsReduced, is_inverted, mapped_error};
+ghost use Rattle.ls_coding.specs.View.Mirrors.{mirrored_error};
 
 use crate::neighbours::Neighbours;
 use ls_frame::Presets;
@@ -30,6 +31,30 @@ pub fn error_of(presets: Presets, negative: bool, prediction: u16, sample: u16) 
 {
     let difference = i32::from(sample) - i32::from(prediction);
     reduced(presets.range(), signed(negative, difference))
+}
+
+/// The reduced error of a sample for a prediction that a context's C is still to correct, both as `mirror` has them (A.4.2 to A.4.5).
+pub fn mirrored_error(presets: Presets, bias: i32, prediction: u16, sample: u16) -> i32
+    requires prediction { prediction ≤ presets.maxval }
+    requires sample { sample ≤ presets.maxval }
+    requires low { neg_ℤ (pos 128) ≤ℤ bias }
+    requires high { bias ≤ℤ pos 127 }
+    ensures value { result ≡ mirrored_error presets bias prediction sample }
+    ensures reduced { IsReduced (range_of presets.maxval) result }
+{
+    let corrected = corrected(presets, bias, prediction);
+    reduced(presets.range(), i32::from(sample) - i32::from(corrected))
+}
+
+/// A prediction with a context's C added, within the samples.
+fn corrected(presets: Presets, bias: i32, prediction: u16) -> u16
+    requires prediction { prediction ≤ presets.maxval }
+    requires low { neg_ℤ (pos 128) ≤ℤ bias }
+    requires high { bias ≤ℤ pos 127 }
+    ensures value { pos result ≡ clamped (pos 0) (pos presets.maxval) (pos prediction +ℤ bias) }
+    ensures within { result ≤ presets.maxval }
+{
+    clamped(i32::from(prediction) + bias, presets.maxval())
 }
 
 /// Whether an error is one that A.4.5 leaves: -RANGE / 2 to (RANGE - 1) / 2, rounded down in size.
@@ -189,7 +214,7 @@ fn unfolded_error(value: u32) -> i32
 }
 
 /// The edge-detecting predictor (A.4.1).
-fn median(neighbours: &Neighbours) -> u16
+pub fn median(neighbours: &Neighbours) -> u16
     ensures value { result ≡ median neighbours.now }
     ensures within { result ≤ max neighbours.now.a neighbours.now.b }
 {

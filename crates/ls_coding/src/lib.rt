@@ -25,13 +25,13 @@
 //! has its value; a run is read by `accept_one`, `break_width` and `accept_break`, the sample that interrupts it by
 //! `plan_interruption` and `accept_interruption`. A reading call that is refused leaves the state unchanged.
 //!
-//! The samples and neighbours that are handed to a state are at most MAXVAL. A sample's context may be found ahead of the
-//! sample (`signed_context`), a line at a time, and handed to `code_regular_at`. A reader knows only the line above so far: it may find
+//! The samples and neighbours that are handed to a state are at most MAXVAL. What the samples say of one of them
+//! by themselves may be found ahead (`mirror`), a line at a time, and handed to `code_regular_at`. A reader knows only the line above so far: it may find
 //! that line's part of each context ahead (`half_context`), and at each sample the rest (`whole_context`, by a table,
 //! `Regions`) for `plan_regular_at`. Only the making of that table allocates.
 //!
 //! In reading order: `neighbours` (the samples around one, and the mode that they call for), `state` (all calls), `word`,
-//! `plan`, `run` (what they answer), `counters` (the counters of all contexts), and below these `context`, `error`,
+//! `plan`, `run` (what they answer), `mirrored` (what may be found ahead), `counters` (the counters of all contexts), and below these `context`, `error`,
 //! `update` (a sample of regular mode), `regions` (a table for `context`), `interruption`; `laws` (what follows from the definitions alone).
 #![tactic(auto)]
 
@@ -40,6 +40,7 @@ mod counters;
 mod error;
 mod interruption;
 pub mod laws;
+pub mod mirrored;
 pub mod neighbours;
 pub mod plan;
 pub mod regions;
@@ -49,6 +50,7 @@ mod update;
 pub mod word;
 
 pub use context::{half_context, signed_context};
+pub use mirrored::{Mirrored, mirror};
 pub use neighbours::{Mode, Neighbours, mode_of};
 pub use plan::Plan;
 pub use regions::{Regions, whole_context};

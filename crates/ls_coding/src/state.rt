@@ -9,10 +9,13 @@ ghost use Rattle.ls_coding.specs.Interruptions.{ri_type_of, interruption_error};
 ghost use Rattle.ls_coding.specs.Events.{Event, run, golomb_bits};
 ghost use Rattle.ls_coding.specs.View.States.{Coding, state_of, context_in, regular_error_in, regular_word_in, interruption_word_in, regular_after, run_after, interruption_after, IsRegularEvent, IsInterruptionEvent};
 ghost use Rattle.ls_coding.specs.View.Plans.{regular_plan, interruption_plan, IsReadBy, IsTheSample, NoSample};
-ghost use Rattle.ls_coding.specs.View.Calls.{MayCodeRegular, MayCodeRun, MayCodeInterruption};
+ghost use Rattle.ls_coding.specs.View.Calls.{MayCodeRegular, MayCodeMirrored, MayCodeRun, MayCodeInterruption};
+ghost use Rattle.ls_coding.specs.View.Mirrors.{IsMirrored};
+ghost use Rattle.ls_coding.specs.declared.neighbours.Neighbours.{Neighbours};
 
 use crate::context::{context_of_signed, signed_context};
 use crate::counters::Counters;
+use crate::mirrored::{Mirrored, mirror};
 use crate::neighbours::Neighbours;
 use crate::plan::Plan;
 use crate::run::{RunWord, Tail, Walked, order, samples_of_one, walk};
@@ -83,26 +86,28 @@ impl State {
         ensures events { (events : List Event) → self.old ≡ state_of self.old.parameters events
             → IsRegularEvent self.old.parameters events neighbours.now sample result self.new }
     {
-        let context = signed_context(&self.counters.presets, neighbours);
-        self.code_regular_at(context, neighbours, sample)
+        let mirrored = mirror(&self.counters.presets, neighbours, sample);
+        self.code_regular_at(mirrored)
     }
 
-    /// `code_regular` of a sample whose context was found before, for example a line at a time: `context` is what
-    /// `signed_context` answers for this scan's presets and these neighbours. All else is as there.
-    pub fn code_regular_at(&mut self, context: i16, neighbours: &Neighbours, sample: u16) -> Word
-        requires context { context ≡ signed_context self.old.parameters neighbours.now }
-        requires may { MayCodeRegular self.old neighbours.now sample }
-        ensures word { result ≡ regular_word_in self.old neighbours.now sample }
+    /// `code_regular` of a sample of which `mirror` was asked before, for example a line at a time, with this scan's presets. All else
+    /// is as there.
+    pub fn code_regular_at(&mut self, mirrored: Mirrored) -> Word
+        requires may { MayCodeMirrored self.old mirrored }
+        ensures word { (neighbours : Neighbours) (sample : ℕ) → IsMirrored self.old.parameters neighbours sample mirrored
+            → result ≡ regular_word_in self.old neighbours sample }
         ensures golomb { IsGolomb result.k result.glimit (qbpp_of self.old.parameters.maxval) }
         ensures value { result.value ≤ most_value (qbpp_of self.old.parameters.maxval) }
         ensures cost { length (golomb_bits self.old.parameters result) ≤ limit_of self.old.parameters.maxval }
-        ensures state { self.new ≡ regular_after self.old (context_in self.old neighbours.now).number
-            (regular_error_in self.old neighbours.now sample) }
-        ensures events { (events : List Event) → self.old ≡ state_of self.old.parameters events
-            → IsRegularEvent self.old.parameters events neighbours.now sample result self.new }
+        ensures state { (neighbours : Neighbours) (sample : ℕ) → IsMirrored self.old.parameters neighbours sample mirrored
+            → self.new ≡ regular_after self.old (context_in self.old neighbours).number (regular_error_in self.old neighbours sample) }
+        ensures events { (neighbours : Neighbours) (sample : ℕ) → IsMirrored self.old.parameters neighbours sample mirrored
+            → (events : List Event) → self.old ≡ state_of self.old.parameters events
+            → IsRegularEvent self.old.parameters events neighbours sample result self.new }
+        ensures whole { self.new.broken ≡ false }
+        ensures parameters { self.new.parameters ≡ self.old.parameters }
     {
-        let split = context_of_signed(context);
-        self.counters.code(split, neighbours, sample)
+        self.counters.code(mirrored)
     }
 
     /// By which code the word of the next sample of regular mode is read, and what its value then stands for (A.3 to A.5).

@@ -1,5 +1,6 @@
 pub mod AheadLemmas
 pub mod AlongLemmas
+pub mod BlockLemmas
 pub mod BreakLemmas
 pub mod BreakingLemmas
 pub mod ByteLemmas

@@ -1,4 +1,5 @@
 pub mod BitFaults
+pub mod Blocks
 pub mod Coded
 pub mod Decoding
 pub mod Extents

@@ -1,10 +1,10 @@
-//! What an encoder needs beside a frame: room for two lines, and for the contexts of a line's samples.
+//! What an encoder and a decoder need beside a frame: room for two lines, and for what the line above says of contexts.
 ghost use Rattle.std.specs.Prelude.{◌≡◌, IfOk};
 
 use std::alloc::{AllocError, Global};
 use std::marker::Model;
 
-/// Room for two lines of a plane, the one that is coded and the one above it, and for the contexts of a line's samples. One value
+/// Room for two lines of a plane, the one that is coded and the one above it, and for what the latter says of contexts. One value
 /// serves any number of frames up to its width.
 ///
 /// In contracts it is its width, in samples.
@@ -15,7 +15,7 @@ pub struct Lines {
     pub(crate) above: Vec<u16>,
     /// The line that is coded, likewise.
     pub(crate) line: Vec<u16>,
-    /// The contexts of a line's samples, each as one signed number.
+    /// For a decoder: what the line above says of the context of each of a line's samples.
     pub(crate) contexts: Vec<i16>,
 }
 

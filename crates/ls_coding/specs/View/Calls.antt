@@ -1,6 +1,7 @@
 -- What the calls that code require of the state, for each kind of event.
 use Rattle.std.specs.Prelude.{◌≡◌, ℕ, ◌<◌, ◌≤◌, true, false}
 use Rattle.ls_coding.specs.declared.neighbours.Neighbours.{Neighbours}
+use Rattle.ls_coding.specs.declared.mirrored.Mirrored.{Mirrored}
 use Rattle.ls_coding.specs.Samples.{AreSamples, Interrupts}
 use Rattle.ls_coding.specs.Contexts.{is_run}
 use Rattle.ls_coding.specs.Runs.{Run}
@@ -11,6 +12,13 @@ pub record MayCodeRegular (state : Coding) (neighbours : Neighbours) (sample : �
   pub samples : AreSamples state.parameters.maxval neighbours
   pub within : sample ≤ state.parameters.maxval
   pub regular : is_run neighbours ≡ false
+  pub whole : state.broken ≡ false
+
+-- a sample of regular mode of which `mirror` was asked before
+pub record MayCodeMirrored (state : Coding) (mirrored : Mirrored) : Type 0 where
+  pub context : mirrored.context < 365
+  pub prediction : mirrored.prediction ≤ state.parameters.maxval
+  pub within : mirrored.sample ≤ state.parameters.maxval
   pub whole : state.broken ≡ false
 
 -- a run; one that ends with the line has some samples

@@ -1,8 +1,6 @@
 -- Two lines of a plane as a coder keeps them: with one place more on the left and on the right.
-use Rattle.std.specs.Prelude.{◌≡◌, ◌≢◌, ℕ, zero, suc, ◌+◌, ◌-◌, ◌*◌, ◌<◌, ◌≤◌, List, [], ◌∷◌, ◌++◌, replicate, length, take, drop, slice_index, slice_index_or, ℤ, pos}
-use Rattle.ls_frame.specs.Parameters.{Parameters}
+use Rattle.std.specs.Prelude.{◌≡◌, ◌≢◌, ℕ, zero, suc, ◌+◌, ◌-◌, ◌*◌, ◌<◌, ◌≤◌, List, [], ◌∷◌, ◌++◌, replicate, length, take, drop, slice_index}
 use Rattle.ls_coding.specs.declared.neighbours.Neighbours.{Neighbours}
-use Rattle.ls_coding.specs.Contexts.{is_zero, is_run, signed_context}
 use Rattle.ls_stream.specs.Planes.{Plane, at, around, left}
 
 -- the samples of a row
@@ -45,9 +43,3 @@ pub record IsRunEnd (line : List ℕ) (width j end : ℕ) : Type 0 where
   pub high : end ≤ width
   pub equal : (k : ℕ) → j ≤ k → k < end → slice_index line (k + 1) ≡ slice_index line j
   pub other : end < width → slice_index line (end + 1) ≢ slice_index line j
-
--- the contexts of samples from a column up to another, by the row's two lines, each 0 exactly where its sample calls for run
--- mode
-pub record AreContexts (p : Parameters) (start end : ℕ) (above line : List ℕ) (contexts : List ℤ) : Type 0 where
-  pub numbers : (j : ℕ) → start ≤ j → j < end → slice_index_or contexts j (pos 0) ≡ signed_context p (neighbours_in above line j)
-  pub modes : (j : ℕ) → start ≤ j → j < end → is_zero (slice_index_or contexts j (pos 0)) ≡ is_run (neighbours_in above line j)

@@ -1,46 +1,50 @@
 //! A scan that is being written: the events of its rows, as bits (T.87 Annex A).
-ghost use Rattle.std.specs.Prelude.{◌≡◌, ◌+◌, ◌-◌, ◌*◌, ◌<◌, ◌≤◌, ◌++◌, [], true, false, length, replicate, vec_len, vec_capacity};
+ghost use Rattle.std.specs.Prelude.{◌≡◌, ◌+◌, ◌-◌, ◌*◌, ◌<◌, ◌≤◌, ◌++◌, [], ℕ, true, false, length, replicate, vec_len, vec_capacity};
 ghost use Rattle.ls_frame.specs.Parameters.{qbpp_of, limit_of};
 ghost use Rattle.ls_bits.specs.Stuffing.{stuff};
 ghost use Rattle.ls_bits.specs.Golomb.{IsGolomb, code_word, most_value};
 ghost use Rattle.ls_bits.specs.View.Room.{Fits};
 ghost use Rattle.ls_coding.specs.Samples.{AreSamples, Interrupts};
-ghost use Rattle.ls_coding.specs.Contexts.{is_run, signed_context};
 ghost use Rattle.ls_coding.specs.Interruptions.{ri_type_of, interruption_error};
 ghost use Rattle.ls_coding.specs.Runs.{TailFits, run_of, run_bits, word_bits, tail_bits};
 ghost use Rattle.ls_coding.specs.Events.{golomb_bits};
 ghost use Rattle.ls_coding.specs.View.States.{state_of, context_in, regular_error_in, regular_word_in, interruption_word_in, regular_after, run_after, interruption_after};
+ghost use Rattle.ls_coding.specs.View.Calls.{MayCodeMirrored};
+ghost use Rattle.ls_coding.specs.View.Mirrors.{IsMirrored};
+ghost use Rattle.ls_coding.specs.declared.neighbours.Neighbours.{Neighbours};
 
 use ls_bits::RoomSink;
-use ls_coding::{Neighbours, RunWord, State, Tail, Word};
+use ls_coding::{Mirrored, Neighbours, RunWord, State, Tail, Word};
 use ls_frame::Presets;
 use std::marker::Model;
 
 /// The state of a scan's coding, and the sink of its bits.
 #[derive(Drop)]
-pub struct Coder {
+pub struct Coder<'a> {
     presets: Presets,
     /// The bits of an error (qbpp).
     qbpp: u32,
-    state: State,
+    /// It stands elsewhere, so that the rest of the coder can be in registers.
+    state: &'a mut State,
     sink: RoomSink,
 }
 
-impl Model for Coder {
+impl<'a> Model for Coder<'a> {
     ghost use Rattle.std.specs.Prelude.{◌≡◌};
     ghost use Rattle.ls_frame.specs.Parameters.{qbpp_of};
     ghost use Rattle.ls_stream.specs.View.Coded.{Written};
 
     ghost Value = { Written };
 
-    ghost view = { λ c. record { state = c.state; front = c.sink.front; room = c.sink.room; bits = c.sink.bits } };
+    ghost view = { λ c. record { state = c.state.now; front = c.sink.front; room = c.sink.room; bits = c.sink.bits } };
 
-    ghost invariant = { λ c. (c.state.parameters ≡ c.presets) × (c.qbpp ≡ qbpp_of c.presets.maxval) };
+    ghost invariant = { λ c. (c.state.now.parameters ≡ c.presets) × (c.qbpp ≡ qbpp_of c.presets.maxval) };
 }
 
-impl Coder {
-    /// The start of a scan, after the bytes that a vector has, into the room that it has.
-    pub fn new(presets: &Presets, bytes: Vec<u8>) -> Coder
+impl<'a> Coder<'a> {
+    /// The start of a scan, with the state of a scan's start, after the bytes that a vector has, into the room that it has.
+    pub fn new(presets: &Presets, state: &'a mut State, bytes: Vec<u8>) -> Coder<'a>
+        requires state { state.old ≡ state_of presets.now [] }
         ensures parameters { result.state.parameters ≡ presets.now }
         ensures state { result.state ≡ state_of presets.now [] }
         ensures front { result.front ≡ bytes.items }
@@ -50,7 +54,7 @@ impl Coder {
         Coder {
             presets: *presets,
             qbpp: presets.qbpp(),
-            state: State::new(presets),
+            state,
             sink: RoomSink::new(bytes),
         }
     }
@@ -62,23 +66,22 @@ impl Coder {
         &self.presets
     }
 
-    /// Codes a sample of regular mode, whose context is known.
-    pub fn code_sample(&mut self, context: i16, neighbours: &Neighbours, sample: u16)
-        requires context { context ≡ signed_context self.old.state.parameters neighbours.now }
-        requires samples { AreSamples self.old.state.parameters.maxval neighbours.now }
-        requires sample { sample ≤ self.old.state.parameters.maxval }
-        requires regular { is_run neighbours.now ≡ false }
-        requires whole { self.old.state.broken ≡ false }
+    /// Codes a sample of regular mode, of which `mirror` was asked.
+    pub fn code_sample(&mut self, mirrored: Mirrored)
+        requires may { MayCodeMirrored self.old.state mirrored }
         requires room { Fits (length self.old.bits + limit_of self.old.state.parameters.maxval) self.old.room }
-        ensures bits { self.new.bits
-            ≡ self.old.bits ++ golomb_bits self.old.state.parameters (regular_word_in self.old.state neighbours.now sample) }
+        ensures bits { (neighbours : Neighbours) (sample : ℕ) → IsMirrored self.old.state.parameters neighbours sample mirrored
+            → self.new.bits ≡ self.old.bits ++ golomb_bits self.old.state.parameters (regular_word_in self.old.state neighbours sample) }
         ensures cost { length self.new.bits ≤ length self.old.bits + limit_of self.old.state.parameters.maxval }
-        ensures state { self.new.state ≡ regular_after self.old.state (context_in self.old.state neighbours.now).number
-            (regular_error_in self.old.state neighbours.now sample) }
+        ensures state { (neighbours : Neighbours) (sample : ℕ) → IsMirrored self.old.state.parameters neighbours sample mirrored
+            → self.new.state ≡ regular_after self.old.state (context_in self.old.state neighbours).number
+            (regular_error_in self.old.state neighbours sample) }
+        ensures whole { self.new.state.broken ≡ false }
+        ensures parameters { self.new.state.parameters ≡ self.old.state.parameters }
         ensures front { self.new.front ≡ self.old.front }
         ensures room { self.new.room ≡ self.old.room }
     {
-        let word = self.state.code_regular_at(context, neighbours, sample);
+        let word = self.state.code_regular_at(mirrored);
         put_word(&mut self.sink, self.qbpp, word);
     }
 
@@ -120,8 +123,8 @@ impl Coder {
 
     /// The vector: the bytes that it had, and after them the bits of the scan, stuffed. Its capacity is at least what it was.
     pub fn finish(self) -> Vec<u8>
-        ensures bytes { result.items ≡ self.front ++ stuff self.bits }
-        ensures capacity { length self.front + self.room ≤ vec_capacity result }
+        ensures bytes { result.items ≡ self.entry.front ++ stuff self.entry.bits }
+        ensures capacity { length self.entry.front + self.entry.room ≤ vec_capacity result }
     {
         self.sink.finish()
     }

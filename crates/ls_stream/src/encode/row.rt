@@ -1,27 +1,38 @@
 //! A row of a plane, from left to right (T.87 Annex A).
-ghost use Rattle.std.specs.Prelude.{◌≡◌, ◌+◌, ◌-◌, ◌*◌, ◌<◌, ◌≤◌, ◌++◌, ℕ, false, IsTrue, List, length, slice_index};
+ghost use Rattle.std.specs.Prelude.{◌≡◌, ◌+◌, ◌-◌, ◌*◌, ◌==◌, ◌<◌, ◌≤◌, ◌++◌, ℕ, false, IsTrue, List, length, slice_index};
 ghost use Rattle.ls_frame.specs.Parameters.{limit_of};
 ghost use Rattle.ls_bits.specs.View.Room.{Fits};
-ghost use Rattle.ls_coding.specs.Contexts.{is_zero, is_run, signed_context};
+ghost use Rattle.ls_coding.specs.Contexts.{is_run};
+ghost use Rattle.ls_coding.specs.View.Mirrors.{IsMirrored};
 ghost use Rattle.ls_stream.specs.Planes.{Plane, Span, row_from};
 ghost use Rattle.ls_stream.specs.View.Coded.{all_from};
-ghost use Rattle.ls_stream.specs.View.LineBuffers.{neighbours_in, AreLines, ArePadded, AreContexts, IsRunEnd};
+ghost use Rattle.ls_stream.specs.View.LineBuffers.{neighbours_in, AreLines, ArePadded, IsRunEnd};
+ghost use Rattle.ls_stream.specs.View.Blocks.{mirrored_at, AreMirrored};
 
 use crate::encode::coder::Coder;
 use crate::lines::neighbours_in;
-use ls_coding::signed_context;
+use ls_coding::{Mirrored, mirror};
 use ls_frame::Presets;
 
-/// How many contexts are found at once. Those after a long run would be found in vain.
+/// How many samples are looked at ahead. Those after a long run would be looked at in vain.
 const BLOCK: usize = 64;
 
-/// Codes the row whose line, and the line above, are these, each with one place more on the left and on the right;
-/// `contexts` is room for those of its samples.
-pub fn code_row(coder: &mut Coder, above: &[u16], line: &[u16], contexts: &mut [i16], width: usize)
+/// How many are after a run that passed over the end of its block, since where one run is others are.
+const SHORT_BLOCK: usize = 16;
+
+/// What `mirror` answers of the samples of a block, each part by itself, so that they are found side by side.
+#[derive(Drop)]
+pub struct Block {
+    pub contexts: [u16; BLOCK],
+    pub predictions: [u16; BLOCK],
+    pub samples: [u16; BLOCK],
+}
+
+/// Codes the row whose line, and the line above, are these, each with one place more on the left and on the right.
+pub fn code_row(coder: &mut Coder, above: &[u16], line: &[u16], width: usize)
     requires lines { ArePadded coder.old.state.parameters.maxval width above.now line.now }
     requires narrow { width ≤ 65535 }
     requires whole { coder.old.state.broken ≡ false }
-    requires contexts { length contexts.old ≡ width }
     requires room { Fits (length coder.old.bits + limit_of coder.old.state.parameters.maxval * width) coder.old.room }
     ensures row { (plane : Plane) (i : ℕ) → plane.width ≡ width → AreLines plane i above.now line.now → (more : List Span)
         → all_from plane coder.new.bits coder.new.state more
@@ -32,28 +43,34 @@ pub fn code_row(coder: &mut Coder, above: &[u16], line: &[u16], contexts: &mut [
     ensures front { coder.new.front ≡ coder.old.front }
     ensures room { coder.new.room ≡ coder.old.room }
 {
+    let mut block = Block {
+        contexts: [0; BLOCK],
+        predictions: [0; BLOCK],
+        samples: [0; BLOCK],
+    };
     let mut column = 0;
+    let mut size = BLOCK;
     'columns: while column < width {
-        let end = (column + BLOCK).min(width);
-        find_contexts(coder.presets(), above, line, contexts, column, end);
-        column = code_block(coder, above, line, contexts, width, column, end);
+        let end = (column + size).min(width);
+        look_ahead(coder.presets(), above, line, &mut block, column, end);
+        column = code_block(coder, above, line, &block, width, column, end);
+        size = if column > end { SHORT_BLOCK } else { BLOCK };
     }
 }
 
-/// Codes the segments that begin at the columns from `start` up to `end`, whose contexts are known, and answers the column
-/// after them.
+/// Codes the spans that begin at the columns from `start` up to `end`, which a block is of, and answers the column after them.
 fn code_block(
     coder: &mut Coder,
     above: &[u16],
     line: &[u16],
-    contexts: &[i16],
+    block: &Block,
     width: usize,
     start: usize,
     end: usize,
 ) -> usize
     requires lines { ArePadded coder.old.state.parameters.maxval width above.now line.now }
-    requires contexts { AreContexts coder.old.state.parameters start end above.now line.now contexts.now }
-    requires long { end ≤ length contexts.now }
+    requires block { AreMirrored coder.old.state.parameters start end above.now line.now block.now }
+    requires short { end ≤ start + 64 }
     requires some { start < end }
     requires inside { end ≤ width }
     requires narrow { width ≤ 65535 }
@@ -72,7 +89,8 @@ fn code_block(
 {
     let mut column = start;
     'spans: while column < end {
-        column = code_span(coder, contexts[column], above, line, width, column);
+        let mirrored = mirrored_at(block, column - start);
+        column = code_span(coder, mirrored, above, line, width, column);
     }
     column
 }
@@ -80,14 +98,15 @@ fn code_block(
 /// Codes a sample of regular mode, or a run with the sample that interrupts it, and answers the column after it.
 fn code_span(
     coder: &mut Coder,
-    context: i16,
+    mirrored: Mirrored,
     above: &[u16],
     line: &[u16],
     width: usize,
     column: usize,
 ) -> usize
-    requires context { context ≡ signed_context coder.old.state.parameters (neighbours_in above.now line.now column) }
-    requires mode { is_zero context ≡ is_run (neighbours_in above.now line.now column) }
+    requires mirrored { IsMirrored coder.old.state.parameters (neighbours_in above.now line.now column)
+        (slice_index line.now (column + 1)) mirrored }
+    requires mode { (mirrored.context == 0) ≡ is_run (neighbours_in above.now line.now column) }
     requires lines { ArePadded coder.old.state.parameters.maxval width above.now line.now }
     requires inside { column < width }
     requires narrow { width ≤ 65535 }
@@ -104,9 +123,8 @@ fn code_span(
     ensures front { coder.new.front ≡ coder.old.front }
     ensures room { coder.new.room ≡ coder.old.room }
 {
-    if context != 0 {
-        let neighbours = neighbours_in(above, line, column);
-        coder.code_sample(context, &neighbours, line[column + 1]);
+    if mirrored.context != 0 {
+        coder.code_sample(mirrored);
         return column + 1;
     }
     let end = run_end(line, width, column);
@@ -120,21 +138,40 @@ fn code_span(
     end + 1
 }
 
-/// Finds the contexts of the samples from column `start` up to `end`.
-fn find_contexts(
+/// Makes a block of the samples from column `start` up to `end`.
+fn look_ahead(
     presets: &Presets,
     above: &[u16],
     line: &[u16],
-    contexts: &mut [i16],
+    block: &mut Block,
     start: usize,
     end: usize,
 )
-    requires lines { ArePadded presets.now.maxval (length contexts.old) above.now line.now }
-    requires end { end ≤ length contexts.old }
-    ensures { AreContexts presets.now start end above.now line.now contexts.new }
+    requires above { end + 2 ≤ length above.now }
+    requires line { end < length line.now }
+    requires above_small { (k : ℕ) → slice_index above.now k ≤ presets.now.maxval }
+    requires line_small { (k : ℕ) → slice_index line.now k ≤ presets.now.maxval }
+    requires short { end ≤ start + 64 }
+    ensures { AreMirrored presets.now start end above.now line.now block.new }
 {
     for column in start..end {
-        contexts[column] = signed_context(presets, &neighbours_in(above, line, column));
+        let neighbours = neighbours_in(above, line, column);
+        let mirrored = mirror(presets, &neighbours, line[column + 1]);
+        block.contexts[column - start] = mirrored.context;
+        block.predictions[column - start] = mirrored.prediction;
+        block.samples[column - start] = mirrored.sample;
+    }
+}
+
+/// What a block has in a place.
+fn mirrored_at(block: &Block, place: usize) -> Mirrored
+    requires { place < 64 }
+    ensures { result ≡ mirrored_at block.now place }
+{
+    Mirrored {
+        context: block.contexts[place],
+        prediction: block.predictions[place],
+        sample: block.samples[place],
     }
 }
 

@@ -15,6 +15,7 @@ use crate::encode::coder::Coder;
 use crate::encode::row::code_row;
 use crate::lines::{clear, fill_line};
 use crate::shape::{Shape, shape_of};
+use ls_coding::State;
 use ls_frame::{Frame, Presets};
 
 /// Codes the scan of a component, after the bytes that a vector has, into room that it has.
@@ -34,31 +35,29 @@ pub fn put_scan(
     ensures capacity { vec_capacity bytes ≤ vec_capacity result }
     ensures lines { lines.new ≡ lines.old }
 {
-    let mut coder = Coder::new(presets, bytes);
+    let mut state = State::new(presets);
+    let mut coder = Coder::new(presets, &mut state, bytes);
     code_plane(
         &mut coder,
         frame,
         &mut lines.above,
         &mut lines.line,
-        &mut lines.contexts,
         component,
     );
     coder.finish()
 }
 
-/// Codes a component's plane, at a scan's start; `above`, `line` and `contexts` are room for what a row is coded by.
+/// Codes a component's plane, at a scan's start; `above` and `line` are room for what a row is coded by.
 fn code_plane(
     coder: &mut Coder,
     frame: &Frame,
     above: &mut Vec<u16>,
     line: &mut Vec<u16>,
-    contexts: &mut Vec<i16>,
     component: usize,
 )
     requires maxval { coder.old.state.parameters.maxval ≡ frame.now.maxval }
     requires above { frame.now.width + 2 ≤ vec_len above.old }
     requires line { frame.now.width + 2 ≤ vec_len line.old }
-    requires contexts { frame.now.width ≤ vec_len contexts.old }
     requires component { component < components frame.now.kind }
     requires state { coder.old.state ≡ state_of coder.old.state.parameters [] }
     requires empty { coder.old.bits ≡ [] }
@@ -69,7 +68,6 @@ fn code_plane(
     ensures room { coder.new.room ≡ coder.old.room }
     ensures above { vec_len above.new ≡ vec_len above.old }
     ensures line { vec_len line.new ≡ vec_len line.old }
-    ensures contexts { vec_len contexts.new ≡ vec_len contexts.old }
 {
     let shape = shape_of(frame);
     let places = shape.width + 2;
@@ -77,19 +75,17 @@ fn code_plane(
         coder,
         &mut above[..places],
         &mut line[..places],
-        &mut contexts[..shape.width],
         frame.samples(),
         shape,
         component,
     );
 }
 
-/// Codes the rows of one component; `above`, `line` and `contexts` are room for what a row is coded by.
+/// Codes the rows of one component; `above` and `line` are room for what a row is coded by.
 fn code_rows(
     coder: &mut Coder,
     above: &mut [u16],
     line: &mut [u16],
-    contexts: &mut [i16],
     samples: &[u16],
     shape: Shape,
     component: usize,
@@ -103,7 +99,6 @@ fn code_rows(
     requires component { component < shape.components }
     requires few { shape.width * shape.components < 2 ^ 32 }
     requires whole { coder.old.state.broken ≡ false }
-    requires contexts { length contexts.old ≡ shape.width }
     requires room { Fits (length coder.old.bits + limit_of coder.old.state.parameters.maxval * (shape.width * shape.height)) coder.old.room }
     ensures rows { let plane = component_plane shape.width shape.components component samples.now in (more : List Span)
         → all_from plane coder.new.bits coder.new.state more
@@ -123,7 +118,7 @@ fn code_rows(
             shape.components,
             component,
         );
-        code_row(coder, above, line, contexts, shape.width);
+        code_row(coder, above, line, shape.width);
         above.copy_from_slice(line);
     }
 }

@@ -10,7 +10,8 @@ invariant-columns l = record {
   row : (plane : Plane) (i : ℕ) → plane.width ≡ l.width → AreLines plane i l.above l.line → (more : List Span)
       → all_from plane l.coder.bits l.coder.state (row_from plane i l.column ++ more) ≡ all_from plane l.fn.coder.bits l.fn.coder.state (row_from plane i 0 ++ more);
   cost : length l.coder.bits + limit_of l.fn.coder.state.parameters.maxval * (l.width - l.column) ≤ length l.fn.coder.bits + limit_of l.fn.coder.state.parameters.maxval * l.width;
-  contexts : length l.contexts ≡ l.width;
+  some : 1 ≤ l.size;
+  few : l.size ≤ 64;
   whole : l.coder.state.broken ≡ false;
   parameters : l.coder.state.parameters ≡ l.fn.coder.state.parameters;
   front : l.coder.front ≡ l.fn.coder.front;

@@ -1,23 +1,29 @@
-use Rattle.std.proofs.Common.{◌≡◌, ◌+◌, ◌-◌, ◌<◌, get_or, refl, ap, ◌∙◌, arith}
+use Rattle.std.proofs.Common.{◌≡◌, ◌+◌, ◌-◌, ◌<◌, get_or, eq-eqb, refl, sym, ap, ◌∙◌, arith}
+use Rattle.std.proofs.lemmas.Bool.{ne_eqb}
 use Rattle.ls_frame.specs.Parameters.{limit_of}
 use Rattle.ls_coding.specs.declared.neighbours.Neighbours.{Neighbours}
-use Rattle.ls_coding.specs.Contexts.{is_run}
+use Rattle.ls_coding.proofs.MirrorLemmas.{may_code}
 use Rattle.ls_stream.specs.View.LineBuffers.{neighbours_in}
-use Rattle.ls_stream.proofs.ContextLemmas.{regular_by, run_by}
 use Rattle.ls_stream.proofs.RowLemmas.{sample-moved, run_value, row_to_end, row_to_break, spent}
 use Rattle.ls_stream.proofs.encode.row.code_span.Goals as goal
 
-pub returns-then-context-ne0-clause-span : goal.returns-then-context-ne0-clause-span
-returns-then-context-ne0-clause-span c plane i same lines more =
+pub code_sample-requires-clause-may : goal.code_sample-requires-clause-may
+code_sample-requires-clause-may c =
+    may_code c.args.coder.now.state (neighbours_in c.args.above.now c.args.line.now c.args.column) (get_or c.args.line.now (c.args.column + 1) 0) c.args.mirrored c.requires.whole c.requires.mirrored
+
+pub returns-then-mirrored-ne0-clause-span : goal.returns-then-mirrored-ne0-clause-span
+returns-then-mirrored-ne0-clause-span c plane i same lines more =
+    let n = neighbours_in c.args.above.now c.args.line.now c.args.column in
+    let sample = get_or c.args.line.now (c.args.column + 1) 0 in
     let inside : c.args.column < plane.width = omega arith in
-    sample-moved plane i c.args.column _ _ c.args.coder.now.state _ c.neighbours_in-neighbours.result (get_or c.args.line.now (c.args.column + 1) 0) inside
-    (c.neighbours_in-neighbours.ensures ∙ lines.neighbours c.args.column inside) (lines.samples c.args.column inside)
-    (ap is_run c.neighbours_in-neighbours.ensures ∙ regular_by (neighbours_in c.args.above.now c.args.line.now c.args.column) c.args.context c.requires.mode c.if-context-ne0.true) c.code_sample.ensures.bits c.code_sample.ensures.state more
+    sample-moved plane i c.args.column _ _ c.args.coder.now.state _ n sample inside
+    (lines.neighbours c.args.column inside) (lines.samples c.args.column inside)
+    (sym c.requires.mode ∙ ne_eqb c.args.mirrored.context 0 c.if-mirrored-ne0.true) (c.code_sample.ensures.bits n sample c.requires.mirrored) (c.code_sample.ensures.state n sample c.requires.mirrored) more
 
 pub returns-then-end-width-clause-span : goal.returns-then-end-width-clause-span
 returns-then-end-width-clause-span c plane i same lines more =
     row_to_end plane i c.args.column c.run_end-end.result c.args.above.now c.args.line.now _ _ c.args.coder.now.state _ (neighbours_in c.args.above.now c.args.line.now c.args.column) c.args.width same lines
-    c.requires.inside c.run_end-end.ensures c.if-end-width.true refl (run_by c.args.coder.now.state.parameters (neighbours_in c.args.above.now c.args.line.now c.args.column) c.args.context c.requires.context c.requires.mode c.if-context-ne0.false) c.code_run_to_end.ensures.bits c.code_run_to_end.ensures.state more
+    c.requires.inside c.run_end-end.ensures c.if-end-width.true refl (sym c.requires.mode ∙ eq-eqb c.args.mirrored.context 0 c.if-mirrored-ne0.false) c.code_run_to_end.ensures.bits c.code_run_to_end.ensures.state more
 
 pub code_broken_run-requires-clause-sample : goal.code_broken_run-requires-clause-sample
 code_broken_run-requires-clause-sample c =
@@ -31,7 +37,7 @@ code_broken_run-requires-clause-sample c =
 pub returns-clause-span : goal.returns-clause-span
 returns-clause-span c plane i same lines more =
     row_to_break plane i c.args.column c.run_end-end.result c.args.above.now c.args.line.now _ _ c.args.coder.now.state _ (neighbours_in c.args.above.now c.args.line.now c.args.column) c.neighbours_in-around.result c.args.width same lines
-    c.requires.inside c.run_end-end.ensures (omega (arith, c.run_end-end.ensures.high)) refl (run_by c.args.coder.now.state.parameters (neighbours_in c.args.above.now c.args.line.now c.args.column) c.args.context c.requires.context c.requires.mode c.if-context-ne0.false) c.neighbours_in-around.ensures c.code_broken_run.ensures.bits c.code_broken_run.ensures.state more
+    c.requires.inside c.run_end-end.ensures (omega (arith, c.run_end-end.ensures.high)) refl (sym c.requires.mode ∙ eq-eqb c.args.mirrored.context 0 c.if-mirrored-ne0.false) c.neighbours_in-around.ensures c.code_broken_run.ensures.bits c.code_broken_run.ensures.state more
 
 pub returns-clause-cost : goal.returns-clause-cost
 returns-clause-cost c =

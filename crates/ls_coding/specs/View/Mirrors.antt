@@ -1,0 +1,25 @@
+-- A sample of regular mode as it can be known before its context's counters are: it and the prediction by the samples around it, mirrored by SIGN.
+use Rattle.std.specs.Prelude.{◌≡◌, ℕ, ◌-◌, ◌≤◌, Bool, if◌then◌else◌, ℤ, pos, ◌+ℤ◌, ◌-ℤ◌}
+use Rattle.ls_frame.specs.Parameters.{Parameters, range_of}
+use Rattle.ls_coding.specs.declared.neighbours.Neighbours.{Neighbours}
+use Rattle.ls_coding.specs.declared.mirrored.Mirrored.{Mirrored}
+use Rattle.ls_coding.specs.Numbers.{clamped}
+use Rattle.ls_coding.specs.Samples.{AreSamples}
+use Rattle.ls_coding.specs.Contexts.{context_of}
+use Rattle.ls_coding.specs.Errors.{median, reduced}
+
+-- a sample counted down from MAXVAL if SIGN is -1
+abbrev pub mirror_image : ℕ → Bool → ℕ → ℕ
+mirror_image maxval negative sample = if negative then maxval - sample else sample
+
+-- the number of a sample's context, and the mirror images of its prediction (A.4.1) and of itself
+pub record IsMirrored (p : Parameters) (neighbours : Neighbours) (sample : ℕ) (mirrored : Mirrored) : Type 0 where
+  pub samples : AreSamples p.maxval neighbours
+  pub within : sample ≤ p.maxval
+  pub context_is : mirrored.context ≡ (context_of p neighbours).number
+  pub prediction_is : mirrored.prediction ≡ mirror_image p.maxval (context_of p neighbours).negative (median neighbours)
+  pub sample_is : mirrored.sample ≡ mirror_image p.maxval (context_of p neighbours).negative sample
+
+-- its error in a context with this C, as A.4.2 to A.4.5 have it where SIGN is 1
+abbrev pub mirrored_error : Parameters → ℤ → ℕ → ℕ → ℤ
+mirrored_error p c prediction sample = reduced (range_of p.maxval) (pos sample -ℤ clamped (pos 0) (pos p.maxval) (pos prediction +ℤ c))
