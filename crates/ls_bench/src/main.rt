@@ -21,6 +21,7 @@ mod regular;
 mod words;
 
 use anyhow::{Context, Result, bail};
+use ls_frame::keep_blocks;
 use std::rt::{Clock, Env, Files};
 use std::sync::Wait;
 use std::thread::Threads;
@@ -28,6 +29,7 @@ use std::time::Duration;
 use std::{env, io};
 
 fn main(rt: HostRuntime) -> Result<()> {
+    keep_blocks(rt.alloc());
     run(&rt)
 }
 

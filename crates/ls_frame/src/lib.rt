@@ -18,13 +18,14 @@
 //!
 //! In reading order: `device` (readers and writers that count), `buffered` (a reader for those who read byte by byte),
 //! `frame`, `presets`, `tuning` (presets chosen in part), `output` (writing bytes whole), `netpbm` (reading an image and
-//! writing one), `laws` (what follows from the definitions alone).
+//! writing one), `laws` (what follows from the definitions alone); `memory` is for whole programs.
 #![tactic(auto)]
 
 pub mod buffered;
 pub mod device;
 pub mod frame;
 pub mod laws;
+pub mod memory;
 pub mod netpbm;
 pub mod output;
 pub mod presets;
@@ -35,6 +36,7 @@ pub mod tuning;
 pub use buffered::Buffered;
 pub use device::{Counted, Failed, Feed, FeedFault, Outlet};
 pub use frame::{Frame, FrameFault, Kind};
+pub use memory::keep_blocks;
 pub use netpbm::{NetpbmFault, first_frame, next_frame, write_frame};
 pub use output::{WriteFault, write_bytes};
 pub use presets::{PresetFault, Presets};

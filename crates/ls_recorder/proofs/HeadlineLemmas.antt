@@ -118,8 +118,7 @@ module _ (maxval : (maxval : ℕ) → (default_parameters maxval).maxval ≡ max
     one_back film lane track r fresh done played =
         let bytes = film.0.now in
         let back = ComesBack bytes film.1 r.recording.items r.shown.items r.played in
-        let short = StopsShort bytes film.1 r.recording.items in
-        (
+        let short = StopsShort bytes film.1 r.recording.items in (
           subst (λ x. MatchResult x back short) (sym played.recorded)
               (elim done.did [
                 | inl refused ↦ subst (λ x. MatchResult x back short) (sym refused.0)

@@ -4,7 +4,13 @@ use crate::working::OpenGate;
 use std::process::Abort;
 
 /// Whether of each film its recording is this, and what is played is the film; or memory was refused, if it may be.
-fn comes_back(played_back: &PlayedBack, film: &[u8], coded: &[u8], frames: u64, ample: bool) -> bool {
+fn comes_back(
+    played_back: &PlayedBack,
+    film: &[u8],
+    coded: &[u8],
+    frames: u64,
+    ample: bool,
+) -> bool {
     let recorded = (played_back.recorded, played_back.recording.as_slice()) == (Ok(frames), coded);
     let played = (played_back.played, played_back.shown.as_slice()) == (Ok(frames), film);
     recorded && (played || !ample) || !ample && played_back.recorded.is_err()
