@@ -12,11 +12,10 @@ mod steps_file;
 #[cfg(test)]
 mod testing;
 
-use ls_frame::{Counted, keep_blocks};
+use ls_frame::Counted;
 use std::process::ExitCode;
 
 fn main(rt: HostRuntime) -> ExitCode {
-    keep_blocks(rt.alloc());
     let mut output = Counted::new(rt.stdout());
     let mut errors = Counted::new(rt.stderr());
     ExitCode::from(program::start(&rt, &mut output, &mut errors))

@@ -4,7 +4,7 @@ use std::alloc::Global;
 /// malloc of the GNU C library keeps blocks of at most 32 MiB.
 const LARGEST_KEPT: usize = 31 << 20;
 
-/// Has the memory of one frame serve the next: a program calls it once, before it does anything.
+/// Has the memory of one frame serve the next: a program calls it once, before its first frame.
 ///
 /// malloc gives a freed block back to the system if it is larger than 128 KiB and than each that was freed before (mallopt(3),
 /// M_MMAP_THRESHOLD). The next frame would be of new pages then, each of which takes the system a microsecond or more. So this takes a
