@@ -196,6 +196,3 @@ impl Collector {
         self.slots.len()
     }
 }
-
-#[cfg(test)]
-mod tests;

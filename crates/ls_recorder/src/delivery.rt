@@ -102,6 +102,3 @@ fn copies(alloc: Global, doors: &mut Vec<Door>) -> Result<Vec<Door>, AllocError>
     }
     Ok(copies)
 }
-
-#[cfg(test)]
-mod tests;

@@ -35,6 +35,3 @@ impl From<AllocError> for RecordFault {
         RecordFault::NoMemory
     }
 }
-
-#[cfg(test)]
-mod tests;

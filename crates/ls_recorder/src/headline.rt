@@ -121,6 +121,3 @@ fn play_back(alloc: Global, track: Track<&[u8], Counted<Vec<u8>>>) -> PlayedBack
         played,
     }
 }
-
-#[cfg(test)]
-mod tests;

@@ -324,6 +324,3 @@ fn collect_until<W: Outlet, R: Wait>(
     }
     unreachable!()
 }
-
-#[cfg(test)]
-mod tests;

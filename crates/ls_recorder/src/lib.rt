@@ -55,8 +55,6 @@ pub mod orders;
 pub mod pieces;
 pub mod playing;
 pub mod recording;
-#[cfg(test)]
-mod testing;
 pub mod working;
 
 pub use collector::{Collector, CollectorFault, MOST_WINDOW, Misfit};

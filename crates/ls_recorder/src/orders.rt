@@ -89,6 +89,3 @@ impl PartialEq for Order {
         *self.frame == *other.frame && self.presets == other.presets
     }
 }
-
-#[cfg(test)]
-mod tests;

@@ -109,6 +109,3 @@ fn code(alloc: Global, order: &Order) -> Result<Vec<u8>, AllocError>
     let mut lines = Lines::new(alloc, frame.width())?;
     Ok(encode_within(frame, presets, &mut lines, bytes))
 }
-
-#[cfg(test)]
-mod tests;

@@ -159,6 +159,3 @@ impl Text for NetpbmImages {
 
     ghost empty = { refl };
 }
-
-#[cfg(test)]
-mod tests;

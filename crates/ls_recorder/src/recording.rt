@@ -160,6 +160,3 @@ fn settled<Rt: Wait, R: Feed + Drop, W: Outlet + Drop>(
         Err(_) => unreachable!(),
     }
 }
-
-#[cfg(test)]
-mod tests;

@@ -85,6 +85,3 @@ pub fn work<R: Wait, G: Gate>(
     }
     unreachable!()
 }
-
-#[cfg(test)]
-mod tests;

@@ -1,5 +1,6 @@
-use super::*;
 use crate::testing::{check, pixel_order, pixel_piece};
+use ls_recorder::{Collector, CollectorFault, Misfit};
+use std::alloc::Global;
 use std::process::Abort;
 
 /// A call of a collector, and what it answers.

@@ -1,14 +1,16 @@
 ghost use Rattle.std.specs.Prelude.{◌≡◌, length, IfSome};
 
-use super::*;
 use crate::testing::{ANNEX_H, DEFAULTS, MEANS, RUNS, RUNS_CODED, THREE, THREE_CODED, check};
-use crate::working::{Moment, OpenGate};
-use ls_frame::{Counted, NetpbmFault};
+use ls_frame::{Counted, NetpbmFault, Tuning};
+use ls_recorder::{Gate, LaneFault, Moment, OpenGate, RecordFault, Recording, Track, record};
 use ls_testing::films::{BLACK, FIRST_CODESTREAM, TWO_CODESTREAMS, TWO_IMAGES};
 use ls_testing::{Mishap, Pieces, Sink};
+use std::alloc::Global;
 use std::hint::spin_loop;
 use std::process::Abort;
+use std::sync::Wait;
 use std::sync::atomic::{AtomicBool, Ordering};
+use std::thread::Threads;
 
 /// The image of Annex H.3, and then one whose sample is over its maxval.
 const SPOILT: &[u8] = b"P5\n4 4\n255\n\

@@ -1,10 +1,11 @@
 ghost use Rattle.std.specs.Prelude.{◌≡◌, IfSome};
 ghost use Rattle.ls_queue.specs.Running.{IsSourceSeat, IsWorkerSeat, IsEnded, AreAllSources, AreAllWorkers, sources_of, workers_of};
 
-use super::*;
-use crate::delivery::{Inbox, boxes};
 use crate::testing::{check, pixel_order};
-use ls_queue::{Ended, SourceSeat, open};
+use ls_queue::{Ended, Queue, SourceSeat, WorkerSeat, open};
+use ls_recorder::{Gate, Inbox, Moment, Order, boxes, work};
+use std::alloc::Global;
+use std::sync::Wait;
 use std::sync::atomic::{AtomicU64, Ordering};
 
 /// A gate that counts how often it was passed.

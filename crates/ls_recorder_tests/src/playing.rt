@@ -1,9 +1,10 @@
-use super::*;
 use crate::testing::{ANNEX_H, ANNEX_H_IMAGE, COLOUR, TWO_VALUES, check_text};
-use ls_frame::PresetFault;
-use ls_stream::What;
+use ls_frame::{Counted, Feed, Outlet, PresetFault};
+use ls_recorder::{PlayFault, play, play_bytes};
+use ls_stream::{StreamFault, What};
 use ls_testing::films::{TWO_CODESTREAMS, TWO_IMAGES};
 use ls_testing::{Mishap, Pieces, Sink};
+use std::alloc::Global;
 use std::process::Abort;
 
 /// What playing answered, what it wrote, and how many of its reader's and its writer's calls failed.

@@ -2,10 +2,9 @@
 ghost use Rattle.std.specs.Prelude.{◌≡◌, [], IfSome};
 ghost use Rattle.ls_queue.specs.Running.{AreAllSources, IsSourceSeat, items_put};
 
-use crate::orders::Order;
-use crate::pieces::Coded;
 use ls_frame::{Frame, Kind, Presets, Tuning};
 use ls_queue::{Job, Queue, SourceSeat};
+use ls_recorder::{Coded, Order};
 use ls_testing::{Mishap, Sink};
 use std::alloc::Global;
 use std::fmt::Display;

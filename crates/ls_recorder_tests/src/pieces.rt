@@ -1,5 +1,7 @@
-use super::*;
 use crate::testing::{check, pixel_order};
+use ls_queue::Job;
+use ls_recorder::Coded;
+use std::alloc::Global;
 use std::process::Abort;
 
 /// Samples, RESETs, and the codestreams of these pixels up to 255.

@@ -1,7 +1,10 @@
-use super::*;
 use crate::testing::{DEFAULTS, MEANS, RUNS, RUNS_CODED, THREE, THREE_CODED, check};
-use crate::working::OpenGate;
+use ls_frame::Tuning;
+use ls_recorder::{OpenGate, PlayedBack, record_and_play};
+use std::alloc::Global;
 use std::process::Abort;
+use std::sync::Wait;
+use std::thread::Threads;
 
 /// Whether of each film its recording is this, and what is played is the film; or memory was refused, if it may be.
 fn comes_back(

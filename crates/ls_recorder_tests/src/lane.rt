@@ -1,12 +1,12 @@
-use super::*;
-use crate::collector::Misfit;
-use crate::delivery::{Answer, boxes};
-use crate::pieces::Uncoded;
 use crate::testing::{DEFAULTS, check, check_text, first_seat, pixel_piece};
-use ls_frame::Counted;
+use ls_frame::{Counted, NetpbmFault, PresetFault, Tuning};
 use ls_queue::open;
+use ls_recorder::lane::lane;
+use ls_recorder::{Answer, LaneFault, Misfit, Order, Uncoded, boxes};
 use ls_testing::films::{BLACK, FIRST_CODESTREAM, TWO_CODESTREAMS, TWO_IMAGES};
 use ls_testing::{Mishap, Pieces, Sink};
+use std::alloc::Global;
+use std::sync::Wait;
 
 /// What lies in a lane's box: the piece of this number, of a pixel of this sample; or that it couldn't be coded.
 #[derive(Clone, Copy, Drop)]

@@ -1,5 +1,5 @@
-use super::*;
 use crate::testing::check_text;
+use ls_recorder::RecordFault;
 
 /// Faults, and their texts.
 const TEXTS: [(RecordFault, &str); 6] = [

@@ -1,4 +1,3 @@
-use super::*;
 use crate::testing::{check, pixel_order};
 use std::alloc::Global;
 use std::process::Abort;
