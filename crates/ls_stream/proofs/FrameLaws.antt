@@ -42,10 +42,10 @@ no_codestream_begins_another one other rest f g first second e =
 
 -- ---- their parameters are legal
 
-abbrev LegalWithoutFault : Type 0
+abbrev pub LegalWithoutFault : Type 0
 LegalWithoutFault = (p : Parameters) → p.maxval ≤ 65535 → preset_fault p ≡ None → IsLegal p
 
-unless_ok : (fault : Option PresetFault) (q p : Parameters) → unless_fault fault q ≡ Ok p → (q ≡ p) × (fault ≡ None)
+pub unless_ok : (fault : Option PresetFault) (q p : Parameters) → unless_fault fault q ≡ Ok p → (q ≡ p) × (fault ≡ None)
 unless_ok None q p e = let same : q ≡ p = cc in (same, refl)
 unless_ok (Some fault) q p e = absurd cc
 
@@ -57,7 +57,7 @@ faultless_by : (test : Bool) (q p : Parameters) → cond test (Err MaxvalRange) 
 faultless_by true q p e = absurd cc
 faultless_by false q p e = faultless q p e
 
-read_faultless : (precision : ℕ) (written p : Parameters) → parameters_of precision written ≡ Ok p → preset_fault p ≡ None
+pub read_faultless : (precision : ℕ) (written p : Parameters) → parameters_of precision written ≡ Ok p → preset_fault p ≡ None
 unfolding parameters_of
 read_faultless precision written p e = faultless_by (ltb (greatest_maxval precision) written.maxval) _ p e
 

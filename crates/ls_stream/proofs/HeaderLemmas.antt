@@ -1,5 +1,5 @@
 -- The contents of a frame header: what is read of bytes is spelled so, and what is spelled so is read.
-use Rattle.std.proofs.Common.{◌≡◌, ℕ, ◌+◌, ◌*◌, ◌^◌, ◌<◌, ◌≤◌, false, cond, leb, eqb, List, [], ◌∷◌, length, map, flat_map, get_or, take, inl, inr, Result, Ok, Err, refl, sym, ap, subst, ◌∙◌, arith}
+use Rattle.std.proofs.Common.{◌≡◌, ℕ, zero, suc, ◌+◌, ◌*◌, ◌^◌, ◌<◌, ◌≤◌, false, cond, leb, eqb, List, [], ◌∷◌, length, map, flat_map, get_or, take, inl, inr, Result, Ok, Err, refl, sym, ap, subst, ◌∙◌, arith}
 use Rattle.std.specs.Prelude.{◌&&◌, ◌||◌, not}
 use Rattle.std.specs.List.{list_any}
 use Rattle.std.proofs.lemmas.Bool.{cases_Bool, cond-true, cond-false, leb-true, le-leb, eqb-true, eqb-false, ne_eqb, and_parts, not-true, or_parts}
@@ -76,6 +76,7 @@ pub record HeaderRead (contents : List ℕ) (h : FrameHeader) : Type 0 where
   pub precision : header.precision ≡ h.precision
   pub height : header.height ≡ h.height
   pub width : header.width ≡ h.width
+  pub some_width : 0 < h.width
   pub height_at : field_of contents 1 ≡ h.height
   pub width_at : field_of contents 3 ≡ h.width
   pub count : length header.components ≡ components h.kind
@@ -171,6 +172,10 @@ kind_read count kind e = elim (cases_Bool (eqb count 1)) [
       ]
 ]
 
+positive : (n : ℕ) → eqb n 0 ≡ false → 0 < n
+positive zero e = absurd (eqb-false 0 0 e refl)
+positive (suc n) e = omega arith
+
 pub header_read : (contents : List ℕ) (h : FrameHeader) → AreBytes contents → frame_header_of contents ≡ Ok h → HeaderRead contents h
 unfolding frame_header_of header_in
 header_read contents h are e =
@@ -205,6 +210,7 @@ header_read contents h are e =
       precision = refl;
       height = refl;
       width = refl;
+      some_width = positive width (not-true _ h3.0);
       height_at = refl;
       width_at = refl;
       count = read.count;

@@ -28,6 +28,9 @@ pub mod LengthLemmas
 pub mod LineLemmas
 pub mod MarkerLemmas
 pub mod MostLemmas
+pub mod OneBreakLemmas
+pub mod OneFaultLemmas
+pub mod OneRunLemmas
 pub mod OutlineLemmas
 pub mod PlaceLemmas
 pub mod PlaneLaws

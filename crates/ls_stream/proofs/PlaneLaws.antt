@@ -91,7 +91,7 @@ one_run (suc most) index left count other broken ends bits rest others few e f g
           (one.0 ∙ sym two.0, one.1 ∙ sym two.1, sym one.2 ∙ two.2)
     ]
 
-run_once : (index left count : ℕ) (broken : Bool) (bits new : List Bool) → EndsInLine left count broken → bits ≡ run_bits index (run_of count broken) ++ new
+pub run_once : (index left count : ℕ) (broken : Bool) (bits new : List Bool) → EndsInLine left count broken → bits ≡ run_bits index (run_of count broken) ++ new
     → IsOnlyRun left index bits count broken new
 run_once index left count broken bits new e g other ends rest f h =
     let same = one_run (suc count) index left count other broken ends bits new rest (omega arith) e f g h in
@@ -99,7 +99,7 @@ run_once index left count broken bits new e g other ends rest f h =
 
 -- ---- samples
 
-only_sample : (p : Parameters) (events : List Event) → IsLegal p → IsLawful p events → (n : Neighbours) (x : ℕ) (bits new : List Bool) → x ≤ p.maxval
+pub only_sample : (p : Parameters) (events : List Event) → IsLegal p → IsLawful p events → (n : Neighbours) (x : ℕ) (bits new : List Bool) → x ≤ p.maxval
     → bits ≡ golomb_bits (state_of p events).parameters (regular_word_in (state_of p events) n x) ++ new → IsOnlySample p.maxval (state_of p events) n bits x new
 unfolding state_of
 only_sample p events legal lawful n x bits new small e other rest small' f =
@@ -114,7 +114,7 @@ unfolding state_of interruption_word_in
 break_word p events r n x =
     ap (λ (t : Counts). golomb_bits p (interruption_word p (index_at (run_index_after_events events) r) (ri_type_of n) t (interruption_error p n x))) (either p events (ri_type_of n))
 
-only_break : (p : Parameters) (events : List Event) → IsLegal p → IsLawful p events → (r : Run) (n : Neighbours) (x : ℕ) (bits new : List Bool)
+pub only_break : (p : Parameters) (events : List Event) → IsLegal p → IsLawful p events → (r : Run) (n : Neighbours) (x : ℕ) (bits new : List Bool)
     → AreSamples p.maxval n → Interrupts p.maxval n.a x
     → bits ≡ golomb_bits (run_after (state_of p events) r).parameters (interruption_word_in (run_after (state_of p events) r) n x) ++ new
     → IsOnlyInterruption p.maxval (run_after (state_of p events) r) n bits x new
@@ -124,17 +124,17 @@ only_break p events legal lawful r n x bits new samples interrupts e other rest 
 
 -- ---- lawful events
 
-lawful_sample : (p : Parameters) (plane : Plane) (i j : ℕ) (events : List Event) → AreSamples p.maxval (around plane i j) → at plane i j ≤ p.maxval
+pub lawful_sample : (p : Parameters) (plane : Plane) (i j : ℕ) (events : List Event) → AreSamples p.maxval (around plane i j) → at plane i j ≤ p.maxval
     → is_run (around plane i j) ≡ false → broken_after_events events ≡ false → IsLawful p events → IsLawful p (events ++ sample_event p plane i j events ∷ [])
 unfolding sample_event
 lawful_sample p plane i j events samples within regular whole lawful =
     more events (sample_event p plane i j events) lawful (by_sample (around plane i j) (at plane i j) samples within regular whole refl)
 
-lawful_run : (p : Parameters) (events : List Event) (count : ℕ) → 0 < count → broken_after_events events ≡ false → IsLawful p events
+pub lawful_run : (p : Parameters) (events : List Event) (count : ℕ) → 0 < count → broken_after_events events ≡ false → IsLawful p events
     → IsLawful p (events ++ run (run_of count false) ∷ [])
 lawful_run p events count some whole lawful = more events (run (run_of count false)) lawful (by_run count false (λ e. some) whole refl)
 
-lawful_break : (p : Parameters) (plane : Plane) (i j count : ℕ) (events : List Event) → AreSamples p.maxval (around plane i j)
+pub lawful_break : (p : Parameters) (plane : Plane) (i j count : ℕ) (events : List Event) → AreSamples p.maxval (around plane i j)
     → Interrupts p.maxval (around plane i j).a (at plane i j) → broken_after_events events ≡ false → IsLawful p events
     → IsLawful p (events ++ run (run_of count true) ∷ interrupting_sample_event p plane i j ∷ [])
 unfolding interrupting_sample_event

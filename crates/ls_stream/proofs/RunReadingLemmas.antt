@@ -151,7 +151,7 @@ only_to_end left so_far first index count other broken start bits new rest in_ru
 
 -- ---- where the bits end, or no run goes on so
 
-no_begin : (index left count : ℕ) (broken : Bool) (bits rest : List Bool) → bits ≡ [] → RunBegins index left count broken bits rest → ⊥
+pub no_begin : (index left count : ℕ) (broken : Bool) (bits rest : List Bool) → bits ≡ [] → RunBegins index left count broken bits rest → ⊥
 no_begin index left count broken bits rest none (whole_one enough e) = absurd (omega (arith, ap length (sym none ∙ e)))
 no_begin index left count broken bits rest none (part_one is full few e) = absurd (omega (arith, ap length (sym none ∙ e)))
 no_begin index left count broken bits rest none (break is short few e) = absurd (omega (arith, ap length (sym none ∙ e)))
@@ -161,7 +161,7 @@ pub no_bit : (left so_far first index other : ℕ) (broken : Bool) (start bits r
 no_bit left so_far first index other broken start bits rest in_run short none ends e =
     no_begin index (left - so_far) (other - so_far) broken bits rest none (to_come left so_far first index other broken start bits rest in_run short ends e)
 
-few_begin : (index left count : ℕ) (broken : Bool) (bits new rest : List Bool) → bits ≡ false ∷ new → length new < order index → RunBegins index left count broken bits rest → ⊥
+pub few_begin : (index left count : ℕ) (broken : Bool) (bits new rest : List Bool) → bits ≡ false ∷ new → length new < order index → RunBegins index left count broken bits rest → ⊥
 few_begin index left count broken bits new rest e short (whole_one enough f) = one_or_zero _ new (sym f ∙ e)
 few_begin index left count broken bits new rest e short (part_one is full few f) = one_or_zero _ new (sym f ∙ e)
 few_begin index left count broken bits new rest e short (break is less few f) =

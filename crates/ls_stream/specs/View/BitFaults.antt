@@ -43,8 +43,8 @@ pub data BreaksRun : ℕ → ℕ → List Bool → CodeFault → Type 0 where
       → BreaksRun (min (index + 1) last_index) (left - 2 ^ order index) more fault → BreaksRun index left bits fault
   rest_ends : {index left : ℕ} {bits : List Bool} {fault : CodeFault} → (more : List Bool) → bits ≡ false ∷ more → length more < order index → fault ≡ OutOfBits
       → BreaksRun index left bits fault
-  no_room : {index left : ℕ} {bits : List Bool} {fault : CodeFault} → (count : ℕ) (more : List Bool) → bits ≡ false ∷ (bits_of (order index) count ++ more) → left ≤ count
-      → fault ≡ NotCanonical → BreaksRun index left bits fault
+  no_room : {index left : ℕ} {bits : List Bool} {fault : CodeFault} → (count : ℕ) (more : List Bool) → bits ≡ false ∷ (bits_of (order index) count ++ more)
+      → count < 2 ^ order index → left ≤ count → fault ≡ NotCanonical → BreaksRun index left bits fault
 
 -- ---- spans
 

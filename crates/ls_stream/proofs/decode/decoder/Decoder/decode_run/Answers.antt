@@ -117,4 +117,5 @@ returns-in_err-accept_break-clause-fault c =
     rw (fault.1, fault.2)
     (c.ones.invariant.breaks _ (no_room c.in_ok-rest.rest c.bits.new.self
     (bit_is_zero _ _ _ c.in_ok-bit.ensures.ok c.in_ok-bit.ensures.value c.if-branch-eq1.false ∙ ap (λ x. false ∷ x) mid)
+    (subst (λ n. c.in_ok-rest.rest < 2 ^ n) c.break_width.ensures.value c.in_ok-rest.ensures.value)
     c.in_err-accept_break.ensures.fault.1 c.in_err-accept_break.ensures.fault.0))
