@@ -28,6 +28,7 @@ pub mod LengthLemmas
 pub mod LineLemmas
 pub mod MarkerLemmas
 pub mod MostLemmas
+pub mod NextStopLaws
 pub mod OutlineLemmas
 pub mod PlaceLemmas
 pub mod PlaneLaws
