@@ -17,6 +17,7 @@ pub mod ExtentLaws
 pub mod ExtentLemmas
 pub mod FaultLaws
 pub mod FeedLemmas
+pub mod FirstFaultLaws
 pub mod FrameLaws
 pub mod FrameLemmas
 pub mod FrameReadingLemmas
