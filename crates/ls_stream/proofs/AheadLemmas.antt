@@ -9,7 +9,7 @@ use Rattle.ls_bits.specs.Bits.{AreBytes, two_bytes}
 use Rattle.ls_stream.specs.declared.faults.StreamFault.{StreamFault}
 use Rattle.ls_stream.specs.declared.marker.Marker.{Marker}
 use Rattle.ls_stream.specs.declared.marker.Marker.TheVariants.{StartOfImage, EndOfImage, StartOfScan, StartOfFrame, PresetParameters, Application, Comment, Other}
-use Rattle.ls_stream.specs.Markers.{code_of, marker_of, marker}
+use Rattle.ls_stream.specs.Markers.{IsMarker, marker}
 use Rattle.ls_stream.specs.Segments.{segment, presets_contents}
 use Rattle.ls_stream.specs.Grammar.{filled, Miscellaneous, skipped, presets, one_miscellaneous_bytes, miscellaneous_bytes, is_skipped, IsSkipped, MayPrecedeScans, MayFollowScan, last_presets}
 use Rattle.ls_stream.specs.View.Reading.{◌>>=◌, Piece, Ahead, marker_at, contents_at, preset_fields_of, skipped_at, presets_at, after_marker, piece_at, unless_marker, ahead_within, ahead_at}
@@ -45,6 +45,16 @@ Stops PresetParameters = ⊥
 Stops (Application code) = ⊥
 Stops Comment = ⊥
 Stops (Other code) = ⊥
+
+pub stop_is : (m : Marker) → Stops m → IsMarker m
+stop_is StartOfImage stops = absurd stops
+stop_is EndOfImage stops = record { back = refl; some = λ e. absurd (omega arith); other = λ e. absurd (omega arith) }
+stop_is StartOfScan stops = record { back = refl; some = λ e. absurd (omega arith); other = λ e. absurd (omega arith) }
+stop_is StartOfFrame stops = record { back = refl; some = λ e. absurd (omega arith); other = λ e. absurd (omega arith) }
+stop_is PresetParameters stops = absurd stops
+stop_is (Application code) stops = absurd stops
+stop_is Comment stops = absurd stops
+stop_is (Other code) stops = absurd stops
 
 -- a marker stands in front, and fill bytes before it
 pub record MarkerRead (written : Parameters) (bytes : List ℕ) (m : Marker) (last : Parameters) (rest : List ℕ) : Type 0 where
@@ -241,7 +251,7 @@ pub record AheadRead (late : Bool) (written : Parameters) (bytes : List ℕ) (fo
   pub last_is : found.1 ≡ last_presets written segments
 
 -- the presets of a segment and then of others
-presets_after : (written : Parameters) (s : Miscellaneous) (segments : List Miscellaneous) → last_presets (last_presets written (s ∷ [])) segments ≡ last_presets written (s ∷ segments)
+pub presets_after : (written : Parameters) (s : Miscellaneous) (segments : List Miscellaneous) → last_presets (last_presets written (s ∷ [])) segments ≡ last_presets written (s ∷ segments)
 presets_after written (skipped fill m contents) segments = refl
 presets_after written (presets fill p) segments = refl
 
@@ -288,16 +298,20 @@ ahead_read late written bytes found are e = within_read (length bytes) late writ
 
 -- ---- what is spelled is read
 
--- a skipped marker has a code of its own, and what stands after it is skipped
-skipped_code : (m : Marker) → IsTrue (is_skipped m) → (marker_of (code_of m) ≡ m) × (code_of m ≡ 0 → ⊥) × (code_of m ≡ 255 → ⊥)
-skipped_code StartOfImage is = absurd (false≢true is)
-skipped_code EndOfImage is = absurd (false≢true is)
-skipped_code StartOfScan is = absurd (false≢true is)
-skipped_code StartOfFrame is = absurd (false≢true is)
-skipped_code PresetParameters is = absurd (false≢true is)
-skipped_code (Application code) is = let known = application_is code is in (known.0, λ e. absurd (omega (arith, known.1)), λ e. absurd (omega (arith, known.2)))
-skipped_code Comment is = (refl, λ e. absurd (omega arith), λ e. absurd (omega arith))
-skipped_code (Other code) is = absurd (false≢true is)
+-- a skipped marker has a code of its own, as that of preset parameters has, and what stands after it is skipped
+skipped_is : (m : Marker) → IsTrue (is_skipped m) → IsMarker m
+skipped_is StartOfImage is = absurd (false≢true is)
+skipped_is EndOfImage is = absurd (false≢true is)
+skipped_is StartOfScan is = absurd (false≢true is)
+skipped_is StartOfFrame is = absurd (false≢true is)
+skipped_is PresetParameters is = absurd (false≢true is)
+skipped_is (Application code) is =
+    let known = application_is code is in record { back = known.0; some = λ e. absurd (omega (arith, known.1)); other = λ e. absurd (omega (arith, known.2)) }
+skipped_is Comment is = record { back = refl; some = λ e. absurd (omega arith); other = λ e. absurd (omega arith) }
+skipped_is (Other code) is = absurd (false≢true is)
+
+presets_is : IsMarker PresetParameters
+presets_is = record { back = refl; some = λ e. absurd (omega arith); other = λ e. absurd (omega arith) }
 
 after_skipped : (late : Bool) (written : Parameters) (m : Marker) (bytes : List ℕ) → IsTrue (is_skipped m) → after_marker late written m bytes ≡ skipped_at written bytes
 unfolding after_marker
@@ -311,22 +325,21 @@ after_skipped late written Comment bytes is = refl
 after_skipped late written (Other code) bytes is = absurd (false≢true is)
 
 -- a marker and what stands after it
-piece_after : (late : Bool) (written : Parameters) (fill : ℕ) (m : Marker) (rest : List ℕ) → marker_of (code_of m) ≡ m → (code_of m ≡ 0 → ⊥) → (code_of m ≡ 255 → ⊥)
+pub piece_after : (late : Bool) (written : Parameters) (fill : ℕ) (m : Marker) (rest : List ℕ) → IsMarker m
     → piece_at late written (filled fill (marker m) ++ rest) ≡ after_marker late written m rest
 unfolding piece_at
-piece_after late written fill m rest back some other = step_is (marker_at (filled fill (marker m) ++ rest)) (λ n. after_marker late written n.0 n.1) (m, rest) (marker_again fill m rest back some other)
+piece_after late written fill m rest is = step_is (marker_at (filled fill (marker m) ++ rest)) (λ n. after_marker late written n.0 n.1) (m, rest) (marker_again fill m rest is)
 
 presets_short : (p : Parameters) → 2 + length (presets_contents p) < 2 ^ 16
 unfolding presets_contents
 presets_short p = omega arith
 
-piece_again : (late : Bool) (written : Parameters) (s : Miscellaneous) (rest : List ℕ) → MayPrecedeScans s → MayCome late s
+pub piece_again : (late : Bool) (written : Parameters) (s : Miscellaneous) (rest : List ℕ) → MayPrecedeScans s → MayCome late s
     → piece_at late written (one_miscellaneous_bytes s ++ rest) ≡ Ok (None, last_presets written (s ∷ []), rest)
 unfolding after_marker
 piece_again late written (skipped fill m contents) rest lawful may =
-    let code = skipped_code m lawful.marker_is in
     let after : List ℕ = (two_bytes (2 + length contents) ++ contents) ++ rest in
-    ap (piece_at late written) (segment_parts fill m contents rest) ∙ piece_after late written fill m after code.0 code.1 code.2
+    ap (piece_at late written) (segment_parts fill m contents rest) ∙ piece_after late written fill m after (skipped_is m lawful.marker_is)
     ∙ after_skipped late written m after lawful.marker_is
     ∙ step_is (contents_at after) (λ c. Ok (None, written, c.1)) (contents, rest) (contents_again contents rest lawful.short)
 piece_again true written (presets fill p) rest lawful may = absurd may
@@ -334,34 +347,32 @@ piece_again false written (presets fill p) rest lawful may =
     let contents = presets_contents p in
     let after : List ℕ = (two_bytes (2 + length contents) ++ contents) ++ rest in
     ap (piece_at false written) (segment_parts fill PresetParameters contents rest)
-    ∙ piece_after false written fill PresetParameters after refl (λ e. absurd (omega arith)) (λ e. absurd (omega arith))
+    ∙ piece_after false written fill PresetParameters after presets_is
     ∙ step_is (contents_at after) (λ c. preset_fields_of c.0 >>= λ last. Ok (None, last, c.1)) (contents, rest) (contents_again contents rest (presets_short p))
     ∙ step_is (preset_fields_of contents) (λ last. Ok (None, last, rest)) p (fields_again p)
 
 -- a marker that isn't of a miscellaneous segment
 pub record IsAhead (m : Marker) : Type 0 where
-  pub back : marker_of (code_of m) ≡ m
-  pub some : code_of m ≡ 0 → ⊥
-  pub other : code_of m ≡ 255 → ⊥
+  pub is : IsMarker m
   pub after : (late : Bool) (written : Parameters) (rest : List ℕ) → after_marker late written m rest ≡ Ok (Some m, written, rest)
 
 pub ahead_frame : IsAhead StartOfFrame
 unfolding after_marker
-ahead_frame = record { back = refl; some = λ e. absurd (omega arith); other = λ e. absurd (omega arith); after = λ late written rest. refl }
+ahead_frame = record { is = stop_is StartOfFrame tt; after = λ late written rest. refl }
 
 pub ahead_scan : IsAhead StartOfScan
 unfolding after_marker
-ahead_scan = record { back = refl; some = λ e. absurd (omega arith); other = λ e. absurd (omega arith); after = λ late written rest. refl }
+ahead_scan = record { is = stop_is StartOfScan tt; after = λ late written rest. refl }
 
 pub ahead_end : IsAhead EndOfImage
 unfolding after_marker
-ahead_end = record { back = refl; some = λ e. absurd (omega arith); other = λ e. absurd (omega arith); after = λ late written rest. refl }
+ahead_end = record { is = stop_is EndOfImage tt; after = λ late written rest. refl }
 
 pub ahead_again : (late : Bool) (written : Parameters) (segments : List Miscellaneous) (fill : ℕ) (m : Marker) (rest : List ℕ) → AllByRecursion MayPrecedeScans segments
     → AllByRecursion (MayCome late) segments → IsAhead m
     → ahead_at late written (miscellaneous_bytes segments ++ (filled fill (marker m) ++ rest)) ≡ Ok (m, last_presets written segments, rest)
 ahead_again late written [] fill m rest lawful may is =
-    ahead_at-marker late written written (filled fill (marker m) ++ rest) rest m (piece_after late written fill m rest is.back is.some is.other ∙ is.after late written rest)
+    ahead_at-marker late written written (filled fill (marker m) ++ rest) rest m (piece_after late written fill m rest is.is ∙ is.after late written rest)
 ahead_again late written (s ∷ segments) fill m rest lawful may is =
     let last = last_presets written (s ∷ []) in
     let others : List ℕ = miscellaneous_bytes segments ++ (filled fill (marker m) ++ rest) in

@@ -209,7 +209,7 @@ ahead_along late written bytes = ahead_along_within (suc (length bytes)) late wr
 
 -- ---- headers and EOI
 
-abbrev Frame : Type 0
+abbrev pub Frame : Type 0
 Frame = FrameHeader × Parameters × List ℕ
 
 frame_header_along : (bytes : List ℕ) → IsAlong (λ (x : Frame). segments_at x.2) (frame_header_at bytes) (segments_at bytes)
@@ -237,13 +237,13 @@ scan_header_along late written id bytes =
     (both_along left (contents_at n.2) (λ c. scan_header_of id c.0 >>= λ h. Ok (n.1, c.1)) (λ c. segments_at (after_data c.1))
     (λ c. inside_along left (scan_header_of id c.0) (λ h. Ok (n.1, c.1)) (segments_at (after_data c.1)) (scan_no_byte id c.0) (λ h. refl)))))
 
-next_scan_along : (id : ℕ) (bytes : List ℕ) → IsAlong (λ (rest : List ℕ). segments_at (after_data rest)) (next_scan_at id bytes) (segments_at bytes)
+pub next_scan_along : (id : ℕ) (bytes : List ℕ) → IsAlong (λ (rest : List ℕ). segments_at (after_data rest)) (next_scan_at id bytes) (segments_at bytes)
 unfolding next_scan_at
 next_scan_along id bytes =
     step_along (λ (x : Scan). segments_at (after_data x.1)) (λ (rest : List ℕ). segments_at (after_data rest)) (scan_header_at true no_presets id bytes) (λ scan. Ok scan.1) (segments_at bytes)
     (scan_header_along true no_presets id bytes) (λ scan e. refl)
 
-end_along : (bytes : List ℕ) → IsAlong (λ (rest : List ℕ). Ok rest) (end_at bytes) (segments_at bytes)
+pub end_along : (bytes : List ℕ) → IsAlong (λ (rest : List ℕ). Ok rest) (end_at bytes) (segments_at bytes)
 unfolding end_at after_any
 end_along bytes =
     let left : List ℕ → Left = λ rest. Ok rest in
@@ -251,7 +251,7 @@ end_along bytes =
     (λ n e. tested_along left (is_end_of_image n.0) BadSegment (Ok n.2) (after_ahead n) no_bad
     (λ is. ap (λ m. after_any segments_at m n.2) (is_end n.0 is)))
 
-opening_along : (bytes : List ℕ) → IsAlong (λ (x : Frame). segments_at (after_data x.2)) (opening_at bytes) (extent_at bytes)
+pub opening_along : (bytes : List ℕ) → IsAlong (λ (x : Frame). segments_at (after_data x.2)) (opening_at bytes) (extent_at bytes)
 unfolding opening_at extent_at
 opening_along bytes =
     let left : Frame → Left = λ x. segments_at (after_data x.2) in

@@ -9,13 +9,13 @@ use Rattle.ls_stream.specs.declared.faults.StreamFault.TheVariants.{Truncated, B
 use Rattle.ls_stream.specs.declared.faults.What.TheVariants as what
 use Rattle.ls_stream.specs.declared.marker.Marker.{Marker}
 use Rattle.ls_stream.specs.declared.marker.Marker.TheVariants.{StartOfImage, EndOfImage, StartOfScan, StartOfFrame, PresetParameters, Application, Comment, Other}
-use Rattle.ls_stream.specs.Markers.{marker, marker_of}
+use Rattle.ls_stream.specs.Markers.{marker_of, IsMarker, marker}
 use Rattle.ls_stream.specs.Grammar.{filled, Miscellaneous, one_miscellaneous_bytes, miscellaneous_bytes, MayPrecedeScans}
 use Rattle.ls_stream.specs.Faults.{Due, is_late, MayStand, marker_fault, has_segment, presets_checks, BreaksSegment, no_length, bad_length, cut_off, fails, BreaksMarker, ends, no_marker, zero_code, misplaced, broken, BreaksAfter}
 use Rattle.ls_stream.specs.Segments.{field_of}
 use Rattle.ls_stream.specs.View.Reading.{◌>>=◌, Ahead, wanted, code_at, marker_at, contents_at, preset_fields_of, skipped_at, presets_at, after_marker, piece_at, unless_marker, ahead_within, ahead_at}
 use Rattle.ls_stream.proofs.StepLemmas.{same_fault, step_err, test_err}
-use Rattle.ls_stream.proofs.MarkerLemmas.{marker_read}
+use Rattle.ls_stream.proofs.MarkerLemmas.{marker_read, marker_is}
 use Rattle.ls_stream.proofs.SegmentLemmas.{two_are, contents_read, bytes_along}
 use Rattle.ls_stream.proofs.CheckLemmas.{presets_agree, unmet_of}
 use Rattle.ls_stream.proofs.AheadLemmas.{MayCome, Found, Stands, PieceRead, piece_read, piece_shorter}
@@ -95,40 +95,40 @@ segment_breaks d m (high ∷ low ∷ more) fault are e =
     ]
 
 skipped_breaks : (d : Due) (written : Parameters) (fill : ℕ) (m : Marker) (rest bytes : List ℕ) (fault : StreamFault) → AreBytes rest → bytes ≡ filled fill (marker m) ++ rest
-    → marker_fault d m ≡ None → has_segment m ≡ true → skipped_at written rest ≡ Err fault → BreaksMarker d bytes fault
-skipped_breaks d written fill m rest bytes fault are whole may has e = elim (step_err (contents_at rest) (λ contents. Ok (None, written, contents.1)) fault e) [
-  | inl bad ↦ broken fill m rest whole may has (segment_breaks d m rest fault are bad)
+    → IsMarker m → marker_fault d m ≡ None → has_segment m ≡ true → skipped_at written rest ≡ Err fault → BreaksMarker d bytes fault
+skipped_breaks d written fill m rest bytes fault are whole is may has e = elim (step_err (contents_at rest) (λ contents. Ok (None, written, contents.1)) fault e) [
+  | inl bad ↦ broken fill m rest whole is may has (segment_breaks d m rest fault are bad)
   | inr good ↦ absurd (no_err (None, written, good.0.1) fault good.2)
 ]
 
 presets_break : (d : Due) (late : Bool) (fill : ℕ) (rest bytes : List ℕ) (fault : StreamFault) → is_late d ≡ late → AreBytes rest → bytes ≡ filled fill (marker PresetParameters) ++ rest
-    → presets_at late rest ≡ Err fault → BreaksMarker d bytes fault
-presets_break d true fill rest bytes fault same are whole e =
-    misplaced fill PresetParameters rest whole (cond-true (is_late d) _ _ same ∙ ap (λ (f : StreamFault). Some f) (same_fault {A = Found} (Unsupported what.LseLate) fault e))
-presets_break d false fill rest bytes fault same are whole e =
+    → IsMarker PresetParameters → presets_at late rest ≡ Err fault → BreaksMarker d bytes fault
+presets_break d true fill rest bytes fault same are whole is e =
+    misplaced fill PresetParameters rest whole is (cond-true (is_late d) _ _ same ∙ ap (λ (f : StreamFault). Some f) (same_fault {A = Found} (Unsupported what.LseLate) fault e))
+presets_break d false fill rest bytes fault same are whole is e =
     let may : marker_fault d PresetParameters ≡ None = cond-false (is_late d) _ _ same in
     elim (step_err (contents_at rest) (λ contents. preset_fields_of contents.0 >>= λ last. Ok (None, last, contents.1)) fault e) [
-      | inl bad ↦ broken fill PresetParameters rest whole may refl (segment_breaks d PresetParameters rest fault are bad)
+      | inl bad ↦ broken fill PresetParameters rest whole is may refl (segment_breaks d PresetParameters rest fault are bad)
       | inr c ↦ elim (step_err (preset_fields_of c.0.0) (λ last. Ok (None, last, c.0.1)) fault c.2) [
         | inl bad ↦
             let read = contents_read rest c.0 are c.1 in
-            broken fill PresetParameters rest whole may refl
+            broken fill PresetParameters rest whole is may refl
             (fails c.0.0 c.0.1 read.whole (unmet_of (presets_checks c.0.0) (preset_fields_of c.0.0) fault (presets_agree c.0.0) bad))
         | inr good ↦ absurd (no_err (None, good.0, c.0.1) fault good.2)
       ]
     ]
 
 after_breaks : (d : Due) (written : Parameters) (fill : ℕ) (m : Marker) (rest bytes : List ℕ) (fault : StreamFault) → AreBytes rest → bytes ≡ filled fill (marker m) ++ rest
-    → after_marker (is_late d) written m rest ≡ Err fault → BreaksMarker d bytes fault
+    → IsMarker m → after_marker (is_late d) written m rest ≡ Err fault → BreaksMarker d bytes fault
 unfolding after_marker
-after_breaks d written fill StartOfImage rest bytes fault are whole e = misplaced fill StartOfImage rest whole (ap (λ (f : StreamFault). Some f) (same_fault {A = Found} _ fault e))
-after_breaks d written fill EndOfImage rest bytes fault are whole e = absurd (no_err (Some EndOfImage, written, rest) fault e)
-after_breaks d written fill StartOfScan rest bytes fault are whole e = absurd (no_err (Some StartOfScan, written, rest) fault e)
-after_breaks d written fill StartOfFrame rest bytes fault are whole e = absurd (no_err (Some StartOfFrame, written, rest) fault e)
-after_breaks d written fill PresetParameters rest bytes fault are whole e = presets_break d (is_late d) fill rest bytes fault refl are whole e
-after_breaks d written fill (Application code) rest bytes fault are whole e = skipped_breaks d written fill (Application code) rest bytes fault are whole refl refl e
-after_breaks d written fill Comment rest bytes fault are whole e = skipped_breaks d written fill Comment rest bytes fault are whole refl refl e
-after_breaks d written fill (Other code) rest bytes fault are whole e = misplaced fill (Other code) rest whole (ap (λ (f : StreamFault). Some f) (same_fault {A = Found} _ fault e))
+after_breaks d written fill StartOfImage rest bytes fault are whole is e = misplaced fill StartOfImage rest whole is (ap (λ (f : StreamFault). Some f) (same_fault {A = Found} _ fault e))
+after_breaks d written fill EndOfImage rest bytes fault are whole is e = absurd (no_err (Some EndOfImage, written, rest) fault e)
+after_breaks d written fill StartOfScan rest bytes fault are whole is e = absurd (no_err (Some StartOfScan, written, rest) fault e)
+after_breaks d written fill StartOfFrame rest bytes fault are whole is e = absurd (no_err (Some StartOfFrame, written, rest) fault e)
+after_breaks d written fill PresetParameters rest bytes fault are whole is e = presets_break d (is_late d) fill rest bytes fault refl are whole is e
+after_breaks d written fill (Application code) rest bytes fault are whole is e = skipped_breaks d written fill (Application code) rest bytes fault are whole is refl refl e
+after_breaks d written fill Comment rest bytes fault are whole is e = skipped_breaks d written fill Comment rest bytes fault are whole is refl refl e
+after_breaks d written fill (Other code) rest bytes fault are whole is e = misplaced fill (Other code) rest whole is (ap (λ (f : StreamFault). Some f) (same_fault {A = Found} _ fault e))
 
 piece_breaks : (d : Due) (written : Parameters) (bytes : List ℕ) (fault : StreamFault) → AreBytes bytes → piece_at (is_late d) written bytes ≡ Err fault → BreaksMarker d bytes fault
 unfolding piece_at
@@ -136,7 +136,7 @@ piece_breaks d written bytes fault are e = elim (step_err (marker_at bytes) (λ 
   | inl bad ↦ marker_breaks d bytes fault bad
   | inr next ↦
       let read = marker_read bytes next.0 next.1 in
-      after_breaks d written read.0 next.0.0 next.0.1 bytes fault (bytes_along (filled read.0 (marker next.0.0)) next.0.1 are read.1) read.1 next.2
+      after_breaks d written read.0 next.0.0 next.0.1 bytes fault (bytes_along (filled read.0 (marker next.0.0)) next.0.1 are read.1) read.1 (marker_is bytes next.0 next.1) next.2
 ]
 
 -- ---- miscellaneous segments, and what stands after them

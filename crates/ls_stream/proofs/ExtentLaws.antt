@@ -23,7 +23,7 @@ use Rattle.ls_stream.proofs.AlongLemmas.{IsAlong, outline_along}
 
 -- ---- codestreams of frames
 
-along_ok : {X : Type 0} (after : X → Left) (r : Result X StreamFault) (extent : Left) (x : X) → IsAlong after r extent → r ≡ Ok x → extent ≡ after x
+pub along_ok : {X : Type 0} (after : X → Left) (r : Result X StreamFault) (extent : Left) (x : X) → IsAlong after r extent → r ≡ Ok x → extent ≡ after x
 along_ok after (Ok y) extent x along e = along ∙ ap after (same_ok y x e)
 along_ok after (Err fault) extent x along e = absurd (no_err x fault (sym e))
 
@@ -126,7 +126,7 @@ one_is_next bytes rest other left next next' same = elim (cases_Bool (ltb (lengt
 -- ---- the outline of what was left
 
 -- an outline of decided bytes isn't undecided
-along_err : {X : Type 0} (after : X → Left) (r : Result X StreamFault) (extent : Left) → IsAlong after r extent → r ≡ Err Truncated → extent ≡ Err Truncated
+pub along_err : {X : Type 0} (after : X → Left) (r : Result X StreamFault) (extent : Left) → IsAlong after r extent → r ≡ Err Truncated → extent ≡ Err Truncated
 along_err after (Ok x) extent along e = absurd (no_err x Truncated e)
 along_err {X} after (Err fault) extent along e = along (same_fault {A = X} fault Truncated e)
 
@@ -146,7 +146,7 @@ unfolding outline_of
 outline_few bytes few = ap (λ bs. of_all bytes (outline_at bs)) (take_all most_bytes bytes few) ∙ of_few bytes (outline_at bytes) few
 
 -- another fault than the end is one of all bytes
-fault_kept : (bytes : List ℕ) (fault : StreamFault) → (fault ≡ Truncated → ⊥) → fault_of bytes fault ≡ fault
+pub fault_kept : (bytes : List ℕ) (fault : StreamFault) → (fault ≡ Truncated → ⊥) → fault_of bytes fault ≡ fault
 fault_kept bytes fault other = elim (cases_Bool (ltb most_bytes (length bytes))) [
   | inl more ↦ cond-true (ltb most_bytes (length bytes)) (past_most fault) fault more ∙ past_other fault other
   | inr few ↦ cond-false (ltb most_bytes (length bytes)) (past_most fault) fault few

@@ -15,7 +15,7 @@ use Rattle.ls_stream.specs.declared.faults.StreamFault.TheVariants.{Truncated, N
 use Rattle.ls_stream.specs.declared.marker.Marker.{Marker}
 use Rattle.ls_stream.specs.declared.marker.Marker.TheVariants.{StartOfImage, EndOfImage, StartOfScan, StartOfFrame, PresetParameters, Application, Comment, Other}
 use Rattle.ls_stream.specs.declared.segments.read.FrameHeader.{FrameHeader}
-use Rattle.ls_stream.specs.Markers.{marker}
+use Rattle.ls_stream.specs.Markers.{IsMarker, marker}
 use Rattle.ls_stream.specs.Segments.{segment, field_of, Component, header_contents, scan_contents}
 use Rattle.ls_stream.specs.Grammar.{filled, Miscellaneous, miscellaneous_bytes, last_presets, no_presets, parameters_of}
 use Rattle.ls_stream.specs.Faults.{Due, frame_header, first_scan, next_scan, end_marker, is_late, MayStand, marker_fault, first_unmet, contents_checks, frame_checks, scan_checks, has_segment, BreaksSegment, fails, misplaced, broken, BreaksAfter, BreaksStart, no_byte, one_byte, another_first, another_second, HasFrame, HasScan, HasNextScan, later_ids, BreaksScans, BreaksOpening, at_start, before_frame, before_scan, bad_presets, in_opening, in_scans, BreaksPlanes, before_data, from_data}
@@ -26,13 +26,13 @@ use Rattle.ls_stream.proofs.SegmentLemmas.{contents_read, bytes_along}
 use Rattle.ls_stream.proofs.HeaderLemmas.{HeaderRead}
 use Rattle.ls_stream.proofs.FrontLemmas.{data_length-is}
 use Rattle.ls_stream.proofs.CheckLemmas.{frame_agrees, scan_agrees, unmet_of, met_of}
-use Rattle.ls_stream.proofs.AheadLemmas.{Stops, Stands, AheadRead, ahead_read}
+use Rattle.ls_stream.proofs.AheadLemmas.{Stops, stop_is, Stands, AheadRead, ahead_read}
 use Rattle.ls_stream.proofs.BreakLemmas.{no_err, segment_breaks, all_stand, ahead_breaks}
 use Rattle.ls_stream.proofs.OutlineLemmas.{is_frame, is_scan, presets_append, late_ones, ids, scan_header_read, start_read, frame_read, opening_read}
 
 -- ---- another marker than the one that is due
 
-wrong_frame : (m : Marker) → Stops m → is_start_of_frame m ≡ false → marker_fault frame_header m ≡ Some BadSegment
+pub wrong_frame : (m : Marker) → Stops m → is_start_of_frame m ≡ false → marker_fault frame_header m ≡ Some BadSegment
 wrong_frame StartOfImage stops other = absurd stops
 wrong_frame EndOfImage stops other = refl
 wrong_frame StartOfScan stops other = refl
@@ -42,7 +42,7 @@ wrong_frame (Application code) stops other = absurd stops
 wrong_frame Comment stops other = absurd stops
 wrong_frame (Other code) stops other = absurd stops
 
-wrong_first : (id : ℕ) (m : Marker) → Stops m → is_start_of_scan m ≡ false → marker_fault (first_scan id) m ≡ Some BadSegment
+pub wrong_first : (id : ℕ) (m : Marker) → Stops m → is_start_of_scan m ≡ false → marker_fault (first_scan id) m ≡ Some BadSegment
 wrong_first id StartOfImage stops other = absurd stops
 wrong_first id EndOfImage stops other = refl
 wrong_first id StartOfScan stops other = absurd (true≢false other)
@@ -52,7 +52,7 @@ wrong_first id (Application code) stops other = absurd stops
 wrong_first id Comment stops other = absurd stops
 wrong_first id (Other code) stops other = absurd stops
 
-wrong_next : (id : ℕ) (m : Marker) → Stops m → is_start_of_scan m ≡ false → marker_fault (next_scan id) m ≡ Some BadSegment
+pub wrong_next : (id : ℕ) (m : Marker) → Stops m → is_start_of_scan m ≡ false → marker_fault (next_scan id) m ≡ Some BadSegment
 wrong_next id StartOfImage stops other = absurd stops
 wrong_next id EndOfImage stops other = refl
 wrong_next id StartOfScan stops other = absurd (true≢false other)
@@ -62,7 +62,7 @@ wrong_next id (Application code) stops other = absurd stops
 wrong_next id Comment stops other = absurd stops
 wrong_next id (Other code) stops other = absurd stops
 
-wrong_end : (m : Marker) → Stops m → is_end_of_image m ≡ false → marker_fault end_marker m ≡ Some BadSegment
+pub wrong_end : (m : Marker) → Stops m → is_end_of_image m ≡ false → marker_fault end_marker m ≡ Some BadSegment
 wrong_end StartOfImage stops other = absurd stops
 wrong_end EndOfImage stops other = absurd (true≢false other)
 wrong_end StartOfScan stops other = refl
@@ -80,7 +80,7 @@ misplaced_after d written bytes next fault read no_place = record {
   rest = filled read.fill (marker next.0) ++ next.2;
   whole = read.whole;
   lawful = all_stand (is_late d) read.segments read.lawful read.may;
-  breaks = misplaced read.fill next.0 next.2 refl no_place;
+  breaks = misplaced read.fill next.0 next.2 refl (stop_is next.0 read.stops) no_place;
 }
 
 -- a segment breaks after miscellaneous ones
@@ -91,7 +91,7 @@ broken_after d written bytes next fault m read is may has breaks = record {
   rest = filled read.fill (marker next.0) ++ next.2;
   whole = read.whole;
   lawful = all_stand (is_late d) read.segments read.lawful read.may;
-  breaks = broken read.fill m next.2 (ap (λ k. filled read.fill (marker k) ++ next.2) is) may has breaks;
+  breaks = broken read.fill m next.2 (ap (λ k. filled read.fill (marker k) ++ next.2) is) (subst IsMarker is (stop_is next.0 read.stops)) may has breaks;
 }
 
 left_are : (late : Bool) (written : Parameters) (bytes : List ℕ) (next : Stands) → AreBytes bytes → AheadRead late written bytes next → AreBytes next.2
@@ -213,7 +213,7 @@ by_components Color precision height width (a ∷ b ∷ []) count = absurd (omeg
 by_components Color precision height width (a ∷ b ∷ c ∷ []) count = (refl, refl)
 by_components Color precision height width (a ∷ b ∷ c ∷ d ∷ cs) count = absurd (omega arith)
 
-ids_at : (contents : List ℕ) (h : FrameHeader) → HeaderRead contents h → (slice_index h.ids 0 ≡ get_or contents 6 0) × (drop 1 (ids_in h) ≡ later_ids contents)
+pub ids_at : (contents : List ℕ) (h : FrameHeader) → HeaderRead contents h → (slice_index h.ids 0 ≡ get_or contents 6 0) × (drop 1 (ids_in h) ≡ later_ids contents)
 ids_at contents h read =
     let header = read.header in
     let at = by_components h.kind header.precision header.height header.width header.components read.count in (
@@ -221,7 +221,7 @@ ids_at contents h read =
       ap (λ (ns : List ℕ). drop 1 ns) (sym read.ids) ∙ at.1 ∙ ap later_ids (sym read.whole),
     )
 
-precision_at : (contents : List ℕ) (h : FrameHeader) → HeaderRead contents h → h.precision ≡ get_or contents 0 0
+pub precision_at : (contents : List ℕ) (h : FrameHeader) → HeaderRead contents h → h.precision ≡ get_or contents 0 0
 unfolding header_contents
 precision_at contents h read = sym read.precision ∙ ap (λ (bs : List ℕ). get_or bs 0 0) (sym read.whole)
 

@@ -155,12 +155,12 @@ data_grown (byte ∷ next ∷ bytes) more = elim (cases_Bool (eqb byte 255)) [
   ]
 ]
 
-after_data-more : (bytes more : List ℕ) → data_length (bytes ++ more) ≡ data_length bytes → after_data (bytes ++ more) ≡ after_data bytes ++ more
+pub after_data-more : (bytes more : List ℕ) → data_length (bytes ++ more) ≡ data_length bytes → after_data (bytes ++ more) ≡ after_data bytes ++ more
 after_data-more bytes more same =
     let front = data_length-is bytes in
     ap (λ n. drop n (bytes ++ more)) same ∙ drop-append-le (data_length bytes) bytes more front.within
 
-data_at-more : (bytes more : List ℕ) → data_length (bytes ++ more) ≡ data_length bytes → data_at (bytes ++ more) ≡ data_at bytes
+pub data_at-more : (bytes more : List ℕ) → data_length (bytes ++ more) ≡ data_length bytes → data_at (bytes ++ more) ≡ data_at bytes
 data_at-more bytes more same =
     let front = data_length-is bytes in
     ap (λ n. take n (bytes ++ more)) same ∙ take-append-le (data_length bytes) bytes more front.within
@@ -170,7 +170,7 @@ data_at-more bytes more same =
 abbrev SegmentsGrown : List ℕ → List ℕ → Type 0
 SegmentsGrown bytes more = IsGrown (bytes_more more) (segments_at bytes) (segments_at (bytes ++ more))
 
-segments_none : (bytes : List ℕ) → marker_at bytes ≡ Err Truncated → segments_at bytes ≡ Err Truncated
+pub segments_none : (bytes : List ℕ) → marker_at bytes ≡ Err Truncated → segments_at bytes ≡ Err Truncated
 segments_none bytes none = segments_at-next bytes ∙ ap (λ r. r >>= λ next. after_any segments_at next.0 next.1) none
 
 segment_grown : (next : List ℕ → Left) (bytes more : List ℕ) → ((rest : List ℕ) → length rest ≤ length bytes → IsGrown (bytes_more more) (next rest) (next (rest ++ more)))
@@ -300,20 +300,20 @@ scan_header_grown late written id bytes more =
     (λ c. scan_header_of id c.0 >>= λ h. Ok (n.1, c.1)) (λ c. scan_header_of id c.0 >>= λ h. Ok (n.1, c.1)) (contents_grown n.2 more)
     (λ c e. same_grown (left_more more) (scan_header_of id c.0) (λ h. Ok (n.1, c.1)) (λ h. Ok (n.1, c.1 ++ more)) (λ h. inr refl))))
 
-next_scan_grown : (id : ℕ) (bytes more : List ℕ) → IsGrown (bytes_more more) (next_scan_at id bytes) (next_scan_at id (bytes ++ more))
+pub next_scan_grown : (id : ℕ) (bytes more : List ℕ) → IsGrown (bytes_more more) (next_scan_at id bytes) (next_scan_at id (bytes ++ more))
 unfolding next_scan_at
 next_scan_grown id bytes more =
     step_grown (left_more more) (bytes_more more) (scan_header_at true no_presets id bytes) (scan_header_at true no_presets id (bytes ++ more)) (λ scan. Ok scan.1) (λ scan. Ok scan.1)
     (scan_header_grown true no_presets id bytes more) (λ scan e. inr refl)
 
-end_grown : (bytes more : List ℕ) → IsGrown (bytes_more more) (end_at bytes) (end_at (bytes ++ more))
+pub end_grown : (bytes more : List ℕ) → IsGrown (bytes_more more) (end_at bytes) (end_at (bytes ++ more))
 unfolding end_at
 end_grown bytes more =
     let next : Stands → Left = λ n. wanted (is_end_of_image n.0) BadSegment >>= λ image. Ok n.2 in
     step_grown (third_more more) (bytes_more more) (ahead_at true no_presets bytes) (ahead_at true no_presets (bytes ++ more)) next next (ahead_grown true no_presets bytes more)
     (λ n e. same_grown (bytes_more more) (wanted (is_end_of_image n.0) BadSegment) (λ image. Ok n.2) (λ image. Ok (n.2 ++ more)) (λ image. inr refl))
 
-opening_grown : (bytes more : List ℕ) → IsGrown (third_more more) (opening_at bytes) (opening_at (bytes ++ more))
+pub opening_grown : (bytes more : List ℕ) → IsGrown (third_more more) (opening_at bytes) (opening_at (bytes ++ more))
 unfolding opening_at
 opening_grown bytes more =
     let last : FrameHeader × Parameters × List ℕ → Parameters × List ℕ → Result (FrameHeader × Parameters × List ℕ) StreamFault =

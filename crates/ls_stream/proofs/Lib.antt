@@ -17,6 +17,7 @@ pub mod ExtentLaws
 pub mod ExtentLemmas
 pub mod FaultLaws
 pub mod FeedLemmas
+pub mod FirstFaultLaws
 pub mod FrameLaws
 pub mod FrameLemmas
 pub mod FrameReadingLemmas
@@ -28,6 +29,7 @@ pub mod LengthLemmas
 pub mod LineLemmas
 pub mod MarkerLemmas
 pub mod MostLemmas
+pub mod NextStopLaws
 pub mod OneBreakLemmas
 pub mod OneFaultLemmas
 pub mod OneRunLemmas

@@ -1,12 +1,12 @@
 -- Bytes and markers at the front of bytes, one by one, for the loops that read them; and which marker a code is.
 use Rattle.std.proofs.Common.{◌≡◌, ℕ, zero, suc, ◌≤◌, Bool, true, false, cond, leb, eqb, List, [], ◌∷◌, ◌++◌, length, drop, get_or, replicate, Ok, Err, inl, inr, refl, sym, ap, subst, ◌∙◌, arith, append_assoc}
 use Rattle.std.specs.Prelude.{IsTrue}
-use Rattle.std.proofs.lemmas.Bool.{cases_Bool, cond_both, cond-false, cond-true, eq-eqb, ne_eqb, eqb-true, leb-true, and_parts}
+use Rattle.std.proofs.lemmas.Bool.{cases_Bool, cond_both, cond-false, cond-true, eq-eqb, ne_eqb, eqb-true, eqb-false, leb-true, and_parts}
 use Rattle.ls_stream.specs.declared.faults.StreamFault.{StreamFault}
 use Rattle.ls_stream.specs.declared.faults.StreamFault.TheVariants.{Truncated, BadSegment}
 use Rattle.ls_stream.specs.declared.marker.Marker.{Marker}
 use Rattle.ls_stream.specs.declared.marker.Marker.TheVariants.{StartOfImage, EndOfImage, StartOfScan, StartOfFrame, PresetParameters, Application, Comment, Other}
-use Rattle.ls_stream.specs.Markers.{code_of, is_application, marker_of, marker}
+use Rattle.ls_stream.specs.Markers.{code_of, is_application, marker_of, IsMarker, marker}
 use Rattle.ls_stream.specs.Grammar.{filled}
 use Rattle.ls_stream.specs.View.Reading.{◌>>=◌, Take, byte_at, code_at, marker_at}
 use Rattle.ls_stream.proofs.StepLemmas.{step_ok, test_ok, same_ok}
@@ -143,6 +143,41 @@ marker_read (byte ∷ bytes) found e =
     ∙ sym (append_assoc (replicate read.0 255) (255 ∷ code_of (marker_of code.0) ∷ []) code.1) in
     subst P same (read.0, whole, lawful code.0)
 
+-- a code that is read is neither 0 nor FF
+code_kind : (bytes : List ℕ) (found : ℕ × List ℕ) → code_at bytes ≡ Ok found → (found.0 ≡ 0 → ⊥) × (found.0 ≡ 255 → ⊥)
+unfolding code_at
+code_kind [] found e = absurd cc
+code_kind (byte ∷ bytes) found e = elim (cases_Bool (eqb byte 255)) [
+  | inl ff ↦ code_kind bytes found (sym (cond-true (eqb byte 255) (code_at bytes) _ ff) ∙ e)
+  | inr other ↦
+      let rest : cond (eqb byte 0) (Err BadSegment) (Ok (byte, bytes)) ≡ Ok found = sym (cond-false (eqb byte 255) (code_at bytes) _ other) ∙ e in
+      elim (cases_Bool (eqb byte 0)) [
+        | inl none ↦
+            let bad : ◌≡◌ {A = Take ℕ} (Err BadSegment) (Ok found) = sym (cond-true (eqb byte 0) (Err BadSegment) _ none) ∙ rest in
+            absurd (let no : ⊥ = cc in no)
+        | inr some ↦
+            let same : ◌≡◌ {A = ℕ × List ℕ} (byte, bytes) found = code_is (eqb byte 0) (byte, bytes) found rest in
+            subst (λ (p : ℕ × List ℕ). (p.0 ≡ 0 → ⊥) × (p.0 ≡ 255 → ⊥)) same (eqb-false byte 0 some, eqb-false byte 255 other)
+      ]
+]
+
+-- a marker that is read is that of its code
+pub marker_is : (bytes : List ℕ) (found : Marker × List ℕ) → marker_at bytes ≡ Ok found → IsMarker found.0
+unfolding marker_at
+marker_is [] found e = absurd cc
+marker_is (byte ∷ bytes) found e =
+    let first = test_ok (eqb byte 255) BadSegment (code_at bytes >>= λ code. Ok (marker_of code.0, code.1)) found e in
+    let second = step_ok (code_at bytes) (λ code. Ok (marker_of code.0, code.1)) found first.1 in
+    let code = second.0 in
+    let kind = code_kind bytes code second.1 in
+    let same : ◌≡◌ {A = Marker × List ℕ} (marker_of code.0, code.1) found = same_ok (marker_of code.0, code.1) found second.2 in
+    let back = code_back code.0 in
+    subst (λ (m : Marker × List ℕ). IsMarker m.0) same (record {
+      back = ap marker_of back;
+      some = λ e. kind.0 (sym back ∙ e);
+      other = λ e. kind.1 (sym back ∙ e);
+    })
+
 -- a code after FFs is read
 code_again : (fill code : ℕ) (rest : List ℕ) → (code ≡ 0 → ⊥) → (code ≡ 255 → ⊥) → code_at (replicate fill 255 ++ code ∷ rest) ≡ Ok (code, rest)
 unfolding code_at
@@ -150,10 +185,9 @@ code_again zero code rest some other = rw (ne_eqb code 255 other, ne_eqb code 0 
 code_again (suc fill) code rest some other = code_again fill code rest some other
 
 -- a marker after fill bytes is read
-pub marker_again : (fill : ℕ) (m : Marker) (rest : List ℕ) → marker_of (code_of m) ≡ m → (code_of m ≡ 0 → ⊥) → (code_of m ≡ 255 → ⊥)
-    → marker_at (filled fill (marker m) ++ rest) ≡ Ok (m, rest)
+pub marker_again : (fill : ℕ) (m : Marker) (rest : List ℕ) → IsMarker m → marker_at (filled fill (marker m) ++ rest) ≡ Ok (m, rest)
 unfolding marker_at
-marker_again fill m rest back some other =
+marker_again fill m rest is =
     let moved : filled fill (marker m) ++ rest ≡ 255 ∷ (replicate fill 255 ++ code_of m ∷ rest) =
     append_assoc (replicate fill 255) (255 ∷ code_of m ∷ []) rest ∙ sym (fill_moves fill (code_of m ∷ rest)) in
-    ap marker_at moved ∙ rw (code_again fill (code_of m) rest some other, back) refl
+    ap marker_at moved ∙ rw (code_again fill (code_of m) rest is.some is.other, is.back) refl

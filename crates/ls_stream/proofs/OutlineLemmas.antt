@@ -61,7 +61,7 @@ is_end Comment is = absurd (false≢true is)
 is_end (Other code) is = absurd (false≢true is)
 
 -- what may follow a scan may precede one
-precedes_one : (s : Miscellaneous) → MayFollowScan s → MayPrecedeScans s
+pub precedes_one : (s : Miscellaneous) → MayFollowScan s → MayPrecedeScans s
 precedes_one (skipped fill m contents) may = may
 precedes_one (presets fill p) may = absurd may
 
@@ -69,7 +69,7 @@ precedes : (segments : List Miscellaneous) → AllByRecursion MayFollowScan segm
 precedes [] may = tt
 precedes (s ∷ segments) may = (precedes_one s may.0, precedes segments may.1)
 
-early : (segments : List Miscellaneous) → AllByRecursion (MayCome false) segments
+pub early : (segments : List Miscellaneous) → AllByRecursion (MayCome false) segments
 early [] = tt
 early (s ∷ segments) = (tt, early segments)
 
@@ -130,7 +130,7 @@ pub scan_short : (id : ℕ) → 2 + length (scan_contents id) < 2 ^ 16
 unfolding scan_contents
 scan_short id = omega arith
 
-scan_header_spelled : (late : Bool) (written : Parameters) (id fill : ℕ) (segments : List Miscellaneous) (rest : List ℕ) → AllByRecursion MayPrecedeScans segments → AllByRecursion (MayCome late) segments
+pub scan_header_spelled : (late : Bool) (written : Parameters) (id fill : ℕ) (segments : List Miscellaneous) (rest : List ℕ) → AllByRecursion MayPrecedeScans segments → AllByRecursion (MayCome late) segments
     → scan_header_at late written id (miscellaneous_bytes segments ++ (filled fill (segment StartOfScan (scan_contents id)) ++ rest)) ≡ Ok (last_presets written segments, rest)
 unfolding scan_header_at
 scan_header_spelled late written id fill segments rest lawful may =
@@ -527,12 +527,11 @@ segments_start (presets fill p ∷ segments) bytes may starts = absurd may.0
 
 -- ---- what is spelled is read
 
-frame_spelled : (kind : Kind) (header : Header) (h : FrameHeader) (fill : ℕ) (segments : List Miscellaneous) (rest : List ℕ) → HeaderSays kind header h
-    → length header.components ≡ components kind → AllByRecursion MayPrecedeScans segments
-    → frame_header_at (miscellaneous_bytes segments ++ (filled fill (segment StartOfFrame (header_contents header)) ++ rest)) ≡ Ok (h, last_presets no_presets segments, rest)
+pub frame_spelled : (contents : List ℕ) (h : FrameHeader) (fill : ℕ) (segments : List Miscellaneous) (rest : List ℕ) → frame_header_of contents ≡ Ok h → 2 + length contents < 2 ^ 16
+    → AllByRecursion MayPrecedeScans segments
+    → frame_header_at (miscellaneous_bytes segments ++ (filled fill (segment StartOfFrame contents) ++ rest)) ≡ Ok (h, last_presets no_presets segments, rest)
 unfolding frame_header_at
-frame_spelled kind header h fill segments rest says count lawful =
-    let contents = header_contents header in
+frame_spelled contents h fill segments rest read short lawful =
     let after : List ℕ = (two_bytes (2 + length contents) ++ contents) ++ rest in
     let front = miscellaneous_bytes segments in
     let last = last_presets no_presets segments in
@@ -540,9 +539,9 @@ frame_spelled kind header h fill segments rest says count lawful =
     ap (λ bs. ahead_at false no_presets (front ++ bs)) (segment_parts fill StartOfFrame contents rest)
     ∙ ahead_again false no_presets segments fill StartOfFrame after lawful (early segments) ahead_frame in
     step_is (ahead_at false no_presets (front ++ (filled fill (segment StartOfFrame contents) ++ rest)))
-    (λ next. wanted (is_start_of_frame next.0) BadSegment >>= λ passed. contents_at next.2 >>= λ c. frame_header_of c.0 >>= λ read. Ok (read, next.1, c.1)) (StartOfFrame, last, after) ahead
-    ∙ step_is (contents_at after) (λ c. frame_header_of c.0 >>= λ read. Ok (read, last, c.1)) (contents, rest) (contents_again contents rest (header_short kind header count))
-    ∙ step_is (frame_header_of contents) (λ read. Ok (read, last, rest)) h says.read
+    (λ next. wanted (is_start_of_frame next.0) BadSegment >>= λ passed. contents_at next.2 >>= λ c. frame_header_of c.0 >>= λ header. Ok (header, next.1, c.1)) (StartOfFrame, last, after) ahead
+    ∙ step_is (contents_at after) (λ c. frame_header_of c.0 >>= λ header. Ok (header, last, c.1)) (contents, rest) (contents_again contents rest short)
+    ∙ step_is (frame_header_of contents) (λ header. Ok (header, last, rest)) h read
 
 opening_spelled : (kind : Kind) (header : Header) (h : FrameHeader) (before between : List Miscellaneous) (fill scan_fill id : ℕ) (p : Parameters) (rest : List ℕ) → HeaderSays kind header h
     → length header.components ≡ components kind → AllByRecursion MayPrecedeScans before → AllByRecursion MayPrecedeScans between → slice_index h.ids 0 ≡ id
@@ -560,11 +559,11 @@ opening_spelled kind header h before between fill scan_fill id p rest says count
     ap (λ n. parameters_of n last) says.precision ∙ ap (λ q. parameters_of header.precision q) (presets_append no_presets before between) ∙ parameters_are in
     step_is (frame_header_at frame)
     (λ found. scan_header_at false found.1 (slice_index found.0.ids 0) found.2 >>= λ s. or_bad_presets (parameters_of found.0.precision s.0) >>= λ q. Ok (found.0, q, s.1))
-    (h, written, scan) (frame_spelled kind header h fill before scan says count before_lawful)
+    (h, written, scan) (frame_spelled (header_contents header) h fill before scan says.read (header_short kind header count) before_lawful)
     ∙ step_is (scan_header_at false written (slice_index h.ids 0) scan) (λ s. or_bad_presets (parameters_of h.precision s.0) >>= λ q. Ok (h, q, s.1)) (last, rest) header_is
     ∙ step_is (or_bad_presets (parameters_of h.precision last)) (λ q. Ok (h, q, rest)) p (or_bad_met _ p presets_are)
 
-next_scan_spelled : (id fill : ℕ) (segments : List Miscellaneous) (rest : List ℕ) → AllByRecursion MayFollowScan segments
+pub next_scan_spelled : (id fill : ℕ) (segments : List Miscellaneous) (rest : List ℕ) → AllByRecursion MayFollowScan segments
     → next_scan_at id (miscellaneous_bytes segments ++ (filled fill (segment StartOfScan (scan_contents id)) ++ rest)) ≡ Ok rest
 unfolding next_scan_at
 next_scan_spelled id fill segments rest may =

@@ -17,7 +17,7 @@ use Rattle.ls_stream.specs.declared.faults.StreamFault.TheVariants.{Truncated, N
 use Rattle.ls_stream.specs.declared.faults.What.TheVariants as what
 use Rattle.ls_stream.specs.declared.marker.Marker.{Marker}
 use Rattle.ls_stream.specs.declared.marker.Marker.TheVariants.{StartOfImage, EndOfImage, StartOfScan, StartOfFrame, PresetParameters, Application, Comment, Other}
-use Rattle.ls_stream.specs.Markers.{code_of, marker}
+use Rattle.ls_stream.specs.Markers.{code_of, IsMarker, marker}
 use Rattle.ls_stream.specs.Segments.{segment, field_of, scan_contents}
 use Rattle.ls_stream.specs.Planes.{Plane, IsSamplePlane, plane_bits}
 use Rattle.ls_stream.specs.View.BitFaults.{BreaksPlane}
@@ -177,8 +177,8 @@ pub data BreaksMarker (d : Due) (bytes : List ℕ) (fault : StreamFault) : Type 
   ends : (fill : ℕ) → bytes ≡ replicate fill 255 → fault ≡ Truncated → BreaksMarker d bytes fault
   no_marker : (byte : ℕ) (rest : List ℕ) → bytes ≡ byte ∷ rest → byte ≢ 255 → fault ≡ BadSegment → BreaksMarker d bytes fault
   zero_code : (fill : ℕ) (rest : List ℕ) → bytes ≡ replicate (suc fill) 255 ++ 0 ∷ rest → fault ≡ BadSegment → BreaksMarker d bytes fault
-  misplaced : (fill : ℕ) (m : Marker) (rest : List ℕ) → bytes ≡ filled fill (marker m) ++ rest → marker_fault d m ≡ Some fault → BreaksMarker d bytes fault
-  broken : (fill : ℕ) (m : Marker) (rest : List ℕ) → bytes ≡ filled fill (marker m) ++ rest → marker_fault d m ≡ None → has_segment m ≡ true → BreaksSegment d m rest fault
+  misplaced : (fill : ℕ) (m : Marker) (rest : List ℕ) → bytes ≡ filled fill (marker m) ++ rest → IsMarker m → marker_fault d m ≡ Some fault → BreaksMarker d bytes fault
+  broken : (fill : ℕ) (m : Marker) (rest : List ℕ) → bytes ≡ filled fill (marker m) ++ rest → IsMarker m → marker_fault d m ≡ None → has_segment m ≡ true → BreaksSegment d m rest fault
       → BreaksMarker d bytes fault
 
 -- after miscellaneous segments

@@ -1,5 +1,5 @@
 -- Markers (T.87 Table C.1; T.81 Table B.1), as far as a reader of codestreams meets them.
-use Rattle.std.specs.Prelude.{ℕ, ◌&&◌, ◌==◌, nat_le, Bool, if◌then◌else◌, List, [], ◌∷◌}
+use Rattle.std.specs.Prelude.{◌≡◌, ◌≢◌, ℕ, ◌&&◌, ◌==◌, nat_le, Bool, if◌then◌else◌, List, [], ◌∷◌}
 use Rattle.ls_stream.specs.declared.marker.Marker.{Marker}
 use Rattle.ls_stream.specs.declared.marker.Marker.TheVariants.{StartOfImage, EndOfImage, StartOfScan, StartOfFrame, PresetParameters, Application, Comment, Other}
 
@@ -29,6 +29,12 @@ marker_of code =
     else (if is_application code then Application code
     else (if code == 254 then Comment
     else Other code))))))
+
+-- It is the marker of its code, and its code is neither 0 nor FF (T.81 B.1.1.2).
+pub record IsMarker (m : Marker) : Type 0 where
+  pub back : marker_of (code_of m) ≡ m
+  pub some : code_of m ≢ 0
+  pub other : code_of m ≢ 255
 
 abbrev pub marker : Marker → List ℕ
 marker m = 255 ∷ code_of m ∷ []

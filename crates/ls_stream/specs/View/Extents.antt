@@ -1,6 +1,6 @@
 -- How far the codestream at the front of bytes goes by its markers alone, for a reader that takes one codestream at a time: what
 -- the segments say, and which of them may stand where, isn't looked at. It is made of the pieces that the outline is made of.
-use Rattle.std.specs.Prelude.{◌≡◌, ◌≢◌, ◌⊎◌, ℕ, zero, suc, ◌<◌, ◌≤◌, Bool, true, false, List, [], ◌++◌, length, take, Result, Ok, Err}
+use Rattle.std.specs.Prelude.{◌≡◌, ◌≢◌, ◌⊎◌, ◌↔◌, ℕ, zero, suc, ◌<◌, ◌≤◌, Bool, true, false, List, [], ◌++◌, length, take, Result, Ok, Err}
 use Rattle.ls_frame.specs.Picture.{Picture}
 use Rattle.ls_stream.specs.declared.faults.StreamFault.{StreamFault}
 use Rattle.ls_stream.specs.declared.faults.StreamFault.TheVariants.{Truncated, Unsupported}
@@ -12,7 +12,7 @@ use Rattle.ls_stream.specs.declared.next.NextFault.TheVariants as next_fault
 use Rattle.ls_stream.specs.Markers.{code_of}
 use Rattle.ls_stream.specs.Grammar.{Spells, most_bytes}
 use Rattle.ls_stream.specs.View.Reading.{◌>>=◌, Take, start_at, marker_at, contents_at}
-use Rattle.ls_stream.specs.View.Outlines.{after_data, Outline, outline_at}
+use Rattle.ls_stream.specs.View.Outlines.{after_data, Outline, outline_at, DecodingStops, fault_of}
 
 -- ---- markers, segments and data up to EOI
 
@@ -67,6 +67,10 @@ with_left rest (Err fault) = Err fault
 
 -- ---- faults
 
+-- Decoding bytes stops with this fault; TooLarge stands for Truncated where there are more bytes than a codestream may have.
+abbrev pub StopsWith : List ℕ → StreamFault → Type 0
+StopsWith bytes fault = (cause : StreamFault) × (fault ≡ fault_of bytes cause) × DecodingStops (take most_bytes bytes) cause
+
 -- whether a read failed
 abbrev pub is_io : NextFault → Bool
 is_io next_fault.TooLarge = false
@@ -93,3 +97,7 @@ TooFewForBoth = (bytes : List ℕ) → outline_at bytes ≡ Err Truncated → ex
 -- There is one next codestream.
 abbrev pub OneIsNext : Type 0
 OneIsNext = (bytes rest other left : List ℕ) → IsNext bytes rest → IsNext other left → bytes ++ rest ≡ other ++ left → bytes ≡ other
+
+-- Decoding the next codestream stops where decoding all bytes from it on stops.
+abbrev pub NextStopsAlike : Type 0
+NextStopsAlike = (bytes rest : List ℕ) → IsNext bytes rest → (fault : StreamFault) → StopsWith bytes fault ↔ StopsWith (bytes ++ rest) fault

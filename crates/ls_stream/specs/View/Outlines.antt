@@ -142,3 +142,7 @@ BoundedFaultsBreak = (bytes : List ℕ) (fault : StreamFault) → AreBytes bytes
 -- Where decoding stops, there is the first fault of the bytes.
 abbrev pub StopsAreFirstFaults : Type 0
 StopsAreFirstFaults = (bytes : List ℕ) (fault : StreamFault) → AreBytes bytes → DecodingStops bytes fault → FirstFault bytes fault
+
+-- The first fault of the bytes is where decoding stops.
+abbrev pub FirstFaultsAreStops : Type 0
+FirstFaultsAreStops = (bytes : List ℕ) (fault : StreamFault) → AreBytes bytes → FirstFault bytes fault → DecodingStops bytes fault
