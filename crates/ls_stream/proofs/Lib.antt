@@ -1,4 +1,5 @@
 pub mod AheadLemmas
+pub mod AlikeLaws
 pub mod AlongLemmas
 pub mod BlockLemmas
 pub mod BreakLemmas

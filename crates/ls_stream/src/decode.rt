@@ -9,10 +9,10 @@ ghost use Rattle.ls_bits.specs.Data.{stop_at};
 ghost use Rattle.ls_frame.specs.Picture.{Picture, IsFrame, components, sample_count, most_samples};
 ghost use Rattle.ls_stream.specs.Planes.{Plane, IsSamplePlane};
 ghost use Rattle.ls_stream.specs.Components.{component_plane};
-ghost use Rattle.ls_stream.specs.Grammar.{IsCoded, Spells, most_bytes};
-ghost use Rattle.ls_stream.specs.Faults.{BreaksData, FirstFault};
+ghost use Rattle.ls_stream.specs.Grammar.{IsCoded, Spells};
+ghost use Rattle.ls_stream.specs.Faults.{BreaksData};
 ghost use Rattle.ls_stream.specs.View.Reading.{next_scan_at, end_at};
-ghost use Rattle.ls_stream.specs.View.Outlines.{Outline, IsOutlineOf, ids_in, scans_at, outline_at, data_at, after_data, ScansStop, DecodingStops, fault_of};
+ghost use Rattle.ls_stream.specs.View.Outlines.{Outline, IsOutlineOf, ids_in, scans_at, outline_at, data_at, after_data, ScansStop, DecodingStops, IsFirstFault};
 ghost use Rattle.ls_stream.specs.View.Decoding.{AreScansOf, NoScans, fault_in, picture};
 
 use crate::buffers::Lines;
@@ -47,7 +47,7 @@ pub fn decode_frame(alloc: Global, bytes: &[u8]) -> Result<Decoded, StreamFault>
     ensures fault { IfErr result (λ fault. (fault ≡ StreamFault.NoMemory)
         ⊎ ((front rest : List ℕ) (f : Picture) → bytes.now ≡ front ++ rest → Spells front f → ⊥)) }
     ensures first { IfErr result (λ fault. (fault ≡ StreamFault.NoMemory)
-        ⊎ ((cause : StreamFault) × (fault ≡ fault_of bytes.now cause) × FirstFault (take most_bytes bytes.now) cause)) }
+        ⊎ IsFirstFault bytes.now fault) }
     ensures whole { (front rest : List ℕ) (f : Picture) → bytes.now ≡ front ++ rest → Spells front f
         → MatchResult result (λ decoded. (decoded.frame ≡ f) × (decoded.used ≡ length front)) (λ fault. fault ≡ StreamFault.NoMemory) }
 {

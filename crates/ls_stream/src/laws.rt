@@ -1,6 +1,6 @@
-//! Laws. Each is the contract of a function; but for the first, they are over the definitions alone, and the functions have nothing to
-//! do.
-ghost use Rattle.std.specs.Prelude.{◌≡◌, ◌-◌, ◌^◌, ◌<◌, ◌≤◌, ◌+◌, ◌++◌, ℕ, Bool, List, [], ◌∷◌, length, flat_map, MatchResult};
+//! Laws. Each is the contract of a function; but for the first two, they are over the definitions alone, and the functions have nothing
+//! to do.
+ghost use Rattle.std.specs.Prelude.{◌≡◌, ◌-◌, ◌^◌, ◌<◌, ◌≤◌, ◌+◌, ◌++◌, ℕ, Bool, List, [], ◌∷◌, length, flat_map, IfOk, IfSome, MatchResult};
 ghost use Rattle.std.specs.List.{range_with_len};
 ghost use Rattle.ls_frame.specs.Picture.{Picture, IsFrame};
 ghost use Rattle.ls_frame.specs.declared.frame.Kind.TheVariants.{Gray, Color};
@@ -10,13 +10,14 @@ ghost use Rattle.ls_stream.specs.Grammar.{Spells, Says, IsCoded, IsHeaderOf, pre
 ghost use Rattle.ls_bits.specs.Stuffing.{unstuff};
 ghost use Rattle.ls_stream.specs.Layout.{codestream, bound};
 ghost use Rattle.ls_stream.specs.Examples.{scan, default_scan, annex_h_picture, annex_h_scan, lone, lone_codestream, lone_head, lone_scan, last_marker, lone_zero, soi, comment_a, empty_app8, lone_header, lone_reset, lone_grammar, lone_data, three_header};
-ghost use Rattle.ls_stream.specs.View.Extents.{SpellingsHaveExtents, OutlinesHaveExtents, TooFewForBoth, OneIsNext};
-ghost use Rattle.ls_stream.specs.View.Outlines.{BoundedOutlinesSpell, SpellingsHaveBoundedOutlines, BoundedFaultsBreak};
+ghost use Rattle.ls_stream.specs.View.Extents.{SpellingsHaveExtents, OutlinesHaveExtents, TooFewForBoth, OneIsNext, NextHasTheFirstFault, AreAlike};
+ghost use Rattle.ls_stream.specs.View.Outlines.{BoundedOutlinesSpell, SpellingsHaveBoundedOutlines, BoundedFaultsBreak, OneFirstFault};
 
 use crate::decode::{Decoded, decode_frame};
 use crate::encode::encode_with;
 use crate::faults::StreamFault;
 use crate::marker::Marker;
+use crate::next::{NextFault, next_stream};
 use ls_frame::laws::parameters_are_legal_or_at_fault;
 use ls_frame::{Frame, Presets};
 use std::alloc::Global;
@@ -38,6 +39,32 @@ pub fn decoding_gives_what_was_encoded(
     parameters_are_legal_or_at_fault();
     let bytes = encode_with(alloc, frame, presets)?;
     decode_frame(alloc, &bytes)
+}
+
+/// What decoding bytes in memory answers, and before it what decoding the codestream at their front answers.
+#[derive(Drop)]
+pub struct DecodedTwice {
+    pub taken: Result<Decoded, StreamFault>,
+    pub all: Result<Decoded, StreamFault>,
+}
+
+/// Decoding the codestream that `next_stream` takes off bytes gives what decoding all of them gives: the same frame of as many bytes, or
+/// the same fault; or an allocation fails. `None` if there are no bytes.
+pub fn what_is_taken_is_decoded_alike(
+    alloc: Global,
+    bytes: &[u8],
+) -> Result<Option<DecodedTwice>, NextFault>
+    ensures { IfOk result (λ next. IfSome next (λ both. AreAlike both.taken both.all)) }
+{
+    parameters_are_legal_or_at_fault();
+    let mut rest = bytes;
+    match next_stream(alloc, &mut rest)? {
+        Some(codestream) => Ok(Some(DecodedTwice {
+            taken: decode_frame(alloc, &codestream),
+            all: decode_frame(alloc, bytes),
+        })),
+        None => Ok(None),
+    }
 }
 
 /// The picture of T.87's Annex H.3 has the scan that stands there.
@@ -113,6 +140,15 @@ pub fn outlines_follow_the_grammar()
     ensures are_read { SpellingsHaveBoundedOutlines }
     ensures faults { BoundedFaultsBreak }
 {}
+
+/// Bytes have one first fault, so the fault that decoding answers is settled by the bytes, unless an allocation fails. The codestream
+/// at their front has the same one.
+pub fn bytes_have_one_first_fault()
+    ensures one { OneFirstFault }
+    ensures next { NextHasTheFirstFault }
+{
+    parameters_are_legal_or_at_fault();
+}
 
 /// How far a codestream goes by its markers alone is how far the grammar has it go, wherever that reads it, and one front of bytes is
 /// the next codestream.

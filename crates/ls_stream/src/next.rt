@@ -1,14 +1,16 @@
 //! Taking one codestream at a time off a reader, by its markers alone.
 mod awaited;
 
-ghost use Rattle.std.specs.Prelude.{◌≡◌, ◌≢◌, ◌<◌, ◌⊎◌, ◌++◌, ℕ, List, length, IfOk, IfErr, IfSome, IfNone, MatchResult, MatchOption};
+ghost use Rattle.std.specs.Prelude.{◌≡◌, ◌≢◌, ◌↔◌, ◌<◌, ◌⊎◌, ◌++◌, ℕ, List, length, IfOk, IfErr, IfSome, IfNone, MatchResult, MatchOption};
 ghost use Rattle.ls_frame.specs.Picture.{Picture};
 ghost use Rattle.ls_frame.specs.View.Devices.{count_after};
 ghost use Rattle.ls_frame.specs.View.Known.{Tells, Gave, WasAtEnd, TakesUntil, known};
+ghost use Rattle.ls_bits.specs.Bits.{AreBytes};
+ghost use Rattle.ls_stream.specs.declared.faults.StreamFault.{StreamFault};
 ghost use Rattle.ls_stream.specs.Grammar.{Spells, most_bytes};
 ghost use Rattle.ls_stream.specs.View.Extents.{IsNext, with_left, failed_feed};
 ghost use Rattle.ls_stream.specs.View.Places.{GivesNext};
-ghost use Rattle.ls_stream.specs.View.Outlines.{outline_of};
+ghost use Rattle.ls_stream.specs.View.Outlines.{outline_of, IsFirstFault};
 
 use awaited::Awaited;
 use ls_frame::{Feed, FeedFault};
@@ -36,7 +38,8 @@ const MOST_BYTES: usize = 4_294_967_295;
 ///
 /// They end with EOI; or with the byte that shows that the markers break: no SOI, no marker where one is due, a marker that
 /// isn't supported, or a length below 2; or with the input. What the segments say isn't looked at. So decoding these bytes gives what
-/// decoding all that was left would: if any front of it is a codestream of a frame, they are that front.
+/// decoding all that was left would, unless an allocation fails: if any front of it is a codestream of a frame, they are that front, and
+/// else their first fault is its own.
 ///
 /// If the bytes are known (as in memory), the clauses say which were read. `TooLarge` comes after exactly 4,294,967,295 bytes that show
 /// neither an end nor a fault. `Io` comes only if a read failed, and `NoMemory` only if an allocation did; after these two nothing is
@@ -54,6 +57,9 @@ pub fn next_stream<R: Feed>(alloc: Global, reader: &mut R) -> Result<Option<Vec<
     // The outline of the answer, or its fault, is that of all that was left.
     ensures outline { IfOk result (λ next. IfSome next (λ bytes. Tells (R.remaining reader.old)
         → outline_of (known (R.remaining reader.old)) ≡ with_left (known (R.remaining reader.new)) (outline_of bytes.items))) }
+    // Its first fault, that of a scan's data too, is that of all that was left.
+    ensures fault { IfOk result (λ next. IfSome next (λ bytes. Tells (R.remaining reader.old) → AreBytes (known (R.remaining reader.old))
+        → (fault : StreamFault) → IsFirstFault bytes.items fault ↔ IsFirstFault (known (R.remaining reader.old)) fault)) }
     ensures too_large { IfErr result (λ fault. fault ≡ NextFault.TooLarge →
         Gave (R.remaining reader.old) (R.remaining reader.new) (λ read. length read ≡ most_bytes)) }
     ensures failures { R.failed_reads reader.new ≡ count_after (failed_feed result) (R.failed_reads reader.old) }

@@ -2,8 +2,11 @@
 -- the segments say, and which of them may stand where, isn't looked at. It is made of the pieces that the outline is made of.
 use Rattle.std.specs.Prelude.{◌≡◌, ◌≢◌, ◌⊎◌, ◌↔◌, ℕ, zero, suc, ◌<◌, ◌≤◌, Bool, true, false, List, [], ◌++◌, length, take, Result, Ok, Err}
 use Rattle.ls_frame.specs.Picture.{Picture}
+use Rattle.ls_bits.specs.Bits.{AreBytes}
+use Rattle.ls_stream.specs.declared.decode.Decoded.{Decoded}
 use Rattle.ls_stream.specs.declared.faults.StreamFault.{StreamFault}
 use Rattle.ls_stream.specs.declared.faults.StreamFault.TheVariants.{Truncated, Unsupported}
+use Rattle.ls_stream.specs.declared.faults.StreamFault.TheVariants as stream_fault
 use Rattle.ls_stream.specs.declared.faults.What.TheVariants as what
 use Rattle.ls_stream.specs.declared.marker.Marker.{Marker}
 use Rattle.ls_stream.specs.declared.marker.Marker.TheVariants.{StartOfImage, EndOfImage, StartOfScan, StartOfFrame, PresetParameters, Application, Comment, Other}
@@ -12,7 +15,7 @@ use Rattle.ls_stream.specs.declared.next.NextFault.TheVariants as next_fault
 use Rattle.ls_stream.specs.Markers.{code_of}
 use Rattle.ls_stream.specs.Grammar.{Spells, most_bytes}
 use Rattle.ls_stream.specs.View.Reading.{◌>>=◌, Take, start_at, marker_at, contents_at}
-use Rattle.ls_stream.specs.View.Outlines.{after_data, Outline, outline_at, DecodingStops, fault_of}
+use Rattle.ls_stream.specs.View.Outlines.{after_data, Outline, outline_at, DecodingStops, fault_of, IsFirstFault}
 
 -- ---- markers, segments and data up to EOI
 
@@ -71,6 +74,13 @@ with_left rest (Err fault) = Err fault
 abbrev pub StopsWith : List ℕ → StreamFault → Type 0
 StopsWith bytes fault = (cause : StreamFault) × (fault ≡ fault_of bytes cause) × DecodingStops (take most_bytes bytes) cause
 
+-- What decoding answered twice is the same frame of as many bytes, or the same fault; or memory was refused once.
+abbrev pub AreAlike : Result Decoded StreamFault → Result Decoded StreamFault → Type 0
+AreAlike (Ok one) (Ok other) = (one.frame ≡ other.frame) × (one.used ≡ other.used)
+AreAlike (Ok one) (Err fault) = fault ≡ stream_fault.NoMemory
+AreAlike (Err fault) (Ok other) = fault ≡ stream_fault.NoMemory
+AreAlike (Err fault) (Err other) = (fault ≡ stream_fault.NoMemory) ⊎ (other ≡ stream_fault.NoMemory) ⊎ (fault ≡ other)
+
 -- whether a read failed
 abbrev pub is_io : NextFault → Bool
 is_io next_fault.TooLarge = false
@@ -97,6 +107,10 @@ TooFewForBoth = (bytes : List ℕ) → outline_at bytes ≡ Err Truncated → ex
 -- There is one next codestream.
 abbrev pub OneIsNext : Type 0
 OneIsNext = (bytes rest other left : List ℕ) → IsNext bytes rest → IsNext other left → bytes ++ rest ≡ other ++ left → bytes ≡ other
+
+-- The next codestream has the first fault that all bytes from it on have, and they the one that it has.
+abbrev pub NextHasTheFirstFault : Type 0
+NextHasTheFirstFault = (bytes rest : List ℕ) → AreBytes (bytes ++ rest) → IsNext bytes rest → (fault : StreamFault) → IsFirstFault bytes fault ↔ IsFirstFault (bytes ++ rest) fault
 
 -- Decoding the next codestream stops where decoding all bytes from it on stops.
 abbrev pub NextStopsAlike : Type 0

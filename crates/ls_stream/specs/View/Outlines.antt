@@ -84,6 +84,11 @@ past_most fault = fault
 abbrev pub fault_of : List ℕ → StreamFault → StreamFault
 fault_of bytes fault = if nat_lt most_bytes (length bytes) then past_most fault else fault
 
+-- The first fault of any bytes: that of the first of them, as many as a codestream may have; TooLarge stands for Truncated if there
+-- are more.
+abbrev pub IsFirstFault : List ℕ → StreamFault → Type 0
+IsFirstFault bytes fault = (cause : StreamFault) × (fault ≡ fault_of bytes cause) × FirstFault (take most_bytes bytes) cause
+
 -- what was read of the first bytes, and of what is left of all of them
 abbrev pub of_all : {X : Type 0} → List ℕ → Take X → Take X
 of_all bytes (Ok found) = Ok (found.0, found.1 ++ drop most_bytes bytes)
@@ -146,3 +151,7 @@ StopsAreFirstFaults = (bytes : List ℕ) (fault : StreamFault) → AreBytes byte
 -- The first fault of the bytes is where decoding stops.
 abbrev pub FirstFaultsAreStops : Type 0
 FirstFaultsAreStops = (bytes : List ℕ) (fault : StreamFault) → AreBytes bytes → FirstFault bytes fault → DecodingStops bytes fault
+
+-- Bytes have one first fault.
+abbrev pub OneFirstFault : Type 0
+OneFirstFault = (bytes : List ℕ) (fault other : StreamFault) → AreBytes bytes → IsFirstFault bytes fault → IsFirstFault bytes other → fault ≡ other

@@ -1,6 +1,7 @@
 use super::*;
-use crate::decode::{Decoded, decode_frame};
+use crate::decode::Decoded;
 use crate::faults::{StreamFault, What};
+use crate::laws::what_is_taken_is_decoded_alike;
 use crate::testing::codestreams::{BLACK_AND_WHITE, CODESTREAMS};
 use ls_frame::{Buffered, Counted};
 use ls_testing::Pieces;
@@ -43,15 +44,6 @@ fn check_fault(
     assert_eq!(rt; got, want, "the fault of codestream {at}");
 }
 
-/// Whether decoding gave the same.
-fn are_same(one: &Result<Decoded, StreamFault>, other: &Result<Decoded, StreamFault>) -> bool {
-    match (one, other) {
-        (Ok(one), Ok(other)) => one.used == other.used && one.frame == other.frame,
-        (Err(one), Err(other)) => one == other,
-        _ => false,
-    }
-}
-
 /// That so many of these bytes are taken, whose decoding is that of all of them, and that the others are left.
 fn check_first(
     rt: &impl Abort,
@@ -67,10 +59,13 @@ fn check_first(
     check_taken(rt, "the next codestream", at, &next, Ok(Some(first)));
     let left = bytes.len().saturating_sub(count);
     check_count(rt, "bytes left", at, rest.len(), left);
-    let decoded = decode_frame(alloc, first);
-    check_fault(rt, at, &decoded, want);
-    let same = are_same(&decoded, &decode_frame(alloc, bytes));
-    check_count(rt, "the same", at, usize::from(same), 1);
+    match what_is_taken_is_decoded_alike(alloc, bytes) {
+        Ok(Some(both)) => {
+            check_fault(rt, at, &both.taken, want);
+            check_fault(rt, at, &both.all, want);
+        }
+        Ok(None) | Err(_) => check_count(rt, "decoded", at, 0, 1),
+    }
 }
 
 /// How many bytes a reader has left.
