@@ -1,17 +1,16 @@
 -- Bytes have one first fault, and so what is taken as the next codestream is decoded as all bytes from it on are.
 use Rattle.std.proofs.lemmas.List.{length-take}
-use Rattle.std.proofs.Common.{◌≡◌, ◌↔◌, ◌⊎◌, ℕ, ◌+◌, ◌-◌, ◌<◌, ◌≤◌, min, List, [], ◌++◌, length, take, drop, inl, inr, Option, None, Some, Result, Ok, Err, refl, sym, ◌∙◌, ap, subst, append_assoc, append-nil, take-append-drop, arith}
-use Rattle.std.specs.Prelude.{IfOk, IfErr, IfSome, MatchResult, MatchOption}
+use Rattle.std.proofs.Common.{◌≡◌, ◌↔◌, ℕ, ◌≤◌, List, [], ◌++◌, length, take, drop, inl, inr, Option, None, Some, Result, Ok, Err, sym, ◌∙◌, ap, subst, append_assoc, append-nil, take-append-drop, arith}
+use Rattle.std.specs.Prelude.{IfOk, IfSome, MatchOption}
 use Rattle.ls_frame.specs.Picture.{Picture}
 use Rattle.ls_frame.specs.View.Known.{Tells, known}
 use Rattle.ls_bits.specs.Bits.{AreBytes}
 use Rattle.ls_stream.specs.declared.decode.Decoded.{Decoded}
 use Rattle.ls_stream.specs.declared.faults.StreamFault.{StreamFault}
-use Rattle.ls_stream.specs.declared.faults.StreamFault.TheVariants as stream
 use Rattle.ls_stream.specs.declared.next.NextFault.{NextFault}
 use Rattle.ls_stream.specs.Grammar.{Spells, most_bytes}
 use Rattle.ls_stream.specs.View.Outlines.{fault_of, IsFirstFault, OneFirstFault}
-use Rattle.ls_stream.specs.View.Extents.{IsNext, StopsWith, AreAlike, NextHasTheFirstFault}
+use Rattle.ls_stream.specs.View.Extents.{StopsWith, IsDecoding, AreAlike, NextHasTheFirstFault}
 use Rattle.ls_stream.specs.View.Places.{GivesNext}
 use Rattle.ls_stream.proofs.FaultLaws.{stops_are_first_faults}
 use Rattle.ls_stream.proofs.FirstFaultLaws.{first_faults_are_stops}
@@ -71,13 +70,6 @@ match_some (Some y) x P e h = subst P (same_some y x e) h
 
 -- ---- decoding, twice
 
--- what decoding bytes promises
-pub record IsDecoded (bytes : List ℕ) (result : Result Decoded StreamFault) : Type 0 where
-  pub ok : IfOk result (λ decoded. (decoded.used ≤ length bytes) × Spells (take decoded.used bytes) decoded.frame)
-  pub first : IfErr result (λ fault. (fault ≡ stream.NoMemory) ⊎ IsFirstFault bytes fault)
-  pub whole : (front rest : List ℕ) (f : Picture) → bytes ≡ front ++ rest → Spells front f
-      → MatchResult result (λ decoded. (decoded.frame ≡ f) × (decoded.used ≡ length front)) (λ fault. fault ≡ stream.NoMemory)
-
 length_of_front : (count : ℕ) (bytes : List ℕ) → count ≤ length bytes → length (take count bytes) ≡ count
 length_of_front count bytes few = omega (arith, length-take count bytes)
 
@@ -87,7 +79,7 @@ front_of count taken rest all e = e ∙ ap (λ bs. bs ++ rest) (sym (take-append
 pub decoded_alike : LegalWithoutFault → (taken rest all : List ℕ) → all ≡ taken ++ rest → AreBytes all
     → ((front left : List ℕ) (f : Picture) → all ≡ front ++ left → Spells front f → taken ≡ front)
     → ((fault : StreamFault) → IsFirstFault taken fault ↔ IsFirstFault all fault)
-    → (one other : Result Decoded StreamFault) → IsDecoded taken one → IsDecoded all other → AreAlike one other
+    → (one other : Result Decoded StreamFault) → IsDecoding taken one → IsDecoding all other → AreAlike one other
 decoded_alike legal taken rest all e are whole faults (Ok one) (Ok other) first second =
     let found = second.whole (take one.used taken) (drop one.used taken ++ rest) one.frame (front_of one.used taken rest all e) first.ok.1 in
     (sym found.0, sym (found.1 ∙ length_of_front one.used taken first.ok.0))

@@ -1,6 +1,6 @@
 -- Bits that are at fault in a plane are at fault in one way: two planes whose first spans stand in front agree on the samples of these,
 -- and then on the fault.
-use Rattle.std.proofs.Common.{◌≡◌, ◌≢◌, ℕ, zero, suc, ◌+◌, ◌-◌, ◌*◌, ◌<◌, ◌≤◌, Bool, true, false, cond, ltb, List, [], ◌∷◌, ◌++◌, get_or, ◌⊎◌, inl, inr, refl, sym, ◌∙◌, ap, subst, append_assoc, arith}
+use Rattle.std.proofs.Common.{◌≡◌, ℕ, zero, suc, ◌+◌, ◌-◌, ◌*◌, ◌<◌, ◌≤◌, Bool, true, false, cond, ltb, List, [], ◌∷◌, ◌++◌, get_or, ◌⊎◌, inl, inr, refl, sym, ◌∙◌, ap, subst, append_assoc, arith}
 use Rattle.std.proofs.lemmas.Bool.{false≢true, ltb-true, ltb-false, cases_lt}
 use Rattle.ls_frame.specs.Parameters.{Parameters, IsLegal}
 use Rattle.ls_bits.specs.declared.source.CodeFault.{CodeFault}
@@ -13,7 +13,7 @@ use Rattle.ls_coding.specs.Events.{Event, run, broken_after_events, golomb_bits}
 use Rattle.ls_coding.specs.Lawful.{IsLawful, none}
 use Rattle.ls_coding.specs.View.States.{Coding, state_of, context_in, regular_error_in, regular_word_in, regular_after, run_after, interruption_word_in, interruption_after}
 use Rattle.ls_coding.proofs.StateLemmas.{state_of-run}
-use Rattle.ls_stream.specs.Planes.{Plane, IsSamplePlane, at, around, left, above, above_left, above_right, run_length, IsLongest, Span, sample_span, run_span, row_from, row_spans, rows_from, spans, sample_event, interrupting_sample_event}
+use Rattle.ls_stream.specs.Planes.{Plane, at, around, left, above, above_left, above_right, run_length, Span, sample_span, run_span, row_from, rows_from, spans, sample_event, interrupting_sample_event}
 use Rattle.ls_stream.specs.View.BitFaults.{BreaksSample, BreaksInterruption, BreaksRun, BreaksSpan, BreaksSpans, BreaksPlane}
 use Rattle.ls_stream.specs.View.Coded.{sample_after, span_bits_in, span_after, interrupting_sample_bits_in, interrupting_sample_after}
 use Rattle.ls_stream.specs.View.Decoding.{EndsInLine}

@@ -1,12 +1,10 @@
 -- Bytes stop a decoder at one place, with one fault.
-use Rattle.std.proofs.Common.{◌≡◌, ◌⊎◌, ℕ, suc, ◌+◌, ◌-◌, ◌^◌, ◌<◌, ◌≤◌, Bool, true, false, cond, ltb, eqb, List, [], ◌∷◌, ◌++◌, length, drop, inl, inr, Result, Ok, Err, refl, sym, ◌∙◌, ap, subst, arith}
-use Rattle.std.specs.Prelude.{Option, None, Some}
+use Rattle.std.proofs.Common.{◌≡◌, ℕ, ◌+◌, ◌^◌, ◌≤◌, Bool, true, false, cond, ltb, eqb, List, [], ◌∷◌, ◌++◌, length, drop, inl, inr, Result, Ok, Err, refl, sym, ◌∙◌, ap, subst, arith}
 use Rattle.std.proofs.Math.Pow.{pow_mono}
 use Rattle.std.proofs.lemmas.Bool.{ltb-false}
-use Rattle.ls_frame.specs.declared.presets.PresetFault.{PresetFault}
 use Rattle.ls_frame.specs.declared.presets.PresetFault.TheVariants.{MaxvalRange}
 use Rattle.ls_frame.specs.declared.tuning.Tuning.{Tuning}
-use Rattle.ls_frame.specs.Parameters.{Parameters, IsLegal, preset_fault, unless_fault, explicit_parameters}
+use Rattle.ls_frame.specs.Parameters.{Parameters, IsLegal, preset_fault, explicit_parameters}
 use Rattle.ls_frame.specs.Tuning.{or_default, tuned}
 use Rattle.ls_bits.specs.Bits.{AreBytes}
 use Rattle.ls_bits.specs.Stuffing.{unstuff}

@@ -1,10 +1,10 @@
 -- Bits that break where a run or a word is due break there in one way, and then no run and no word stands in front.
-use Rattle.std.proofs.Common.{◌≡◌, ℕ, ◌+◌, ◌-◌, ◌%◌, ◌^◌, ◌<◌, ◌≤◌, min, Bool, true, false, List, [], ◌∷◌, ◌++◌, length, length-append, inl, inr, refl, sym, ◌∙◌, ap, subst, mod-eq_of_lt, arith}
+use Rattle.std.proofs.Common.{◌≡◌, ℕ, ◌+◌, ◌-◌, ◌^◌, ◌<◌, ◌≤◌, min, Bool, true, false, List, [], ◌∷◌, ◌++◌, length, length-append, inl, inr, refl, sym, ◌∙◌, ap, subst, mod-eq_of_lt, arith}
 use Rattle.ls_frame.specs.Parameters.{Parameters, IsLegal, limit_of, qbpp_of}
 use Rattle.ls_bits.specs.declared.source.CodeFault.{CodeFault}
 use Rattle.ls_bits.specs.declared.source.CodeFault.TheVariants.{OutOfBits, NotCanonical}
 use Rattle.ls_bits.specs.Bits.{bits_of}
-use Rattle.ls_bits.specs.Golomb.{IsGolomb, most_value, code_word, TakesWord, GolombFault}
+use Rattle.ls_bits.specs.Golomb.{IsGolomb, TakesWord, GolombFault}
 use Rattle.ls_bits.proofs.BitLemmas.{length-bits_of}
 use Rattle.ls_bits.proofs.GolombLaws.{same_low, same_word, canonical}
 use Rattle.ls_coding.specs.declared.neighbours.Neighbours.{Neighbours}
@@ -14,9 +14,9 @@ use Rattle.ls_coding.specs.Interruptions.{Counts, ri_type_of, interruption_k}
 use Rattle.ls_coding.specs.Numbers.{golomb_parameter}
 use Rattle.ls_coding.specs.Stats.{Stats}
 use Rattle.ls_coding.specs.Runs.{Run, order, run_of, run_bits, index_at}
-use Rattle.ls_coding.specs.Events.{Event, run_index_after_events, counts_after_events, golomb_bits}
+use Rattle.ls_coding.specs.Events.{Event, run_index_after_events, golomb_bits}
 use Rattle.ls_coding.specs.Lawful.{IsLawful}
-use Rattle.ls_coding.specs.View.Plans.{Planned, NoSample, regular_plan_by, regular_plan, interruption_plan_by, interruption_plan}
+use Rattle.ls_coding.specs.View.Plans.{Planned, regular_plan_by, regular_plan, interruption_plan_by, interruption_plan}
 use Rattle.ls_coding.specs.View.States.{Coding, state_of, regular_word_in, run_after, interruption_word_in}
 use Rattle.ls_coding.proofs.CostLemmas.{stats_after_events-sound, counts_after_events-sound}
 use Rattle.ls_coding.proofs.EventLemmas.{stats_in-state}

@@ -1,6 +1,6 @@
 //! Laws. Each is the contract of a function; but for the first two, they are over the definitions alone, and the functions have nothing
 //! to do.
-ghost use Rattle.std.specs.Prelude.{◌≡◌, ◌-◌, ◌^◌, ◌<◌, ◌≤◌, ◌+◌, ◌++◌, ℕ, Bool, List, [], ◌∷◌, length, flat_map, IfOk, IfSome, MatchResult};
+ghost use Rattle.std.specs.Prelude.{◌≡◌, ◌-◌, ◌^◌, ◌<◌, ◌≤◌, ◌+◌, ◌++◌, ℕ, Bool, List, [], ◌∷◌, length, flat_map, IfOk, IfSome, IfNone, MatchResult};
 ghost use Rattle.std.specs.List.{range_with_len};
 ghost use Rattle.ls_frame.specs.Picture.{Picture, IsFrame};
 ghost use Rattle.ls_frame.specs.declared.frame.Kind.TheVariants.{Gray, Color};
@@ -10,7 +10,7 @@ ghost use Rattle.ls_stream.specs.Grammar.{Spells, Says, IsCoded, IsHeaderOf, pre
 ghost use Rattle.ls_bits.specs.Stuffing.{unstuff};
 ghost use Rattle.ls_stream.specs.Layout.{codestream, bound};
 ghost use Rattle.ls_stream.specs.Examples.{scan, default_scan, annex_h_picture, annex_h_scan, lone, lone_codestream, lone_head, lone_scan, last_marker, lone_zero, soi, comment_a, empty_app8, lone_header, lone_reset, lone_grammar, lone_data, three_header};
-ghost use Rattle.ls_stream.specs.View.Extents.{SpellingsHaveExtents, OutlinesHaveExtents, TooFewForBoth, OneIsNext, NextHasTheFirstFault, AreAlike};
+ghost use Rattle.ls_stream.specs.View.Extents.{SpellingsHaveExtents, OutlinesHaveExtents, TooFewForBoth, OneIsNext, NextHasTheFirstFault, IsDecoding, IsDecodingOfNext, AreAlike};
 ghost use Rattle.ls_stream.specs.View.Outlines.{BoundedOutlinesSpell, SpellingsHaveBoundedOutlines, BoundedFaultsBreak, OneFirstFault};
 
 use crate::decode::{Decoded, decode_frame};
@@ -54,7 +54,10 @@ pub fn what_is_taken_is_decoded_alike(
     alloc: Global,
     bytes: &[u8],
 ) -> Result<Option<DecodedTwice>, NextFault>
-    ensures { IfOk result (λ next. IfSome next (λ both. AreAlike both.taken both.all)) }
+    ensures alike { IfOk result (λ next. IfSome next (λ both. AreAlike both.taken both.all)) }
+    ensures taken { IfOk result (λ next. IfSome next (λ both. IsDecodingOfNext bytes.now both.taken)) }
+    ensures all { IfOk result (λ next. IfSome next (λ both. IsDecoding bytes.now both.all)) }
+    ensures nothing { IfOk result (λ next. IfNone next (bytes.now ≡ [])) }
 {
     parameters_are_legal_or_at_fault();
     let mut rest = bytes;

@@ -1,6 +1,6 @@
 -- How far the codestream at the front of bytes goes by its markers alone, for a reader that takes one codestream at a time: what
 -- the segments say, and which of them may stand where, isn't looked at. It is made of the pieces that the outline is made of.
-use Rattle.std.specs.Prelude.{◌≡◌, ◌≢◌, ◌⊎◌, ◌↔◌, ℕ, zero, suc, ◌<◌, ◌≤◌, Bool, true, false, List, [], ◌++◌, length, take, Result, Ok, Err}
+use Rattle.std.specs.Prelude.{◌≡◌, ◌≢◌, ◌⊎◌, ◌↔◌, ℕ, zero, suc, ◌<◌, ◌≤◌, Bool, true, false, List, [], ◌++◌, length, take, Result, Ok, Err, IfOk, IfErr, MatchResult}
 use Rattle.ls_frame.specs.Picture.{Picture}
 use Rattle.ls_bits.specs.Bits.{AreBytes}
 use Rattle.ls_stream.specs.declared.decode.Decoded.{Decoded}
@@ -73,6 +73,22 @@ with_left rest (Err fault) = Err fault
 -- Decoding bytes stops with this fault; TooLarge stands for Truncated where there are more bytes than a codestream may have.
 abbrev pub StopsWith : List ℕ → StreamFault → Type 0
 StopsWith bytes fault = (cause : StreamFault) × (fault ≡ fault_of bytes cause) × DecodingStops (take most_bytes bytes) cause
+
+-- What decoding bytes answers: the frame of the codestream at their front, with how many bytes that has, or their first fault; or want
+-- of memory.
+pub record IsDecoding (bytes : List ℕ) (result : Result Decoded StreamFault) : Type 0 where
+  pub ok : IfOk result (λ decoded. (decoded.used ≤ length bytes) × Spells (take decoded.used bytes) decoded.frame)
+  pub first : IfErr result (λ fault. (fault ≡ stream_fault.NoMemory) ⊎ IsFirstFault bytes fault)
+  pub whole : (front rest : List ℕ) (f : Picture) → bytes ≡ front ++ rest → Spells front f
+      → MatchResult result (λ decoded. (decoded.frame ≡ f) × (decoded.used ≡ length front)) (λ fault. fault ≡ stream_fault.NoMemory)
+
+-- It decoded the next codestream of these bytes.
+pub record IsDecodingOfNext (bytes : List ℕ) (result : Result Decoded StreamFault) : Type 0 where
+  pub codestream : List ℕ
+  pub rest : List ℕ
+  pub split : bytes ≡ codestream ++ rest
+  pub is_next : IsNext codestream rest
+  pub decoding : IsDecoding codestream result
 
 -- What decoding answered twice is the same frame of as many bytes, or the same fault; or memory was refused once.
 abbrev pub AreAlike : Result Decoded StreamFault → Result Decoded StreamFault → Type 0
