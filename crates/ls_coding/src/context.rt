@@ -108,6 +108,3 @@ fn region_of_size(presets: Presets, size: u16) -> i16
         + u16::from(size >= presets.t3());
     reached as i16
 }
-
-#[cfg(test)]
-mod tests;

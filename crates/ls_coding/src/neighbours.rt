@@ -40,6 +40,3 @@ pub fn mode_of(neighbours: &Neighbours) -> Mode
         Mode::Regular
     }
 }
-
-#[cfg(test)]
-mod tests;

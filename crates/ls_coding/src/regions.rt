@@ -97,6 +97,3 @@ fn region_at(presets: Presets, maxval: u32, place: u32) -> i8
     let under = maxval.saturating_sub(place) as u16;
     region_of(presets, over, under) as i8
 }
-
-#[cfg(test)]
-mod tests;

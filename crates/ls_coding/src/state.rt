@@ -320,6 +320,22 @@ impl State {
         Ok(sample)
     }
 
+    /// The parameters that the scan is coded by.
+    pub fn presets(&self) -> &Presets
+        ensures { result.now ≡ self.now.parameters }
+    {
+        &self.counters.presets
+    }
+
+    /// RUNindex, 0 to 31 (A.2.1): 0 at a scan's start, one more after each bit 1 that stands for 2^J samples, one less after a run that a
+    /// sample interrupts.
+    pub fn run_index(&self) -> u32
+        ensures value { result ≡ self.now.run_index }
+        ensures small { result ≤ 31 }
+    {
+        self.run_index
+    }
+
     /// Whether the sample that interrupts a run comes next: after `code_run` of a run that doesn't end with its line, and
     /// after `accept_break`.
     pub fn broken(&self) -> bool
@@ -345,6 +361,3 @@ fn tail(walked: Walked, eol: bool) -> Tail
         Tail::LineFull
     }
 }
-
-#[cfg(test)]
-mod tests;

@@ -54,6 +54,3 @@ impl Text for Codestreams {
 
     ghost empty = { refl };
 }
-
-#[cfg(test)]
-mod tests;

@@ -43,6 +43,3 @@ impl FilmFault {
         }
     }
 }
-
-#[cfg(test)]
-mod tests;

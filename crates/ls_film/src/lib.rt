@@ -21,8 +21,6 @@ pub mod engine;
 pub mod faults;
 pub mod film;
 pub mod listing;
-#[cfg(test)]
-mod testing;
 
 pub use coding::{code_bytes, code_film};
 pub use faults::{FilmFault, MOST_FRAMES};

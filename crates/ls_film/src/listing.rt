@@ -97,6 +97,3 @@ fn line(alloc: Global, number: u64, frame: &Frame) -> Result<String, AllocError>
     text.push_str("\n")?;
     Ok(text)
 }
-
-#[cfg(test)]
-mod tests;

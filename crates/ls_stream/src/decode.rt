@@ -203,6 +203,3 @@ fn shape_of(header: &FrameHeader) -> Shape
         components: usize::from(header.kind.components()),
     }
 }
-
-#[cfg(test)]
-mod tests;

@@ -118,6 +118,3 @@ fn put_scans(frame: &Frame, presets: &Presets, lines: &mut Lines, bytes: Vec<u8>
     }
     bytes
 }
-
-#[cfg(test)]
-mod tests;

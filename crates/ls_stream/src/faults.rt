@@ -85,6 +85,3 @@ impl From<AllocError> for StreamFault {
         StreamFault::NoMemory
     }
 }
-
-#[cfg(test)]
-mod tests;

@@ -1,10 +1,11 @@
 //! Laws. Each is the contract of a function; but for the first two, they are over the definitions alone, and the functions have nothing
 //! to do.
-ghost use Rattle.std.specs.Prelude.{◌≡◌, ◌-◌, ◌^◌, ◌<◌, ◌≤◌, ◌+◌, ◌++◌, ℕ, Bool, List, [], ◌∷◌, length, flat_map, IfOk, IfSome, IfNone, MatchResult};
+ghost use Rattle.std.specs.Prelude.{◌≡◌, ◌-◌, ◌^◌, ◌<◌, ◌≤◌, ◌+◌, ◌++◌, ℕ, Bool, List, [], ◌∷◌, length, map, flat_map, IfOk, IfSome, IfNone, MatchResult};
 ghost use Rattle.std.specs.List.{range_with_len};
 ghost use Rattle.ls_frame.specs.Picture.{Picture, IsFrame};
 ghost use Rattle.ls_frame.specs.declared.frame.Kind.TheVariants.{Gray, Color};
 ghost use Rattle.ls_frame.specs.Parameters.{Parameters, IsLegal};
+ghost use Rattle.ls_stream.specs.Markers.{code_of, marker_of};
 ghost use Rattle.ls_stream.specs.Planes.{Plane, IsSamplePlane, left, run_length, IsLongest, row_spans, span_columns, plane_bits};
 ghost use Rattle.ls_stream.specs.Grammar.{Spells, Says, IsCoded, IsHeaderOf, presets, skipped};
 ghost use Rattle.ls_bits.specs.Stuffing.{unstuff};
@@ -83,6 +84,16 @@ pub fn spans_are_their_row()
 /// A run has all samples that equal its Ra, up to the first that doesn't or the end of the line (A.7.1).
 pub fn runs_are_longest()
     ensures { (plane : Plane) (i j : ℕ) → IsLongest plane i (left plane i j) (plane.width - j) j (run_length plane i j) }
+{}
+
+/// These are the codes of markers (T.87 Table C.1; T.81 Table B.1), and these the markers of codes.
+pub fn markers_have_these_codes()
+    ensures codes { map code_of (Marker.StartOfImage ∷ Marker.EndOfImage ∷ Marker.StartOfScan ∷ Marker.StartOfFrame ∷ Marker.PresetParameters
+        ∷ Marker.Application 224 ∷ Marker.Application 239 ∷ Marker.Comment ∷ Marker.Other 221 ∷ Marker.Other 192 ∷ [])
+        ≡ 216 ∷ 217 ∷ 218 ∷ 247 ∷ 248 ∷ 224 ∷ 239 ∷ 254 ∷ 221 ∷ 192 ∷ [] }
+    ensures markers { map marker_of (216 ∷ 217 ∷ 218 ∷ 247 ∷ 248 ∷ 224 ∷ 239 ∷ 254 ∷ 221 ∷ 192 ∷ [])
+        ≡ Marker.StartOfImage ∷ Marker.EndOfImage ∷ Marker.StartOfScan ∷ Marker.StartOfFrame ∷ Marker.PresetParameters
+        ∷ Marker.Application 224 ∷ Marker.Application 239 ∷ Marker.Comment ∷ Marker.Other 221 ∷ Marker.Other 192 ∷ [] }
 {}
 
 /// Small planes with the default parameters, and what they are coded in.

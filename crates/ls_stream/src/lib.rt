@@ -30,8 +30,6 @@ mod marker;
 pub mod next;
 mod segments;
 mod shape;
-#[cfg(test)]
-mod testing;
 
 pub use buffers::Lines;
 pub use decode::{Decoded, decode_frame};

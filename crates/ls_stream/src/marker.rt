@@ -64,6 +64,3 @@ fn is_application(code: u8) -> bool
 {
     0xE0 <= code && code <= 0xEF
 }
-
-#[cfg(test)]
-mod tests;

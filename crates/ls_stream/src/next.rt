@@ -109,6 +109,3 @@ fn next_bytes<R: Feed>(
         Err(FeedFault::NoMemory) => Err(NextFault::NoMemory),
     }
 }
-
-#[cfg(test)]
-mod tests;

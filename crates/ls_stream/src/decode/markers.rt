@@ -317,6 +317,3 @@ fn read_byte(bytes: &[u8]) -> Result<(u8, &[u8]), StreamFault>
     }
     Ok((bytes[0], &bytes[1..]))
 }
-
-#[cfg(test)]
-mod tests;

@@ -1,4 +1,4 @@
-use super::*;
+use ls_coding::{Mode, Neighbours, mode_of};
 
 #[test]
 fn run_mode_is_where_all_four_are_equal(rt: HostRuntime) {

@@ -1,5 +1,10 @@
-use super::*;
+//! What the headers of a codestream say, and what stands after its scans: each fault, and none.
+use crate::testing::codestreams::CODESTREAMS;
+use ls_frame::PresetFault;
+use ls_stream::{StreamFault, What, decode_frame};
+use std::alloc::{AllocError, Global};
 use std::process::Abort;
+use std::test::Fail;
 
 /// A gray frame of one pixel, its sample 0 of 8 bits.
 const LONE: [u8; 28] = [
@@ -7,16 +12,26 @@ const LONE: [u8; 28] = [
     0xDA, 0x00, 0x08, 0x01, 0x01, 0x00, 0x00, 0x00, 0x00, 0x80, 0xFF, 0xD9,
 ];
 
-/// The headers of one whose samples have one bit, with preset parameters.
-const WITH_PRESETS: [u8; 40] = [
+/// One whose samples have one bit, with preset parameters.
+const WITH_PRESETS: [u8; 43] = [
     0xFF, 0xD8, 0xFF, 0xF7, 0x00, 0x0B, 0x02, 0x00, 0x01, 0x00, 0x01, 0x01, 0x01, 0x11, 0x00, 0xFF,
     0xF8, 0x00, 0x0D, 0x01, 0x00, 0x01, 0x00, 0x01, 0x00, 0x01, 0x00, 0x01, 0x00, 0x40, 0xFF, 0xDA,
-    0x00, 0x08, 0x01, 0x01, 0x00, 0x00, 0x00, 0x00,
+    0x00, 0x08, 0x01, 0x01, 0x00, 0x00, 0x00, 0x00, 0x40, 0xFF, 0xD9,
 ];
 
-/// What the headers of bytes answer after a byte of them is changed: the fault, or none.
-fn check_opening(
+/// That bytes are decoded with this fault, or with none.
+fn check_fault(rt: &impl Abort, alloc: Global, bytes: &[u8], want: Option<StreamFault>) {
+    let got = match decode_frame(alloc, bytes) {
+        Ok(_) => None,
+        Err(fault) => Some(fault),
+    };
+    assert_eq!(rt; got, want, "{bytes:?}");
+}
+
+/// That bytes are decoded so after one of them is changed.
+fn check_changed(
     rt: &impl Abort,
+    alloc: Global,
     bytes: &mut [u8],
     place: usize,
     byte: u8,
@@ -25,29 +40,26 @@ fn check_opening(
     if place < bytes.len() {
         bytes[place] = byte;
     }
-    let got = match read_opening(bytes) {
-        Ok(_) => None,
-        Err(fault) => Some(fault),
-    };
-    assert_eq!(rt; got, want, "byte {place} is {byte:02x}");
+    check_fault(rt, alloc, bytes, want);
 }
 
-/// What stands after a scan, where the next is of the component 1, or where EOI is due: the fault, or none.
-fn check_after(rt: &impl Abort, last: bool, bytes: &[u8], want: Option<StreamFault>) {
-    let found = if last {
-        find_end(bytes)
-    } else {
-        find_next_scan(1, bytes)
-    };
-    let got = match found {
-        Ok(_) => None,
-        Err(fault) => Some(fault),
-    };
-    assert_eq!(rt; got, want, "{bytes:?}");
+/// That these bytes, after so many of the first ones of a codestream, are decoded so.
+fn check_after(
+    rt: &impl Abort,
+    alloc: Global,
+    codestream: &[u8],
+    count: usize,
+    bytes: &[u8],
+    want: Option<StreamFault>,
+) -> Result<(), AllocError> {
+    let mut all = codestream.get(..count).unwrap_or(codestream).to_vec(alloc)?;
+    all.extend_from_slice(bytes)?;
+    check_fault(rt, alloc, &all, want);
+    Ok(())
 }
 
 #[test]
-fn changed_headers_have_these_faults(rt: HostRuntime) {
+fn changed_headers_have_these_faults_with_ample_memory(rt: HostRuntime) {
     let bad = StreamFault::BadSegment;
     let table = [
         (0, 0x00, StreamFault::NotSoi),
@@ -84,14 +96,14 @@ fn changed_headers_have_these_faults(rt: HostRuntime) {
     ];
     for (place, byte, fault) in table {
         let mut bytes = LONE;
-        check_opening(&rt, &mut bytes, place, byte, Some(fault));
+        check_changed(&rt, rt.alloc(), &mut bytes, place, byte, Some(fault));
     }
     let mut bytes = LONE;
-    check_opening(&rt, &mut bytes, 14, 0x05, None);
+    check_changed(&rt, rt.alloc(), &mut bytes, 14, 0x05, None);
 }
 
 #[test]
-fn changed_presets_have_these_faults(rt: HostRuntime) {
+fn changed_presets_have_these_faults_with_ample_memory(rt: HostRuntime) {
     let table = [
         (21, 0x04, Some(PresetFault::MaxvalRange)),
         (23, 0x02, Some(PresetFault::T1Range)),
@@ -106,41 +118,51 @@ fn changed_presets_have_these_faults(rt: HostRuntime) {
             Some(fault) => Some(StreamFault::BadPresets(fault)),
             None => None,
         };
-        check_opening(&rt, &mut bytes, place, byte, want);
+        check_changed(&rt, rt.alloc(), &mut bytes, place, byte, want);
     }
 }
 
 #[test]
-fn a_front_of_headers_is_truncated(rt: HostRuntime) {
-    for len in 0..25 {
-        let mut bytes = LONE;
-        check_opening(
-            &rt,
-            &mut bytes[..len],
-            28,
-            0x00,
-            Some(StreamFault::Truncated),
-        );
+fn a_front_of_a_codestream_is_truncated_with_ample_memory(rt: HostRuntime) {
+    for len in 0..28 {
+        check_fault(&rt, rt.alloc(), &LONE[..len], Some(StreamFault::Truncated));
     }
-    let mut bytes = LONE;
-    check_opening(&rt, &mut bytes[..25], 28, 0x00, None);
+    check_fault(&rt, rt.alloc(), &LONE, None);
 }
 
 #[test]
-fn what_follows_a_scan_has_these_faults(rt: HostRuntime) {
+fn what_follows_a_scan_has_these_faults_with_ample_memory(rt: HostRuntime) -> Result<(), Fail> {
     let comment: [u8; 5] = [0xFF, 0xFE, 0x00, 0x03, 0x41];
     let filled: [u8; 4] = [0xFF, 0xFF, 0xFF, 0xD9];
     let scan: [u8; 10] = [0xFF, 0xDA, 0x00, 0x08, 0x01, 0x01, 0x00, 0x00, 0x00, 0x00];
     let other: [u8; 2] = [0xFF, 0xC0];
     let presets: [u8; 2] = [0xFF, 0xF8];
-    let unsupported = StreamFault::Unsupported(What::Marker(0xC0));
-    let late = StreamFault::Unsupported(What::LseLate);
-    check_after(&rt, true, &filled, None);
-    check_after(&rt, true, &comment, Some(StreamFault::Truncated));
-    check_after(&rt, true, &other, Some(unsupported));
-    check_after(&rt, true, &presets, Some(late));
-    check_after(&rt, true, &scan, Some(StreamFault::BadSegment));
-    check_after(&rt, false, &scan, None);
-    check_after(&rt, false, &filled, Some(StreamFault::BadSegment));
-    check_after(&rt, false, &presets, Some(late));
+    let bad = Some(StreamFault::BadSegment);
+    let truncated = Some(StreamFault::Truncated);
+    let unsupported = Some(StreamFault::Unsupported(What::Marker(0xC0)));
+    let late = Some(StreamFault::Unsupported(What::LseLate));
+    let order = Some(StreamFault::Unsupported(What::ScanOrder));
+    // After the only scan.
+    for (bytes, want) in [
+        (&filled as &[u8], None),
+        (&comment, truncated),
+        (&other, unsupported),
+        (&presets, late),
+        (&scan, bad),
+    ] {
+        check_after(&rt, rt.alloc(), &LONE, 26, bytes, want)?;
+    }
+    // After the first of three, where the scan of component 2 is due.
+    let (_, colour, _) = CODESTREAMS[4];
+    let rest = colour.get(32..).unwrap_or(&[]);
+    for (bytes, want) in [
+        (rest, None),
+        (&filled as &[u8], bad),
+        (&comment, truncated),
+        (&presets, late),
+        (&scan, order),
+    ] {
+        check_after(&rt, rt.alloc(), colour, 32, bytes, want)?;
+    }
+    Ok(())
 }

@@ -1,4 +1,5 @@
-use super::*;
+use ls_coding::{Neighbours, signed_context};
+use ls_frame::Presets;
 
 /// The samples around one (a, b, c and d), and their context with its sign by the default parameters of 8 bits.
 const CONTEXTS: [([u16; 4], i16); 2] = [([0, 0, 0, 0], 0), ([5, 0, 0, 0], -2)];

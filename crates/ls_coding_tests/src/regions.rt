@@ -1,5 +1,6 @@
-use super::*;
-use crate::context::half_context;
+use ls_coding::{Regions, half_context, whole_context};
+use ls_frame::Presets;
+use std::alloc::{AllocError, Global};
 use std::process::Abort;
 
 /// The samples around one (a, b, c and d), and their context with its sign by the default parameters of 8 bits, whose thresholds

@@ -1,5 +1,6 @@
-use super::*;
 use crate::testing::check_bytes;
+use ls_frame::PresetFault;
+use ls_stream::{StreamFault, What};
 use std::alloc::Global;
 use std::process::Abort;
 

@@ -5,7 +5,10 @@ ghost use Rattle.ls_bits.specs.Golomb.{most_value};
 ghost use Rattle.ls_coding.specs.Samples.{AreSamples};
 ghost use Rattle.ls_coding.specs.Contexts.{is_run};
 
-use super::*;
+use ls_bits::CodeFault;
+use ls_coding::{Mode, Neighbours, RunWord, State, Tail, Word, mode_of};
+use ls_frame::Presets;
+use std::process::Abort;
 
 /// The samples around one: a, b, c and d.
 pub type Around = (u16, u16, u16, u16);
@@ -59,7 +62,7 @@ pub fn check_break(rt: &impl Abort, got: Result<(), CodeFault>, want: Result<(),
 fn check_samples(rt: &impl Abort, state: &State, neighbours: &Neighbours)
     ensures { AreSamples state.now.parameters.maxval neighbours.now }
 {
-    let maxval = state.counters.presets.maxval();
+    let maxval = state.presets().maxval();
     check(rt, neighbours.a <= maxval);
     check(rt, neighbours.b <= maxval);
     check(rt, neighbours.c <= maxval);
@@ -75,7 +78,7 @@ fn check_regular(rt: &impl Abort, neighbours: &Neighbours)
 fn check_value(rt: &impl Abort, state: &State, value: u32)
     ensures { value ≤ most_value (qbpp_of state.now.parameters.maxval) }
 {
-    check(rt, value <= 1 << state.counters.presets.qbpp());
+    check(rt, value <= 1 << state.presets().qbpp());
 }
 
 // ---- the calls
@@ -83,7 +86,7 @@ fn check_value(rt: &impl Abort, state: &State, value: u32)
 pub fn code_regular(rt: &impl Abort, state: &mut State, around: Around, sample: u16) -> Word {
     let neighbours = neighbours_of(around);
     check_samples(rt, state, &neighbours);
-    check(rt, sample <= state.counters.presets.maxval());
+    check(rt, sample <= state.presets().maxval());
     check_regular(rt, &neighbours);
     check(rt, !state.broken());
     state.code_regular(&neighbours, sample)
@@ -135,7 +138,7 @@ pub fn accept_break(
 pub fn code_interruption(rt: &impl Abort, state: &mut State, around: Around, sample: u16) -> Word {
     let neighbours = neighbours_of(around);
     check_samples(rt, state, &neighbours);
-    check(rt, sample <= state.counters.presets.maxval());
+    check(rt, sample <= state.presets().maxval());
     check(rt, sample != neighbours.a);
     check(rt, state.broken());
     state.code_interruption(&neighbours, sample)

@@ -1,4 +1,6 @@
-use super::*;
+use ls_film::FilmFault;
+use ls_film::engine::Stopped;
+use ls_frame::{NetpbmFault, WriteFault};
 use ls_testing::{Mishap, Sink};
 use std::io::Write;
 use std::process::Abort;

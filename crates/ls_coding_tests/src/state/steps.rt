@@ -1,4 +1,7 @@
-use super::*;
+use super::calls::*;
+use ls_coding::{RunWord, State, Tail, Word};
+use ls_frame::Presets;
+use std::process::Abort;
 
 /// An event and its word.
 enum Step {
@@ -140,5 +143,5 @@ fn events_of_all_kinds_are_taken_as_they_were_coded(rt: HostRuntime) {
             check(&rt, is_wanted || round < ROUNDS);
         }
     }
-    check_number(&rt, pair.coder.run_index, 16);
+    check_number(&rt, pair.coder.run_index(), 16);
 }

@@ -1,11 +1,9 @@
-use super::*;
-use crate::decode::Decoded;
-use crate::faults::{StreamFault, What};
-use crate::laws::what_is_taken_is_decoded_alike;
 use crate::testing::codestreams::{BLACK_AND_WHITE, CODESTREAMS};
-use ls_frame::{Buffered, Counted};
+use ls_frame::{Buffered, Counted, Feed};
+use ls_stream::laws::what_is_taken_is_decoded_alike;
+use ls_stream::{Decoded, NextFault, StreamFault, What, next_stream};
 use ls_testing::Pieces;
-use std::alloc::AllocError;
+use std::alloc::{AllocError, Global};
 use std::process::Abort;
 use std::test::Fail;
 

@@ -1,9 +1,10 @@
 mod calls;
 mod steps;
 
-use super::*;
-use crate::neighbours::{Mode, mode_of};
 use calls::*;
+use ls_bits::CodeFault;
+use ls_coding::{Mode, Neighbours, State, Tail, mode_of};
+use ls_frame::Presets;
 use std::process::Abort;
 
 /// A run's samples, whether it ends with the line, and its word on a new state.
@@ -75,7 +76,7 @@ fn run_index_rises_where_a_bit_1_stands_for_all_its_samples(rt: HostRuntime) {
         for left in lefts {
             check_number(&rt, accept_one(&rt, &mut state, *left), 1);
         }
-        check_number(&rt, state.run_index, run_index);
+        check_number(&rt, state.run_index(), run_index);
         check_number(&rt, state.break_width(), width);
         check(&rt, !state.broken());
     }

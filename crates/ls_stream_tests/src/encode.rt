@@ -1,12 +1,13 @@
 mod sums;
 
-use super::*;
 use crate::testing::codestreams::{CODESTREAMS, PLANES, TUNINGS, around_scan};
 use crate::testing::{
     Chance, PICTURES, Picture, Shape, Sum, check_bytes, check_number, check_sum, drawn_frame,
     frame_of, frame_of_parts,
 };
-use ls_frame::{Kind, Tuning};
+use ls_frame::{Frame, Kind, Presets, Tuning};
+use ls_stream::{Lines, code_bound, encode_frame, encode_with, encode_within};
+use std::alloc::{AllocError, Global};
 use std::process::Abort;
 use std::test::Fail;
 use sums::{LARGE, LONGEST_RUNS, SMALL};

@@ -1,10 +1,8 @@
-use super::*;
-use crate::encode::encode_with;
-use crate::faults::What;
 use crate::testing::codestreams::{CODESTREAMS, PLANES, TUNINGS, around_scan, head};
 use crate::testing::{Chance, PICTURES, Parts, Picture, Shape, drawn_frame, frame_of};
-use ls_frame::{Kind, PresetFault, Tuning};
-use std::alloc::AllocError;
+use ls_frame::{Frame, Kind, PresetFault, Presets, Tuning};
+use ls_stream::{Decoded, StreamFault, What, decode_frame, encode_with};
+use std::alloc::{AllocError, Global};
 use std::process::Abort;
 use std::test::Fail;
 

@@ -1,5 +1,5 @@
 //! Checks for the tests.
-use crate::faults::FilmFault;
+use ls_film::FilmFault;
 use ls_testing::Memory;
 use std::process::Abort;
 

@@ -1,0 +1,13 @@
+//! The tests of `ls_coding`, through what it makes public.
+//!
+//! They stand in a crate of their own because a crate's tests are proved together with the whole crate.
+#![tactic(auto)]
+
+#[cfg(test)]
+mod context;
+#[cfg(test)]
+mod neighbours;
+#[cfg(test)]
+mod regions;
+#[cfg(test)]
+mod state;
