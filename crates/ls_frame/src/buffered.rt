@@ -189,6 +189,3 @@ impl<R: Feed> Feed for Buffered<R> {
         Feed::failures(&self.inner)
     }
 }
-
-#[cfg(test)]
-mod tests;

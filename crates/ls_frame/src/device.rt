@@ -237,6 +237,3 @@ impl<W: Write> Outlet for Counted<W> {
         self.failed
     }
 }
-
-#[cfg(test)]
-mod tests;

@@ -211,6 +211,3 @@ fn first_above(samples: &[u16], maxval: u16) -> Option<usize>
 {
     samples.iter().position(|sample| *sample > maxval)
 }
-
-#[cfg(test)]
-mod tests;

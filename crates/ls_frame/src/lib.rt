@@ -29,8 +29,6 @@ pub mod memory;
 pub mod netpbm;
 pub mod output;
 pub mod presets;
-#[cfg(test)]
-mod testing;
 pub mod tuning;
 
 pub use buffered::Buffered;

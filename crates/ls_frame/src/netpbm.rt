@@ -122,6 +122,3 @@ pub fn first_frame(alloc: Global, bytes: &[u8]) -> Result<Option<(Frame, usize)>
         Some(frame) => Ok(Some((frame, bytes.len() - rest.len()))),
     }
 }
-
-#[cfg(test)]
-mod tests;

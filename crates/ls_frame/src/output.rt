@@ -30,6 +30,3 @@ pub fn write_bytes<W: Outlet>(writer: &mut W, bytes: &[u8]) -> Result<(), WriteF
     }
     Ok(())
 }
-
-#[cfg(test)]
-mod tests;

@@ -241,6 +241,3 @@ fn clamped_threshold(value: u16, low: u16, maxval: u16) -> u16
         value
     }
 }
-
-#[cfg(test)]
-mod tests;

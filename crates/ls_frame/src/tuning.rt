@@ -40,6 +40,3 @@ fn or_default(chosen: u16, default: u16) -> u16
 {
     if chosen == 0 { default } else { chosen }
 }
-
-#[cfg(test)]
-mod tests;

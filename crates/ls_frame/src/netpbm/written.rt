@@ -158,6 +158,3 @@ fn put_wide(piece: &mut [u8], samples: &[u16])
         piece[2 * i + 1] = (sample % 256) as u8;
     }
 }
-
-#[cfg(test)]
-mod tests;

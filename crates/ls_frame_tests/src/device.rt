@@ -1,5 +1,7 @@
-use super::*;
 use crate::testing::{Mishap, Pieces, Sink, Take, check, check_items, check_so, check_takes};
+use ls_frame::{Counted, Failed, Feed, FeedFault, Outlet};
+use std::io;
+use std::io::{Read, Write};
 use std::process::Abort;
 
 #[test]

@@ -1,5 +1,5 @@
-use super::*;
 use crate::testing::{Mishap, Sink, check, check_items, check_so};
+use ls_frame::{PresetFault, Presets};
 use std::io::Write;
 
 /// MAXVAL, bpp, qbpp, LIMIT, T1, T2, T3.

@@ -1,5 +1,5 @@
-use super::*;
 use crate::testing::{check, check_so};
+use ls_frame::{PresetFault, Presets, Tuning};
 
 /// MAXVAL, T1, T2, T3, RESET.
 type Row = (u16, u16, u16, u16, u16);

@@ -1,10 +1,9 @@
 mod failures;
 mod long;
 
-use super::*;
-use crate::device::Counted;
-use crate::frame::Kind;
 use crate::testing::{Pieces, check, check_items, check_so};
+use ls_frame::{Counted, Feed, Frame, Kind, NetpbmFault, first_frame, next_frame};
+use std::alloc::{AllocError, Global};
 use std::io;
 use std::io::Read;
 use std::process::Abort;

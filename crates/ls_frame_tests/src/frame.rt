@@ -1,5 +1,5 @@
-use super::*;
 use crate::testing::{check, check_items};
+use ls_frame::{Frame, FrameFault, Kind};
 use std::alloc::Global;
 use std::process::Abort;
 

@@ -1,6 +1,5 @@
-use super::*;
-use crate::device::Counted;
 use crate::testing::{Mishap, Sink, check, check_items};
+use ls_frame::{Counted, Outlet, WriteFault, write_bytes};
 use std::process::Abort;
 
 #[test]

@@ -1,7 +1,5 @@
-use super::*;
-use crate::device::Counted;
-use crate::netpbm::first_frame;
 use crate::testing::{Mishap, Sink, check, check_items, check_so};
+use ls_frame::{Counted, Frame, Kind, Outlet, WriteFault, first_frame, write_frame};
 use std::alloc::{AllocError, Global};
 use std::process::Abort;
 

@@ -1,8 +1,8 @@
 //! Readers, writers and checks for the tests. They take no memory.
 ghost use Rattle.std.specs.Prelude.{◌≤◌};
-ghost use Rattle.ls_frame.specs.declared.testing.TheConstants.{ROOM};
+ghost use Rattle.ls_frame_tests.specs.declared.testing.TheConstants.{ROOM};
 
-use crate::device::{Feed, FeedFault};
+use ls_frame::{Feed, FeedFault};
 use std::fmt::Debug;
 use std::io;
 use std::io::{Read, Write};

@@ -1,7 +1,11 @@
-use super::*;
-use crate::device::{Counted, Failed, Feed};
 use crate::testing::{Pieces, Take, check, check_items, check_so, check_takes};
+use ls_frame::{Buffered, Counted, Failed, Feed, FeedFault};
+use std::alloc::{AllocError, Global};
+use std::io::Read;
 use std::process::Abort;
+
+/// The bytes of a piece of a `Buffered`.
+const PIECE: usize = 65_536;
 
 /// Reads so, by calls with room for so many: what each gives, its bytes, how many bytes were taken then, and how many calls failed.
 type Steps = [(usize, Result<usize, Failed>, &'static [u8], u64); 9];
@@ -177,48 +181,52 @@ fn pieces_join_by_marks_with_ample_memory(rt: HostRuntime) -> Result<(), AllocEr
 fn pieces_are_asked_for_when_they_are_wanted_with_ample_memory(
     rt: HostRuntime,
 ) -> Result<(), AllocError> {
-    let pieces = Pieces::new(b"abcde", 4, &[]);
-    let mut reader = Buffered::new(rt.alloc(), pieces)?;
-    check(&rt, "bytes taken", 0, &reader.inner.given, &0);
-    let mut buf = [0u8; 1];
-    for (at, taken) in [4, 4, 4, 4, 5].into_iter().enumerate() {
-        check(&rt, "a read", at, &reader.read(&mut buf).ok(), &Some(1));
-        check(&rt, "bytes taken", at, &reader.inner.given, &taken);
+    // By the number of reads: the bytes taken then, and the farthest that there was room for.
+    let taken = [
+        (0, 0),
+        (4, PIECE),
+        (4, PIECE),
+        (4, PIECE),
+        (4, PIECE),
+        (5, PIECE + 4),
+    ];
+    for (reads, (given, furthest)) in taken.into_iter().enumerate() {
+        let mut pieces = Pieces::new(b"abcde", 4, &[]);
+        let mut reader = Buffered::new(rt.alloc(), &mut pieces)?;
+        let mut buf = [0u8; 1];
+        for at in 0..reads {
+            check(&rt, "a read", at, &reader.read(&mut buf).ok(), &Some(1));
+        }
+        drop(reader);
+        check(&rt, "bytes taken", reads, &pieces.given, &given);
+        check(&rt, "room", reads, &pieces.furthest, &furthest);
     }
-    check(&rt, "room", 0, &reader.inner.furthest, &(PIECE + 4));
     Ok(())
 }
 
 /// Room for a whole piece is handed on, once the piece before was handed out.
 #[test]
 fn room_for_a_piece_is_handed_on_with_ample_memory(rt: HostRuntime) -> Result<(), AllocError> {
-    let pieces = Pieces::new(b"abcdefg", 3, &[]);
-    let mut reader = Buffered::new(rt.alloc(), pieces)?;
     let mut room = vec![in rt.alloc(); 0u8; PIECE]?;
-    check(
-        &rt,
-        "a byte",
-        0,
-        &reader.read(&mut room[..1]).ok(),
-        &Some(1),
-    );
     let steps: [(usize, &[u8]); 4] = [(2, b"bc"), (3, b"def"), (1, b"g"), (0, b"")];
-    for (at, (count, bytes)) in steps.into_iter().enumerate() {
-        check(
-            &rt,
-            "a read",
-            at,
-            &reader.read(&mut room).ok(),
-            &Some(count),
-        );
-        check_items(&rt, "bytes", at, room.get(..count).unwrap_or(&[]), bytes);
-        check(
-            &rt,
-            "bytes not handed out",
-            at,
-            &(reader.end - reader.start),
-            &0,
-        );
+    // By the number of these steps that are done: the bytes handed out then, with the one before, which are all that were taken.
+    for (done, handed_out) in [(1, 3), (2, 6), (3, 7), (4, 7)] {
+        let mut pieces = Pieces::new(b"abcdefg", 3, &[]);
+        let mut reader = Buffered::new(rt.alloc(), &mut pieces)?;
+        let mut byte = [0u8; 1];
+        check(&rt, "a byte", done, &reader.read(&mut byte).ok(), &Some(1));
+        for (at, (count, bytes)) in steps.into_iter().take(done).enumerate() {
+            check(
+                &rt,
+                "a read",
+                at,
+                &reader.read(&mut room).ok(),
+                &Some(count),
+            );
+            check_items(&rt, "bytes", at, room.get(..count).unwrap_or(&[]), bytes);
+        }
+        drop(reader);
+        check(&rt, "bytes taken", done, &pieces.given, &handed_out);
     }
     Ok(())
 }
