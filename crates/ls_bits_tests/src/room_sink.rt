@@ -1,5 +1,5 @@
-use super::*;
 use crate::testing::check_bytes;
+use ls_bits::RoomSink;
 
 #[test]
 fn bits_go_after_the_bytes_that_were_there(rt: HostRuntime) {

@@ -1,5 +1,5 @@
-use super::*;
 use crate::testing::{Code, WORDS, check_answer, check_left, source_of};
+use ls_bits::CodeFault;
 
 #[test]
 fn words_are_taken(rt: HostRuntime) {

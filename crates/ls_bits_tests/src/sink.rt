@@ -1,7 +1,8 @@
 ghost use Rattle.std.specs.Prelude.{◌<◌};
 
-use super::*;
 use crate::testing::{Code, Filling, Put, WORDS, check_bytes, put, put_word};
+use ls_bits::BitSink;
+use std::alloc::{AllocError, Global};
 use std::process::Abort;
 
 /// Bits that are put one after the other, and the bytes that they make.

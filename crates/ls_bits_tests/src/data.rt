@@ -1,4 +1,4 @@
-use super::*;
+use ls_bits::{Data, Stop, data_of};
 
 const FRONTS: [(&[u8], usize, Stop); 8] = [
     (&[0x80, 0xff, 0xd9], 1, Stop::Marker),

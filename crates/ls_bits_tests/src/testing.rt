@@ -3,11 +3,8 @@ ghost use Rattle.std.specs.Prelude.{◌≤◌, length};
 ghost use Rattle.ls_bits.specs.Golomb.{IsGolomb};
 ghost use Rattle.ls_bits.specs.View.Room.{Fits};
 
-use crate::data::data_of;
-use crate::laws::words_keep_their_limit;
-use crate::room_sink::RoomSink;
-use crate::sink::BitSink;
-use crate::source::{BitSource, CodeFault};
+use ls_bits::laws::words_keep_their_limit;
+use ls_bits::{BitSink, BitSource, CodeFault, RoomSink, data_of};
 use std::alloc::{AllocError, Global};
 use std::process::Abort;
 
