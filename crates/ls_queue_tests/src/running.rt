@@ -1,10 +1,15 @@
 ghost use Rattle.std.specs.Prelude.{◌≡◌, [], ◌∷◌, ◌++◌, IfSome, IfOk};
 ghost use Rattle.ls_queue.specs.Running.{IsWorkerSeat, IsCloser, IsFinished, AreEnds, AreWorkerSeats};
 
-use super::crowd::{Usage, use_queue};
-use super::*;
+use crate::crowd::{Usage, use_queue};
 use crate::testing::{Memory, check, next_source, next_worker};
+use ls_queue::{
+    Closer, Ended, FinishFault, Finished, Job, Queue, QueueFault, SettleCause, SettleFault, Taken,
+    WorkerSeat, open, settle,
+};
+use std::alloc::{AllocError, Global};
 use std::process::Abort;
+use std::sync::Wait;
 use std::thread::Threads;
 
 /// Numbers that a running queue can't be made with: sources, workers, capacity.

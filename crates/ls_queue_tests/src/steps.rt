@@ -1,6 +1,6 @@
-use super::*;
-use crate::replies::Job;
 use crate::testing::{Memory, REPLIES, STEPS, check};
+use ls_queue::{Job, QueueFault, Reply, Step, Take, replay};
+use std::alloc::{AllocError, Global};
 use std::process::Abort;
 
 /// That a replay answers so; or, if memory may be refused, that it says so.

@@ -1,7 +1,7 @@
 use Rattle.std.proofs.Common.{arith}
 use Rattle.ls_queue.specs.Running.{IsWorkerAt}
 use Rattle.ls_queue.proofs.SeatPlaces.{each_at, worker_at}
-use Rattle.ls_queue.proofs.running.crowd.take_by_all.Goals as goal
+use Rattle.ls_queue_tests.proofs.crowd.take_by_all.Goals as goal
 
 pub map_vec-requires-after_bounds : goal.map_vec-requires-after_bounds
 map_vec-requires-after_bounds g c κs within = worker_at c.args.queue.now.channel c.args.seats.items c.requires.0

@@ -1,12 +1,17 @@
 //! A queue whose seats have a thread each.
 ghost use Rattle.std.specs.Prelude.{◌≡◌, IfSome, IfOk};
+ghost use Rattle.std.specs.List.{AllByRecursion};
 ghost use Rattle.ls_queue.specs.Running.{sources_of, IsSourceSeat, IsWorkerSeat, IsEnded, IsCloser, IsFinished, AreAllSources, AreAllWorkers, AreWorkerSeats, AreEnds};
 
-use super::*;
-use crate::testing::check;
+use crate::testing::{check, next_source};
+use ls_queue::{
+    Account, Closer, Ended, Finished, MOST_SOURCES, Queue, SourceSeat, Taken, WorkerSeat, open,
+    settle,
+};
+use std::alloc::{AllocError, Global};
 use std::hint::spin_loop;
 use std::process::Abort;
-use std::sync::Mutex;
+use std::sync::{Mutex, Wait};
 use std::thread;
 use std::thread::Threads;
 
@@ -72,7 +77,7 @@ pub fn use_queue<R: Threads + Wait + Abort + Sync>(rt: &R, alloc: Global, usage:
         move || -> Option<Finished<u64>>
             requires { AreAllSources shared.now sources.items × IsCloser shared.now closer }
             ensures { IfSome result (λ finished. IsFinished shared.entry.now finished) }
-        { put_by_all(rt, shared, sources, closer, usage) },
+        { put_by_all(rt, alloc, shared, sources, closer, usage) },
         move || -> Result<Vec<WorkerSeat<u64>>, AllocError>
             requires { AreAllWorkers shared.now workers.items }
             ensures { IfOk result (λ seats. AreWorkerSeats shared.entry.now seats.items) }
@@ -92,6 +97,7 @@ pub fn use_queue<R: Threads + Wait + Abort + Sync>(rt: &R, alloc: Global, usage:
 /// Has each source put its items in a thread of its own, and then finishes the queue.
 fn put_by_all<R: Threads + Wait + Abort + Sync>(
     rt: &R,
+    alloc: Global,
     queue: &Queue<u64>,
     seats: Vec<SourceSeat<u64>>,
     closer: Closer<u64>,
@@ -101,30 +107,68 @@ fn put_by_all<R: Threads + Wait + Abort + Sync>(
     requires closer { IsCloser queue.now closer }
     ensures { IfSome result (λ finished. IsFinished queue.now finished) }
 {
+    let Ok(numbered) = with_sources(alloc, queue, seats) else {
+        return None;
+    };
+    put_by_each(rt, queue, numbered, closer, usage)
+}
+
+/// Has each of these sources put its items in a thread of its own, and then finishes the queue.
+fn put_by_each<R: Threads + Wait + Abort + Sync>(
+    rt: &R,
+    queue: &Queue<u64>,
+    numbered: Vec<(u8, SourceSeat<u64>)>,
+    closer: Closer<u64>,
+    usage: Usage,
+) -> Option<Finished<u64>>
+    requires numbered { AllByRecursion (λ one. IsSourceSeat queue.now one.1 × (one.1.source ≡ one.0)) numbered.items }
+    requires closer { IsCloser queue.now closer }
+    ensures { IfSome result (λ finished. IsFinished queue.now finished) }
+{
     let Ok(ended) = thread::map_vec(
         rt,
-        seats,
-        &|seat: SourceSeat<u64>| -> Ended<u64>
-            requires { IsSourceSeat queue.now seat }
+        numbered,
+        &|one: (u8, SourceSeat<u64>)| -> Ended<u64>
+            requires { IsSourceSeat queue.now one.1 × (one.1.source ≡ one.0) }
             ensures { IsEnded queue.entry.now result }
-        { put_items(rt, queue, seat, usage) },
+        { put_items(rt, queue, one.0, one.1, usage) },
     ) else {
         return None;
     };
     queue.finish(rt, closer, ended).ok()
 }
 
+/// Each of these seats, with its source before it.
+fn with_sources(
+    alloc: Global,
+    queue: &Queue<u64>,
+    mut seats: Vec<SourceSeat<u64>>,
+) -> Result<Vec<(u8, SourceSeat<u64>)>, AllocError>
+    requires { AreAllSources queue.now seats.items }
+    ensures { IfOk result (λ numbered. AllByRecursion (λ one. IsSourceSeat queue.now one.1 × (one.1.source ≡ one.0)) numbered.items) }
+{
+    let mut numbered = Vec::new(alloc);
+    for source in 0..MOST_SOURCES {
+        if seats.is_empty() {
+            break;
+        }
+        let seat = next_source(queue, source, &mut seats);
+        numbered.push((source, seat))?;
+    }
+    Ok(numbered)
+}
+
 /// Puts all items of a source, and ends it.
 fn put_items<R: Wait + Abort>(
     rt: &R,
     queue: &Queue<u64>,
+    source: u8,
     mut seat: SourceSeat<u64>,
     usage: Usage,
 ) -> Ended<u64>
-    requires { IsSourceSeat queue.now seat }
+    requires { IsSourceSeat queue.now seat × (seat.source ≡ source) }
     ensures { IsEnded queue.now result }
 {
-    let source = seat.source;
     let mut dice = u64::from(source);
     for number in 0..usage.items {
         usage.pause(&mut dice);

@@ -1,5 +1,5 @@
-use super::*;
 use crate::testing::check;
+use ls_queue::QueueFault;
 
 const TEXTS: [(QueueFault, &str); 5] = [
     (QueueFault::Sources, "sources"),

@@ -1,6 +1,6 @@
-use super::*;
-use crate::steps::{Reply, Step};
 use crate::testing::{Memory, REPLIES, STEPS, check, check_reply};
+use ls_queue::{Close, Core, Job, Put, QueueFault, Reply, Step, Take};
+use std::alloc::Global;
 use std::process::Abort;
 
 /// The reply to a step, if the queue has its source.
@@ -86,11 +86,7 @@ fn numbers_in_range_are_kept_with_ample_memory(rt: HostRuntime) {
 
 /// A queue whose one source has one number left.
 fn nearly_spent(alloc: Global) -> Result<Core<u64>, QueueFault> {
-    Ok(Core {
-        counts: vec![in alloc; u64::MAX - 1; 1]?,
-        closed: vec![in alloc; false; 1]?,
-        held: HeapCircularBuffer::with_capacity(alloc, 1)?,
-    })
+    Core::numbered_from(alloc, 1, 1, u64::MAX - 1)
 }
 
 #[test]

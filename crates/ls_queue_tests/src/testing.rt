@@ -2,9 +2,7 @@
 ghost use Rattle.std.specs.Prelude.{◌≡◌, suc, ◌+◌, ◌<◌, [], length, false};
 ghost use Rattle.ls_queue.specs.Running.{AreNewSources, AreNewWorkers, IsSourceSeat, IsWorkerSeat, items_put, jobs_taken, is_done};
 
-use crate::replies::{Close, Job, Put, Take};
-use crate::running::{Queue, SourceSeat, WorkerSeat};
-use crate::steps::{Reply, Step};
+use ls_queue::{Close, Job, Put, Queue, Reply, SourceSeat, Step, Take, WorkerSeat};
 use std::process::Abort;
 
 /// If memory may be refused, the want of it is an answer too.
