@@ -68,6 +68,3 @@ fn has_eight_plain(bytes: &[u8], place: usize) -> bool
     }
     plain
 }
-
-#[cfg(test)]
-mod tests;

@@ -24,8 +24,6 @@ mod packer;
 pub mod room_sink;
 pub mod sink;
 pub mod source;
-#[cfg(test)]
-mod testing;
 mod window;
 
 pub use data::{Data, Stop, data_of};

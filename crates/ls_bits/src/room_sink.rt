@@ -85,6 +85,3 @@ impl RoomSink {
         self.packer.finish()
     }
 }
-
-#[cfg(test)]
-mod tests;

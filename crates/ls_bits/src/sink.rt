@@ -75,6 +75,3 @@ impl BitSink {
         Ok(self.packer.finish())
     }
 }
-
-#[cfg(test)]
-mod tests;

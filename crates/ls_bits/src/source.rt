@@ -171,6 +171,3 @@ fn most(qbpp: u32) -> u32
 {
     1 << qbpp
 }
-
-#[cfg(test)]
-mod tests;

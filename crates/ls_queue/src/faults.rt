@@ -72,6 +72,3 @@ pub(crate) fn open_fault(sources: u8, workers: usize, capacity: usize) -> Option
     }
     None
 }
-
-#[cfg(test)]
-mod tests;

@@ -60,8 +60,6 @@ pub mod laws;
 mod replies;
 mod running;
 mod steps;
-#[cfg(test)]
-mod testing;
 mod views;
 
 pub use account::Account;

@@ -452,8 +452,3 @@ fn join_seats<T: Drop>(channel: &Channel<T>, token: &mut Token<T>, mut seats: Ve
         channel.entrance.absorb::<Joined>(token, pass);
     }
 }
-
-#[cfg(test)]
-mod crowd;
-#[cfg(test)]
-mod tests;

@@ -108,6 +108,3 @@ fn reply_of(queue: &mut Core<u64>, step: Step) -> Reply
         Step::Take => Reply::Take(queue.take()),
     }
 }
-
-#[cfg(test)]
-mod tests;

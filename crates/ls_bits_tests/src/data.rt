@@ -1,0 +1,41 @@
+use ls_bits::{Data, Stop, data_of};
+
+const FRONTS: [(&[u8], usize, Stop); 8] = [
+    (&[0x80, 0xff, 0xd9], 1, Stop::Marker),
+    (&[0x80, 0xff, 0xff, 0xd9], 1, Stop::Marker),
+    (&[0xff, 0x00, 0xff, 0xd9], 2, Stop::Marker),
+    (&[0x80, 0xff], 1, Stop::End),
+    (&[0xff, 0x7f], 2, Stop::End),
+    (&[0xff, 0x80], 0, Stop::Marker),
+    (&[0xff], 0, Stop::End),
+    (&[], 0, Stop::End),
+];
+
+#[test]
+fn data_ends_before_a_marker_or_a_lone_ff(rt: HostRuntime) {
+    for (bytes, len, stop) in FRONTS {
+        assert_eq!(rt; data_of(bytes), Data { len, stop }, "of {bytes:?}");
+    }
+}
+
+/// Data beside that of two bytes before a marker, and whether it is equal.
+const OTHERS: [(usize, Stop, bool); 3] = [
+    (2, Stop::Marker, true),
+    (1, Stop::Marker, false),
+    (2, Stop::End, false),
+];
+
+#[test]
+fn data_and_stops_are_printed_and_compared_by_their_fields(rt: HostRuntime) {
+    let data = Data {
+        len: 2,
+        stop: Stop::Marker,
+    };
+    let Ok(text) = format!(in rt.alloc(); "{data:?} {:?}", Stop::End) else {
+        return;
+    };
+    assert_eq!(rt; text.as_str(), "Data { len: 2, stop: Marker } End");
+    for (len, stop, is_equal) in OTHERS {
+        assert_eq!(rt; data == Data { len, stop }, is_equal);
+    }
+}

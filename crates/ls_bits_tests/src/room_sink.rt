@@ -1,0 +1,21 @@
+use crate::testing::check_bytes;
+use ls_bits::RoomSink;
+
+#[test]
+fn bits_go_after_the_bytes_that_were_there(rt: HostRuntime) {
+    let Ok(mut bytes) = Vec::with_capacity(rt.alloc(), 5) else {
+        return;
+    };
+    if bytes.push(0x07u8).is_err() {
+        return;
+    }
+    let capacity = bytes.capacity();
+    let mut sink = RoomSink::new(bytes);
+    sink.put(255, 8);
+    sink.put(0, 0);
+    sink.put(1, 1);
+    let filled = sink.finish();
+    check_bytes(&rt, &filled, &[0x07, 0xff, 0x40]);
+    // The memory is that of before: nothing was allocated.
+    assert_eq!(rt; filled.capacity(), capacity);
+}

@@ -1,0 +1,93 @@
+use crate::testing::{Code, WORDS, check_answer, check_left, source_of};
+use ls_bits::CodeFault;
+
+#[test]
+fn words_are_taken(rt: HostRuntime) {
+    for (k, glimit, qbpp, v, bytes) in WORDS {
+        let code = Code::new(&rt, k, glimit, qbpp);
+        check_answer(&rt, code.take(&mut source_of(bytes)), Ok(v), bytes);
+    }
+}
+
+/// k, glimit, qbpp, and bytes of which no word is taken.
+type Row = (u32, u32, u32, &'static [u8], CodeFault);
+
+const NO_WORDS: [Row; 7] = [
+    (2, 31, 8, &[0x00], CodeFault::OutOfBits),
+    (2, 31, 8, &[], CodeFault::OutOfBits),
+    (2, 31, 8, &[0x00, 0x00, 0x02], CodeFault::OutOfBits),
+    (2, 31, 8, &[0x00; 4], CodeFault::NotCanonical),
+    (2, 31, 8, &[0x00, 0x00, 0x02, 0x00], CodeFault::NotCanonical),
+    (8, 32, 8, &[0x40], CodeFault::OutOfBits),
+    (8, 32, 8, &[0x40, 0x40], CodeFault::NotCanonical),
+];
+
+#[test]
+fn the_fault_is_named_if_no_word_is_taken(rt: HostRuntime) {
+    for (k, glimit, qbpp, bytes, fault) in NO_WORDS {
+        let code = Code::new(&rt, k, glimit, qbpp);
+        check_answer(&rt, code.take(&mut source_of(bytes)), Err(fault), bytes);
+    }
+}
+
+#[test]
+fn a_word_leaves_the_bits_after_it(rt: HostRuntime) {
+    let code = Code::new(&rt, 2, 31, 8);
+    let bytes = [0x0a];
+    let mut source = source_of(&bytes);
+    check_answer(&rt, code.take(&mut source), Ok(17), &bytes);
+    check_left(&rt, &source, 1);
+    check_answer(
+        &rt,
+        code.take(&mut source),
+        Err(CodeFault::OutOfBits),
+        &bytes,
+    );
+    let bytes = [0x40, 0x00];
+    let mut source = source_of(&bytes);
+    check_answer(
+        &rt,
+        Code::new(&rt, 8, 32, 8).take(&mut source),
+        Ok(256),
+        &bytes,
+    );
+    check_left(&rt, &source, 6);
+}
+
+/// How many bits are taken, the number that they are, and how many bits are left then.
+const READS: [(u32, u32, u64); 4] = [(0, 0, 15), (8, 255, 7), (1, 1, 6), (1, 0, 5)];
+
+#[test]
+fn the_stuffed_bit_is_no_bit(rt: HostRuntime) {
+    let bytes = [0xff, 0x40];
+    let mut source = source_of(&bytes);
+    check_left(&rt, &source, 15);
+    for (count, value, left) in READS {
+        check_answer(&rt, source.bits(count), Ok(value), &bytes);
+        check_left(&rt, &source, left);
+    }
+    check_answer(&rt, source.bits(6), Err(CodeFault::OutOfBits), &bytes);
+    let mut source = source_of(&bytes);
+    check_answer(&rt, source.bits(8), Ok(255), &bytes);
+    check_answer(&rt, source.bit(), Ok(1), &bytes);
+    check_answer(&rt, source.bit(), Ok(0), &bytes);
+    check_left(&rt, &source, 5);
+}
+
+#[test]
+fn no_bytes_have_no_bit(rt: HostRuntime) {
+    let mut source = source_of(&[]);
+    check_left(&rt, &source, 0);
+    check_answer(&rt, source.bits(0), Ok(0), &[]);
+    check_answer(&rt, source.bit(), Err(CodeFault::OutOfBits), &[]);
+}
+
+#[test]
+fn faults_say_what_they_are(rt: HostRuntime) {
+    let (first, second) = (CodeFault::OutOfBits, CodeFault::NotCanonical);
+    let Ok(text) = format!(in rt.alloc(); "{first}, {second}, {first:?}, {second:?}") else {
+        return;
+    };
+    let want = "out of bits, not canonical, OutOfBits, NotCanonical";
+    assert_eq!(rt; (text.as_str(), first == second), (want, false));
+}

@@ -1,0 +1,169 @@
+//! What the tests share: words and their bytes, and calls that meet what the sinks and the source require.
+ghost use Rattle.std.specs.Prelude.{◌≤◌, length};
+ghost use Rattle.ls_bits.specs.Golomb.{IsGolomb};
+ghost use Rattle.ls_bits.specs.View.Room.{Fits};
+
+use ls_bits::laws::words_keep_their_limit;
+use ls_bits::{BitSink, BitSource, CodeFault, RoomSink, data_of};
+use std::alloc::{AllocError, Global};
+use std::process::Abort;
+
+/// A number, and in how many bits it is put.
+pub type Put = (u32, u32);
+
+/// k, glimit, qbpp, a value, and the bytes of its word alone.
+pub type Word = (u32, u32, u32, u32, &'static [u8]);
+
+/// Words by T.87 A.5.3, stuffed by C.1: ones of 8 bits, and then those of the narrowest and widest codes.
+pub const WORDS: [Word; 26] = [
+    (2, 31, 8, 17, &[0x0a]),
+    (0, 32, 8, 22, &[0x00, 0x00, 0x02]),
+    (0, 32, 8, 23, &[0x00, 0x00, 0x01, 0x16]),
+    (0, 32, 8, 256, &[0x00, 0x00, 0x01, 0xff, 0x00]),
+    (8, 32, 8, 255, &[0xff, 0x40]),
+    (8, 32, 8, 256, &[0x40, 0x00]),
+    (3, 12, 5, 7, &[0xf0]),
+    (0, 2, 0, 0, &[0x80]),
+    (0, 2, 0, 1, &[0x40]),
+    (1, 2, 0, 0, &[0x80]),
+    (1, 2, 0, 1, &[0xc0]),
+    (0, 64, 0, 1, &[0x40]),
+    (2, 3, 1, 2, &[0xc0]),
+    (0, 3, 1, 1, &[0x40]),
+    (0, 3, 1, 2, &[0x60]),
+    (5, 6, 4, 15, &[0xbc]),
+    (5, 6, 4, 16, &[0xc0]),
+    (0, 18, 16, 1, &[0x40, 0x00, 0x00]),
+    (0, 18, 16, 65536, &[0x7f, 0xff, 0x60]),
+    (16, 18, 16, 65535, &[0xff, 0x7f, 0xc0]),
+    (16, 18, 16, 65536, &[0x7f, 0xff, 0x60]),
+    (17, 18, 16, 65536, &[0xc0, 0x00, 0x00]),
+    (17, 64, 16, 65535, &[0xbf, 0xff, 0x60]),
+    (0, 64, 16, 46, &[0x00, 0x00, 0x00, 0x00, 0x00, 0x02]),
+    (
+        0,
+        64,
+        16,
+        47,
+        &[0x00, 0x00, 0x00, 0x00, 0x00, 0x01, 0x00, 0x2e],
+    ),
+    (
+        0,
+        64,
+        16,
+        65536,
+        &[0x00, 0x00, 0x00, 0x00, 0x00, 0x01, 0xff, 0x7f, 0x80],
+    ),
+];
+
+/// That these are the bytes.
+pub fn check_bytes(rt: &impl Abort, got: &[u8], want: &[u8]) {
+    assert_eq!(rt; got, want);
+}
+
+/// That a source answers so.
+pub fn check_answer(
+    rt: &impl Abort,
+    got: Result<u32, CodeFault>,
+    want: Result<u32, CodeFault>,
+    bytes: &[u8],
+) {
+    assert_eq!(rt; got, want, "of {bytes:?}");
+}
+
+/// That so many bits are left.
+pub fn check_left(rt: &impl Abort, source: &BitSource<'_>, want: u64) {
+    assert_eq!(rt; source.left(), want);
+}
+
+/// A code of words: k, glimit, qbpp.
+#[derive(Clone, Copy, Drop)]
+pub struct Code {
+    pub k: u32,
+    pub glimit: u32,
+    pub qbpp: u32,
+    ghost is_code: { IsGolomb k glimit qbpp },
+}
+
+impl Code {
+    pub fn new(rt: &impl Abort, k: u32, glimit: u32, qbpp: u32) -> Code {
+        assert!(rt; qbpp <= 16);
+        assert!(rt; k <= qbpp + 1);
+        assert!(rt; glimit >= qbpp + 2);
+        assert!(rt; glimit <= 64);
+        Code { k, glimit, qbpp }
+    }
+
+    /// The value of the word in front.
+    pub fn take(self, source: &mut BitSource<'_>) -> Result<u32, CodeFault> {
+        source.take_golomb(self.k, self.glimit, self.qbpp)
+    }
+}
+
+/// The bits of the data at the front of bytes.
+pub fn source_of<'a>(bytes: &'a [u8]) -> BitSource<'a> {
+    BitSource::new(&bytes[..data_of(bytes).len])
+}
+
+/// Puts bits. If an allocation fails, the same call is made once more.
+pub fn put(rt: &impl Abort, sink: &mut BitSink, (value, count): Put) -> Result<(), AllocError> {
+    assert!(rt; count <= 32);
+    assert!(rt; u64::from(value) < 1 << count);
+    if sink.put(value, count).is_ok() {
+        return Ok(());
+    }
+    sink.put(value, count)
+}
+
+/// Puts the word of `v`. If an allocation fails, the same call is made once more.
+pub fn put_word(rt: &impl Abort, sink: &mut BitSink, code: Code, v: u32) -> Result<(), AllocError> {
+    assert!(rt; v <= 1 << code.qbpp);
+    if sink.put_golomb(code.k, code.glimit, code.qbpp, v).is_ok() {
+        return Ok(());
+    }
+    sink.put_golomb(code.k, code.glimit, code.qbpp, v)
+}
+
+/// A sink into a vector that has room for `total` bits, of which at most `used` are put.
+#[derive(Drop)]
+pub struct Filling {
+    sink: RoomSink,
+    used: usize,
+    total: usize,
+    ghost bits: { length sink.bits ≤ used },
+    ghost within: { used ≤ total },
+    ghost room: { Fits total sink.room },
+}
+
+impl Filling {
+    /// No bits yet, and room for so many.
+    pub fn new(alloc: Global, total: usize) -> Result<Filling, AllocError> {
+        let sink = RoomSink::new(Vec::with_capacity(alloc, total / 7 + 1)?);
+        Ok(Filling {
+            sink,
+            used: 0,
+            total,
+        })
+    }
+
+    pub fn put(&mut self, rt: &impl Abort, value: u32, count: u32) {
+        assert!(rt; count <= 32);
+        assert!(rt; u64::from(value) < 1 << count);
+        assert!(rt; count as usize <= self.total - self.used);
+        self.sink.put(value, count);
+        self.used += count as usize;
+    }
+
+    /// A word counts for glimit bits, the most that it has.
+    pub fn put_word(&mut self, rt: &impl Abort, code: Code, v: u32) {
+        assert!(rt; v <= 1 << code.qbpp);
+        assert!(rt; code.glimit as usize <= self.total - self.used);
+        words_keep_their_limit();
+        self.sink.put_golomb(code.k, code.glimit, code.qbpp, v);
+        self.used += code.glimit as usize;
+    }
+
+    pub fn finish(self) -> Vec<u8> {
+        self.sink.finish()
+    }
+}

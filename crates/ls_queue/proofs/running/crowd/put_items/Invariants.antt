@@ -1,5 +1,0 @@
-use Rattle.ls_queue.specs.Running.{IsSourceAt}
-use Rattle.ls_queue.proofs.running.crowd.put_items.Given as goal
-
-abbrev pub invariant-loop-number : goal.invariant-loop-number
-invariant-loop-number g l = IsSourceAt l.queue.channel l.seat

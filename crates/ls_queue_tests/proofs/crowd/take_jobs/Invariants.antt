@@ -1,0 +1,5 @@
+use Rattle.ls_queue.specs.Running.{IsWorkerAt}
+use Rattle.ls_queue_tests.proofs.crowd.take_jobs.Given as goal
+
+abbrev pub invariant-loop : goal.invariant-loop
+invariant-loop g l = IsWorkerAt l.queue.channel l.seat

@@ -1,0 +1,17 @@
+//! The tests of `ls_queue`, through what it makes public.
+//!
+//! They stand in a crate of their own because a crate's tests are proved together with the whole crate, and those of `ls_queue` ask only for its statements.
+#![tactic(auto)]
+
+#[cfg(test)]
+mod bounded;
+#[cfg(test)]
+mod crowd;
+#[cfg(test)]
+mod faults;
+#[cfg(test)]
+mod running;
+#[cfg(test)]
+mod steps;
+#[cfg(test)]
+mod testing;
