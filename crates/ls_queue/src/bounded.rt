@@ -1,5 +1,5 @@
 //! The queue by itself, one call after the other.
-ghost use Rattle.std.specs.Prelude.{◌≡◌, ◌<◌, ◌≤◌, ◌⊎◌, length, replicate, MatchResult, Some, None};
+ghost use Rattle.std.specs.Prelude.{◌≡◌, ◌<◌, ◌≤◌, ◌⊎◌, length, MatchResult, Some, None};
 ghost use Rattle.ls_queue.specs.Queue.{all_true, new_queue, put_reply, after_put, close_reply, after_close, take_reply, after_take};
 ghost use Rattle.ls_queue.specs.Faults.{range_fault};
 ghost use Rattle.ls_queue.specs.View.Cores.{IsCore};
@@ -45,26 +45,12 @@ impl<T: Drop> Core<T> {
             (λ queue. (range_fault sources capacity ≡ None) × (queue ≡ new_queue sources capacity))
             (λ fault. (range_fault sources capacity ≡ Some fault) ⊎ ((range_fault sources capacity ≡ None) × (fault ≡ QueueFault.NoMemory))) }
     {
-        Core::numbered_from(alloc, sources, capacity, 0)
-    }
-
-    /// As `new`, but the first item of each source has the number `first`.
-    pub fn numbered_from(
-        alloc: Global,
-        sources: u8,
-        capacity: usize,
-        first: u64,
-    ) -> Result<Core<T>, QueueFault>
-        ensures { MatchResult result
-            (λ queue. (range_fault sources capacity ≡ None) × (queue ≡ record (new_queue sources capacity) { counts = replicate sources first }))
-            (λ fault. (range_fault sources capacity ≡ Some fault) ⊎ ((range_fault sources capacity ≡ None) × (fault ≡ QueueFault.NoMemory))) }
-    {
         if let Some(fault) = range_fault(sources, capacity) {
             return Err(fault);
         }
         let sources = sources as usize;
         Ok(Core {
-            counts: vec![in alloc; first; sources]?,
+            counts: vec![in alloc; 0; sources]?,
             closed: vec![in alloc; false; sources]?,
             held: HeapCircularBuffer::with_capacity(alloc, capacity)?,
         })

@@ -1,5 +1,5 @@
 //! What follows from lawful replies, whatever the steps, and from the account of a running queue. Each law is the contract of a function that has nothing to do.
-ghost use Rattle.std.specs.Prelude.{◌≡◌, ℕ, ◌++◌, [], ◌∷◌, List, length, All, IsTrue, Some, slice_get, slice_index_or};
+ghost use Rattle.std.specs.Prelude.{◌≡◌, ℕ, ◌-◌, ◌^◌, ◌++◌, [], ◌∷◌, List, length, All, IsTrue, Some, slice_get, slice_index_or};
 ghost use Rattle.std.specs.List.{range_with_len};
 ghost use Rattle.ls_queue.specs.Queue.{new_queue};
 ghost use Rattle.ls_queue.specs.Steps.{is_known, replies_of};
@@ -14,7 +14,7 @@ ghost use Rattle.ls_queue.specs.declared.running.WorkerSeat.{WorkerSeat};
 ghost use Rattle.ls_queue.specs.declared.views.Message.{Message};
 ghost use Rattle.ls_queue.specs.declared.views.View.{View};
 
-use crate::replies::{Put, Take};
+use crate::replies::{Close, Put, Take};
 use crate::steps::{Reply, Step};
 
 /// The replies of a queue, step by step, are the lawful ones, and no others are.
@@ -24,6 +24,15 @@ pub fn lawful_replies_are_the_queues()
     ensures no_others { (sources capacity : ℕ) (steps : List Step) (replies : List Reply) → All (λ step. IsTrue (is_known sources step)) steps
         → length replies ≡ length steps → AreLawful sources capacity [] (history steps replies)
         → replies ≡ replies_of (new_queue sources capacity) steps }
+{}
+
+/// A source's last number is 2^64 - 2: after it no item of the source is put in, whatever room there is, but what was put in is handed
+/// out, and the source can be closed.
+pub fn a_source_runs_out_of_numbers()
+    ensures { replies_of (record (new_queue 1 1) { counts = (2 ^ 64 - 2) ∷ [] })
+        (Step.Put 0 7 ∷ Step.Put 0 8 ∷ Step.Take ∷ Step.Put 0 9 ∷ Step.Close 0 ∷ Step.Put 0 9 ∷ [])
+        ≡ Reply.Put (Put.Taken (2 ^ 64 - 2)) ∷ Reply.Put (Put.Spent 8) ∷ Reply.Take (Take.Job (record { source = 0; number = 2 ^ 64 - 2; item = 7 }))
+        ∷ Reply.Put (Put.Spent 9) ∷ Reply.Close (Close.Now (2 ^ 64 - 1)) ∷ Reply.Put (Put.Closed 9) ∷ [] }
 {}
 
 /// Each source's items are handed out once each, in the order put in: what was taken of it, and then what is held of it, is

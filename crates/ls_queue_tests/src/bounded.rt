@@ -84,37 +84,6 @@ fn numbers_in_range_are_kept_with_ample_memory(rt: HostRuntime) {
     }
 }
 
-/// A queue whose one source has one number left.
-fn nearly_spent(alloc: Global) -> Result<Core<u64>, QueueFault> {
-    Core::numbered_from(alloc, 1, 1, u64::MAX - 1)
-}
-
-#[test]
-fn a_source_runs_out_of_numbers_with_ample_memory(rt: HostRuntime) {
-    let steps = [
-        Step::Put(0, 7),
-        Step::Put(0, 8),
-        Step::Take,
-        Step::Put(0, 9),
-        Step::Close(0),
-        Step::Put(0, 9),
-    ];
-    let replies = [
-        Reply::Put(Put::Taken(u64::MAX - 1)),
-        Reply::Put(Put::Spent(8)),
-        Reply::Take(Take::Job(Job {
-            source: 0,
-            number: u64::MAX - 1,
-            item: 7,
-        })),
-        Reply::Put(Put::Spent(9)),
-        Reply::Close(Close::Now(u64::MAX)),
-        Reply::Put(Put::Closed(9)),
-    ];
-    let made = nearly_spent(rt.alloc());
-    check_script(&rt, Memory::Ample, made, &steps, &replies);
-}
-
 /// Each item of a queue of texts, as far as it can be made; those that a full or closed queue gives back come back whole.
 fn texts_come_back(alloc: Global) -> Result<bool, QueueFault> {
     let mut queue: Core<String> = Core::new(alloc, 1, 1)?;
