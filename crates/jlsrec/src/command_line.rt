@@ -98,8 +98,17 @@ is touched unless all FILEs are there.
   right.pgm: 250 frames
   $ jlsrec play left.pgm.jls | cmp - left.pgm";
 
+const WORKERS_HELP: &str = "How many workers code frames, 1 to 16";
+
+const QUEUE_HELP: &str = "How many frames may wait for a worker, 1 to 256";
+
+const WINDOW_HELP: &str = "How many frames of a film may be read and not written, 1 to 64";
+
 const PRESET_HELP: &str = "\
 The coding parameters of all films, each 0 for the default of a frame's maxval";
+
+const FILMS_HELP: &str =
+    "The films to read, 1 to 16: binary Netpbm images (PGM, PPM) one after the other";
 
 const RECORDING_HELP: &str = "\
 The recording to read: lossless codestreams of JPEG-LS one after the other";
@@ -134,6 +143,10 @@ Nothing is written if a line is no step or a step names a source that isn't ther
   now 1
   job 0 0 7";
 
+const SOURCES_HELP: &str = "How many sources the queue has, 1 to 16";
+
+const CAPACITY_HELP: &str = "How many jobs it may hold, 1 to 256";
+
 const STEPS_HELP: &str = "The steps file to read";
 
 const FILM_HELP: &str = "\
@@ -165,71 +178,61 @@ fn file_command<'a>(
     help: &'a str,
     file_help: &'a str,
 ) -> Result<Command<'a>, AllocError> {
-    let file = Arg::new(alloc, "FILE").required(true).help(file_help);
-    Command::new(alloc, name)
-        .about(about)
-        .long_about(help)
-        .arg(file)
+    command_with_help(alloc, name, about, help).arg(file_argument(alloc, file_help))
 }
 
 /// The command that records films.
 fn record_command<'a>(alloc: Global) -> Result<Command<'a>, AllocError> {
-    let workers = Arg::new(alloc, "workers")
-        .long("workers")
-        .value_name("N")
-        .default_value("2")
-        .value_parser(value_parser!(u8).range(1..=16))
-        .help("How many workers code frames, 1 to 16");
-    let queue = Arg::new(alloc, "queue")
-        .long("queue")
-        .value_name("N")
-        .default_value("8")
-        .value_parser(value_parser!(u16).range(1..=256))
-        .help("How many frames may wait for a worker, 1 to 256");
-    let window = Arg::new(alloc, "window")
-        .long("window")
-        .value_name("N")
-        .default_value("4")
-        .value_parser(value_parser!(u8).range(1..=64))
-        .help("How many frames of a film may be read and not written, 1 to 64");
-    let preset = Arg::new(alloc, "preset")
-        .long("preset")
-        .value_name("T1,T2,T3,RESET")
-        .help(PRESET_HELP);
-    let files = Arg::new(alloc, "FILE").required(true).num_args(1..).help(
-        "The films to read, 1 to 16: binary Netpbm images (PGM, PPM) one after the other",
-    );
-    Command::new(alloc, "record")
-        .about("Records films side by side")
-        .long_about(RECORD_HELP)
-        .arg(workers)?
-        .arg(queue)?
-        .arg(window)?
-        .arg(preset)?
-        .arg(files)
+    let workers = value_parser!(u8).range(1..=16);
+    let queue = value_parser!(u16).range(1..=256);
+    let window = value_parser!(u8).range(1..=64);
+    command_with_help(alloc, "record", "Records films side by side", RECORD_HELP)
+        .arg(optional_count(alloc, "workers", "2", WORKERS_HELP).value_parser(workers))?
+        .arg(optional_count(alloc, "queue", "8", QUEUE_HELP).value_parser(queue))?
+        .arg(optional_count(alloc, "window", "4", WINDOW_HELP).value_parser(window))?
+        .arg(option(alloc, "preset", "T1,T2,T3,RESET", PRESET_HELP))?
+        .arg(file_argument(alloc, FILMS_HELP).num_args(1..))
 }
 
 /// The command that replays steps.
 fn replay_command<'a>(alloc: Global) -> Result<Command<'a>, AllocError> {
-    let sources = Arg::new(alloc, "sources")
-        .long("sources")
-        .value_name("N")
-        .required(true)
-        .value_parser(value_parser!(u8))
-        .help("How many sources the queue has, 1 to 16");
-    let capacity = Arg::new(alloc, "capacity")
-        .long("capacity")
-        .value_name("N")
-        .required(true)
-        .value_parser(value_parser!(u32))
-        .help("How many jobs it may hold, 1 to 256");
-    let file = Arg::new(alloc, "FILE").required(true).help(STEPS_HELP);
-    Command::new(alloc, "replay")
-        .about("Replays the steps of a queue")
-        .long_about(REPLAY_HELP)
-        .arg(sources)?
-        .arg(capacity)?
-        .arg(file)
+    command_with_help(alloc, "replay", "Replays the steps of a queue", REPLAY_HELP)
+        .arg(required_count(alloc, "sources", SOURCES_HELP).value_parser(value_parser!(u8)))?
+        .arg(required_count(alloc, "capacity", CAPACITY_HELP).value_parser(value_parser!(u32)))?
+        .arg(file_argument(alloc, STEPS_HELP))
+}
+
+/// A command of this name, with its help in a line and at length.
+fn command_with_help<'a>(
+    alloc: Global,
+    name: &'a str,
+    about: &'a str,
+    help: &'a str,
+) -> Command<'a> {
+    Command::new(alloc, name).about(about).long_about(help)
+}
+
+/// The argument that names a file.
+fn file_argument<'a>(alloc: Global, help: &'a str) -> Arg<'a> {
+    Arg::new(alloc, "FILE").required(true).help(help)
+}
+
+/// An option of this name, whose value is shown in the help by the name `value`.
+fn option<'a>(alloc: Global, name: &'a str, value: &'a str, help: &'a str) -> Arg<'a> {
+    Arg::new(alloc, name)
+        .long(name)
+        .value_name(value)
+        .help(help)
+}
+
+/// An option whose value is a count, `usual` if the option is left out.
+fn optional_count<'a>(alloc: Global, name: &'a str, usual: &'a str, help: &'a str) -> Arg<'a> {
+    option(alloc, name, "N", help).default_value(usual)
+}
+
+/// An option whose value is a count, and which may not be left out.
+fn required_count<'a>(alloc: Global, name: &'a str, help: &'a str) -> Arg<'a> {
+    option(alloc, name, "N", help).required(true)
 }
 
 /// What the words after the program's name ask for.
@@ -263,16 +266,13 @@ fn record_request<'a>(
     ) else {
         return Ok(None);
     };
-    let mut files = Vec::new(alloc);
-    for file in words.get_strs("FILE").unwrap_or(&[]) {
-        files.push(*file)?;
-    }
+    let files = words.get_strs("FILE").unwrap_or(&[]);
     Ok(Some(Request::Record {
         workers,
         queue,
         window,
         preset: words.get_str("preset"),
-        files,
+        files: files.to_vec(alloc)?,
     }))
 }
 

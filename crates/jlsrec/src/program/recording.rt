@@ -140,7 +140,7 @@ where
     }
 }
 
-/// Says how many frames of each film were recorded, or why its recording stopped, and answers the status.
+/// Says why the recording of each film stopped that did, then how many frames of each other film were recorded; answers the status.
 fn say_tracks<R, F, W: Outlet, E: Outlet>(
     alloc: Global,
     files: &[&str],
@@ -157,16 +157,31 @@ fn say_tracks<R, F, W: Outlet, E: Outlet>(
     }
     for (file, track) in files.iter().zip(tracks) {
         if let Ok(frames) = track.result {
-            let Ok(line) = format!(in alloc; "{file}: {frames} frames\n") else {
-                return no_memory(alloc, errors);
-            };
-            if write_bytes(output, line.as_bytes()).is_err() {
-                say(alloc, errors, "output failed");
-                return FAILED;
+            let said = say_count(alloc, file, frames, output, errors);
+            if said != DONE {
+                return said;
             }
         }
     }
     status
+}
+
+/// Says how many frames of a film were recorded, and answers the status.
+fn say_count<W: Outlet, E: Outlet>(
+    alloc: Global,
+    file: &str,
+    frames: u64,
+    output: &mut W,
+    errors: &mut E,
+) -> u8 {
+    let Ok(line) = format!(in alloc; "{file}: {frames} frames\n") else {
+        return no_memory(alloc, errors);
+    };
+    if write_bytes(output, line.as_bytes()).is_err() {
+        say(alloc, errors, "output failed");
+        return FAILED;
+    }
+    DONE
 }
 
 /// The tuning that was chosen: four numbers of 0 to 65535 in decimal digits, with a comma between.
