@@ -140,7 +140,7 @@ where
     }
 }
 
-/// Says why the recording of each film stopped that did, then how many frames of each other film were recorded; answers the status.
+/// Says of each film whose recording stopped why it did, then of each other film how many frames were recorded; answers the status.
 fn say_tracks<R, F, W: Outlet, E: Outlet>(
     alloc: Global,
     files: &[&str],
