@@ -259,21 +259,19 @@ fn record_request<'a>(
     alloc: Global,
     words: &ArgMatches<'a>,
 ) -> Result<Option<Request<'a>>, AllocError> {
-    let (Some(workers), Some(queue), Some(window)) = (
-        words.get_one("workers"),
-        words.get_one("queue"),
-        words.get_one("window"),
-    ) else {
-        return Ok(None);
-    };
-    let files = words.get_strs("FILE").unwrap_or(&[]);
-    Ok(Some(Request::Record {
-        workers,
-        queue,
-        window,
+    let files = words.get_strs("FILE").unwrap_or(&[]).to_vec(alloc)?;
+    Ok(recording_of(words, files))
+}
+
+/// The same, of the films that the words name.
+fn recording_of<'a>(words: &ArgMatches<'a>, files: Vec<&'a str>) -> Option<Request<'a>> {
+    Some(Request::Record {
+        workers: words.get_one("workers")?,
+        queue: words.get_one("queue")?,
+        window: words.get_one("window")?,
         preset: words.get_str("preset"),
-        files: files.to_vec(alloc)?,
-    }))
+        files,
+    })
 }
 
 /// What the words of `replay` ask for, which `clap` has looked at.
@@ -289,6 +287,3 @@ fn replay_request<'a>(words: &ArgMatches<'a>) -> Option<Request<'a>> {
 pub fn usage_fault<'a>(alloc: Global, message: &str) -> Result<Error, AllocError> {
     command(alloc)?.error(ErrorKind::InvalidValue, message)
 }
-
-#[cfg(test)]
-mod tests;

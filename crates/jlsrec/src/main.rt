@@ -9,8 +9,6 @@ mod command_line;
 mod program;
 mod replies;
 mod steps_file;
-#[cfg(test)]
-mod testing;
 
 use ls_frame::Counted;
 use std::process::ExitCode;

@@ -140,23 +140,46 @@ where
     F: FnOnce(&mut Buffered<Counted<R::File>>) -> Result<u64, X> + Drop,
     requires { F.IsAlwaysCallable engine }
 {
-    let alloc = rt.alloc();
-    let opened = match File::open(rt, file) {
-        Ok(opened) => opened,
-        Err(fault) => {
-            say_unopened(alloc, errors, file, &fault);
-            return FAILED;
-        }
-    };
-    let Ok(mut reader) = Buffered::new(alloc, Counted::new(opened)) else {
-        say(alloc, errors, format_args!("{file}: no memory"));
-        return FAILED;
+    let mut reader = match open_film(rt, file, errors) {
+        Ok(reader) => reader,
+        Err(status) => return status,
     };
     match engine(&mut reader) {
         Ok(_frames) => DONE,
         Err(fault) => {
-            say(alloc, errors, format_args!("{file}: {fault}"));
+            say(rt.alloc(), errors, format_args!("{file}: {fault}"));
             FAILED
+        }
+    }
+}
+
+/// Opens a film or a recording; or says why it can't, and gives the status.
+fn open_film<R, E>(rt: &R, file: &str, errors: &mut E) -> Result<Buffered<Counted<R::File>>, u8>
+where
+    R: Files + AllocGlobal,
+    E: Outlet,
+{
+    let opened = open(rt, file, errors)?;
+    match Buffered::new(rt.alloc(), opened) {
+        Ok(reader) => Ok(reader),
+        Err(_) => {
+            say(rt.alloc(), errors, format_args!("{file}: no memory"));
+            Err(FAILED)
+        }
+    }
+}
+
+/// Opens a file; or says why it can't, and gives the status.
+fn open<R, E>(rt: &R, file: &str, errors: &mut E) -> Result<Counted<R::File>, u8>
+where
+    R: Files + AllocGlobal,
+    E: Outlet,
+{
+    match File::open(rt, file) {
+        Ok(opened) => Ok(Counted::new(opened)),
+        Err(fault) => {
+            say_unopened(rt.alloc(), errors, file, &fault);
+            Err(FAILED)
         }
     }
 }
@@ -175,14 +198,8 @@ where
     E: Outlet,
 {
     let alloc = rt.alloc();
-    let opened = match File::open(rt, file) {
-        Ok(opened) => opened,
-        Err(fault) => {
-            say_unopened(alloc, errors, file, &fault);
-            return Err(FAILED);
-        }
-    };
-    let text = match read_text(alloc, &mut Counted::new(opened)) {
+    let mut reader = open(rt, file, errors)?;
+    let text = match read_text(alloc, &mut reader) {
         Ok(text) => text,
         Err(fault) => {
             say(alloc, errors, format_args!("{file}: {fault}"));
@@ -311,6 +328,3 @@ fn say<E: Outlet, D: Display + Drop>(alloc: Global, errors: &mut E, text: D) {
         Err(_) => write_bytes(errors, b"jlsrec: no memory\n"),
     };
 }
-
-#[cfg(test)]
-mod tests;

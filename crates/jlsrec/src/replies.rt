@@ -93,6 +93,3 @@ fn put(line: &mut [u8], filled: usize, text: &[u8]) -> usize
     line[filled..end].copy_from_slice(text);
     end
 }
-
-#[cfg(test)]
-mod tests;

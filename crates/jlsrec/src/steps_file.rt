@@ -222,6 +222,3 @@ fn number_of(word: &[u8], most: u64) -> Option<u64>
     }
     Some(value)
 }
-
-#[cfg(test)]
-mod tests;

@@ -4,10 +4,8 @@
 #![tactic(auto)]
 
 #[cfg(test)]
-mod coding;
-#[cfg(test)]
 mod faults;
 #[cfg(test)]
-mod listing;
+mod films;
 #[cfg(test)]
 mod testing;

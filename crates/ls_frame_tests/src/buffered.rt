@@ -1,11 +1,16 @@
 use crate::testing::{Pieces, Take, check, check_items, check_so, check_takes};
 use ls_frame::{Buffered, Counted, Failed, Feed, FeedFault};
-use std::alloc::{AllocError, Global};
+use std::alloc::Global;
 use std::io::Read;
 use std::process::Abort;
 
 /// The bytes of a piece of a `Buffered`.
 const PIECE: usize = 65_536;
+
+/// A buffered reader over this one.
+fn buffered<R: Read + Drop>(rt: &impl Abort, alloc: Global, inner: R) -> Buffered<R> {
+    Buffered::new(alloc, inner).expect(rt, "memory for a piece")
+}
 
 /// Reads so, by calls with room for so many: what each gives, its bytes, how many bytes were taken then, and how many calls failed.
 type Steps = [(usize, Result<usize, Failed>, &'static [u8], u64); 9];
@@ -41,21 +46,17 @@ fn check_feeds(rt: &impl Abort, reader: &mut impl Feed, steps: Steps) {
 }
 
 #[test]
-fn bytes_go_out_before_a_failure_shows_with_ample_memory(
-    rt: HostRuntime,
-) -> Result<(), AllocError> {
+fn bytes_go_out_before_a_failure_shows_with_ample_memory(rt: HostRuntime) {
     let pieces = Pieces::new(b"abcde", 3, &[1, 2]);
-    let mut reader = Counted::new(Buffered::new(rt.alloc(), pieces)?);
+    let mut reader = Counted::new(buffered(&rt, rt.alloc(), pieces));
     check_feeds(&rt, &mut reader, STEPS);
-    Ok(())
 }
 
 #[test]
-fn failures_below_are_counted_with_ample_memory(rt: HostRuntime) -> Result<(), AllocError> {
+fn failures_below_are_counted_with_ample_memory(rt: HostRuntime) {
     let counted = Counted::new(Pieces::new(b"abcde", 3, &[1, 2]));
-    let mut reader = Buffered::new(rt.alloc(), counted)?;
+    let mut reader = buffered(&rt, rt.alloc(), counted);
     check_feeds(&rt, &mut reader, STEPS);
-    Ok(())
 }
 
 /// Of five bytes three are taken at once; the second piece fails twice, and the third time gives the others. A mark stands in a piece, in
@@ -91,33 +92,31 @@ fn bytes_are_taken_up_to_a_mark_or_memory_is_wanting(rt: HostRuntime) {
 }
 
 #[test]
-fn bytes_are_taken_up_to_a_mark_with_ample_memory(rt: HostRuntime) -> Result<(), AllocError> {
+fn bytes_are_taken_up_to_a_mark_with_ample_memory(rt: HostRuntime) {
     let counted = Counted::new(Pieces::new(b"abcde", 3, &[1, 2]));
-    let mut reader = Buffered::new(rt.alloc(), counted)?;
+    let mut reader = buffered(&rt, rt.alloc(), counted);
     let mut bytes = Vec::new(rt.alloc());
     let all = check_takes(&rt, &mut reader, &mut bytes, &TAKES);
     check_so(&rt, "memory", 0, all);
-    Ok(())
 }
 
 /// The same of a reader that is lent.
 #[test]
-fn a_lent_reader_takes_as_much_with_ample_memory(rt: HostRuntime) -> Result<(), AllocError> {
+fn a_lent_reader_takes_as_much_with_ample_memory(rt: HostRuntime) {
     let counted = Counted::new(Pieces::new(b"abcdef", 3, &[]));
-    let mut reader = Buffered::new(rt.alloc(), counted)?;
+    let mut reader = buffered(&rt, rt.alloc(), counted);
     let mut bytes = Vec::new(rt.alloc());
     let all = check_takes(&rt, &mut &mut reader, &mut bytes, &MARKED);
     check_so(&rt, "memory", 1, all);
-    Ok(())
 }
 
-/// So many bytes, each the number of its place, less what a byte can't hold.
-fn numbered(alloc: Global, count: usize) -> Result<Vec<u8>, AllocError> {
-    let mut bytes = Vec::with_capacity(alloc, count)?;
-    for place in 0..count {
-        bytes.push((place % 251) as u8)?;
+/// The bytes of three pieces, each the number of its place, less what a byte can't hold.
+fn numbered() -> [u8; 3 * PIECE] {
+    let mut bytes = [0u8; 3 * PIECE];
+    for (place, byte) in bytes.iter_mut().enumerate() {
+        *byte = (place % 251) as u8;
     }
-    Ok(bytes)
+    bytes
 }
 
 /// That a reader gives all of these bytes and no more, by calls with room for so many.
@@ -140,15 +139,15 @@ fn check_all(rt: &impl Abort, reader: &mut impl Read, bytes: &[u8], room: usize)
 }
 
 #[test]
-fn pieces_join_with_ample_memory(rt: HostRuntime) -> Result<(), AllocError> {
+fn pieces_join_with_ample_memory(rt: HostRuntime) {
+    let numbered = numbered();
     for count in [0, 1, PIECE - 1, PIECE, PIECE + 1, 2 * PIECE + 7] {
-        let bytes = numbered(rt.alloc(), count)?;
+        let bytes = &numbered[..count];
         for room in [7, 1000] {
-            let mut reader = Buffered::new(rt.alloc(), bytes.as_slice())?;
-            check_all(&rt, &mut reader, &bytes, room);
+            let mut reader = buffered(&rt, rt.alloc(), bytes);
+            check_all(&rt, &mut reader, bytes, room);
         }
     }
-    Ok(())
 }
 
 /// How many calls take all that a reader has, by this mark.
@@ -164,23 +163,21 @@ fn count_takes<R: Feed>(reader: &mut R, mark: u8, bytes: &mut Vec<u8>) -> usize 
 
 /// Each number of a place but the last ends a run of 251 bytes; a piece's end cuts one in two.
 #[test]
-fn pieces_join_by_marks_with_ample_memory(rt: HostRuntime) -> Result<(), AllocError> {
+fn pieces_join_by_marks_with_ample_memory(rt: HostRuntime) {
+    let numbered = numbered();
     for (count, calls) in [(0, 0), (251, 1), (252, 2), (PIECE, 262), (PIECE + 251, 264)] {
-        let want = numbered(rt.alloc(), count)?;
-        let mut reader = Buffered::new(rt.alloc(), Counted::new(want.as_slice()))?;
+        let want = &numbered[..count];
+        let mut reader = buffered(&rt, rt.alloc(), Counted::new(want));
         let mut bytes = Vec::new(rt.alloc());
         let got = count_takes(&mut reader, 250, &mut bytes);
         check(&rt, "calls", count, &got, &calls);
-        check_items(&rt, "bytes", count, &bytes, &want);
+        check_items(&rt, "bytes", count, &bytes, want);
     }
-    Ok(())
 }
 
 /// A piece is asked for whole, and none before its bytes are wanted.
 #[test]
-fn pieces_are_asked_for_when_they_are_wanted_with_ample_memory(
-    rt: HostRuntime,
-) -> Result<(), AllocError> {
+fn pieces_are_asked_for_when_they_are_wanted_with_ample_memory(rt: HostRuntime) {
     // By the number of reads: the bytes taken then, and the farthest that there was room for.
     let taken = [
         (0, 0),
@@ -192,7 +189,7 @@ fn pieces_are_asked_for_when_they_are_wanted_with_ample_memory(
     ];
     for (reads, (given, furthest)) in taken.into_iter().enumerate() {
         let mut pieces = Pieces::new(b"abcde", 4, &[]);
-        let mut reader = Buffered::new(rt.alloc(), &mut pieces)?;
+        let mut reader = buffered(&rt, rt.alloc(), &mut pieces);
         let mut buf = [0u8; 1];
         for at in 0..reads {
             check(&rt, "a read", at, &reader.read(&mut buf).ok(), &Some(1));
@@ -201,18 +198,17 @@ fn pieces_are_asked_for_when_they_are_wanted_with_ample_memory(
         check(&rt, "bytes taken", reads, &pieces.given, &given);
         check(&rt, "room", reads, &pieces.furthest, &furthest);
     }
-    Ok(())
 }
 
 /// Room for a whole piece is handed on, once the piece before was handed out.
 #[test]
-fn room_for_a_piece_is_handed_on_with_ample_memory(rt: HostRuntime) -> Result<(), AllocError> {
-    let mut room = vec![in rt.alloc(); 0u8; PIECE]?;
+fn room_for_a_piece_is_handed_on_with_ample_memory(rt: HostRuntime) {
+    let mut room = [0u8; PIECE];
     let steps: [(usize, &[u8]); 4] = [(2, b"bc"), (3, b"def"), (1, b"g"), (0, b"")];
     // By the number of these steps that are done: the bytes handed out then, with the one before, which are all that were taken.
     for (done, handed_out) in [(1, 3), (2, 6), (3, 7), (4, 7)] {
         let mut pieces = Pieces::new(b"abcdefg", 3, &[]);
-        let mut reader = Buffered::new(rt.alloc(), &mut pieces)?;
+        let mut reader = buffered(&rt, rt.alloc(), &mut pieces);
         let mut byte = [0u8; 1];
         check(&rt, "a byte", done, &reader.read(&mut byte).ok(), &Some(1));
         for (at, (count, bytes)) in steps.into_iter().take(done).enumerate() {
@@ -228,5 +224,4 @@ fn room_for_a_piece_is_handed_on_with_ample_memory(rt: HostRuntime) -> Result<()
         drop(reader);
         check(&rt, "bytes taken", done, &pieces.given, &handed_out);
     }
-    Ok(())
 }

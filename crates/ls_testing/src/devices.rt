@@ -53,8 +53,6 @@ pub enum Mishap {
     Fails(usize),
     /// The call of `write` of this number, from 0, takes nothing.
     TakesNothing(usize),
-    /// Each call of `flush` fails.
-    FailsToFlush,
 }
 
 /// The most bytes that a `Sink` holds.
@@ -106,9 +104,6 @@ impl Write for Sink {
     }
 
     fn flush(&mut self) -> io::Result<()> {
-        if self.mishap == Mishap::FailsToFlush {
-            return Err(io::Error::from(io::ErrorKind::BrokenPipe));
-        }
         Ok(())
     }
 }

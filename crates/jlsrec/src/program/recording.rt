@@ -1,5 +1,5 @@
 //! The command `record`: films are opened, their recordings made, and what came of each is said.
-use crate::program::{DONE, FAILED, USAGE, misused, no_memory, say, say_unopened};
+use crate::program::{DONE, FAILED, USAGE, misused, no_memory, open_film, say, say_unopened};
 use ls_frame::{Buffered, Counted, Outlet, Tuning, keep_blocks, write_bytes};
 use ls_recorder::{OpenGate, Track, record};
 use std::alloc::Global;
@@ -97,29 +97,6 @@ where
     Ok(films)
 }
 
-/// Opens a film; or says why it can't, and gives the status.
-fn open_film<R, E>(rt: &R, file: &str, errors: &mut E) -> Result<Buffered<Counted<R::File>>, u8>
-where
-    R: Files + AllocGlobal,
-    E: Outlet,
-{
-    let alloc = rt.alloc();
-    let opened = match File::open(rt, file) {
-        Ok(opened) => opened,
-        Err(fault) => {
-            say_unopened(alloc, errors, file, &fault);
-            return Err(FAILED);
-        }
-    };
-    match Buffered::new(alloc, Counted::new(opened)) {
-        Ok(buffered) => Ok(buffered),
-        Err(_) => {
-            say(alloc, errors, format_args!("{file}: no memory"));
-            Err(FAILED)
-        }
-    }
-}
-
 /// Makes the file for a film's recording; or says why it can't, and gives the status.
 fn make_recording<R, E>(rt: &R, file: &str, errors: &mut E) -> Result<Counted<R::File>, u8>
 where
@@ -199,13 +176,12 @@ fn tuning_of(preset: Option<&str>) -> Option<Tuning> {
     }
 }
 
-/// A number of 0 to 65535 in decimal digits, with any leading zeros.
+/// A number of 0 to 65535 in decimal digits, with any leading zeros and no sign.
 fn number_of(text: &str) -> Option<u16> {
-    if text.bytes().all(|byte| byte.is_ascii_digit()) {
-        text.parse().ok()
-    } else {
-        None
+    if text.starts_with('+') {
+        return None;
     }
+    text.parse().ok()
 }
 
 /// The first name that is given twice, or is the name of another film's recording.
