@@ -8,3 +8,4 @@ pub mod PackingLemmas
 pub mod ShortWords
 pub mod StuffingLemmas
 pub mod WindowLemmas
+pub mod WordTableLemmas

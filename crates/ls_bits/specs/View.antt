@@ -2,3 +2,4 @@
 pub mod Packing
 pub mod Room
 pub mod Taking
+pub mod WordTables

@@ -14,7 +14,7 @@
 //! ```
 //!
 //! In reading order: `sink` (into memory of its own), `room_sink` (into a vector of the caller's, with no allocation),
-//! `packer` (what both hold), `data`, `source`, `window` (what a source holds), `laws` (what follows from the
+//! `packer` (what both hold), `data`, `source`, `window` (what a source holds), `word_table`, `laws` (what follows from the
 //! definitions alone).
 #![tactic(auto)]
 
@@ -25,8 +25,10 @@ pub mod room_sink;
 pub mod sink;
 pub mod source;
 mod window;
+pub mod word_table;
 
 pub use data::{Data, Stop, data_of};
 pub use room_sink::RoomSink;
 pub use sink::BitSink;
 pub use source::{BitSource, CodeFault};
+pub use word_table::WordTable;

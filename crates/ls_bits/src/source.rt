@@ -6,6 +6,7 @@ ghost use Rattle.ls_bits.specs.Data.{IsData};
 ghost use Rattle.ls_bits.specs.Golomb.{IsGolomb, most_value, TakesWord, GolombFault};
 
 use crate::window::{Window, joined};
+use crate::word_table::WordTable;
 use std::marker::Model;
 use std::mem;
 use thiserror::Error;
@@ -91,6 +92,44 @@ impl<'a> BitSource<'a> {
         self.read_golomb(k, glimit, qbpp)
     }
 
+    /// `take_golomb` of a code whose short words are in a table, which is faster where most words are. `table` is that of the same
+    /// `glimit` and `qbpp`. All else is as there.
+    pub fn take_golomb_by(
+        &mut self,
+        table: &WordTable,
+        k: u32,
+        glimit: u32,
+        qbpp: u32,
+    ) -> Result<u32, CodeFault>
+        requires code { IsGolomb k glimit qbpp }
+        requires table { table.now ≡ record { glimit = glimit; qbpp = qbpp } }
+        ensures ok { IfOk result (λ v. TakesWord k glimit qbpp self.old v self.new) }
+        ensures fault { IfErr result (λ fault. GolombFault k glimit qbpp self.old fault) }
+        ensures word { (v : ℕ) (rest : List Bool) → TakesWord k glimit qbpp self.old v rest
+            → (result ≡ Ok v) × (self.new ≡ rest) }
+    {
+        self.read_golomb_by(table, k, glimit, qbpp)
+    }
+
+    #[inline(always)]
+    fn read_golomb_by(
+        &mut self,
+        table: &WordTable,
+        k: u32,
+        glimit: u32,
+        qbpp: u32,
+    ) -> Result<u32, CodeFault>
+        requires code { IsGolomb k glimit qbpp }
+        requires table { table.now ≡ record { glimit = glimit; qbpp = qbpp } }
+        ensures ok { IfOk result (λ v. TakesWord k glimit qbpp self.old v self.new) }
+        ensures fault { IfErr result (λ fault. GolombFault k glimit qbpp self.old fault) }
+    {
+        if let Some(value) = self.window.take_listed(table, k) {
+            return Ok(value);
+        }
+        self.read_golomb(k, glimit, qbpp)
+    }
+
     #[inline(always)]
     fn read_golomb(&mut self, k: u32, glimit: u32, qbpp: u32) -> Result<u32, CodeFault>
         requires { IsGolomb k glimit qbpp }
@@ -165,7 +204,7 @@ fn read_apart<'a>(window: Window<'a>, k: u32, glimit: u32, qbpp: u32) -> Read<'a
 }
 
 /// The greatest value that has a code word.
-fn most(qbpp: u32) -> u32
+pub(crate) fn most(qbpp: u32) -> u32
     requires { qbpp ≤ 16 }
     ensures { result ≡ most_value qbpp }
 {

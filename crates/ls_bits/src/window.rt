@@ -3,11 +3,12 @@ ghost use Rattle.std.specs.Prelude.{◌≡◌, ◌+◌, ◌-◌, ◌*◌, ◌/�
 ghost use Rattle.ls_bits.specs.Bits.{bits_of, zeros as zero_bits, BeginsWith};
 ghost use Rattle.ls_bits.specs.Stuffing.{unstuff};
 ghost use Rattle.ls_bits.specs.Data.{IsData};
-ghost use Rattle.ls_bits.specs.Golomb.{short_word};
+ghost use Rattle.ls_bits.specs.Golomb.{short_word, escape_zeros, most_value};
 ghost use Rattle.ls_bits.specs.View.Taking.{ZerosFault, LeadingZeros};
 
 use crate::packer::byte_bits;
 use crate::source::CodeFault;
+use crate::word_table::WordTable;
 use std::marker::Model;
 
 /// The word is refilled if it holds fewer bits than this and more are wanted.
@@ -92,6 +93,26 @@ impl<'a> Window<'a> {
         }
         self.held = left;
         Some(value)
+    }
+
+    /// Takes the short code word in front if the table has it: its value. Else takes nothing.
+    #[inline(always)]
+    pub fn take_listed(&mut self, table: &WordTable, k: u32) -> Option<u32>
+        ensures word { IfSome result (λ value. self.old.bits ≡ short_word k value ++ self.new.bits) }
+        ensures few { IfSome result (λ value. value / 2 ^ k < escape_zeros table.now.glimit table.now.qbpp) }
+        ensures small { IfSome result (λ value. value ≤ most_value table.now.qbpp) }
+        ensures none { IfNone result (self.new.bits ≡ self.old.bits) }
+    {
+        self.refill(ENOUGH);
+        if self.held < ENOUGH {
+            return None;
+        }
+        let entry = table.entry(k, low_bits(self.word >> (self.held - 8), 8));
+        if entry == 0 {
+            return None;
+        }
+        self.held -= entry / 256;
+        Some(entry % 256)
     }
 
     /// Takes zeros and the one after them: how many zeros. NotCanonical if more than `most` are in front, OutOfBits
@@ -182,7 +203,7 @@ impl<'a> Window<'a> {
 }
 
 /// The lowest `count` bits of `word`.
-fn low_bits(word: u64, count: u32) -> u32
+pub fn low_bits(word: u64, count: u32) -> u32
     requires { count ≤ 32 }
     ensures { result ≡ word % 2 ^ count }
 {
@@ -200,7 +221,7 @@ pub fn joined(high: u32, low: u32, count: u32) -> u32
 }
 
 /// How many zeros are in front in the lowest `held` bits of `word`; no fewer than `held` if all of them are zeros.
-fn leading_zeros(word: u64, held: u32) -> u32
+pub fn leading_zeros(word: u64, held: u32) -> u32
     requires some { 0 < held }
     requires few { held ≤ 64 }
     ensures { LeadingZeros held word result }

@@ -1,12 +1,15 @@
 -- The words that a decoder takes, and the samples that they are of.
-use Rattle.std.proofs.Common.{◌≡◌, ℕ, ◌≤◌, List, Bool, ◌++◌, ◌∙◌, ap, subst}
+use Rattle.std.proofs.Common.{◌≡◌, ℕ, ◌≤◌, List, Bool, ◌++◌, refl, sym, ◌∙◌, ap, subst}
 use Rattle.ls_bits.specs.declared.source.CodeFault.{CodeFault}
 use Rattle.ls_bits.specs.declared.source.CodeFault.TheVariants.{OutOfBits, NotCanonical}
 use Rattle.ls_bits.specs.Golomb.{IsGolomb, code_word, most_value, TakesWord, GolombFault}
+use Rattle.ls_bits.specs.View.WordTables.{Codes}
 use Rattle.ls_bits.proofs.GolombLaws.{same_word, canonical}
-use Rattle.ls_frame.specs.Parameters.{qbpp_of}
+use Rattle.ls_frame.specs.Parameters.{qbpp_of, limit_of}
 use Rattle.ls_coding.specs.declared.word.Word.{Word}
-use Rattle.ls_coding.specs.View.Plans.{Planned, IsReadBy, IsTheSample, NoSample}
+use Rattle.ls_coding.specs.declared.neighbours.Neighbours.{Neighbours}
+use Rattle.ls_coding.specs.View.States.{Coding}
+use Rattle.ls_coding.specs.View.Plans.{Planned, regular_plan_by, regular_plan, IsReadBy, IsTheSample, NoSample}
 
 no_word : (k glimit qbpp v : ℕ) (bits rest : List Bool) (fault : CodeFault) → IsGolomb k glimit qbpp → GolombFault k glimit qbpp bits fault
     → TakesWord k glimit qbpp bits v rest → ⊥
@@ -67,3 +70,14 @@ pub no_sample_taken : (plan : Planned) (word_of : ℕ → Word) (IsSample : ℕ 
     → bits ≡ code_word (word_of x).k (word_of x).glimit (qbpp_of maxval) (word_of x).value ++ rest → ⊥
 no_sample_taken plan word_of IsSample k glimit qbpp maxval x value bits new rest code took none here small e =
     none x here (taken_is plan word_of k glimit qbpp maxval x value bits new rest code took small e).0
+
+-- ---- the table of the words of regular mode
+
+pub regular_limit : (s : Coding) (n : Neighbours) → (regular_plan s n).glimit ≡ limit_of s.parameters.maxval
+unfolding regular_plan_by
+regular_limit s n = refl
+
+pub same_codes : (words : Codes) (glimit qbpp limit real : ℕ) → words ≡ record { glimit = limit; qbpp = real } → glimit ≡ limit → qbpp ≡ real
+    → words ≡ record { glimit = glimit; qbpp = qbpp }
+same_codes words glimit qbpp limit real e g q =
+    subst (λ n. words ≡ record { glimit = n; qbpp = qbpp }) (sym g) (subst (λ n. words ≡ record { glimit = limit; qbpp = n }) (sym q) e)

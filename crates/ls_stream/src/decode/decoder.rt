@@ -1,6 +1,6 @@
 //! A scan that is being read: its bits, as the events of its rows (T.87 Annex A).
 ghost use Rattle.std.specs.Prelude.{◌≡◌, ◌<◌, ◌≤◌, ◌++◌, [], ℕ, Bool, List, true, false, length, min, IfOk, IfErr};
-ghost use Rattle.ls_frame.specs.Parameters.{qbpp_of};
+ghost use Rattle.ls_frame.specs.Parameters.{qbpp_of, limit_of};
 ghost use Rattle.ls_bits.specs.Stuffing.{unstuff};
 ghost use Rattle.ls_bits.specs.Data.{IsData};
 ghost use Rattle.ls_coding.specs.Samples.{AreSamples, Interrupts};
@@ -12,7 +12,7 @@ ghost use Rattle.ls_coding.specs.View.States.{state_of, context_in, regular_erro
 ghost use Rattle.ls_stream.specs.View.BitFaults.{BreaksSample, BreaksInterruption, BreaksRun};
 ghost use Rattle.ls_stream.specs.View.Decoding.{EndsInLine};
 
-use ls_bits::{BitSource, CodeFault};
+use ls_bits::{BitSource, CodeFault, WordTable};
 use ls_coding::{Neighbours, Regions, State, whole_context};
 use ls_frame::Presets;
 use std::marker::Model;
@@ -25,6 +25,8 @@ pub struct Decoder<'a> {
     qbpp: u32,
     /// The regions of all gradients.
     regions: &'a Regions,
+    /// The short words of regular mode's codes.
+    words: &'a WordTable,
     /// It stands elsewhere, so that the rest of the decoder can be in registers.
     state: &'a mut State,
     source: BitSource<'a>,
@@ -32,14 +34,15 @@ pub struct Decoder<'a> {
 
 impl<'a> Model for Decoder<'a> {
     ghost use Rattle.std.specs.Prelude.{◌≡◌};
-    ghost use Rattle.ls_frame.specs.Parameters.{qbpp_of, IsLegal};
+    ghost use Rattle.ls_frame.specs.Parameters.{qbpp_of, limit_of, IsLegal};
     ghost use Rattle.ls_stream.specs.View.Decoding.{Unread};
 
     ghost Value = { Unread };
 
     ghost view = { λ d. record { state = d.state.now; bits = d.source } };
 
-    ghost invariant = { λ d. (d.state.now.parameters ≡ d.presets) × (d.qbpp ≡ qbpp_of d.presets.maxval) × IsLegal d.presets × (d.regions.now ≡ d.presets) };
+    ghost invariant = { λ d. (d.state.now.parameters ≡ d.presets) × (d.qbpp ≡ qbpp_of d.presets.maxval) × IsLegal d.presets × (d.regions.now ≡ d.presets)
+        × (d.words.now ≡ record { glimit = limit_of d.presets.maxval; qbpp = qbpp_of d.presets.maxval }) };
 }
 
 /// A run that was read: how many samples it has, and whether a sample interrupts it before the line's end.
@@ -54,11 +57,13 @@ impl<'a> Decoder<'a> {
     pub fn new(
         presets: &Presets,
         regions: &'a Regions,
+        words: &'a WordTable,
         state: &'a mut State,
         bytes: &'a [u8],
     ) -> Decoder<'a>
         requires is_data { IsData bytes.now }
         requires regions { regions.now ≡ presets.now }
+        requires words { words.now ≡ record { glimit = limit_of presets.now.maxval; qbpp = qbpp_of presets.now.maxval } }
         requires state { state.old ≡ state_of presets.now [] }
         ensures parameters { result.state.parameters ≡ presets.now }
         ensures state { result.state ≡ state_of presets.now [] }
@@ -69,6 +74,7 @@ impl<'a> Decoder<'a> {
             presets: *presets,
             qbpp: presets.qbpp(),
             regions,
+            words,
             state,
             source: BitSource::new(bytes),
         }
@@ -118,7 +124,9 @@ impl<'a> Decoder<'a> {
         ensures fault { IfErr result (λ fault. BreaksSample self.old.state neighbours.now self.old.bits fault) }
     {
         let plan = self.state.plan_regular_at(context, neighbours);
-        let value = self.source.take_golomb(plan.k(), plan.glimit(), self.qbpp)?;
+        let value = self
+            .source
+            .take_golomb_by(self.words, plan.k(), plan.glimit(), self.qbpp)?;
         self.state.accept_regular(plan, value)
     }
 

@@ -14,7 +14,7 @@ use crate::decode::decoder::Decoder;
 use crate::decode::row::decode_row;
 use crate::lines::clear;
 use crate::shape::Shape;
-use ls_bits::CodeFault;
+use ls_bits::{CodeFault, WordTable};
 use ls_coding::{Regions, State};
 use ls_frame::Presets;
 
@@ -58,7 +58,8 @@ pub fn decode_scan(
     ensures lines { lines.new ≡ lines.old }
 {
     let mut state = State::new(presets);
-    let mut decoder = Decoder::new(presets, regions, &mut state, bytes);
+    let words = WordTable::new(presets.limit(), presets.qbpp());
+    let mut decoder = Decoder::new(presets, regions, &words, &mut state, bytes);
     let read = decode_plane(
         &mut decoder,
         &mut lines.above,

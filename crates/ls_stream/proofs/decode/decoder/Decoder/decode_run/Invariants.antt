@@ -1,5 +1,5 @@
 use Rattle.std.proofs.Common.{◌≡◌, ◌<◌, ℕ, Bool, false, ◌+◌, ◌-◌}
-use Rattle.ls_frame.specs.Parameters.{qbpp_of, IsLegal}
+use Rattle.ls_frame.specs.Parameters.{qbpp_of, limit_of, IsLegal}
 use Rattle.ls_coding.specs.Runs.{run_of}
 use Rattle.ls_coding.specs.View.States.{run_after}
 use Rattle.ls_bits.specs.declared.source.CodeFault.{CodeFault}
@@ -15,6 +15,7 @@ invariant-ones l = record {
   qbpp : l.self-inside.qbpp ≡ qbpp_of l.self-inside.presets.maxval;
   legal : IsLegal l.self-inside.presets;
   regions : l.self-inside.regions.now ≡ l.self-inside.presets;
+  words : l.self-inside.words.now ≡ record { glimit = limit_of l.self-inside.presets.maxval; qbpp = qbpp_of l.self-inside.presets.maxval };
   breaks : (fault : CodeFault) → BreaksRun l.self-inside.state.now.run_index (l.left - l.count) l.self-inside.source fault → BreaksRun l.fn.self.state.run_index l.left l.fn.self.bits fault;
   in_run : IsInRun l.left l.count l.fn.self.state.run_index l.self-inside.state.now.run_index l.fn.self.bits l.self-inside.source;
   states : (count : ℕ) (broken : Bool) → run_after l.self-inside.state.now (run_of count broken) ≡ run_after l.fn.self.state (run_of (l.count + count) broken);
