@@ -52,7 +52,7 @@ impl WordTable {
     }
 
     /// The entry of a byte that is in front: 0 if it begins with no word that the table has.
-    pub fn entry(&self, k: u32, byte: u32) -> u32
+    pub(crate) fn entry(&self, k: u32, byte: u32) -> u32
         requires { byte < 256 }
         ensures { 0 < result → IsEntry self.now k byte result }
     {

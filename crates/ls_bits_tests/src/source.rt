@@ -6,6 +6,7 @@ fn words_are_taken(rt: HostRuntime) {
     for (k, glimit, qbpp, v, bytes) in WORDS {
         let code = Code::new(&rt, k, glimit, qbpp);
         check_answer(&rt, code.take(&mut source_of(bytes)), Ok(v), bytes);
+        check_answer(&rt, code.take_by_table(&mut source_of(bytes)), Ok(v), bytes);
     }
 }
 
@@ -27,6 +28,39 @@ fn the_fault_is_named_if_no_word_is_taken(rt: HostRuntime) {
     for (k, glimit, qbpp, bytes, fault) in NO_WORDS {
         let code = Code::new(&rt, k, glimit, qbpp);
         check_answer(&rt, code.take(&mut source_of(bytes)), Err(fault), bytes);
+        check_answer(
+            &rt,
+            code.take_by_table(&mut source_of(bytes)),
+            Err(fault),
+            bytes,
+        );
+    }
+}
+
+/// k, glimit, qbpp, a value, its word with four bytes 00 after it, and how many bits the word leaves.
+type Listed = (u32, u32, u32, u32, &'static [u8], u64);
+
+const LISTED: [Listed; 7] = [
+    (2, 31, 8, 17, &[0x0a, 0, 0, 0, 0], 33),
+    (3, 12, 5, 7, &[0xf0, 0, 0, 0, 0], 36),
+    (0, 64, 0, 1, &[0x40, 0, 0, 0, 0], 38),
+    (1, 2, 0, 1, &[0xc0, 0, 0, 0, 0], 38),
+    (5, 6, 4, 15, &[0xbc, 0, 0, 0, 0], 34),
+    (5, 6, 4, 16, &[0xc0, 0, 0, 0, 0], 34),
+    (8, 32, 8, 255, &[0xff, 0x40, 0, 0, 0, 0], 38),
+];
+
+#[test]
+fn a_word_of_a_byte_is_found_in_the_table(rt: HostRuntime) {
+    for (k, glimit, qbpp, v, bytes, left) in LISTED {
+        let mut source = source_of(bytes);
+        check_answer(
+            &rt,
+            Code::new(&rt, k, glimit, qbpp).take_by_table(&mut source),
+            Ok(v),
+            bytes,
+        );
+        check_left(&rt, &source, left);
     }
 }
 

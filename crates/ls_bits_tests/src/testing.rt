@@ -4,7 +4,7 @@ ghost use Rattle.ls_bits.specs.Golomb.{IsGolomb};
 ghost use Rattle.ls_bits.specs.View.Room.{Fits};
 
 use ls_bits::laws::words_keep_their_limit;
-use ls_bits::{BitSink, BitSource, CodeFault, RoomSink, data_of};
+use ls_bits::{BitSink, BitSource, CodeFault, RoomSink, WordTable, data_of};
 use std::alloc::{AllocError, Global};
 use std::process::Abort;
 
@@ -97,6 +97,12 @@ impl Code {
     /// The value of the word in front.
     pub fn take(self, source: &mut BitSource<'_>) -> Result<u32, CodeFault> {
         source.take_golomb(self.k, self.glimit, self.qbpp)
+    }
+
+    /// The same, by a table of short words.
+    pub fn take_by_table(self, source: &mut BitSource<'_>) -> Result<u32, CodeFault> {
+        let table = WordTable::new(self.glimit, self.qbpp);
+        source.take_golomb_by(&table, self.k, self.glimit, self.qbpp)
     }
 }
 
