@@ -8,7 +8,7 @@ use crate::steps_file::{read_steps, read_text};
 use clap::Error;
 use clap::error::ErrorKind;
 use ls_film::{code_film, list_film};
-use ls_frame::{Buffered, Counted, Feed, Outlet, write_bytes};
+use ls_frame::{Buffered, Counted, Feed, Outlet, keep_blocks, write_bytes};
 use ls_queue::{QueueFault, Reply, replay};
 use ls_recorder::{PlayFault, play};
 use std::alloc::Global;
@@ -60,6 +60,7 @@ where
     E: Outlet,
 {
     let alloc = rt.alloc();
+    keep_blocks(alloc);
     match read_words(alloc, words) {
         Ok(Request::List { file }) => list(rt, file, output, errors),
         Ok(Request::Code { file }) => {

@@ -127,13 +127,15 @@ impl Images for Codestreams {
     ghost of_device = { is_io };
 
     fn next<R: Feed>(alloc: Global, reader: &mut R) -> Result<Option<Frame>, Unread> {
-        let bytes = match next_stream(alloc, reader) {
+        let mut bytes = match next_stream(alloc, reader) {
             Ok(Some(bytes)) => bytes,
             Ok(None) => return Ok(None),
             Err(NextFault::TooLarge) => return Err(Unread::Stream(StreamFault::TooLarge)),
             Err(NextFault::Io) => return Err(Unread::Io),
             Err(NextFault::NoMemory) => return Err(Unread::Stream(StreamFault::NoMemory)),
         };
+        // The frame's memory can begin behind the codestream then, and not behind room for more of it.
+        bytes.shrink_to_fit();
         match decode_frame(alloc, &bytes) {
             Ok(decoded) => Ok(Some(decoded.frame)),
             Err(fault) => Err(Unread::Stream(fault)),

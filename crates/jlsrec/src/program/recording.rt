@@ -1,6 +1,6 @@
 //! The command `record`: films are opened, their recordings made, and what came of each is said.
 use crate::program::{DONE, FAILED, USAGE, misused, no_memory, open_film, say, say_unopened};
-use ls_frame::{Buffered, Counted, Outlet, Tuning, keep_blocks, write_bytes};
+use ls_frame::{Buffered, Counted, Outlet, Tuning, write_bytes};
 use ls_recorder::{OpenGate, Track, record};
 use std::alloc::Global;
 use std::fs::File;
@@ -45,7 +45,6 @@ where
         say(alloc, errors, format_args!("{file}: given twice"));
         return USAGE;
     }
-    keep_blocks(alloc);
     let films = match open_films(rt, files, tuning, errors) {
         Ok(films) => films,
         Err(status) => return status,

@@ -14,12 +14,14 @@ pub returns-in-Ok-clause-frame : goal.returns-in-Ok-clause-frame
 returns-in-Ok-clause-frame g c =
     let gives = rw c.in-Ok-Some.field-0-is at c.in-Ok-Some.ensures.stream in
     let only = rw c.in-Ok-Some.field-0-is at c.in-Ok-Some.ensures.whole in
-    let spells = rw c.deref.ensures.value at c.in-Ok.ensures.ok.1 in
+    let fitted = rw c.deref.ensures.value at c.in-Ok.ensures.ok.1 in
+    let spells = rw c.shrink_to_fit.ensures.items at fitted in
     gave_codestream _ _ c.in-Ok-Some.bytes.items c.in-Ok.decoded.used c.in-Ok.decoded.frame _ gives only spells
 
 pub returns-clause-stops : goal.returns-clause-stops
 returns-clause-stops g c =
-    let none = rw c.deref.ensures.value at c.in-Err.ensures.fault in
+    let fitted = rw c.deref.ensures.value at c.in-Err.ensures.fault in
+    let none = rw c.shrink_to_fit.ensures.items at fitted in
     let only = rw c.in-Ok-Some.field-0-is at c.in-Ok-Some.ensures.whole in
     let gives = rw c.in-Ok-Some.field-0-is at c.in-Ok-Some.ensures.stream in
     let some = gave_some _ _ _ gives (λ bytes next. next.1.some) in
