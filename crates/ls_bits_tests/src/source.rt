@@ -38,9 +38,9 @@ fn the_fault_is_named_if_no_word_is_taken(rt: HostRuntime) {
 }
 
 /// k, glimit, qbpp, a value, its word with four bytes 00 after it, and how many bits the word leaves.
-type Listed = (u32, u32, u32, u32, &'static [u8], u64);
+type Short = (u32, u32, u32, u32, &'static [u8], u64);
 
-const LISTED: [Listed; 7] = [
+const SHORT: [Short; 7] = [
     (2, 31, 8, 17, &[0x0a, 0, 0, 0, 0], 33),
     (3, 12, 5, 7, &[0xf0, 0, 0, 0, 0], 36),
     (0, 64, 0, 1, &[0x40, 0, 0, 0, 0], 38),
@@ -51,8 +51,8 @@ const LISTED: [Listed; 7] = [
 ];
 
 #[test]
-fn a_word_of_a_byte_is_found_in_the_table(rt: HostRuntime) {
-    for (k, glimit, qbpp, v, bytes, left) in LISTED {
+fn a_short_word_leaves_what_follows_it(rt: HostRuntime) {
+    for (k, glimit, qbpp, v, bytes, left) in SHORT {
         let mut source = source_of(bytes);
         check_answer(
             &rt,
