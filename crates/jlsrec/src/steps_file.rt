@@ -4,7 +4,7 @@ ghost use Rattle.std.specs.List.{prefix_len, slice_split};
 ghost use Rattle.jlsrec.specs.View.StepsReading.{first_word, after_word, number_of, line_of, lines_of, lines_after, left_in, step_of, steps_of, IsReadFault};
 ghost use Rattle.jlsrec.specs.StepsFile.{is_blank, is_end, IsStepsFile, BreaksAt, IsFaultOf};
 
-use ls_frame::{Failed, Feed};
+use ls_frame::Feed;
 use ls_queue::Step;
 use std::alloc::{AllocError, Global};
 use thiserror::Error;
@@ -76,7 +76,7 @@ pub fn read_text<R: Feed>(alloc: Global, reader: &mut R) -> Result<Vec<u8>, Text
                     return Err(TextFault::NoMemory);
                 }
             }
-            Err(Failed) => return Err(TextFault::ReadFailed),
+            Err(_) => return Err(TextFault::ReadFailed),
         }
     }
     Err(TextFault::TooLong)

@@ -85,6 +85,13 @@ impl<R: Feed> Buffered<R> {
 impl<R> Buffered<R> {
     ghost use Rattle.ls_frame.specs.View.Pieces.{in_piece, inner_reader};
 
+    /// The other reader, to look at.
+    pub fn get_ref(&self) -> &R
+        ensures { result.now ≡ inner_reader self.now }
+    {
+        &self.inner
+    }
+
     /// Hands out as many bytes as there are and as `buf` has room for.
     fn hand_out(&mut self, buf: &mut [u8]) -> usize
         ensures bound { result ≤ length buf.new }

@@ -1,8 +1,8 @@
 //! Readers and writers whose failed calls are counted.
-ghost use Rattle.std.specs.Prelude.{◌≡◌, ℕ, ◌<◌, List, OnOk, OnErr, IfOk, IfErr, IfSome, IfNone, is_err, length};
+ghost use Rattle.std.specs.Prelude.{◌≡◌, ℕ, ◌<◌, List, Option, OnOk, OnErr, IfOk, IfErr, IfSome, IfNone, is_err, length};
 ghost use Rattle.std.specs.Io.{ReadsAtMost, WritesAtMost};
 ghost use Rattle.std.specs.Io.KnownBytes.{Keeps, ReadConsumes, WriteAppends};
-ghost use Rattle.ls_frame.specs.View.Devices.{count_after, failed_read};
+ghost use Rattle.ls_frame.specs.View.Devices.{count_after, failed_read, last_after};
 ghost use Rattle.ls_frame.specs.View.Known.{TakesUntil, WasAtEnd};
 
 use std::io;
@@ -10,7 +10,26 @@ use std::io::{Read, Write};
 
 /// A read or a write that the device refused, or a write of a non-empty slice that took nothing.
 #[derive(Clone, Copy, Debug, PartialEq, Eq)]
-pub struct Failed;
+pub struct Failed {
+    /// What kind of failure it was: `WriteZero` of a write that took nothing.
+    pub kind: io::ErrorKind,
+    /// The system's number for it, if the system refused the call.
+    pub number: Option<i32>,
+}
+
+impl From<io::Error> for Failed {
+    ghost use Rattle.std.specs.Prelude.{◌≡◌};
+    ghost use Rattle.std.specs.IoError.{error_kind, raw_os_error};
+
+    ghost from_gives = { λ error failed. (failed.kind ≡ error_kind error) × (failed.number ≡ raw_os_error error) };
+
+    fn from(error: io::Error) -> Failed {
+        Failed {
+            kind: error.kind(),
+            number: error.raw_os_error(),
+        }
+    }
+}
 
 /// Why no bytes were taken.
 #[derive(Clone, Copy, Debug, PartialEq, Eq)]
@@ -53,7 +72,7 @@ pub trait Feed: Read {
     {
         let mut byte = [0u8; 1];
         match self.feed(&mut byte) {
-            Err(Failed) => Err(FeedFault::Io),
+            Err(_) => Err(FeedFault::Io),
             Ok(0) => Ok(None),
             Ok(_) => match bytes.push(byte[0]) {
                 Ok(()) => Ok(Some(byte[0])),
@@ -135,24 +154,45 @@ impl<W: Outlet> Outlet for &mut W {
     }
 }
 
-/// A reader or a writer with the count of its failed calls.
+/// A reader or a writer with the count of its failed calls, and the last of the failures.
 ///
-/// Its plain `read`, `write` and `flush` are those of what it wraps, and leave the count as it is.
+/// Its plain `read`, `write` and `flush` are those of what it wraps, and leave both as they are.
 #[derive(Drop)]
 pub struct Counted<X> {
     inner: X,
     failed: u64,
+    last: Option<Failed>,
 }
 
 impl<X> Counted<X> {
-    ghost use Rattle.ls_frame.specs.View.Devices.{wrapped, failed_calls};
+    ghost use Rattle.std.specs.Prelude.{None, Some};
+    ghost use Rattle.ls_frame.specs.View.Devices.{wrapped, failed_calls, last_failed, risen};
 
     /// Wraps a reader or a writer, with no failed call yet.
     pub fn new(inner: X) -> Counted<X>
         ensures inner { wrapped result ≡ inner }
         ensures none { failed_calls result ≡ 0 }
+        ensures last { last_failed result ≡ None }
     {
-        Counted { inner, failed: 0 }
+        Counted {
+            inner,
+            failed: 0,
+            last: None,
+        }
+    }
+
+    /// What its last failed call of `feed` or `give` answered.
+    pub fn last_failure(&self) -> Option<Failed>
+        ensures { result ≡ last_failed self.now }
+    {
+        self.last
+    }
+
+    /// What is wrapped, to look at.
+    pub fn get_ref(&self) -> &X
+        ensures { result.now ≡ wrapped self.now }
+    {
+        &self.inner
     }
 
     /// What was wrapped.
@@ -161,7 +201,25 @@ impl<X> Counted<X> {
     {
         self.inner
     }
+
+    /// Counts a failed call, keeps what it failed by and hands that on.
+    fn count(&mut self, failure: Failed) -> Failed
+        ensures same { result ≡ failure }
+        ensures inner { wrapped self.new ≡ wrapped self.old }
+        ensures failures { failed_calls self.new ≡ risen (failed_calls self.old) }
+        ensures last { last_failed self.new ≡ Some failure }
+    {
+        self.failed = self.failed.saturating_add(1);
+        self.last = Some(failure);
+        failure
+    }
 }
+
+/// A write of a non-empty slice that took nothing.
+const TOOK_NOTHING: Failed = Failed {
+    kind: io::ErrorKind::WriteZero,
+    number: None,
+};
 
 impl<R: Read> Read for Counted<R> {
     ghost use Rattle.ls_frame.specs.View.Devices.{failed_calls, wrapped};
@@ -178,17 +236,19 @@ impl<R: Read> Read for Counted<R> {
 }
 
 impl<R: Read> Feed for Counted<R> {
-    ghost use Rattle.ls_frame.specs.View.Devices.{failed_calls};
+    ghost use Rattle.ls_frame.specs.View.Devices.{failed_calls, wrapped, last_failed};
 
     ghost failed_reads = { failed_calls };
 
-    fn feed(&mut self, buf: &mut [u8]) -> Result<usize, Failed> {
+    fn feed(&mut self, buf: &mut [u8]) -> Result<usize, Failed>
+        ensures bound { ReadsAtMost result buf.new }
+        ensures bytes { ReadConsumes (R.remaining (wrapped self.old)) (R.remaining (wrapped self.new)) result buf.new }
+        ensures failures { failed_calls self.new ≡ count_after (is_err result) (failed_calls self.old) }
+        ensures last { last_failed self.new ≡ last_after result (last_failed self.old) }
+    {
         match self.inner.read(buf) {
             Ok(given) => Ok(given),
-            Err(_) => {
-                self.failed = self.failed.saturating_add(1);
-                Err(Failed)
-            }
+            Err(error) => Err(self.count(Failed::from(error))),
         }
     }
 
@@ -219,17 +279,21 @@ impl<W: Write> Write for Counted<W> {
 }
 
 impl<W: Write> Outlet for Counted<W> {
-    ghost use Rattle.ls_frame.specs.View.Devices.{failed_calls};
+    ghost use Rattle.ls_frame.specs.View.Devices.{failed_calls, wrapped, last_failed};
 
     ghost failed_writes = { failed_calls };
 
-    fn give(&mut self, buf: &[u8]) -> Result<usize, Failed> {
+    fn give(&mut self, buf: &[u8]) -> Result<usize, Failed>
+        ensures bound { WritesAtMost result buf.now }
+        ensures takes { 0 < length buf.now → IfOk result (λ taken. 0 < taken) }
+        ensures bytes { WriteAppends (W.contents (wrapped self.old)) (W.contents (wrapped self.new)) result buf.now }
+        ensures failures { failed_calls self.new ≡ count_after (is_err result) (failed_calls self.old) }
+        ensures last { last_failed self.new ≡ last_after result (last_failed self.old) }
+    {
         match self.inner.write(buf) {
             Ok(taken) if taken > 0 || buf.is_empty() => Ok(taken),
-            _ => {
-                self.failed = self.failed.saturating_add(1);
-                Err(Failed)
-            }
+            Ok(_) => Err(self.count(TOOK_NOTHING)),
+            Err(error) => Err(self.count(Failed::from(error))),
         }
     }
 

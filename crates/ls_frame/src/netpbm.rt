@@ -10,7 +10,7 @@ ghost use Rattle.ls_frame.specs.View.Known.{Tells, Gave, WasAtEnd, known};
 ghost use Rattle.ls_frame.specs.Netpbm.{BeginsWithHeading, IsImageOf, IsWholeHeading};
 ghost use Rattle.ls_frame.specs.View.Reading.{GivesImage};
 
-use crate::device::{Failed, Feed};
+use crate::device::Feed;
 use crate::frame::Frame;
 use header::{HEADER_BYTES, read_header};
 use raster::read_raster;
@@ -71,7 +71,7 @@ fn read_image<R: Feed>(alloc: Global, reader: &mut R) -> Result<Option<Frame>, N
 {
     let mut first = [0u8; 1];
     match reader.feed(&mut first) {
-        Err(Failed) => return Err(NetpbmFault::Io),
+        Err(_) => return Err(NetpbmFault::Io),
         Ok(0) => return Ok(None),
         Ok(_) => {}
     }

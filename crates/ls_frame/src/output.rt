@@ -3,7 +3,7 @@ ghost use Rattle.std.specs.Prelude.{◌≡◌, ◌<◌, OnOk, IfErr, is_err, len
 ghost use Rattle.std.specs.Io.KnownBytes.{Appends};
 ghost use Rattle.ls_frame.specs.View.Devices.{count_after};
 
-use crate::device::{Failed, Outlet};
+use crate::device::Outlet;
 use thiserror::Error;
 
 /// A write failed when exactly the first `written` bytes had gone out.
@@ -25,7 +25,7 @@ pub fn write_bytes<W: Outlet>(writer: &mut W, bytes: &[u8]) -> Result<(), WriteF
     while written < bytes.len() {
         match writer.give(&bytes[written..]) {
             Ok(taken) => written += taken,
-            Err(Failed) => return Err(WriteFault { written }),
+            Err(_) => return Err(WriteFault { written }),
         }
     }
     Ok(())

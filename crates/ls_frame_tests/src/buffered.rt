@@ -1,4 +1,4 @@
-use crate::testing::{Pieces, Take, check, check_items, check_so, check_takes};
+use crate::testing::{BROKEN, Pieces, Take, check, check_items, check_so, check_takes};
 use ls_frame::{Buffered, Counted, Failed, Feed, FeedFault};
 use std::alloc::Global;
 use std::io::Read;
@@ -20,8 +20,8 @@ const STEPS: Steps = [
     (1, Ok(1), b"a", 0),
     (0, Ok(0), b"", 0),
     (2, Ok(2), b"bc", 0),
-    (2, Err(Failed), b"", 1),
-    (2, Err(Failed), b"", 2),
+    (2, Err(BROKEN), b"", 1),
+    (2, Err(BROKEN), b"", 2),
     (1, Ok(1), b"d", 2),
     (4, Ok(1), b"e", 2),
     (4, Ok(0), b"", 2),
@@ -57,6 +57,8 @@ fn failures_below_are_counted_with_ample_memory(rt: HostRuntime) {
     let counted = Counted::new(Pieces::new(b"abcde", 3, &[1, 2]));
     let mut reader = buffered(&rt, rt.alloc(), counted);
     check_feeds(&rt, &mut reader, STEPS);
+    let last = reader.get_ref().last_failure();
+    check(&rt, "the last failure", 0, &last, &Some(BROKEN));
 }
 
 /// Of five bytes three are taken at once; the second piece fails twice, and the third time gives the others. A mark stands in a piece, in

@@ -1,19 +1,37 @@
-use crate::testing::{Mishap, Pieces, Sink, Take, check, check_items, check_so, check_takes};
+use crate::testing::{
+    BROKEN, Mishap, Pieces, Sink, Take, check, check_items, check_so, check_takes,
+};
 use ls_frame::{Counted, Failed, Feed, FeedFault, Outlet};
 use std::io;
 use std::io::{Read, Write};
 use std::process::Abort;
 
+/// How a write that took nothing fails.
+const NOTHING: Failed = Failed {
+    kind: io::ErrorKind::WriteZero,
+    number: None,
+};
+
 #[test]
-fn failed_feeds_are_counted_one_by_one(rt: HostRuntime) {
+fn a_failure_keeps_its_kind_and_the_number_of_the_system(rt: HostRuntime) {
+    let full = Failed {
+        kind: io::ErrorKind::StorageFull,
+        number: Some(28),
+    };
+    let failed = Failed::from(io::Error::from_raw_os_error(28));
+    check(&rt, "ENOSPC", 0, &failed, &full);
+}
+
+#[test]
+fn failed_feeds_are_counted_one_by_one_and_the_last_is_kept(rt: HostRuntime) {
     let mut reader = Counted::new(Pieces::new(b"abc", 2, &[1, 2, 4]));
     let mut buf = [0u8; 3];
     let steps: [(Result<usize, Failed>, &[u8], u64); 7] = [
         (Ok(2), b"ab", 0),
-        (Err(Failed), b"ab", 1),
-        (Err(Failed), b"ab", 2),
+        (Err(BROKEN), b"ab", 1),
+        (Err(BROKEN), b"ab", 2),
         (Ok(1), b"cb", 2),
-        (Err(Failed), b"cb", 3),
+        (Err(BROKEN), b"cb", 3),
         (Ok(0), b"cb", 3),
         (Ok(0), b"cb", 3),
     ];
@@ -21,8 +39,11 @@ fn failed_feeds_are_counted_one_by_one(rt: HostRuntime) {
         check(&rt, "a feed", i, &reader.feed(&mut buf), &want);
         check_items(&rt, "its bytes", i, &buf[..2], bytes);
         check(&rt, "failures", i, &Feed::failures(&reader), &failures);
+        let last = if i == 0 { None } else { Some(BROKEN) };
+        check(&rt, "the last failure", i, &reader.last_failure(), &last);
     }
-    check(&rt, "bytes given", 0, &reader.into_inner().given, &3);
+    check(&rt, "bytes given", 0, &reader.get_ref().given, &3);
+    check(&rt, "bytes given", 1, &reader.into_inner().given, &3);
 }
 
 /// Where a reader doesn't say otherwise, a byte is taken at a time; of these three the second read fails.
@@ -51,20 +72,22 @@ fn bytes_are_taken_one_by_one_with_ample_memory(rt: HostRuntime) {
 }
 
 /// Steps of a writer that takes two bytes a call, and whose calls 1, 2 and 4 go wrong.
-fn check_gives(rt: &impl Abort, mishap: Mishap) {
+fn check_gives(rt: &impl Abort, mishap: Mishap, failed: Failed) {
     let mut writer = Counted::new(Sink::new(2, &[1, 2, 4], mishap));
     let steps: [(&[u8], Result<usize, Failed>, u64); 7] = [
         (b"abc", Ok(2), 0),
-        (b"c", Err(Failed), 1),
-        (b"cde", Err(Failed), 2),
+        (b"c", Err(failed), 1),
+        (b"cde", Err(failed), 2),
         (b"c", Ok(1), 2),
-        (b"d", Err(Failed), 3),
+        (b"d", Err(failed), 3),
         (b"", Ok(0), 3),
         (b"de", Ok(2), 3),
     ];
     for (i, (bytes, want, failures)) in steps.into_iter().enumerate() {
         check(rt, "a give", i, &writer.give(bytes), &want);
         check(rt, "failures", i, &Outlet::failures(&writer), &failures);
+        let last = if i == 0 { None } else { Some(failed) };
+        check(rt, "the last failure", i, &writer.last_failure(), &last);
     }
     let sink = writer.into_inner();
     check_items(rt, "all bytes", 0, sink.written(), b"abcde");
@@ -72,9 +95,9 @@ fn check_gives(rt: &impl Abort, mishap: Mishap) {
 }
 
 #[test]
-fn failed_gives_are_counted_one_by_one(rt: HostRuntime) {
-    check_gives(&rt, Mishap::Fails);
-    check_gives(&rt, Mishap::TakesNothing);
+fn failed_gives_are_counted_one_by_one_and_the_last_is_kept(rt: HostRuntime) {
+    check_gives(&rt, Mishap::Fails, BROKEN);
+    check_gives(&rt, Mishap::TakesNothing, NOTHING);
 }
 
 /// A plain read.
@@ -87,7 +110,7 @@ fn plain_reads_are_handed_on_and_not_counted(rt: HostRuntime) {
     let broken = Err(io::ErrorKind::BrokenPipe);
     let mut reader = Counted::new(Pieces::new(b"abc", 2, &[0, 2]));
     let mut buf = [0u8; 2];
-    check(&rt, "a feed", 0, &reader.feed(&mut buf), &Err(Failed));
+    check(&rt, "a feed", 0, &reader.feed(&mut buf), &Err(BROKEN));
     check(&rt, "a read", 1, &read(&mut reader, &mut buf), &Ok(2));
     check_items(&rt, "its bytes", 1, &buf, b"ab");
     check(&rt, "a read", 2, &read(&mut reader, &mut buf), &broken);
@@ -102,9 +125,14 @@ fn write<W: Write>(writer: &mut W, bytes: &[u8]) -> Result<usize, io::ErrorKind>
 }
 
 /// A writer whose first call of `give`, later call of `write` and second call of `flush` go wrong, the write so.
-fn check_plain_writes(rt: &impl Abort, mishap: Mishap, want: Result<usize, io::ErrorKind>) {
+fn check_plain_writes(
+    rt: &impl Abort,
+    mishap: Mishap,
+    failed: Failed,
+    want: Result<usize, io::ErrorKind>,
+) {
     let mut writer = Counted::new(Sink::new(2, &[0, 2], mishap));
-    check(rt, "a give", 0, &writer.give(b"abc"), &Err(Failed));
+    check(rt, "a give", 0, &writer.give(b"abc"), &Err(failed));
     check(rt, "a write", 1, &write(&mut writer, b"abc"), &Ok(2));
     check(rt, "a write", 2, &write(&mut writer, b"c"), &want);
     check(rt, "a write", 3, &write(&mut writer, b"c"), &Ok(1));
@@ -119,8 +147,9 @@ fn check_plain_writes(rt: &impl Abort, mishap: Mishap, want: Result<usize, io::E
 
 #[test]
 fn plain_writes_and_flushes_are_handed_on_and_not_counted(rt: HostRuntime) {
-    check_plain_writes(&rt, Mishap::Fails, Err(io::ErrorKind::BrokenPipe));
-    check_plain_writes(&rt, Mishap::TakesNothing, Ok(0));
+    let broken = Err(io::ErrorKind::BrokenPipe);
+    check_plain_writes(&rt, Mishap::Fails, BROKEN, broken);
+    check_plain_writes(&rt, Mishap::TakesNothing, NOTHING, Ok(0));
 }
 
 #[test]

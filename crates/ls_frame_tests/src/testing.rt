@@ -2,11 +2,17 @@
 ghost use Rattle.std.specs.Prelude.{◌≤◌};
 ghost use Rattle.ls_frame_tests.specs.declared.testing.TheConstants.{ROOM};
 
-use ls_frame::{Feed, FeedFault};
+use ls_frame::{Failed, Feed, FeedFault};
 use std::fmt::Debug;
 use std::io;
 use std::io::{Read, Write};
 use std::process::Abort;
+
+/// How the readers and writers here fail.
+pub const BROKEN: Failed = Failed {
+    kind: io::ErrorKind::BrokenPipe,
+    number: None,
+};
 
 /// That a value is the wanted one.
 pub fn check<T: PartialEq + Debug>(rt: &impl Abort, case: &str, at: usize, got: &T, want: &T) {

@@ -1,6 +1,7 @@
 -- Readers and writers whose failed calls are counted.
-use Rattle.std.specs.Prelude.{ℕ, ◌+◌, ◌-◌, ◌^◌, min, Bool, true, false, Result, Ok, Err, if◌then◌else◌}
+use Rattle.std.specs.Prelude.{ℕ, ◌+◌, ◌-◌, ◌^◌, min, Bool, true, false, Result, Ok, Err, Option, Some, if◌then◌else◌}
 use Rattle.ls_frame.specs.declared.device.Counted.{Counted}
+use Rattle.ls_frame.specs.declared.device.Failed.{Failed}
 use Rattle.ls_frame.specs.declared.device.FeedFault.{FeedFault}
 use Rattle.ls_frame.specs.declared.device.FeedFault.TheVariants.{Io, NoMemory}
 
@@ -21,6 +22,11 @@ abbrev pub failed_read : {X : Type 0} → Result X FeedFault → Bool
 failed_read (Ok x) = false
 failed_read (Err fault) = is_read_fault fault
 
+-- the last failure after a call: that of the call if it failed, else the one before
+abbrev pub last_after : {X : Type 0} → Result X Failed → Option Failed → Option Failed
+last_after (Ok x) last = last
+last_after (Err failure) last = Some failure
+
 module _ {X : Type 0} where
   -- what a `Counted` wraps
   abbrev pub wrapped : Counted X → X
@@ -29,3 +35,7 @@ module _ {X : Type 0} where
   -- how many of its calls have failed
   abbrev pub failed_calls : Counted X → ℕ
   failed_calls c = c.failed
+
+  -- the last failure that it met
+  abbrev pub last_failed : Counted X → Option Failed
+  last_failed c = c.last

@@ -8,7 +8,7 @@ ghost use Rattle.ls_frame.specs.View.Reading.{GivesStep, byte_at, digits_at, gap
 ghost use Rattle.ls_frame.specs.Faults.{blames_device, failed_device};
 
 use super::NetpbmFault;
-use crate::device::{Failed, Feed};
+use crate::device::Feed;
 use crate::frame::{Kind, MOST_SAMPLES, sample_count};
 
 /// The most bytes of a header.
@@ -57,7 +57,7 @@ fn next_byte<R: Feed>(reader: &mut R, room: &mut u32) -> Result<u8, NetpbmFault>
     }
     let mut byte = [0u8; 1];
     match reader.feed(&mut byte) {
-        Err(Failed) => Err(NetpbmFault::Io),
+        Err(_) => Err(NetpbmFault::Io),
         Ok(0) => Err(NetpbmFault::Truncated),
         Ok(_) => {
             *room -= 1;

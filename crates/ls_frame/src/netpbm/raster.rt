@@ -9,7 +9,7 @@ ghost use Rattle.ls_frame.specs.View.Reading.{samples_of, begun_of, byte_count, 
 
 use super::NetpbmFault;
 use super::header::Header;
-use crate::device::{Failed, Feed};
+use crate::device::Feed;
 use crate::frame::sample_count;
 use byteorder::{BigEndian, ByteOrder};
 use std::alloc::Global;
@@ -98,7 +98,7 @@ fn feed_after<R: Feed>(
     ensures failures { R.failed_reads reader.new ≡ count_after (failed_device result) (R.failed_reads reader.old) }
 {
     match reader.feed(&mut piece[held..end]) {
-        Err(Failed) => Err(NetpbmFault::Io),
+        Err(_) => Err(NetpbmFault::Io),
         Ok(0) => Err(NetpbmFault::Truncated),
         Ok(given) => Ok(held + given),
     }
