@@ -1,6 +1,6 @@
 //! The words of the command line, read by `clap`.
 use clap::error::ErrorKind;
-use clap::{Arg, ArgMatches, Command, Error, value_parser};
+use clap::{Arg, ArgAction, ArgMatches, Command, Error, value_parser};
 use std::alloc::{AllocError, Global};
 
 /// What the words ask for.
@@ -25,6 +25,10 @@ pub enum Request<'a> {
         window: u8,
         /// The coding parameters that were chosen, as they were written.
         preset: Option<&'a str>,
+        /// The folder for the recordings.
+        into: Option<&'a str>,
+        /// Whether recordings that are there are emptied.
+        replace: bool,
         files: Vec<&'a str>,
     },
     /// The replies of a queue to the steps of a file.
@@ -90,8 +94,10 @@ its own lane, and no other. Once all have ended, a line tells of each FILE that 
 in their order:
   FILE: N frames
 
-All FILEs are opened first, and only then each FILE.jls is made, so that nothing that was recorded before
-is touched unless all FILEs are there.
+All FILEs are opened first, and only then each FILE.jls is made. Nothing that was recorded before is
+lost: a FILE.jls that is there and isn't empty is first renamed to FILE.jls.1, or to the next number
+that is free, unless --replace is given. A named pipe is opened by its own lane, so a camera that
+hasn't started keeps none of the others waiting. A line is written only once its recording is on the disk.
 
   $ jlsrec record left.pgm right.pgm
   left.pgm: 250 frames
@@ -106,6 +112,16 @@ const WINDOW_HELP: &str = "How many frames of a film may be read and not written
 
 const PRESET_HELP: &str = "\
 The coding parameters of all films, each 0 for the default of a frame's maxval";
+
+const INTO_HELP: &str = "\
+The folder for the recordings, which are called as the last parts of their FILEs, with .jls added
+[default: beside each FILE]";
+
+const REPLACE_HELP: &str = "Empty a FILE.jls that is there, in place of renaming it";
+
+const REASONS_HELP: &str = "\
+Say on standard error also what the system says of a fault, and what a file of another kind seems to be;
+on a terminal that is always said";
 
 const FILMS_HELP: &str =
     "The films to read, 1 to 16: binary Netpbm images (PGM, PPM) one after the other";
@@ -178,7 +194,9 @@ fn file_command<'a>(
     help: &'a str,
     file_help: &'a str,
 ) -> Result<Command<'a>, AllocError> {
-    command_with_help(alloc, name, about, help).arg(file_argument(alloc, file_help))
+    command_with_help(alloc, name, about, help)
+        .arg(reasons_flag(alloc))?
+        .arg(file_argument(alloc, file_help))
 }
 
 /// The command that records films.
@@ -191,6 +209,9 @@ fn record_command<'a>(alloc: Global) -> Result<Command<'a>, AllocError> {
         .arg(optional_count(alloc, "queue", "8", QUEUE_HELP).value_parser(queue))?
         .arg(optional_count(alloc, "window", "4", WINDOW_HELP).value_parser(window))?
         .arg(option(alloc, "preset", "T1,T2,T3,RESET", PRESET_HELP))?
+        .arg(option(alloc, "into", "FOLDER", INTO_HELP))?
+        .arg(flag(alloc, "replace", REPLACE_HELP))?
+        .arg(reasons_flag(alloc))?
         .arg(file_argument(alloc, FILMS_HELP).num_args(1..))
 }
 
@@ -199,6 +220,7 @@ fn replay_command<'a>(alloc: Global) -> Result<Command<'a>, AllocError> {
     command_with_help(alloc, "replay", "Replays the steps of a queue", REPLAY_HELP)
         .arg(required_count(alloc, "sources", SOURCES_HELP).value_parser(value_parser!(u8)))?
         .arg(required_count(alloc, "capacity", CAPACITY_HELP).value_parser(value_parser!(u32)))?
+        .arg(reasons_flag(alloc))?
         .arg(file_argument(alloc, STEPS_HELP))
 }
 
@@ -225,6 +247,19 @@ fn option<'a>(alloc: Global, name: &'a str, value: &'a str, help: &'a str) -> Ar
         .help(help)
 }
 
+/// An option without a value.
+fn flag<'a>(alloc: Global, name: &'a str, help: &'a str) -> Arg<'a> {
+    Arg::new(alloc, name)
+        .long(name)
+        .action(ArgAction::SetTrue)
+        .help(help)
+}
+
+/// The option of every command that has it told why a device failed.
+fn reasons_flag<'a>(alloc: Global) -> Arg<'a> {
+    flag(alloc, "reasons", REASONS_HELP)
+}
+
 /// An option whose value is a count, `usual` if the option is left out.
 fn optional_count<'a>(alloc: Global, name: &'a str, usual: &'a str, help: &'a str) -> Arg<'a> {
     option(alloc, name, "N", help).default_value(usual)
@@ -235,22 +270,32 @@ fn required_count<'a>(alloc: Global, name: &'a str, help: &'a str) -> Arg<'a> {
     option(alloc, name, "N", help).required(true)
 }
 
-/// What the words after the program's name ask for.
+/// What the words after the program's name ask for, and whether they ask that it is told why a device failed.
 ///
-/// The error is `clap`'s: a usage fault, help or the version that was asked for, or want of memory.
-pub fn read_words<'a>(alloc: Global, words: &'a [String]) -> Result<Request<'a>, Error> {
+/// The error is `clap`'s: a usage fault, help or the version that was asked for, or out of memory.
+pub fn read_words<'a>(alloc: Global, words: &'a [String]) -> Result<(Request<'a>, bool), Error> {
     let matches = command(alloc)?.try_get_matches_from(words)?;
-    let request = match matches.subcommand() {
-        Some(("list", list)) => list.get_str("FILE").map(|file| Request::List { file }),
-        Some(("code", code)) => code.get_str("FILE").map(|file| Request::Code { file }),
-        Some(("play", play)) => play.get_str("FILE").map(|file| Request::Play { file }),
-        Some(("record", record)) => record_request(alloc, record)?,
-        Some(("replay", replay)) => replay_request(replay),
-        _ => None,
-    };
-    match request {
-        Some(request) => Ok(request),
-        None => Err(usage_fault(alloc, "a command is wanted")?),
+    if let Some((name, words)) = matches.subcommand() {
+        if let Some(request) = request_of(alloc, name, words)? {
+            return Ok((request, words.get_flag("reasons")));
+        }
+    }
+    Err(usage_fault(alloc, "a command is wanted")?)
+}
+
+/// What the words of a command ask for, which `clap` has looked at.
+fn request_of<'a>(
+    alloc: Global,
+    name: &str,
+    words: &ArgMatches<'a>,
+) -> Result<Option<Request<'a>>, AllocError> {
+    match name {
+        "list" => Ok(words.get_str("FILE").map(|file| Request::List { file })),
+        "code" => Ok(words.get_str("FILE").map(|file| Request::Code { file })),
+        "play" => Ok(words.get_str("FILE").map(|file| Request::Play { file })),
+        "record" => record_request(alloc, words),
+        "replay" => Ok(replay_request(words)),
+        _ => Ok(None),
     }
 }
 
@@ -270,6 +315,8 @@ fn recording_of<'a>(words: &ArgMatches<'a>, files: Vec<&'a str>) -> Option<Reque
         queue: words.get_one("queue")?,
         window: words.get_one("window")?,
         preset: words.get_str("preset"),
+        into: words.get_str("into"),
+        replace: words.get_flag("replace"),
         files,
     })
 }

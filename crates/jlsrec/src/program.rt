@@ -1,20 +1,22 @@
 //! The whole program over its words, its files and its two streams.
 mod recording;
 
+use crate::cause::{Cause, Caused};
 use crate::command_line::{Request, read_words, usage_fault};
+use crate::console::Console;
 use crate::program::recording::{Task, record_films};
 use crate::replies::print_replies;
 use crate::steps_file::{read_steps, read_text};
 use clap::Error;
 use clap::error::ErrorKind;
+use ls_files::{Opener, Opens, Source, likeness_of};
 use ls_film::{code_film, list_film};
-use ls_frame::{Buffered, Counted, Feed, Outlet, keep_blocks, write_bytes};
+use ls_frame::{Buffered, Counted, Failed, Feed, Outlet, keep_blocks, write_bytes};
 use ls_queue::{QueueFault, Reply, replay};
 use ls_recorder::{PlayFault, play};
 use std::alloc::Global;
 use std::fmt::Display;
-use std::fs::File;
-use std::io::BufWriter;
+use std::io::{BufWriter, Write};
 use std::rt::{Env, Files};
 use std::sync::Wait;
 use std::thread::Threads;
@@ -27,101 +29,173 @@ const FAILED: u8 = 1;
 
 const USAGE: u8 = 2;
 
+/// What a film or a recording is read by.
+type Reader<'a, O> = Buffered<Counted<Source<'a, O>>>;
+
 /// Reads the words, runs the program and flushes its output.
-pub fn start<R, W, E>(rt: &R, output: &mut W, errors: &mut E) -> u8
+///
+/// The opener is of the same files as the runtime; it opens pipes in the threads of their lanes.
+pub fn start<R, O, W, E>(
+    rt: &R,
+    opener: O,
+    output: &mut Counted<W>,
+    console: &mut Console<'_, E>,
+) -> u8
 where
-    R: Env + Files + AllocGlobal + Threads + Wait + Sync,
+    R: Env + Eprint + Files + AllocGlobal + Threads + Wait + Sync,
+    O: Opens<File = R::File> + Copy + Send,
     R::File: Send,
-    W: Outlet,
+    W: Write,
     E: Outlet,
 {
     let alloc = rt.alloc();
     let status = match words(rt) {
-        Ok(words) => run(rt, &words, output, errors),
-        Err(fault) if fault.kind() == io::ErrorKind::OutOfMemory => no_memory(alloc, errors),
+        Ok(words) => run(rt, opener, &words, output, console),
+        Err(fault) if fault.kind() == io::ErrorKind::OutOfMemory => no_memory(console),
         Err(_) => match usage_fault(alloc, "a word isn't UTF-8") {
-            Ok(error) => answer(alloc, &error, output, errors),
-            Err(_) => no_memory(alloc, errors),
+            Ok(error) => answer(alloc, &error, output, console),
+            Err(_) => no_memory(console),
         },
     };
-    finish(alloc, status, output, errors)
+    finish(status, output, console)
 }
 
-/// The program over the words after its name: writes to `output` and `errors` what goes to standard
-/// output and standard error, and answers the status.
+/// The program over the words after its name: writes to `output` what goes to standard output, says on the console what goes to
+/// standard error, and answers the status.
 ///
 /// `code` writes each codestream to `output` itself, and `play` each image, so that what was written is out. `list` and `replay` write by way of a
 /// buffer, which is flushed at the end.
-pub fn run<R, W, E>(rt: &R, words: &[String], output: &mut W, errors: &mut E) -> u8
+pub fn run<R, O, W, E>(
+    rt: &R,
+    opener: O,
+    words: &[String],
+    output: &mut Counted<W>,
+    console: &mut Console<'_, E>,
+) -> u8
 where
-    R: Files + AllocGlobal + Threads + Wait + Sync,
+    R: Eprint + Files + AllocGlobal + Threads + Wait + Sync,
+    O: Opens<File = R::File> + Copy + Send,
     R::File: Send,
-    W: Outlet,
+    W: Write,
     E: Outlet,
 {
     let alloc = rt.alloc();
     keep_blocks(alloc);
     match read_words(alloc, words) {
-        Ok(Request::List { file }) => list(rt, file, output, errors),
-        Ok(Request::Code { file }) => {
-            read_file(rt, file, errors, |film| code_film(alloc, film, output))
+        Ok((request, reasons)) => {
+            console.tell_reasons(reasons);
+            do_request(rt, opener, request, output, console)
         }
-        Ok(
-            Request::Record {
-                workers,
-                queue,
-                window,
-                preset,
-                files,
-            },
-        ) => {
+        Err(error) => answer(alloc, &error, output, console),
+    }
+}
+
+/// Does what the words ask for, and answers the status.
+fn do_request<R, O, W, E>(
+    rt: &R,
+    opener: O,
+    request: Request<'_>,
+    output: &mut Counted<W>,
+    console: &mut Console<'_, E>,
+) -> u8
+where
+    R: Eprint + Files + AllocGlobal + Threads + Wait + Sync,
+    O: Opens<File = R::File> + Copy + Send,
+    R::File: Send,
+    W: Write,
+    E: Outlet,
+{
+    match request {
+        Request::List { file } => list(rt, file, output, console),
+        Request::Code { file } => code(rt, file, output, console),
+        Request::Play { file } => show(rt, file, output, console),
+        Request::Record {
+            workers,
+            queue,
+            window,
+            preset,
+            into,
+            replace,
+            files,
+        } => {
             let task = Task {
                 workers: usize::from(workers),
                 queue: usize::from(queue),
                 window: usize::from(window),
                 preset,
+                into,
+                replace,
                 files,
             };
-            record_films(rt, task, output, errors)
+            record_films(rt, opener, &task, output, console)
         }
-        Ok(Request::Play { file }) => {
-            read_file(rt, file, errors, |recording| show(alloc, recording, output))
-        }
-        Ok(
-            Request::Replay {
-                sources,
-                capacity,
-                file,
-            },
-        ) => match replies_to(rt, sources, capacity, file, errors) {
-            Ok(replies) => write_replies(alloc, file, &replies, output, errors),
+        Request::Replay {
+            sources,
+            capacity,
+            file,
+        } => match replies_to(rt, sources, capacity, file, console) {
+            Ok(replies) => write_replies(rt.alloc(), file, &replies, output, console),
             Err(status) => status,
         },
-        Err(error) => answer(alloc, &error, output, errors),
     }
 }
 
 /// Lists a film by way of a buffer.
-fn list<R, W, E>(rt: &R, file: &str, output: &mut W, errors: &mut E) -> u8
+fn list<R, W, E>(rt: &R, file: &str, output: &mut Counted<W>, console: &mut Console<'_, E>) -> u8
 where
-    R: Files + AllocGlobal,
-    W: Outlet,
+    R: Eprint + Files + AllocGlobal,
+    W: Write,
     E: Outlet,
 {
-    let alloc = rt.alloc();
-    let Ok(buffered) = BufWriter::new(alloc, output) else {
-        return no_memory(alloc, errors);
+    let Ok(buffered) = BufWriter::new(rt.alloc(), output) else {
+        return no_memory(console);
     };
     let mut lines = Counted::new(buffered);
-    let status = read_file(rt, file, errors, |film| list_film(alloc, film, &mut lines));
-    let status = finish(alloc, status, &mut lines, errors);
+    let status = match open_film(rt, file, console) {
+        Ok(mut film) => {
+            let result = list_film(rt.alloc(), &mut film, &mut lines);
+            conclude(file, result, &film, lines.last_failure(), console)
+        }
+        Err(status) => status,
+    };
+    let status = finish(status, &mut lines, console);
     // A buffer that is dropped writes again what couldn't be written.
     let (_output, _unwritten) = lines.into_inner().into_parts();
     status
 }
 
-/// Plays a recording to a writer that is lent.
-fn show<R: Feed, W: Outlet>(
+/// Codes a film.
+fn code<R, W, E>(rt: &R, file: &str, output: &mut Counted<W>, console: &mut Console<'_, E>) -> u8
+where
+    R: Eprint + Files + AllocGlobal,
+    W: Write,
+    E: Outlet,
+{
+    let mut film = match open_film(rt, file, console) {
+        Ok(film) => film,
+        Err(status) => return status,
+    };
+    let result = code_film(rt.alloc(), &mut film, output);
+    conclude(file, result, &film, output.last_failure(), console)
+}
+
+/// Plays a recording.
+fn show<R, W, E>(rt: &R, file: &str, output: &mut Counted<W>, console: &mut Console<'_, E>) -> u8
+where
+    R: Eprint + Files + AllocGlobal,
+    W: Write,
+    E: Outlet,
+{
+    let mut recording = match open_film(rt, file, console) {
+        Ok(recording) => recording,
+        Err(status) => return status,
+    };
+    let result = play_lent(rt.alloc(), &mut recording, output);
+    conclude(file, result, &recording, output.last_failure(), console)
+}
+
+/// Plays a recording that is lent to a writer that is lent.
+fn play_lent<R: Feed, W: Outlet>(
     alloc: Global,
     recording: &mut R,
     output: &mut W,
@@ -132,54 +206,84 @@ fn show<R: Feed, W: Outlet>(
     }
 }
 
-/// Opens a file, has an engine read it, says why either failed, and answers the status.
-fn read_file<R, E, X, F>(rt: &R, file: &str, errors: &mut E, engine: F) -> u8
+/// Says why an engine over a file stopped, if it did, and answers the status. `written` is the last failure of what it wrote to.
+fn conclude<O, X, E>(
+    file: &str,
+    outcome: Result<u64, X>,
+    reader: &Reader<'_, O>,
+    written: Option<Failed>,
+    console: &mut Console<'_, E>,
+) -> u8
 where
-    R: Files + AllocGlobal,
+    O: Opens,
+    X: Caused + Copy + Display + Drop,
     E: Outlet,
-    X: Display + Drop,
-    F: FnOnce(&mut Buffered<Counted<R::File>>) -> Result<u64, X> + Drop,
-    requires { F.IsAlwaysCallable engine }
 {
-    let mut reader = match open_film(rt, file, errors) {
-        Ok(reader) => reader,
-        Err(status) => return status,
-    };
-    match engine(&mut reader) {
+    match outcome {
         Ok(_frames) => DONE,
         Err(fault) => {
-            say(rt.alloc(), errors, format_args!("{file}: {fault}"));
+            console.say(format_args!("{file}: {fault}"));
+            explain(file, fault.cause(), reader, written, console);
             FAILED
         }
     }
 }
 
-/// Opens a film or a recording; or says why it can't, and gives the status.
-fn open_film<R, E>(rt: &R, file: &str, errors: &mut E) -> Result<Buffered<Counted<R::File>>, u8>
+/// Says what there is to say of a fault's cause.
+fn explain<O, E>(
+    file: &str,
+    cause: Cause,
+    reader: &Reader<'_, O>,
+    written: Option<Failed>,
+    console: &mut Console<'_, E>,
+)
 where
-    R: Files + AllocGlobal,
+    O: Opens,
     E: Outlet,
 {
-    let opened = open(rt, file, errors)?;
-    match Buffered::new(rt.alloc(), opened) {
-        Ok(reader) => Ok(reader),
-        Err(_) => {
-            say(rt.alloc(), errors, format_args!("{file}: no memory"));
+    let read = reader.get_ref();
+    match cause {
+        Cause::Reading => console.blame(file, read.last_failure()),
+        Cause::Writing => console.blame(file, written),
+        Cause::Format => console.liken(file, likeness_of(read.get_ref().front())),
+        Cause::Other => {}
+    }
+}
+
+/// Opens a film or a recording, and waits for that if it is a named pipe; or says why it can't, and gives the status.
+fn open_film<'a, R, E>(
+    rt: &'a R,
+    file: &'a str,
+    console: &mut Console<'_, E>,
+) -> Result<Reader<'a, Opener<'a, R>>, u8>
+where
+    R: Eprint + Files + AllocGlobal,
+    E: Outlet,
+{
+    match Source::open(Opener::new(rt), file) {
+        Ok(source) => buffered(rt.alloc(), file, source, console),
+        Err(fault) => {
+            console.say_unopened(file, &fault);
             Err(FAILED)
         }
     }
 }
 
-/// Opens a file; or says why it can't, and gives the status.
-fn open<R, E>(rt: &R, file: &str, errors: &mut E) -> Result<Counted<R::File>, u8>
+/// Reads a file by way of a buffer; or says that there is no memory for one, and gives the status.
+fn buffered<'a, O, E>(
+    alloc: Global,
+    file: &str,
+    source: Source<'a, O>,
+    console: &mut Console<'_, E>,
+) -> Result<Reader<'a, O>, u8>
 where
-    R: Files + AllocGlobal,
+    O: Opens + Drop,
     E: Outlet,
 {
-    match File::open(rt, file) {
-        Ok(opened) => Ok(Counted::new(opened)),
-        Err(fault) => {
-            say_unopened(rt.alloc(), errors, file, &fault);
+    match Buffered::new(alloc, Counted::new(source)) {
+        Ok(reader) => Ok(reader),
+        Err(_) => {
+            console.say(format_args!("{file}: no memory"));
             Err(FAILED)
         }
     }
@@ -192,42 +296,58 @@ fn replies_to<R, E>(
     sources: u8,
     capacity: u32,
     file: &str,
-    errors: &mut E,
+    console: &mut Console<'_, E>,
 ) -> Result<Vec<Reply>, u8>
 where
-    R: Files + AllocGlobal,
+    R: Eprint + Files + AllocGlobal,
     E: Outlet,
 {
     let alloc = rt.alloc();
-    let mut reader = open(rt, file, errors)?;
-    let text = match read_text(alloc, &mut reader) {
-        Ok(text) => text,
-        Err(fault) => {
-            say(alloc, errors, format_args!("{file}: {fault}"));
-            return Err(FAILED);
-        }
-    };
+    let text = read_steps_text(rt, file, console)?;
     let steps = match read_steps(alloc, &text) {
         Ok(steps) => steps,
         Err(fault) => {
-            say(alloc, errors, format_args!("{file}: {fault}"));
+            console.say(format_args!("{file}: {fault}"));
             return Err(FAILED);
         }
     };
     match replay(alloc, sources, capacity as usize, &steps) {
         Ok(replies) => Ok(replies),
-        Err(QueueFault::Sources) => Err(misused(errors, b"jlsrec: sources\n")),
-        Err(QueueFault::Capacity) => Err(misused(errors, b"jlsrec: capacity\n")),
+        Err(QueueFault::Sources) => Err(misused(console, b"jlsrec: sources\n")),
+        Err(QueueFault::Capacity) => Err(misused(console, b"jlsrec: capacity\n")),
         Err(fault) => {
-            say(alloc, errors, format_args!("{file}: {fault}"));
+            console.say(format_args!("{file}: {fault}"));
+            Err(FAILED)
+        }
+    }
+}
+
+/// The bytes of a steps file; or says why they can't be had, and gives the status.
+fn read_steps_text<R, E>(rt: &R, file: &str, console: &mut Console<'_, E>) -> Result<Vec<u8>, u8>
+where
+    R: Eprint + Files + AllocGlobal,
+    E: Outlet,
+{
+    let mut reader = match Source::open(Opener::new(rt), file) {
+        Ok(source) => Counted::new(source),
+        Err(fault) => {
+            console.say_unopened(file, &fault);
+            return Err(FAILED);
+        }
+    };
+    match read_text(rt.alloc(), &mut reader) {
+        Ok(text) => Ok(text),
+        Err(fault) => {
+            console.say(format_args!("{file}: {fault}"));
+            console.blame(file, reader.last_failure());
             Err(FAILED)
         }
     }
 }
 
 /// Says a usage fault that `clap` doesn't know, for which it takes no memory.
-fn misused<E: Outlet>(errors: &mut E, line: &[u8]) -> u8 {
-    let _refused = write_bytes(errors, line);
+fn misused<E: Outlet>(console: &mut Console<'_, E>, line: &[u8]) -> u8 {
+    console.write(line);
     USAGE
 }
 
@@ -236,96 +356,93 @@ fn write_replies<W, E>(
     alloc: Global,
     file: &str,
     replies: &[Reply],
-    output: &mut W,
-    errors: &mut E,
+    output: &mut Counted<W>,
+    console: &mut Console<'_, E>,
 ) -> u8
 where
-    W: Outlet,
+    W: Write,
     E: Outlet,
 {
     let Ok(buffered) = BufWriter::new(alloc, output) else {
-        return no_memory(alloc, errors);
+        return no_memory(console);
     };
     let mut lines = Counted::new(buffered);
     let status = match print_replies(&mut lines, replies) {
         Ok(()) => DONE,
         Err(fault) => {
-            say(alloc, errors, format_args!("{file}: {fault}"));
+            console.say(format_args!("{file}: {fault}"));
+            console.blame(file, lines.last_failure());
             FAILED
         }
     };
-    let status = finish(alloc, status, &mut lines, errors);
+    let status = finish(status, &mut lines, console);
     // A buffer that is dropped writes again what couldn't be written.
     let (_output, _unwritten) = lines.into_inner().into_parts();
     status
 }
 
-/// Says why a file wasn't opened.
-fn say_unopened<E: Outlet>(alloc: Global, errors: &mut E, file: &str, fault: &io::Error) {
-    if fault.kind() == io::ErrorKind::OutOfMemory {
-        say(alloc, errors, format_args!("{file}: no memory"));
-    } else {
-        say(alloc, errors, format_args!("{file}: can't open"));
-    }
-}
-
 /// Shows what `clap` answers in place of a request.
-fn answer<W: Outlet, E: Outlet>(
+fn answer<W: Write, E: Outlet>(
     alloc: Global,
     error: &Error,
-    output: &mut W,
-    errors: &mut E,
+    output: &mut Counted<W>,
+    console: &mut Console<'_, E>,
 ) -> u8 {
     if error.kind() == ErrorKind::OutOfMemory {
-        return no_memory(alloc, errors);
+        return no_memory(console);
     }
     let Ok(text) = error.to_string(alloc) else {
-        return no_memory(alloc, errors);
+        return no_memory(console);
     };
     if error.use_stderr() {
-        let _refused = write_bytes(errors, text.as_bytes());
+        console.write(text.as_bytes());
         return USAGE;
     }
-    match write_bytes(output, text.as_bytes()) {
+    write_text(text.as_bytes(), output, console)
+}
+
+/// Writes a text to standard output, or says that it can't; answers the status.
+fn write_text<W: Write, E: Outlet>(
+    text: &[u8],
+    output: &mut Counted<W>,
+    console: &mut Console<'_, E>,
+) -> u8 {
+    match write_bytes(output, text) {
         Ok(()) => DONE,
-        Err(_) => {
-            say(alloc, errors, "output failed");
-            FAILED
-        }
+        Err(_) => say_unwritten(output.last_failure(), console),
     }
 }
 
 /// Flushes `output`, unless a write to it has failed, and says the status to end with: that of a failure if the
 /// flush is refused.
-fn finish<W: Outlet, E: Outlet>(alloc: Global, status: u8, output: &mut W, errors: &mut E) -> u8 {
+fn finish<W: Write, E: Outlet>(
+    status: u8,
+    output: &mut Counted<W>,
+    console: &mut Console<'_, E>,
+) -> u8 {
     if Outlet::failures(output) > 0 {
         return status;
     }
     match output.flush() {
         Ok(()) => status,
-        Err(_) => {
-            say(alloc, errors, "output failed");
-            FAILED
-        }
+        Err(fault) => say_unwritten(Some(Failed::from(fault)), console),
     }
 }
 
+/// Says that standard output failed.
+fn say_unwritten<E: Outlet>(failure: Option<Failed>, console: &mut Console<'_, E>) -> u8 {
+    console.say("output failed");
+    console.blame("standard output", failure);
+    FAILED
+}
+
 /// Says that memory was refused before there was a request.
-fn no_memory<E: Outlet>(alloc: Global, errors: &mut E) -> u8 {
-    say(alloc, errors, "no memory");
+fn no_memory<E: Outlet>(console: &mut Console<'_, E>) -> u8 {
+    console.say_no_memory();
     FAILED
 }
 
 /// The words after the program's name.
 fn words<R: Env + AllocGlobal>(rt: &R) -> io::Result<Vec<String>> {
     Ok(env::args(rt)?.skip(1).collect(rt.alloc())?)
-}
-
-/// Writes a line of text, or says that there is no memory for it.
-fn say<E: Outlet, D: Display + Drop>(alloc: Global, errors: &mut E, text: D) {
-    let line = format!(in alloc; "jlsrec: {text}\n");
-    let _refused = match &line {
-        Ok(line) => write_bytes(errors, line.as_bytes()),
-        Err(_) => write_bytes(errors, b"jlsrec: no memory\n"),
-    };
 }

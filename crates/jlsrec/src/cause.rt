@@ -1,0 +1,62 @@
+//! What faults come of.
+use ls_film::FilmFault;
+use ls_frame::NetpbmFault;
+use ls_recorder::{LaneFault, PlayFault};
+use ls_stream::StreamFault;
+
+/// What a fault comes of.
+#[derive(Clone, Copy, Debug, PartialEq, Eq)]
+pub enum Cause {
+    /// A read failed.
+    Reading,
+    /// A write failed.
+    Writing,
+    /// The file isn't of the kind that was wanted: its first bytes show it.
+    Format,
+    Other,
+}
+
+/// A fault that has a cause.
+pub trait Caused {
+    fn cause(&self) -> Cause;
+}
+
+impl Caused for FilmFault {
+    fn cause(&self) -> Cause {
+        match self {
+            FilmFault::Input(number, fault) => cause_of_input(*number, *fault),
+            FilmFault::Output(_) => Cause::Writing,
+            _ => Cause::Other,
+        }
+    }
+}
+
+impl Caused for LaneFault {
+    fn cause(&self) -> Cause {
+        match self {
+            LaneFault::Input(number, fault) => cause_of_input(*number, *fault),
+            LaneFault::Output(_) => Cause::Writing,
+            _ => Cause::Other,
+        }
+    }
+}
+
+impl Caused for PlayFault {
+    fn cause(&self) -> Cause {
+        match self {
+            PlayFault::Stream(0, StreamFault::NotSoi) => Cause::Format,
+            PlayFault::Io(_) => Cause::Reading,
+            PlayFault::Output(_) => Cause::Writing,
+            _ => Cause::Other,
+        }
+    }
+}
+
+/// What it comes of that a frame of a film can't be read.
+fn cause_of_input(number: u64, fault: NetpbmFault) -> Cause {
+    match fault {
+        NetpbmFault::Io => Cause::Reading,
+        NetpbmFault::BadMagic if number == 0 => Cause::Format,
+        _ => Cause::Other,
+    }
+}

@@ -1,0 +1,114 @@
+//! What the program says on standard error.
+use ls_frame::{Failed, Outlet, write_bytes};
+use std::alloc::{AllocError, Global};
+use std::fmt::Display;
+use std::io;
+
+/// Standard error, and how much is said there.
+#[derive(Drop)]
+pub struct Console<'e, E> {
+    alloc: Global,
+    errors: &'e mut E,
+    /// Whether it is a terminal.
+    is_terminal: bool,
+    /// Whether it is told why a device failed.
+    reasons: bool,
+}
+
+impl<'e, E: Outlet> Console<'e, E> {
+    pub fn new(alloc: Global, errors: &'e mut E, is_terminal: bool) -> Console<'e, E> {
+        Console {
+            alloc,
+            errors,
+            is_terminal,
+            reasons: is_terminal,
+        }
+    }
+
+    /// Has it told why a device failed, also where it isn't a terminal.
+    pub fn tell_reasons(&mut self, reasons: bool) {
+        self.reasons = self.reasons || reasons;
+    }
+
+    pub fn is_terminal(&self) -> bool {
+        self.is_terminal
+    }
+
+    pub fn reasons(&self) -> bool {
+        self.reasons
+    }
+
+    /// Writes a line, or says that there is no memory for it.
+    pub fn say<D: Display + Drop>(&mut self, text: D) {
+        let line = format!(in self.alloc; "jlsrec: {text}\n");
+        match &line {
+            Ok(line) => self.write(line.as_bytes()),
+            Err(_) => self.write(b"jlsrec: no memory\n"),
+        }
+    }
+
+    /// Writes a text as it is. That it is refused changes nothing.
+    pub fn write(&mut self, text: &[u8]) {
+        let _refused = write_bytes(self.errors, text);
+    }
+
+    /// Says that memory was refused before there was anything to say it of.
+    pub fn say_no_memory(&mut self) {
+        self.write(b"jlsrec: no memory\n");
+    }
+
+    /// Says why a file can't be opened or made.
+    pub fn say_unopened(&mut self, file: &str, fault: &io::Error) {
+        if fault.kind() == io::ErrorKind::OutOfMemory {
+            self.say(format_args!("{file}: no memory"));
+        } else {
+            self.say(format_args!("{file}: can't open"));
+            self.blame(file, Some(Failed::from(*fault)));
+        }
+    }
+
+    /// Says how what stood in a recording's place is called now, if that is told.
+    pub fn mention(&mut self, path: &str, kept: &str) {
+        if self.reasons {
+            self.say(format_args!("{path}: renamed to {kept}"));
+        }
+    }
+
+    /// Says what a file seems to be, if that is told.
+    pub fn liken(&mut self, file: &str, likeness: Option<&str>) {
+        if let Some(likeness) = likeness {
+            if self.reasons {
+                self.say(format_args!("{file}: ({likeness})"));
+            }
+        }
+    }
+
+    /// Says what the system says of a failure, if that is told and there was one.
+    pub fn blame(&mut self, file: &str, failure: Option<Failed>) {
+        if let Some(failure) = failure {
+            if self.reasons {
+                match text_of(self.alloc, failure) {
+                    Ok(text) => self.say(format_args!("{file}: ({})", without_number(&text))),
+                    Err(AllocError) => self.say_no_memory(),
+                }
+            }
+        }
+    }
+}
+
+/// What the system says of a failure, with its number.
+fn text_of(alloc: Global, failure: Failed) -> Result<String, AllocError> {
+    let error = match failure.number {
+        Some(number) => io::Error::from_raw_os_error(number),
+        None => io::Error::from(failure.kind),
+    };
+    error.to_string(alloc)
+}
+
+/// A text of the system without its number.
+fn without_number(text: &str) -> &str {
+    match text.split_once(" (os error ") {
+        Some((text, _)) => text,
+        None => text,
+    }
+}

@@ -1,0 +1,58 @@
+//! Which file something is, whatever it is called.
+use std::fs;
+use std::fs::{Files, Metadata};
+use std::os::unix::fs::MetadataExt;
+
+/// A file by its device and its inode.
+#[derive(Clone, Copy, Debug, PartialEq, Eq)]
+pub struct Identity {
+    device: u64,
+    inode: u64,
+}
+
+impl Identity {
+    /// Which file this is the metadata of.
+    pub fn of(metadata: &Metadata) -> Identity {
+        Identity {
+            device: metadata.dev(),
+            inode: metadata.ino(),
+        }
+    }
+}
+
+/// A name in a folder, however the folder is spelled.
+#[derive(Clone, Copy, Debug, PartialEq, Eq)]
+pub struct Spot<'a> {
+    folder: Identity,
+    name: &'a str,
+}
+
+impl<'a> Spot<'a> {
+    /// Where a path leads; `None` if its folder can't be looked at.
+    pub fn of<R: Files>(rt: &R, path: &'a str) -> Option<Spot<'a>> {
+        match fs::metadata(rt, folder_of(path)) {
+            Ok(metadata) => Some(Spot {
+                folder: Identity::of(&metadata),
+                name: last_part(path),
+            }),
+            Err(_) => None,
+        }
+    }
+}
+
+/// The folder that a path's last part stands in.
+pub fn folder_of(path: &str) -> &str {
+    match path.rsplit_once('/') {
+        None => ".",
+        Some(("", _)) => "/",
+        Some((folder, _)) => folder,
+    }
+}
+
+/// The last part of a path.
+pub fn last_part(path: &str) -> &str {
+    match path.rsplit_once('/') {
+        None => path,
+        Some((_, last)) => last,
+    }
+}

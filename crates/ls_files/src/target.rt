@@ -1,0 +1,115 @@
+//! A file that is written.
+use crate::identity::folder_of;
+use crate::opener::Opens;
+use std::fs::OpenFile;
+use std::io;
+use std::io::Write;
+
+/// A recording to write. A named pipe is opened at the first write, which waits until something reads from it. Any other file is open.
+#[derive(Drop)]
+pub struct Target<'a, O: Opens> {
+    opener: O,
+    path: &'a str,
+    file: Option<O::File>,
+    /// Whether it is a file that can be synced.
+    is_regular: bool,
+    /// Whether it couldn't be opened.
+    is_refused: bool,
+    written: u64,
+}
+
+impl<'a, O: Opens> Target<'a, O> {
+    /// What is written to a regular file that is open.
+    pub fn regular(opener: O, path: &'a str, file: O::File) -> Target<'a, O> {
+        Target {
+            opener,
+            path,
+            file: Some(file),
+            is_regular: true,
+            is_refused: false,
+            written: 0,
+        }
+    }
+
+    /// What is written to a device that is open.
+    pub fn device(opener: O, path: &'a str, file: O::File) -> Target<'a, O> {
+        Target {
+            opener,
+            path,
+            file: Some(file),
+            is_regular: false,
+            is_refused: false,
+            written: 0,
+        }
+    }
+
+    /// What is written to a named pipe, which is not yet open.
+    pub fn pipe(opener: O, path: &'a str) -> Target<'a, O> {
+        Target {
+            opener,
+            path,
+            file: None,
+            is_regular: false,
+            is_refused: false,
+            written: 0,
+        }
+    }
+
+    /// How many bytes were written to it.
+    pub fn written(&self) -> u64 {
+        self.written
+    }
+
+    /// Brings what was written to a regular file onto the disk, and the name of a new file too if its folder can be synced.
+    pub fn sync(&self) -> io::Result<()> {
+        match &self.file {
+            Some(file) if self.is_regular => {
+                file.sync_all()?;
+                self.sync_folder();
+                Ok(())
+            }
+            _ => Ok(()),
+        }
+    }
+
+    /// Has what reads from a pipe that was never opened see the end, for which it waits until something reads there.
+    pub fn release(mut self)
+    where
+        O: Drop,
+    {
+        if !self.is_refused {
+            let _refused = self.open();
+        }
+    }
+
+    fn open(&mut self) -> io::Result<()> {
+        if self.file.is_none() {
+            self.is_refused = true;
+            self.file = Some(self.opener.open_to_write(self.path)?);
+            self.is_refused = false;
+        }
+        Ok(())
+    }
+
+    fn sync_folder(&self) {
+        if let Ok(folder) = self.opener.open(folder_of(self.path)) {
+            let _refused = folder.sync_all();
+        }
+    }
+}
+
+impl<'a, O: Opens> Write for Target<'a, O> {
+    fn write(&mut self, buf: &[u8]) -> io::Result<usize> {
+        self.open()?;
+        let taken = match &mut self.file {
+            Some(file) => file.write(buf)?,
+            None => 0,
+        };
+        self.written = self.written.saturating_add(taken as u64);
+        Ok(taken)
+    }
+
+    fn flush(&mut self) -> io::Result<()> {
+        Ok(())
+    }
+}
