@@ -2,7 +2,7 @@
 use Rattle.std.specs.Prelude.{◌≡◌, ℕ, suc, Some, slice_get, slice_index_or, ◌-◌, ◌+◌, ◌≤◌, ◌==◌, ◌||◌, ◌&&◌, ◌<◌, Bool, true, false, List, [], ◌∷◌, ◌++◌, length}
 use Rattle.std.specs.List.{sum_by, AllByRecursion}
 use Rattle.crossbeam_channel.specs.Claims.{view, IsSeatAt}
-use Rattle.crossbeam_channel.specs.Ends.{sends_on}
+use Rattle.crossbeam_channel.specs.Ends.{sends_on, ruled_capacity}
 use Rattle.ls_queue.specs.declared.replies.Job.{Job}
 use Rattle.ls_queue.specs.declared.views.Puts.{Puts}
 use Rattle.ls_queue.specs.declared.views.Takes.{Takes as TakesPart}
@@ -53,6 +53,10 @@ module _ {X : Type 0} where
 
   abbrev pub workers_of : Queue X → ℕ
   workers_of queue = queue.channel.workers
+
+  -- how many jobs and end marks its channel holds at most
+  abbrev pub places_of : Queue X → ℕ
+  places_of queue = ruled_capacity (sends_on queue.channel.entrance)
 
   -- these are seats, ends and the closer of the queue with this channel
   pub record IsSourceAt (channel : Channel X) (seat : SourceSeat X) : Type 0 where

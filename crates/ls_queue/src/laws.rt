@@ -65,32 +65,32 @@ pub fn all_is_taken_once_done()
 /// Between any two steps of a running queue, whichever threads hold its seats: each item that was put is one job, which was
 /// taken by one worker, once, or else stands in the channel once; it has the number under which it was put, and there are no
 /// other jobs.
-pub fn each_item_is_taken_or_in_the_channel()
-    ensures once { (items : List (Message ℕ)) (views : List (View ℕ)) → Kept items views → EachOnce items views }
-    ensures item { (items : List (Message ℕ)) (views : List (View ℕ)) → Kept items views → EachItem items views }
-    ensures no_others { (items : List (Message ℕ)) (views : List (View ℕ)) → Kept items views → NoOthers items views }
+pub fn each_item_is_taken_or_in_the_channel<T>()
+    ensures once { (items : List (Message T)) (views : List (View T)) → Kept items views → EachOnce items views }
+    ensures item { (items : List (Message T)) (views : List (View T)) → Kept items views → EachItem items views }
+    ensures no_others { (items : List (Message T)) (views : List (View T)) → Kept items views → NoOthers items views }
 {}
 
 /// Between any two steps: the numbers of one source rise along the channel and along what each worker took, and each number
 /// that was taken is below all those in the channel.
-pub fn numbers_rise_along_the_channel_and_at_each_worker()
-    ensures { (items : List (Message ℕ)) (views : List (View ℕ)) → Kept items views → EachRises items views }
+pub fn numbers_rise_along_the_channel_and_at_each_worker<T>()
+    ensures { (items : List (Message T)) (views : List (View T)) → Kept items views → EachRises items views }
 {}
 
 /// Between any two steps: the end marks taken and those in the channel are those that were sent, each with the number of items
 /// of every source, and in the channel no job stands behind one.
-pub fn no_job_stands_behind_an_end_mark()
-    ensures { (items : List (Message ℕ)) (views : List (View ℕ)) → Kept items views → MarksAreLast items views }
+pub fn no_job_stands_behind_an_end_mark<T>()
+    ensures { (items : List (Message T)) (views : List (View T)) → Kept items views → MarksAreLast items views }
 {}
 
 /// Once a worker took an end mark, every item that was put has been taken, once: so Done means done.
-pub fn all_is_taken_once_a_mark_is()
-    ensures { (items : List (Message ℕ)) (views : List (View ℕ)) → Kept items views → AllIsTaken views }
+pub fn all_is_taken_once_a_mark_is<T>()
+    ensures { (items : List (Message T)) (views : List (View T)) → Kept items views → AllIsTaken views }
 {}
 
 /// Who has joined all passes, each worker's with its end mark, finds the channel empty.
-pub fn the_channel_is_empty_once_all_passes_are_joined()
-    ensures { (items : List (Message ℕ)) (views : List (View ℕ)) → Kept items views → LastIsSettled items views }
+pub fn the_channel_is_empty_once_all_passes_are_joined<T>()
+    ensures { (items : List (Message T)) (views : List (View T)) → Kept items views → LastIsSettled items views }
 {}
 
 /// If the ends were handed to `finish` in the order of their sources, each count of the account is how many items that source

@@ -1,12 +1,12 @@
 //! The queue that threads share.
-ghost use Rattle.std.specs.Prelude.{◌≡◌, ℕ, ◌<◌, ◌≤◌, ◌+◌, ◌-◌, ◌⊎◌, [], ◌∷◌, ◌++◌, length, true, false, Some, None, IfOk, MatchResult, MatchOption};
+ghost use Rattle.std.specs.Prelude.{◌≡◌, ℕ, max, ◌<◌, ◌≤◌, ◌+◌, ◌-◌, ◌⊎◌, [], ◌∷◌, ◌++◌, length, true, false, Some, None, IfOk, MatchResult, MatchOption};
 ghost use Rattle.std.specs.List.{AllByRecursion};
 ghost use Rattle.crossbeam_channel.specs.Claims.{view, IsSeatAt};
 ghost use Rattle.crossbeam_channel.specs.Ends.{sends_on, receives_on, ruled_capacity};
 ghost use Rattle.ls_queue.specs.Queue.{spent_count};
 ghost use Rattle.ls_queue.specs.Account.{closer_view, ending_view, after_mark, with_marks, with_takes, IsCounted};
 ghost use Rattle.ls_queue.specs.Faults.{open_fault};
-ghost use Rattle.ls_queue.specs.Running.{sources_of, workers_of, AreAllSources, AreAllWorkers, AreWorkerSeats, AreEnds, IsSourceSeat, IsWorkerSeat, IsWorkerAt, Balances, IsUnsettled, all_done, takes_of, IsEnded, IsEndedAt, IsCloser, IsFinished, IsMissing, IsLowestMissing, EachHasEnd, has_end, puts_of, parts_of, AreNewSources, AreNewWorkers, items_put, jobs_taken, is_done, items_ended, Takes};
+ghost use Rattle.ls_queue.specs.Running.{sources_of, workers_of, places_of, AreAllSources, AreAllWorkers, AreWorkerSeats, AreEnds, IsSourceSeat, IsWorkerSeat, IsWorkerAt, Balances, IsUnsettled, all_done, takes_of, IsEnded, IsEndedAt, IsCloser, IsFinished, IsMissing, IsLowestMissing, EachHasEnd, has_end, puts_of, parts_of, AreNewSources, AreNewWorkers, items_put, jobs_taken, is_done, items_ended, Takes};
 
 use crate::account::{
     Account, Channel, JobSent, Joined, MarkSent, Received, Settled, SourceSeated, Token,
@@ -117,6 +117,7 @@ pub fn open<T: Drop, R: Wait>(
 ) -> Result<(Queue<T>, Vec<SourceSeat<T>>, Vec<WorkerSeat<T>>, Closer<T>), QueueFault>
     ensures { MatchResult result
         (λ made. (open_fault sources workers capacity ≡ None) × (sources_of made.0 ≡ sources) × (workers_of made.0 ≡ workers)
+        × (places_of made.0 ≡ max capacity workers)
         × AreAllSources made.0 made.1.items × AreAllWorkers made.0 made.2.items × IsCloser made.0 made.3)
         (λ fault. (open_fault sources workers capacity ≡ Some fault) ⊎ ((open_fault sources workers capacity ≡ None) × (fault ≡ QueueFault.NoMemory))) }
 {

@@ -1,9 +1,13 @@
 -- Films that are recorded and played back, one after the other.
-use Rattle.std.proofs.Common.{◌≡◌, inl, inr, ℕ, ◌<◌, ◌≤◌, List, [], ◌∷◌, ◌++◌, length, Option, Some, refl, sym, ap, subst, ◌∙◌, arith}
+use Rattle.std.proofs.Common.{◌≡◌, inl, inr, ℕ, ◌<◌, ◌≤◌, List, [], ◌∷◌, ◌++◌, length, Option, Some, refl, sym, ap, subst, ◌∙◌, arith, append-nil}
 use Rattle.std.proofs.lemmas.List.{length-map, length-append}
 use Rattle.std.proofs.lemmas.Option.{same_Some}
 use Rattle.std.proofs.lemmas.Result.{MatchResult-weaker}
-use Rattle.std.specs.Prelude.{None, Result, Ok, MatchResult}
+use Rattle.std.specs.Prelude.{None, Result, Ok, MatchResult, take, drop, map}
+use Rattle.std.proofs.lemmas.List.{take-append-drop, take-map}
+use Rattle.ls_film.specs.Film.{most_frames}
+use Rattle.ls_recorder.specs.declared.lane.LaneFault.{LaneFault}
+use Rattle.ls_recorder.specs.declared.lane.LaneFault.TheVariants.{Input, Output, NoMemory, Misfit, Lost, NotStarted, TooMany, Tuning as BadTuning}
 use Rattle.std.specs.List.{AllByRecursion, AllZip}
 use Rattle.std.specs.Borrow.{Bor}
 use Rattle.ls_frame.specs.declared.tuning.Tuning.{Tuning}
@@ -21,11 +25,11 @@ use Rattle.ls_recorder.specs.declared.playing.PlayFault.{PlayFault}
 use Rattle.ls_recorder.specs.declared.recording.Track.{Track}
 use Rattle.ls_recorder.specs.declared.headline.PlayedBack.{PlayedBack}
 use Rattle.ls_recorder.specs.Orders.{Ordered}
-use Rattle.ls_recorder.specs.View.Lanes.{with_tuning, AreTuned, tuned_file, Records}
+use Rattle.ls_recorder.specs.View.Lanes.{with_tuning, AreTuned, tuned_file, Records, StopsLane, HasPut, WroteFront, WroteFewer, AreOrdersOf}
 use Rattle.ls_recorder.specs.View.Playing.{IsCodable, frames_of}
 use Rattle.ls_recorder.specs.View.Recordings.{IsTrack, AreTracks}
 use Rattle.ls_recorder.proofs.ListLemmas.{zip-through, zip-weaker}
-use Rattle.ls_recorder.specs.View.Headline.{by_default, ComesBack, StopsShort, CameOf, ComeBack, PlaysBack, IntoMemory, held_by, IsUnrecorded, IsPlayed}
+use Rattle.ls_recorder.specs.View.Headline.{by_default, ComesBack, StopsShort, ShowsFront, PlaysFront, CameOf, ComeBack, PlaysBack, IntoMemory, held_by, IsUnrecorded, IsPlayed}
 
 -- ---- a film of Netpbm images is of one list of frames
 
@@ -70,7 +74,7 @@ tuned_codable legal tuning bytes (f ∷ frames) film given =
     let maxval = tuned_maxval tuning f.maxval in (
       record {
         frame = film.3.frame;
-        legal = legal (tuned tuning f.maxval) (omega (arith, maxval, film.3.frame.maxval)) (none_at_fault (tuned tuning f.maxval) given.0);
+        legal = legal (tuned tuning f.maxval) (omega (arith, maxval, film.3.frame.maxval)) (none_at_fault (tuned tuning f.maxval) given.0.1);
         maxval = maxval;
       },
       tuned_codable legal tuning film.1 frames film.4 given.1,
@@ -112,21 +116,82 @@ module _ (maxval : (maxval : ℕ) → (default_parameters maxval).maxval ≡ max
         plays = rw (tuned_frames tuning run.frames, size ∙ run.count) at shows;
       }
 
+  front_codable : (tuning : Tuning) (bytes : List ℕ) (frames more : List Picture) → IsFilm IsImageOf bytes (frames ++ more) → AreTuned tuning frames
+      → AllByRecursion IsCodable (with_tuning tuning frames)
+  front_codable tuning bytes [] more film given = tt
+  front_codable tuning bytes (f ∷ frames) more film given =
+      let maxval = tuned_maxval tuning f.maxval in (
+        record {
+          frame = film.3.frame;
+          legal = legal (tuned tuning f.maxval) (omega (arith, maxval, film.3.frame.maxval)) (none_at_fault (tuned tuning f.maxval) given.0.1);
+          maxval = maxval;
+        },
+        front_codable tuning film.1 frames more film.4 given.1,
+      )
+
+  tuned_front : (tuning : Tuning) (frames more : List Picture) → AreTuned tuning (frames ++ more) → AreTuned tuning frames
+  tuned_front tuning [] more given = tt
+  tuned_front tuning (f ∷ frames) more given = (given.0, tuned_front tuning frames more given.1)
+
+  shows : (recording shown : List ℕ) (played : Result ℕ PlayFault) (tuning : Tuning) (bytes : List ℕ) (frames more : List Picture) → IsFilm IsImageOf bytes (frames ++ more)
+      → AreTuned tuning frames → length frames ≤ most_frames → recording ≡ tuned_file tuning frames → PlaysBack recording shown played → ShowsFront tuning recording shown played
+  shows recording shown played tuning bytes frames more film given few wrote plays =
+      let size : length (with_tuning tuning frames) ≡ length frames = length-map frames _ in
+      let back = plays (with_tuning tuning frames) (omega (arith, size, few)) (front_codable tuning bytes frames more film given) wrote in
+      record { frames = frames; recorded = wrote; plays = rw (tuned_frames tuning frames, size) at back }
+
+  shows_some : (recording shown : List ℕ) (played : Result ℕ PlayFault) (tuning : Tuning) (bytes : List ℕ) (frames : List Picture) (items : List Ordered) (count : ℕ)
+      → IsFilm IsImageOf bytes frames → AreOrdersOf tuning frames items → length frames ≤ most_frames → recording ≡ file (take count items) → PlaysBack recording shown played
+      → ShowsFront tuning recording shown played
+  shows_some recording shown played tuning bytes frames items count film orders few wrote plays =
+      let parts : take count frames ++ drop count frames ≡ frames = take-append-drop count frames in
+      let taken : take count items ≡ with_tuning tuning (take count frames) = ap (take count) orders.0 ∙ take-map (λ (f : Picture). (f, tuned tuning f.maxval)) count frames in
+      shows recording shown played tuning bytes (take count frames) (drop count frames) (subst (IsFilm IsImageOf bytes) (sym parts) film)
+      (tuned_front tuning (take count frames) (drop count frames) (subst (AreTuned tuning) (sym parts) orders.1))
+      (omega (arith, few, ap length parts, length-append (take count frames) (drop count frames))) (wrote ∙ ap file taken) plays
+
+  plays_put : (bytes recording shown : List ℕ) (left : Option (List ℕ)) (tuning : Tuning) (items : List Ordered) (played : Result ℕ PlayFault) (count : ℕ)
+      → HasPut tuning items (Some bytes) left (Some []) (Some recording) → recording ≡ file (take count items) → PlaysBack recording shown played → ShowsFront tuning recording shown played
+  plays_put bytes recording shown left tuning items played count put wrote plays =
+      let begins = put.begins refl in
+      shows_some recording shown played tuning begins.0 put.frames items count begins.3 put.put put.few wrote plays
+
+  stopped_film : (bytes recording shown : List ℕ) (left : Option (List ℕ)) (tuning : Tuning) (items : List Ordered) (played : Result ℕ PlayFault) (fault : LaneFault)
+      → StopsLane tuning items (Some bytes) left (Some []) (Some recording) fault → PlaysBack recording shown played → PlaysFront tuning recording shown played fault
+  stopped_film bytes recording shown left tuning items played (Input m fault) stops plays =
+      let begins = stops.run.begins refl in
+      shows recording shown played tuning begins.0 stops.run.frames [] (rw (append-nil stops.run.frames) begins.3) stops.put.1 stops.run.few stops.run.wrote plays
+  stopped_film bytes recording shown left tuning items played (Output n) stops plays = tt
+  stopped_film bytes recording shown left tuning items played NoMemory stops plays = plays_put bytes recording shown left tuning items played stops.1.count stops.0 stops.1.wrote plays
+  stopped_film bytes recording shown left tuning items played (Misfit misfit) stops plays = plays_put bytes recording shown left tuning items played stops.1.count stops.0 stops.1.wrote plays
+  stopped_film bytes recording shown left tuning items played Lost stops plays = plays_put bytes recording shown left tuning items played stops.1.count stops.0 stops.1.wrote plays
+  stopped_film bytes recording shown left tuning items played NotStarted stops plays = absurd stops
+  stopped_film bytes recording shown left tuning items played TooMany stops plays =
+      let gave = stops.run.gave refl in
+      shows recording shown played tuning gave.1 stops.run.frames (stops.run.last ∷ []) gave.3 stops.put.1 (omega (arith, stops.run.count)) stops.run.wrote plays
+  stopped_film bytes recording shown left tuning items played (BadTuning m fault) stops plays =
+      let gave = stops.gave refl in
+      shows recording shown played tuning gave.1 stops.frames (stops.last ∷ []) gave.3 stops.put.1 (omega (arith, stops.few)) stops.wrote plays
+
+  unstarted : (recording shown : List ℕ) (tuning : Tuning) (played : Result ℕ PlayFault) → recording ≡ [] → PlaysBack recording shown played → ShowsFront tuning recording shown played
+  unstarted recording shown tuning played none plays = shows recording shown played tuning [] [] [] refl tt (omega arith) none plays
+
   module _ (failed_reads : Bor (List ℕ) → ℕ) (failed_writes : IntoMemory → ℕ) where
     one_back : (film : Bor (List ℕ) × Tuning) (lane : Bor (List ℕ) × IntoMemory × Tuning) (track : Track (Bor (List ℕ)) IntoMemory) (r : PlayedBack) → IsUnrecorded film lane
         → IsTrack (λ b. Some b.now) failed_reads held_by failed_writes lane track → IsPlayed track r → CameOf film r
     one_back film lane track r fresh done played =
         let bytes = film.0.now in
         let back = ComesBack bytes film.1 r.recording.items r.shown.items r.played in
-        let short = StopsShort bytes film.1 r.recording.items in (
+        let short = (λ (fault : LaneFault). StopsShort bytes film.1 r.recording.items fault × PlaysFront film.1 r.recording.items r.shown.items r.played fault) in (
           subst (λ x. MatchResult x back short) (sym played.recorded)
               (elim done.did [
                 | inl refused ↦ subst (λ x. MatchResult x back short) (sym refused.0)
-                    (inl (refl, same_Some _ _ (sym played.recording ∙ ap held_by refused.2 ∙ fresh.empty)))
+                    (let none = same_Some _ _ (sym played.recording ∙ ap held_by refused.2 ∙ fresh.empty) in
+                    (inl (refl, none), unstarted r.recording.items r.shown.items film.1 r.played none played.plays))
                 | inr ran ↦ MatchResult-weaker track.result
                     (rw (ap (λ (b : Bor (List ℕ)). b.now) fresh.reader, fresh.tuning, fresh.empty, played.recording) at ran)
                     (λ n records. whole_film bytes r.recording.items r.shown.items _ film.1 done.items r.played n records played.plays)
-                    (λ fault stops. inr (done.items, _, stops))
+                    (λ fault stops. (inr (done.items, _, stops), stopped_film bytes r.recording.items r.shown.items _ film.1 done.items r.played fault stops played.plays))
               ]),
           played.shows,
         )

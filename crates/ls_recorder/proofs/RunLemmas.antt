@@ -5,7 +5,7 @@ use Rattle.std.specs.Io.KnownBytes.{Appends}
 use Rattle.std.proofs.KnownBytes.{Appends-nil}
 use Rattle.std.proofs.lemmas.List.{length_push, map-append}
 use Rattle.ls_frame.specs.declared.tuning.Tuning.{Tuning}
-use Rattle.ls_frame.specs.Picture.{Picture}
+use Rattle.ls_frame.specs.Picture.{Picture, IsFrame}
 use Rattle.ls_frame.specs.Parameters.{explicit_parameters}
 use Rattle.ls_frame.specs.Tuning.{tuned}
 use Rattle.ls_frame.specs.Netpbm.{IsImageOf}
@@ -46,9 +46,9 @@ WroteFront-none items start = record { count = 0; front = omega arith; wrote = A
 -- ---- one frame more
 
 pub HasRead-more : (tuning : Tuning) (items items' : List Ordered) (read mid new : Option (List ℕ)) (n : ℕ) (order : Ordered) → HasRead tuning items read mid n
-    → order.1 ≡ tuned tuning order.0.maxval → explicit_parameters (tuned tuning order.0.maxval) ≡ Ok order.1 → Gave mid new (λ image. IsImageOf image order.0)
+    → order.1 ≡ tuned tuning order.0.maxval → explicit_parameters (tuned tuning order.0.maxval) ≡ Ok order.1 → IsFrame order.0 → Gave mid new (λ image. IsImageOf image order.0)
     → items' ≡ items ++ order ∷ [] → HasRead tuning items' read new (n + 1)
-HasRead-more tuning items items' read mid new n order run tune given next put =
+HasRead-more tuning items items' read mid new n order run tune given lawful next put =
     let same : order ≡ (order.0, tuned tuning order.0.maxval) = (λ i. (order.0, tune i)) in
     record {
       frames = run.frames ++ order.0 ∷ [];
@@ -56,7 +56,7 @@ HasRead-more tuning items items' read mid new n order run tune given next put =
       gave = GaveFrames-more IsImageOf read mid new run.frames order.0 run.gave next;
       put = (
         put ∙ ap (λ l. l ++ order ∷ []) run.put.0 ∙ ap (λ o. with_tuning tuning run.frames ++ o ∷ []) same ∙ sym (map-append (λ (f : Picture). (f, tuned tuning f.maxval)) run.frames (order.0 ∷ [])),
-        all-more _ run.frames order.0 run.put.1 (given ∙ ap Ok tune),
+        all-more _ run.frames order.0 run.put.1 (lawful, given ∙ ap Ok tune),
       );
     }
 

@@ -1,7 +1,7 @@
 -- The boxes in which answers go from workers to lanes: whose they are.
 use Rattle.std.specs.Prelude.{◌≡◌, ℕ, suc, ◌==◌, ◌||◌, nat_lt, if◌then◌else◌, List, [], ◌∷◌, length, map, Option, None, Some}
 use Rattle.std.specs.List.{AllByRecursion}
-use Rattle.crossbeam_channel.specs.Ends.{sends_on, receives_on}
+use Rattle.crossbeam_channel.specs.Ends.{sends_on, receives_on, ruled_capacity}
 use Rattle.ls_recorder.specs.declared.delivery.ends.Inbox.{Inbox}
 use Rattle.ls_recorder.specs.declared.delivery.ends.Door.{Door}
 use Rattle.ls_recorder.specs.declared.delivery.ends.Outbox.{Outbox}
@@ -27,10 +27,15 @@ AreFrom n (inbox ∷ inboxes) = (inbox.source ≡ n) × AreFrom (suc n) inboxes
 abbrev pub LeadTo : List Inbox → List Door → Type 0
 LeadTo inboxes doors = map (λ (door : Door). sends_on door.entrance) doors ≡ map (λ (inbox : Inbox). receives_on inbox.exit) inboxes
 
--- an inbox for each source, in order from source 0, and outboxes each of which leads to all of them
-pub record AreBoxes (sources workers : ℕ) (inboxes : List Inbox) (outboxes : List Outbox) : Type 0 where
+-- each inbox holds at most so many answers
+abbrev pub HaveRoom : ℕ → List Inbox → Type 0
+HaveRoom window inboxes = AllByRecursion (λ (inbox : Inbox). ruled_capacity (receives_on inbox.exit) ≡ window) inboxes
+
+-- an inbox for each source, in order from source 0, which holds as many answers as the window, and outboxes each of which leads to all of them
+pub record AreBoxes (sources workers window : ℕ) (inboxes : List Inbox) (outboxes : List Outbox) : Type 0 where
   pub sources_are : length inboxes ≡ sources
   pub in_order : AreFrom 0 inboxes
+  pub room : HaveRoom window inboxes
   pub workers_are : length outboxes ≡ workers
   pub lead : AllByRecursion (λ (outbox : Outbox). LeadTo inboxes outbox.doors.items) outboxes
 

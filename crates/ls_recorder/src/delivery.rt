@@ -4,7 +4,7 @@ mod ends;
 ghost use Rattle.std.specs.Prelude.{◌≡◌, ◌<◌, ◌⊎◌, None, Some, length, IfOk, MatchResult};
 ghost use Rattle.std.specs.List.{AllByRecursion};
 ghost use Rattle.ls_recorder.specs.declared.delivery.ends.Outbox.{Outbox};
-ghost use Rattle.ls_recorder.specs.Boxes.{box_fault, AreFrom, LeadTo, LeadAlike, AreBoxes};
+ghost use Rattle.ls_recorder.specs.Boxes.{box_fault, AreFrom, HaveRoom, LeadTo, LeadAlike, AreBoxes};
 
 use crate::collector::MOST_WINDOW;
 use crate::faults::RecordFault;
@@ -29,7 +29,7 @@ pub fn boxes<R: Wait>(
     window: usize,
 ) -> Result<(Vec<Inbox>, Vec<Outbox>), RecordFault>
     ensures { MatchResult result
-        (λ made. (box_fault sources workers window ≡ None) × AreBoxes sources workers made.0.items made.1.items)
+        (λ made. (box_fault sources workers window ≡ None) × AreBoxes sources workers window made.0.items made.1.items)
         (λ fault. (box_fault sources workers window ≡ Some fault) ⊎ ((box_fault sources workers window ≡ None) × (fault ≡ RecordFault.NoMemory))) }
 {
     if let Some(fault) = box_fault(sources, workers, window) {
@@ -63,7 +63,7 @@ fn channels(
     window: usize,
 ) -> Result<(Vec<Inbox>, Vec<Door>), AllocError>
     requires { 0 < window }
-    ensures { IfOk result (λ made. (length made.0.items ≡ sources) × AreFrom 0 made.0.items × LeadTo made.0.items made.1.items) }
+    ensures { IfOk result (λ made. (length made.0.items ≡ sources) × AreFrom 0 made.0.items × HaveRoom window made.0.items × LeadTo made.0.items made.1.items) }
 {
     let mut inboxes = Vec::new(alloc);
     let mut doors = Vec::new(alloc);

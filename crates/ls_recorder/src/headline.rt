@@ -37,7 +37,7 @@ pub struct PlayedBack {
 /// whole (`recorded` is `Ok`), the recording is the codestreams of all its frames, in order, with nothing between; if its tuning is
 /// all zeros, that is what `ls_film::code_film` writes of the film. Playing it shows exactly the film's frames, each as its
 /// canonical Netpbm image, unless memory is refused. Of a film whose lane stopped, the recording is what its fault says
-/// (`LaneFault`), and playing that, if it is whole codestreams, shows their frames.
+/// (`LaneFault`); but for `Output` it is whole codestreams, and playing it shows exactly their frames, unless memory is refused.
 ///
 /// Fails for `NoMemory` only if an allocation fails; else for the first of `Sources`, `Workers`, `Capacity` and `Window` that is so;
 /// else for `NotStarted` only if no thread can be made for a worker. Then nothing comes back.

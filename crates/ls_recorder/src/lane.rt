@@ -2,6 +2,7 @@
 ghost use Rattle.std.specs.Prelude.{◌≡◌, ◌<◌, ◌≤◌, ◌+◌, ◌-◌, ◌*◌, ◌^◌, ◌++◌, ◌∷◌, [], ℕ, length, take, Ok, IfOk, IfErr, OnOk, IfSome, IfNone, MatchResult};
 ghost use Rattle.std.specs.Io.KnownBytes.{Appends};
 ghost use Rattle.ls_frame.specs.Netpbm.{IsImageOf};
+ghost use Rattle.ls_frame.specs.Picture.{IsFrame};
 ghost use Rattle.ls_frame.specs.Parameters.{explicit_parameters};
 ghost use Rattle.ls_frame.specs.Tuning.{tuned};
 ghost use Rattle.ls_frame.specs.View.Devices.{count_after};
@@ -177,7 +178,7 @@ fn next_order<F: Feed>(
 ) -> Result<Option<Order>, LaneFault>
     requires { number ≤ most_frames }
     ensures order { IfOk result (λ next. IfSome next (λ order. (number < most_frames) × (order.1 ≡ tuned tuning.now order.0.maxval)
-        × (explicit_parameters (tuned tuning.now order.0.maxval) ≡ Ok order.1)
+        × (explicit_parameters (tuned tuning.now order.0.maxval) ≡ Ok order.1) × IsFrame order.0
         × Gave (F.remaining reader.old) (F.remaining reader.new) (λ image. IsImageOf image order.0))) }
     ensures end { IfOk result (λ next. IfNone next (WasAtEnd (F.remaining reader.old) (F.remaining reader.new))) }
     ensures stops { IfErr result (StopsReading tuning.now (F.remaining reader.old) (F.remaining reader.new) number) }

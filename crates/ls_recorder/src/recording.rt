@@ -1,8 +1,9 @@
 //! Recording films side by side: each has a lane, in a thread of its own, and workers code the frames of all.
 mod threads;
 
-ghost use Rattle.std.specs.Prelude.{◌≡◌, ℕ, List, ◌⊎◌, Some, None, length, IfOk, IfErr};
-ghost use Rattle.ls_queue.specs.Running.{sources_of, workers_of};
+ghost use Rattle.std.specs.Prelude.{◌≡◌, ℕ, max, List, ◌⊎◌, Some, None, length, IfOk, IfErr};
+ghost use Rattle.ls_queue.specs.Running.{sources_of, workers_of, places_of};
+ghost use Rattle.ls_recorder.specs.Boxes.{HaveRoom};
 ghost use Rattle.ls_recorder.specs.View.Recordings.{AreTracks, AreCounted, AreParts, HasRun, record_fault};
 
 use crate::collector::MOST_WINDOW;
@@ -107,7 +108,8 @@ fn record_fault(
     None
 }
 
-/// A queue with all its seats, and a box for each source. Fails only if an allocation fails.
+/// A queue with all its seats and as many places as the capacity or one a worker, and a box for each source, which holds as many answers as
+/// the window. Fails only if an allocation fails.
 fn make_queue<Rt: Wait>(
     rt: &Rt,
     alloc: Global,
@@ -117,7 +119,8 @@ fn make_queue<Rt: Wait>(
     window: usize,
 ) -> Result<(Queue<Order>, Parts), RecordFault>
     requires { record_fault sources workers capacity window ≡ None }
-    ensures { IfOk result (λ made. (sources_of made.0 ≡ sources) × (workers_of made.0 ≡ workers) × AreParts made.0 made.1) }
+    ensures parts { IfOk result (λ made. (sources_of made.0 ≡ sources) × (workers_of made.0 ≡ workers) × AreParts made.0 made.1) }
+    ensures places { IfOk result (λ made. (places_of made.0 ≡ max capacity workers) × HaveRoom window made.1.inboxes.items) }
 {
     let Ok((inboxes, outboxes)) = boxes(rt, alloc, sources, workers, window) else {
         return Err(RecordFault::NoMemory);

@@ -13,7 +13,7 @@ use Rattle.ls_film.specs.Film.{most_frames, IsFilm}
 use Rattle.ls_film.specs.Coding.{file, default_file}
 use Rattle.ls_film.specs.View.Memory.{IsTextOf}
 use Rattle.ls_recorder.specs.declared.lane.LaneFault.{LaneFault}
-use Rattle.ls_recorder.specs.declared.lane.LaneFault.TheVariants.{NotStarted}
+use Rattle.ls_recorder.specs.declared.lane.LaneFault.TheVariants.{Input, Output, NoMemory, Misfit, Lost, NotStarted, TooMany, Tuning as BadTuning}
 use Rattle.ls_recorder.specs.declared.playing.PlayFault.{PlayFault}
 use Rattle.ls_recorder.specs.declared.recording.Track.{Track}
 use Rattle.ls_recorder.specs.declared.headline.PlayedBack.{PlayedBack}
@@ -42,11 +42,28 @@ StopsShort bytes tuning recording fault =
     ((fault ≡ NotStarted) × (recording ≡ []))
     ⊎ ((items : List Ordered) × (left : Option (List ℕ)) × StopsLane tuning items (Some bytes) left (Some []) (Some recording) fault)
 
+-- The recording is the codestreams of these frames, and playing it shows them, unless memory was refused.
+pub record ShowsFront (tuning : Tuning) (recording shown : List ℕ) (played : Result ℕ PlayFault) : Type 0 where
+  pub frames : List Picture
+  pub recorded : recording ≡ tuned_file tuning frames
+  pub plays : MatchResult played (λ m. (m ≡ length frames) × (shown ≡ show frames)) IsWantOfMemory
+
+-- a lane that stopped, but for one whose writer failed, has recorded whole codestreams
+abbrev pub PlaysFront : Tuning → List ℕ → List ℕ → Result ℕ PlayFault → LaneFault → Type 0
+PlaysFront tuning recording shown played (Input m fault) = ShowsFront tuning recording shown played
+PlaysFront tuning recording shown played (Output bytes) = Unit {0}
+PlaysFront tuning recording shown played NoMemory = ShowsFront tuning recording shown played
+PlaysFront tuning recording shown played (Misfit misfit) = ShowsFront tuning recording shown played
+PlaysFront tuning recording shown played Lost = ShowsFront tuning recording shown played
+PlaysFront tuning recording shown played NotStarted = ShowsFront tuning recording shown played
+PlaysFront tuning recording shown played TooMany = ShowsFront tuning recording shown played
+PlaysFront tuning recording shown played (BadTuning m fault) = ShowsFront tuning recording shown played
+
 -- What came of a film: if it was recorded whole, it comes back, else its lane stopped short; and what was played is what its
 -- recording shows.
 abbrev pub CameOf : Bor (List ℕ) × Tuning → PlayedBack → Type 0
 CameOf film r =
-    MatchResult r.recorded (ComesBack film.0.now film.1 r.recording.items r.shown.items r.played) (StopsShort film.0.now film.1 r.recording.items)
+    MatchResult r.recorded (ComesBack film.0.now film.1 r.recording.items r.shown.items r.played) (λ fault. StopsShort film.0.now film.1 r.recording.items fault × PlaysFront film.1 r.recording.items r.shown.items r.played fault)
     × IfOk r.played (IsShownOf r.recording.items r.shown.items)
 
 -- of each film there is what came of it

@@ -6,7 +6,7 @@ use Rattle.ls_frame.specs.declared.tuning.Tuning.{Tuning}
 use Rattle.ls_frame.specs.declared.presets.PresetFault.{PresetFault}
 use Rattle.ls_frame.specs.declared.netpbm.NetpbmFault.{NetpbmFault}
 use Rattle.ls_frame.specs.declared.netpbm.NetpbmFault.TheVariants as netpbm
-use Rattle.ls_frame.specs.Picture.{Picture}
+use Rattle.ls_frame.specs.Picture.{Picture, IsFrame}
 use Rattle.ls_frame.specs.Parameters.{explicit_parameters}
 use Rattle.ls_frame.specs.Tuning.{tuned}
 use Rattle.ls_frame.specs.Netpbm.{IsImageOf}
@@ -27,9 +27,9 @@ use Rattle.ls_recorder.specs.declared.lane.LaneFault.TheVariants.{Input, Output,
 abbrev pub with_tuning : Tuning → List Picture → List Ordered
 with_tuning tuning frames = map (λ (f : Picture). (f, tuned tuning f.maxval)) frames
 
--- the tuning gives parameters for each of these frames
+-- these are frames, whatever is known of the reader, and the tuning gives parameters for each
 abbrev pub AreTuned : Tuning → List Picture → Type 0
-AreTuned tuning frames = AllByRecursion (λ (f : Picture). explicit_parameters (tuned tuning f.maxval) ≡ Ok (tuned tuning f.maxval)) frames
+AreTuned tuning frames = AllByRecursion (λ (f : Picture). IsFrame f × (explicit_parameters (tuned tuning f.maxval) ≡ Ok (tuned tuning f.maxval))) frames
 
 -- the items are these frames, each with the parameters that the tuning gives for it
 abbrev pub AreOrdersOf : Tuning → List Picture → List Ordered → Type 0

@@ -1,5 +1,5 @@
 use Rattle.std.proofs.Common.{◌≡◌, length}
-use Rattle.ls_recorder.specs.Boxes.{AreFrom, LeadTo}
+use Rattle.ls_recorder.specs.Boxes.{AreFrom, HaveRoom, LeadTo}
 use Rattle.ls_recorder.proofs.delivery.channels.Given as goal
 
 -- a box for each source so far
@@ -7,5 +7,6 @@ abbrev pub invariant-loop-source : goal.invariant-loop-source
 invariant-loop-source l = record {
   many : length l.inboxes.items ≡ l.source;
   in_order : AreFrom 0 l.inboxes.items;
+  room : HaveRoom l.window l.inboxes.items;
   lead : LeadTo l.inboxes.items l.doors.items;
 }
