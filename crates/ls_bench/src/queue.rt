@@ -1,6 +1,6 @@
 //! Jobs of a number each, passed through a queue from four threads to four others.
 ghost use Rattle.std.specs.Prelude.{◌≡◌, IfOk, IfSome};
-ghost use Rattle.ls_queue.specs.Running.{IsSourceSeat, IsWorkerSeat, IsEnded, IsCloser, IsFinished, AreAllSources, AreAllWorkers, AreWorkerSeats};
+ghost use Rattle.ls_queue.specs.View.Running.{IsSourceSeat, IsWorkerSeat, IsEnded, IsCloser, IsFinished, AreAllSources, AreAllWorkers, AreWorkerSeats};
 
 use crate::tell;
 use anyhow::{Result, bail};

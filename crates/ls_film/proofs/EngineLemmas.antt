@@ -4,12 +4,12 @@ use Rattle.std.specs.Io.KnownBytes.{Appends}
 use Rattle.std.proofs.KnownBytes.{Appends-nil, Appends-trans}
 use Rattle.std.proofs.Math.Seq.{take-append-add}
 use Rattle.std.proofs.lemmas.List.{length-append, length_push}
-use Rattle.ls_frame.specs.Picture.{Picture}
+use Rattle.ls_frame.specs.Picture.{Picture, IsFrame}
 use Rattle.ls_frame.specs.View.Known.{Gave, WasAtEnd}
 use Rattle.ls_film.specs.Film.{most_frames}
 use Rattle.ls_film.specs.View.Engine.{Completes, StopsAtOutput, StopsForMemory, StopsAtMost, HasRun}
 use Rattle.ls_film.specs.View.Steps.{IsSomeImage}
-use Rattle.ls_film.proofs.FilmLemmas.{GaveFrames-none, GaveFrames-more, GaveFrames-and, GaveFilm-end}
+use Rattle.ls_film.proofs.FilmLemmas.{all-more, GaveFrames-none, GaveFrames-more, GaveFrames-and, GaveFilm-end}
 
 module _ (IsImage : List ℕ → Picture → Type 0) (text : List Picture → List ℕ) where
   -- before the first frame
@@ -18,22 +18,24 @@ module _ (IsImage : List ℕ → Picture → Type 0) (text : List Picture → Li
     frames = [];
     count = refl;
     few = omega arith;
+    lawful = tt;
     gave = GaveFrames-none IsImage read;
     wrote = subst (Appends written written) (sym none) (Appends-nil written);
     bytes_are = sym (ap length none);
   }
 
-  -- a frame was read and its piece written
-  pub HasRun-more : (read mid new written midway out : Option (List ℕ)) (n bytes : ℕ) (f : Picture) (piece : List ℕ) (run : HasRun IsImage text read mid written midway n bytes)
-      → n < most_frames → Gave mid new (λ image. IsImage image f) → text (run.frames ++ f ∷ []) ≡ text run.frames ++ piece → Appends midway out piece
-      → HasRun IsImage text read new written out (n + 1) (bytes + length piece)
-  HasRun-more read mid new written midway out n bytes f piece run room next grows wrote = record {
+  -- a frame was read and its chunk written
+  pub HasRun-more : (read mid new written midway out : Option (List ℕ)) (n bytes : ℕ) (f : Picture) (chunk : List ℕ) (run : HasRun IsImage text read mid written midway n bytes)
+      → n < most_frames → IsFrame f × Gave mid new (λ image. IsImage image f) → text (run.frames ++ f ∷ []) ≡ text run.frames ++ chunk → Appends midway out chunk
+      → HasRun IsImage text read new written out (n + 1) (bytes + length chunk)
+  HasRun-more read mid new written midway out n bytes f chunk run room next grows wrote = record {
     frames = run.frames ++ f ∷ [];
     count = length_push run.frames f ∙ ap (λ k. k + 1) run.count;
     few = omega (arith, length_push run.frames f, run.count, room);
-    gave = GaveFrames-more IsImage read mid new run.frames f run.gave next;
-    wrote = subst (Appends written out) (sym grows) (Appends-trans written midway out (text run.frames) piece run.wrote wrote);
-    bytes_are = ap (λ k. k + length piece) run.bytes_are ∙ sym (length-append (text run.frames) piece) ∙ sym (ap length grows);
+    lawful = all-more IsFrame run.frames f run.lawful next.0;
+    gave = GaveFrames-more IsImage read mid new run.frames f run.gave next.1;
+    wrote = subst (Appends written out) (sym grows) (Appends-trans written midway out (text run.frames) chunk run.wrote wrote);
+    bytes_are = ap (λ k. k + length chunk) run.bytes_are ∙ sym (length-append (text run.frames) chunk) ∙ sym (ap length grows);
   }
 
   -- the end of the input
@@ -43,44 +45,48 @@ module _ (IsImage : List ℕ → Picture → Type 0) (text : List Picture → Li
     frames = run.frames;
     count = run.count;
     few = run.few;
+    lawful = run.lawful;
     gave = GaveFilm-end IsImage read mid new run.frames run.gave end;
     wrote = run.wrote;
   }
 
-  -- a frame was read and a part of its piece written
-  pub HasRun-output : (read mid new written midway out : Option (List ℕ)) (n bytes here : ℕ) (f : Picture) (piece : List ℕ) (run : HasRun IsImage text read mid written midway n bytes)
-      → n < most_frames → Gave mid new (λ image. IsImage image f) → text (run.frames ++ f ∷ []) ≡ text run.frames ++ piece → here < length piece → Appends midway out (take here piece)
+  -- a frame was read and a part of its chunk written
+  pub HasRun-output : (read mid new written midway out : Option (List ℕ)) (n bytes here : ℕ) (f : Picture) (chunk : List ℕ) (run : HasRun IsImage text read mid written midway n bytes)
+      → n < most_frames → IsFrame f × Gave mid new (λ image. IsImage image f) → text (run.frames ++ f ∷ []) ≡ text run.frames ++ chunk → here < length chunk → Appends midway out (take here chunk)
       → StopsAtOutput IsImage text read new written out (bytes + here)
-  HasRun-output read mid new written midway out n bytes here f piece run room next grows part wrote =
-      let size : length (text (run.frames ++ f ∷ [])) ≡ bytes + length piece =
-      ap length grows ∙ length-append (text run.frames) piece ∙ ap (λ k. k + length piece) (sym run.bytes_are) in
-      let front : take (bytes + here) (text (run.frames ++ f ∷ [])) ≡ text run.frames ++ take here piece =
-      ap (take (bytes + here)) grows ∙ ap (λ k. take (k + here) (text run.frames ++ piece)) run.bytes_are ∙ take-append-add (text run.frames) piece here in
+  HasRun-output read mid new written midway out n bytes here f chunk run room next grows part wrote =
+      let size : length (text (run.frames ++ f ∷ [])) ≡ bytes + length chunk =
+      ap length grows ∙ length-append (text run.frames) chunk ∙ ap (λ k. k + length chunk) (sym run.bytes_are) in
+      let front : take (bytes + here) (text (run.frames ++ f ∷ [])) ≡ text run.frames ++ take here chunk =
+      ap (take (bytes + here)) grows ∙ ap (λ k. take (k + here) (text run.frames ++ chunk)) run.bytes_are ∙ take-append-add (text run.frames) chunk here in
       record {
         frames = run.frames ++ f ∷ [];
         few = omega (arith, length_push run.frames f, run.count, room);
-        gave = GaveFrames-more IsImage read mid new run.frames f run.gave next;
+        lawful = all-more IsFrame run.frames f run.lawful next.0;
+        gave = GaveFrames-more IsImage read mid new run.frames f run.gave next.1;
         part = omega (arith, size, part);
-        wrote = subst (Appends written out) (sym front) (Appends-trans written midway out (text run.frames) (take here piece) run.wrote wrote);
+        wrote = subst (Appends written out) (sym front) (Appends-trans written midway out (text run.frames) (take here chunk) run.wrote wrote);
       }
 
-  -- memory was refused for the piece of a frame that was read
-  pub HasRun-no_piece : (read mid new written out : Option (List ℕ)) (n bytes : ℕ) (f : Picture) → HasRun IsImage text read mid written out n bytes
-      → Gave mid new (λ image. IsImage image f) → StopsForMemory IsImage text read new written out (IsSomeImage IsImage)
-  HasRun-no_piece read mid new written out n bytes f run next = record {
+  -- memory was refused for the chunk of a frame that was read
+  pub HasRun-no_chunk : (read mid new written out : Option (List ℕ)) (n bytes : ℕ) (f : Picture) → HasRun IsImage text read mid written out n bytes
+      → IsFrame f × Gave mid new (λ image. IsImage image f) → StopsForMemory IsImage text read new written out (IsSomeImage IsImage)
+  HasRun-no_chunk read mid new written out n bytes f run next = record {
     frames = run.frames;
     few = run.few;
-    gave = GaveFrames-and IsImage read mid new run.frames (λ image. IsImage image f) (IsSomeImage IsImage) run.gave next (λ last image. (f, image));
+    lawful = run.lawful;
+    gave = GaveFrames-and IsImage read mid new run.frames (λ image. IsImage image f) (IsSomeImage IsImage) run.gave next.1 (λ last image. (f, image));
     wrote = run.wrote;
   }
 
   -- a frame was read after the most that a film has
   pub HasRun-most : (read mid new written out : Option (List ℕ)) (bytes : ℕ) (f : Picture) → HasRun IsImage text read mid written out most_frames bytes
-      → Gave mid new (λ image. IsImage image f) → StopsAtMost IsImage text read new written out
+      → IsFrame f × Gave mid new (λ image. IsImage image f) → StopsAtMost IsImage text read new written out
   HasRun-most read mid new written out bytes f run next = record {
     frames = run.frames;
     last = f;
     count = run.count;
-    gave = GaveFrames-more IsImage read mid new run.frames f run.gave next;
+    lawful = all-more IsFrame run.frames f run.lawful next.0;
+    gave = GaveFrames-more IsImage read mid new run.frames f run.gave next.1;
     wrote = run.wrote;
   }

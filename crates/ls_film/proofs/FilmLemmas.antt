@@ -1,9 +1,19 @@
 -- A film, frame by frame: what each engine that reads one goes by. What an image is, is a parameter, as in `Film`.
 use Rattle.std.proofs.Common.{◌≡◌, ℕ, List, [], ◌∷◌, ◌++◌, Option, refl, sym, ap, ◌∙◌, append_assoc, append-nil}
+use Rattle.std.specs.List.{AllByRecursion}
 use Rattle.ls_frame.specs.Picture.{Picture}
 use Rattle.ls_frame.specs.View.Known.{Tells, Gave, WasAtEnd, known}
 use Rattle.ls_film.specs.Film.{IsFilm}
 use Rattle.ls_film.specs.View.Given.{GaveFrames, GaveFramesAnd, GaveFilm, IsBrokenAfter, BeginsWithFrames}
+
+-- one element more, of which P holds too
+pub all-more : {A : Type 0} (P : A → Type 0) (xs : List A) (x : A) → AllByRecursion P xs → P x → AllByRecursion P (xs ++ x ∷ [])
+all-more P [] x all last = (last, _)
+all-more P (y ∷ ys) x all last = (all.0, all-more P ys x all.1 last)
+
+-- what holds of the bytes that were given, and less
+pub Gave-weaker : (old new : Option (List ℕ)) (P Q : List ℕ → Type 0) → Gave old new P → ((bytes : List ℕ) → P bytes → Q bytes) → Gave old new Q
+Gave-weaker old new P Q gives weaker = λ told. let gave = gives told in (gave.0, gave.1, gave.2, weaker gave.1 gave.3)
 
 module _ (IsImage : List ℕ → Picture → Type 0) where
   -- a film grows by an image at its end

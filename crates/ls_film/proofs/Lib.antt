@@ -2,6 +2,9 @@ pub mod EngineLemmas
 pub mod FileLemmas
 pub mod FilmLemmas
 pub mod LineLemmas
+pub mod NextLemmas
 pub mod OneFilmLemmas
+pub mod PlayLemmas
+pub mod RecordedLemmas
 pub mod SliceLemmas
 pub mod StopLemmas

@@ -2,13 +2,13 @@
 use Rattle.std.proofs.Common.{◌≡◌, ℕ, ◌<◌, true, false, inl, inr, List, [], ◌∷◌, ◌++◌, Option, refl, ap, IsTrue}
 use Rattle.ls_frame.specs.declared.netpbm.NetpbmFault.{NetpbmFault}
 use Rattle.ls_frame.specs.declared.netpbm.NetpbmFault.TheVariants as netpbm
-use Rattle.ls_frame.specs.Picture.{Picture}
+use Rattle.ls_frame.specs.Picture.{Picture, IsFrame}
 use Rattle.ls_frame.specs.Netpbm.{IsImageOf, IsWholeHeading}
 use Rattle.ls_frame.specs.Faults.{IsBroken, blames_bytes, blames_memory}
 use Rattle.ls_frame.specs.View.Known.{Gave}
 use Rattle.ls_film.specs.Film.{most_frames}
 use Rattle.ls_film.specs.View.Engine.{HasRun, StopsAtInput, StopsForMemory}
-use Rattle.ls_film.specs.View.Steps.{IsSomeImage, HasStopped, StopsNext, StopsPiece}
+use Rattle.ls_film.specs.View.Steps.{IsSomeImage, HasStopped, StopsNext, StopsChunk}
 use Rattle.ls_film.specs.View.Stopping.{IsUnread, IsHeadingOrImage, Stops, film_fault}
 use Rattle.ls_film.specs.declared.engine.Stopped.{Stopped}
 use Rattle.ls_film.specs.declared.engine.Stopped.TheVariants.{Input, Output, NoMemory, TooMany}
@@ -26,15 +26,15 @@ module _ {E : Type 0} (IsImage : List ℕ → Picture → Type 0) (Unread : E �
   stops-next read mid new written out n bytes NoMemory run why = absurd why
   stops-next read mid new written out n bytes TooMany run why = absurd why
 
-  -- an end at the piece of a frame
-  pub stops-piece : (read mid new written midway out : Option (List ℕ)) (n bytes : ℕ) (f : Picture) (piece : List ℕ) (stopped : Stopped E)
-      (run : HasRun IsImage text read mid written midway n bytes) → n < most_frames → Gave mid new (λ image. IsImage image f) → text (run.frames ++ f ∷ []) ≡ text run.frames ++ piece
-      → StopsPiece midway out bytes piece stopped → HasStopped IsImage Unread text read new written out stopped
-  stops-piece read mid new written midway out n bytes f piece (Input m fault) run room next grows why = absurd why
-  stops-piece read mid new written midway out n bytes f piece (Output count) run room next grows why =
-      rw why.1 (HasRun-output IsImage text read mid new written midway out n bytes why.0 f piece run room next grows why.2 why.3)
-  stops-piece read mid new written midway out n bytes f piece NoMemory run room next grows why = absurd why
-  stops-piece read mid new written midway out n bytes f piece TooMany run room next grows why = absurd why
+  -- an end at the chunk of a frame
+  pub stops-chunk : (read mid new written midway out : Option (List ℕ)) (n bytes : ℕ) (f : Picture) (chunk : List ℕ) (stopped : Stopped E)
+      (run : HasRun IsImage text read mid written midway n bytes) → n < most_frames → IsFrame f × Gave mid new (λ image. IsImage image f) → text (run.frames ++ f ∷ []) ≡ text run.frames ++ chunk
+      → StopsChunk midway out bytes chunk stopped → HasStopped IsImage Unread text read new written out stopped
+  stops-chunk read mid new written midway out n bytes f chunk (Input m fault) run room next grows why = absurd why
+  stops-chunk read mid new written midway out n bytes f chunk (Output count) run room next grows why =
+      rw why.1 (HasRun-output IsImage text read mid new written midway out n bytes why.0 f chunk run room next grows why.2 why.3)
+  stops-chunk read mid new written midway out n bytes f chunk NoMemory run room next grows why = absurd why
+  stops-chunk read mid new written midway out n bytes f chunk TooMany run room next grows why = absurd why
 
 -- ---- Netpbm images
 
@@ -51,6 +51,7 @@ module _ (text : List Picture → List ℕ) (read read' written written' : Optio
           frames = run.frames;
           count = run.count;
           few = run.few;
+          lawful = run.lawful;
           begins = BeginsWithFrames-gave IsImageOf read stopped.0 run.frames run.gave;
           broken = IsBrokenAfter-next IsImageOf read stopped.0 run.frames (λ rest. IsTrue (blames_bytes fault) → IsBroken rest fault) run.gave
               (λ told blamed. stopped.3.broken blamed told);
@@ -67,16 +68,18 @@ module _ (text : List Picture → List ℕ) (read read' written written' : Optio
       record {
         frames = run.frames;
         few = run.few;
+        lawful = run.lawful;
         gave = GaveFrames-and IsImageOf read stopped.0 read' run.frames IsWholeHeading IsHeadingOrImage run.gave (stopped.3.memory refl) (λ last heading. inl heading);
         wrote = run.wrote;
       }
 
-  -- memory was refused for the piece of a frame
-  at_piece : StopsForMemory IsImageOf text read read' written written' (IsSomeImage IsImageOf)
+  -- memory was refused for the chunk of a frame
+  at_chunk : StopsForMemory IsImageOf text read read' written written' (IsSomeImage IsImageOf)
       → StopsForMemory IsImageOf text read read' written written' IsHeadingOrImage
-  at_piece run = record {
+  at_chunk run = record {
     frames = run.frames;
     few = run.few;
+    lawful = run.lawful;
     gave = λ told. let front = run.gave told in let last = front.3 in (front.0, front.1, front.2, (last.0, last.1, last.2, last.3, inr last.4));
     wrote = run.wrote;
   }
@@ -94,5 +97,5 @@ module _ (text : List Picture → List ℕ) (read read' written written' : Optio
   film-stops (Input m netpbm.Io) why = at_input m netpbm.Io refl why
   film-stops (Input m netpbm.NoMemory) why = at_heading m why
   film-stops (Output bytes) why = why
-  film-stops NoMemory why = at_piece why
+  film-stops NoMemory why = at_chunk why
   film-stops TooMany why = why

@@ -1,4 +1,5 @@
 pub mod Coding
 pub mod Film
 pub mod Listing
+pub mod Showing
 pub mod View

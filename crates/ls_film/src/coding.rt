@@ -31,7 +31,7 @@ pub fn code_film<R: Feed, W: Outlet>(
     ensures reads { R.failed_reads reader.new ≡ count_after (failed_reader result) (R.failed_reads reader.old) }
     ensures writes { W.failed_writes writer.new ≡ count_after (failed_writer result) (W.failed_writes writer.old) }
 {
-    write_film::<Codestreams, R, W>(alloc, reader, writer)
+    write_film::<CodestreamText, R, W>(alloc, reader, writer)
 }
 
 /// The codestreams of a film in memory, as far as they were written, and how the coding ended.
@@ -39,16 +39,16 @@ pub fn code_bytes(alloc: Global, film: &[u8]) -> (Vec<u8>, Result<u64, FilmFault
     ensures completes { IfOk result.1 (IsTextOf default_file film.now result.0.items) }
     ensures stops { IfErr result.1 (StopsOver default_file film.now result.0.items) }
 {
-    text_of_bytes::<Codestreams>(alloc, film)
+    text_of_bytes::<CodestreamText>(alloc, film)
 }
 
 /// A codestream for each frame.
-struct Codestreams;
+struct CodestreamText;
 
-impl Text for Codestreams {
+impl Text for CodestreamText {
     ghost text = { default_file };
 
-    fn piece(alloc: Global, _number: u64, frame: &Frame) -> Result<Vec<u8>, AllocError> {
+    fn chunk(alloc: Global, _number: u64, frame: &Frame) -> Result<Vec<u8>, AllocError> {
         encode_frame(alloc, frame)
     }
 

@@ -1,12 +1,12 @@
-//! The engine that reads frames and writes a text of them, a piece for each, and its steps. What the frames are read from, and what is
+//! The engine that reads frames and writes a text of them, a chunk for each, and its steps. What the frames are read from, and what is
 //! written of them, are parameters.
 ghost use Rattle.std.specs.Prelude.{◌≡◌, ℕ, ◌+◌, ◌<◌, ◌^◌, Bool, IfOk, IfErr, OnOk, IfSome, IfNone, List, [], length, Option};
 ghost use Rattle.std.specs.Io.KnownBytes.{Appends};
-ghost use Rattle.ls_frame.specs.Picture.{Picture};
+ghost use Rattle.ls_frame.specs.Picture.{Picture, IsFrame};
 ghost use Rattle.ls_frame.specs.View.Devices.{count_after};
 ghost use Rattle.ls_frame.specs.View.Known.{Gave, WasAtEnd};
 ghost use Rattle.ls_film.specs.View.Engine.{Completes};
-ghost use Rattle.ls_film.specs.View.Steps.{HasStopped, StopsNext, StopsPiece, failed_input, failed_reader, failed_writer};
+ghost use Rattle.ls_film.specs.View.Steps.{HasStopped, StopsNext, StopsChunk, failed_input, failed_reader, failed_writer};
 ghost use Rattle.ls_film.specs.View.Texts.{GrowsBy};
 
 use crate::faults::MOST_FRAMES;
@@ -30,23 +30,23 @@ pub trait Images {
     /// Reads the next image and not a byte more; `None` exactly at the end.
     fn next<R: Feed>(alloc: Global, reader: &mut R) -> Result<Option<Frame>, Self::Fault>
         ensures frame { IfOk result (λ next. IfSome next
-            (λ f. Gave (R.remaining reader.old) (R.remaining reader.new) (λ bytes. image bytes f))) }
+            (λ f. IsFrame f × Gave (R.remaining reader.old) (R.remaining reader.new) (λ bytes. image bytes f))) }
         ensures end { IfOk result (λ next. IfNone next (WasAtEnd (R.remaining reader.old) (R.remaining reader.new))) }
         ensures stops { IfErr result (λ fault. unread fault (R.remaining reader.old) (R.remaining reader.new)) }
         ensures failures { R.failed_reads reader.new ≡ count_after (failed_input of_device result) (R.failed_reads reader.old) };
 }
 
-/// What is written of frames: a piece for each.
+/// What is written of frames: a chunk for each.
 pub trait Text {
     /// The text of these frames.
     ghost text: { List Picture → List ℕ };
 
-    /// The piece of the frame of this number, from 0: what the text grows by with this frame. Shorter than 2^32 bytes.
+    /// The chunk of the frame of this number, from 0: what the text grows by with this frame. Shorter than 2^32 bytes.
     ///
     /// Fails only if an allocation fails.
-    fn piece(alloc: Global, number: u64, frame: &Frame) -> Result<Vec<u8>, AllocError>
-        ensures grows { IfOk result (λ piece. GrowsBy text number frame.now piece.items) }
-        ensures short { IfOk result (λ piece. length piece.items < 2 ^ 32) };
+    fn chunk(alloc: Global, number: u64, frame: &Frame) -> Result<Vec<u8>, AllocError>
+        ensures grows { IfOk result (λ chunk. GrowsBy text number frame.now chunk.items) }
+        ensures short { IfOk result (λ chunk. length chunk.items < 2 ^ 32) };
 
     /// No frames have no text.
     ghost empty: { text [] ≡ [] };
@@ -62,7 +62,7 @@ pub enum Stopped<E> {
     Input(u64, E),
     /// A write failed when exactly so many bytes of the text had gone out.
     Output(u64),
-    /// Memory was refused for the piece of a frame that was read.
+    /// Memory was refused for the chunk of a frame that was read.
     NoMemory,
     /// A frame numbered 4,294,967,295.
     TooMany,
@@ -81,7 +81,7 @@ impl<E> From<AllocError> for Stopped<E> {
 
 /// Writes the text of the frames of a reader's images, frame by frame, and says how many frames there were.
 ///
-/// Each piece is written before the next image is read. If the bytes of reader and writer are known (as in memory), the
+/// Each chunk is written before the next image is read. If the bytes of reader and writer are known (as in memory), the
 /// clauses say which were read and written.
 pub fn write_text<I: Images, T: Text, R: Feed, W: Outlet>(
     alloc: Global,
@@ -100,8 +100,8 @@ pub fn write_text<I: Images, T: Text, R: Feed, W: Outlet>(
         let Some(frame) = next_frame_of::<I, R>(alloc, reader, number)? else {
             return Ok(number);
         };
-        let piece = T::piece(alloc, number, &frame)?;
-        written = write_piece(writer, &piece, written)?;
+        let chunk = T::chunk(alloc, number, &frame)?;
+        written = write_chunk(writer, &chunk, written)?;
     }
     match next_frame_of::<I, R>(alloc, reader, MOST_FRAMES)? {
         None => Ok(MOST_FRAMES),
@@ -116,7 +116,7 @@ fn next_frame_of<I: Images, R: Feed>(
     number: u64,
 ) -> Result<Option<Frame>, Stopped<I::Fault>>
     ensures frame { IfOk result (λ next. IfSome next
-        (λ f. Gave (R.remaining reader.old) (R.remaining reader.new) (λ bytes. I.image bytes f))) }
+        (λ f. IsFrame f × Gave (R.remaining reader.old) (R.remaining reader.new) (λ bytes. I.image bytes f))) }
     ensures end { IfOk result (λ next. IfNone next (WasAtEnd (R.remaining reader.old) (R.remaining reader.new))) }
     ensures stops { IfErr result (StopsNext I.unread (R.remaining reader.old) (R.remaining reader.new) number) }
     ensures failures { R.failed_reads reader.new ≡ count_after (failed_reader I.of_device result) (R.failed_reads reader.old) }
@@ -127,16 +127,16 @@ fn next_frame_of<I: Images, R: Feed>(
     }
 }
 
-/// Writes a piece of the text after the `written` bytes of it, and says how many there are then.
-fn write_piece<E, W: Outlet>(writer: &mut W, piece: &[u8], written: u64) -> Result<u64, Stopped<E>>
-    requires { written + length piece.now < 2 ^ 64 }
-    ensures all { OnOk result (Appends (W.contents writer.old) (W.contents writer.new) piece.now) }
-    ensures count { IfOk result (λ count. count ≡ written + length piece.now) }
-    ensures stops { IfErr result (StopsPiece (W.contents writer.old) (W.contents writer.new) written piece.now) }
+/// Writes a chunk of the text after the `written` bytes of it, and says how many there are then.
+fn write_chunk<E, W: Outlet>(writer: &mut W, chunk: &[u8], written: u64) -> Result<u64, Stopped<E>>
+    requires { written + length chunk.now < 2 ^ 64 }
+    ensures all { OnOk result (Appends (W.contents writer.old) (W.contents writer.new) chunk.now) }
+    ensures count { IfOk result (λ count. count ≡ written + length chunk.now) }
+    ensures stops { IfErr result (StopsChunk (W.contents writer.old) (W.contents writer.new) written chunk.now) }
     ensures failures { W.failed_writes writer.new ≡ count_after (failed_writer result) (W.failed_writes writer.old) }
 {
-    match write_bytes(writer, piece) {
-        Ok(()) => Ok(written + piece.len() as u64),
+    match write_bytes(writer, chunk) {
+        Ok(()) => Ok(written + chunk.len() as u64),
         Err(fault) => Err(Stopped::Output(written + fault.written as u64)),
     }
 }

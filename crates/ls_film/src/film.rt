@@ -25,7 +25,14 @@ impl Images for NetpbmImages {
     ghost of_device = { blames_device };
 
     fn next<R: Feed>(alloc: Global, reader: &mut R) -> Result<Option<Frame>, NetpbmFault> {
-        next_frame(alloc, reader)
+        match next_frame(alloc, reader) {
+            Ok(Some(frame)) => {
+                prove!(frame.maxval() > 0);
+                Ok(Some(frame))
+            }
+            Ok(None) => Ok(None),
+            Err(fault) => Err(fault),
+        }
     }
 }
 

@@ -1,27 +1,39 @@
-//! Films: images of frames, one after the other, and what is written of one: a line for each frame, or a codestream.
+//! Films: images of frames, one after the other, and what is written of one: a line for each frame, or a codestream; and of a film of
+//! codestreams, a recording, an image for each.
 //!
-//! What it hands on: a film is images and nothing between them (`specs/Film.antt`); what is written of it is the lines or
-//! the codestreams of its frames (`specs/Listing.antt`, `specs/Coding.antt`); an engine that stops says which frames it
-//! read and which bytes it wrote (`specs/View/Engine.antt`). The relations on films take what an image is as a parameter,
-//! so a film of codestreams is read by the same ones.
+//! What it hands on: a film is images and nothing between them (`specs/Film.antt`); what is written of it is the lines, the codestreams or
+//! the canonical Netpbm images of its frames (`specs/Listing.antt`, `specs/Coding.antt`, `specs/Showing.antt`); an engine that stops says
+//! which frames it read and which bytes it wrote (`specs/View/Engine.antt`, and of recordings `specs/View/Playing.antt`). The relations
+//! on films take what an image is as a parameter, so a film of codestreams is read by the same ones.
 //!
 //! ```
-//! let mut reader = Buffered::new(alloc, Counted::new(file))?;
-//! let mut writer = Counted::new(rt.stdout());
+//! use ls_film::{code_film, play};
+//! use ls_frame::{Buffered, Counted};
+//!
+//! let mut reader = Buffered::new(alloc, Counted::new(film))?;
+//! let mut writer = Counted::new(Vec::new(alloc));
 //! let frames = code_film(alloc, &mut reader, &mut writer)?;
-//! let (lines, ended) = list_bytes(alloc, film);
+//! let recording = writer.into_inner();
+//! match play(alloc, recording.as_slice(), Counted::new(Vec::new(alloc))) {
+//!     Ok((frames, _rest, shown)) => Ok(shown.into_inner()),
+//!     Err((fault, _rest, shown)) => Err(fault),
+//! }
 //! ```
 //!
-//! In reading order: `faults` (why a film stopped), `listing` (the line of a frame), `coding` (its codestream), `film` (under
-//! both: Netpbm images are read and a piece written for each frame), `engine` (the same for any images).
+//! In reading order: `faults` (why a film stopped), `listing` (the line of a frame), `coding` (its codestream), `film` (under both: Netpbm
+//! images are read and a chunk written for each frame), `playing` (codestreams are read and images written), `engine` (under all of them:
+//! any images, and any text of their frames), `laws`.
 #![tactic(auto)]
 
 pub mod coding;
 pub mod engine;
 pub mod faults;
 pub mod film;
+pub mod laws;
 pub mod listing;
+pub mod playing;
 
 pub use coding::{code_bytes, code_film};
 pub use faults::{FilmFault, MOST_FRAMES};
 pub use listing::{list_bytes, list_film};
+pub use playing::{PlayFault, play, play_bytes};

@@ -30,7 +30,7 @@ pub fn list_film<R: Feed, W: Outlet>(
     ensures reads { R.failed_reads reader.new ≡ count_after (failed_reader result) (R.failed_reads reader.old) }
     ensures writes { W.failed_writes writer.new ≡ count_after (failed_writer result) (W.failed_writes writer.old) }
 {
-    write_film::<Lines, R, W>(alloc, reader, writer)
+    write_film::<LineText, R, W>(alloc, reader, writer)
 }
 
 /// The lines of a film in memory, as far as they were written, and how the listing ended.
@@ -38,16 +38,16 @@ pub fn list_bytes(alloc: Global, film: &[u8]) -> (Vec<u8>, Result<u64, FilmFault
     ensures completes { IfOk result.1 (IsTextOf lines film.now result.0.items) }
     ensures stops { IfErr result.1 (StopsOver lines film.now result.0.items) }
 {
-    text_of_bytes::<Lines>(alloc, film)
+    text_of_bytes::<LineText>(alloc, film)
 }
 
 /// A line for each frame.
-struct Lines;
+struct LineText;
 
-impl Text for Lines {
+impl Text for LineText {
     ghost text = { lines };
 
-    fn piece(alloc: Global, number: u64, frame: &Frame) -> Result<Vec<u8>, AllocError> {
+    fn chunk(alloc: Global, number: u64, frame: &Frame) -> Result<Vec<u8>, AllocError> {
         Ok(line(alloc, number, frame)?.into_bytes())
     }
 

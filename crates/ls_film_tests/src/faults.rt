@@ -5,7 +5,7 @@ use ls_testing::{Mishap, Sink};
 use std::io::Write;
 use std::process::Abort;
 
-/// The faults of a frame, but for want of memory, and their texts.
+/// The faults of a frame, but for memory that is refused, and their texts.
 const INPUT_FAULTS: [(NetpbmFault, &str); 8] = [
     (NetpbmFault::BadMagic, "frame 3: bad magic"),
     (NetpbmFault::BadHeader, "frame 3: bad header"),

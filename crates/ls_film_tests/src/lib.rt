@@ -8,4 +8,6 @@ mod faults;
 #[cfg(test)]
 mod films;
 #[cfg(test)]
+mod playing;
+#[cfg(test)]
 mod testing;

@@ -13,8 +13,8 @@ use Rattle.ls_queue.specs.declared.views.Puts.{Puts}
 use Rattle.ls_queue.specs.declared.views.View.{View}
 use mathlib.Core.Option.{some}
 use lib.ListN.{get_elem?}
-use Rattle.ls_queue.specs.View.Cores.{numbers_of}
-use Rattle.ls_queue.specs.Account.{Counts, FitsPuts, FitsTakes, IsWithin, job, numbered, jobs_of, jobs_in, marks_in, marks_taken, weight_put, weight_taken, Kept, weight_at, is_job, times_taken, times_held, IsBelowAll, AreRising, NumbersRise, MarksAreLast, HoldsAll, IsSettled}
+use Rattle.ls_queue.specs.Queue.{numbers_of}
+use Rattle.ls_queue.specs.View.Account.{Counts, FitsPuts, FitsTakes, IsWithin, job, numbered, jobs_of, jobs_in, marks_in, marks_taken, weight_put, weight_taken, Kept, weight_at, is_job, times_taken, times_held, IsBelowAll, AreRising, NumbersRise, MarksAreLast, HoldsAll, IsSettled}
 use Rattle.ls_queue.proofs.AccountLists.{all_map, length-numbered, jobs_in-append, jobs_in-all, job_or_mark, cons_head, cons_tail}
 use Rattle.ls_queue.proofs.AccountSeats.{settles}
 

@@ -10,7 +10,7 @@ use lib.ListN.{get_elem?}
 use Rattle.ls_queue.specs.declared.replies.Job.{Job}
 use Rattle.ls_queue.specs.declared.views.Message.{Message}
 use Rattle.ls_queue.specs.declared.views.Message.TheVariants as message
-use Rattle.ls_queue.specs.Account.{job, numbered, jobs_of, jobs_in, marks_in, IsWithin}
+use Rattle.ls_queue.specs.View.Account.{job, numbered, jobs_of, jobs_in, marks_in, IsWithin}
 
 module _ {A : Type 0} where
   pub all_append : (P : A → Type 0) (xs ys : List A) → AllByRecursion P xs → AllByRecursion P ys → AllByRecursion P (xs ++ ys)

@@ -12,7 +12,7 @@ use Rattle.ls_queue.specs.declared.views.Message.TheVariants as message
 use Rattle.ls_queue.specs.declared.views.Puts.{Puts}
 use Rattle.ls_queue.specs.declared.views.Takes.{Takes}
 use Rattle.ls_queue.specs.declared.views.View.{View}
-use Rattle.ls_queue.specs.Account.{numbered, jobs_of, jobs_in, marks_in, IsWithin, weight_put, weight_taken, marks_taken, Past, FitsPuts, FitsTakes, Fits, Counts, Kept, source_view, worker_view, first_view, source_made, worker_made, after_mark, joined, spent_view, IsCounted, IsEmpty, IsSettled}
+use Rattle.ls_queue.specs.View.Account.{numbered, jobs_of, jobs_in, marks_in, IsWithin, weight_put, weight_taken, marks_taken, Past, FitsPuts, FitsTakes, Fits, Counts, Kept, source_view, worker_view, first_view, source_made, worker_made, after_mark, joined, spent_view, IsCounted, IsEmpty, IsSettled}
 use Rattle.ls_queue.proofs.AccountLists.{all_append, all_map, all_none, at_set, each_set, each_added, sum_set, sum_added, length-numbered, one_more_mark, jobs_in-append, jobs_in-all, all_gone}
 use Rattle.ls_queue.proofs.AccountSteps.{false_true}
 

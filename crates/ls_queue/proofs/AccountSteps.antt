@@ -8,7 +8,7 @@ use Rattle.ls_queue.specs.declared.replies.Job.{Job}
 use Rattle.ls_queue.specs.declared.views.Message.{Message}
 use Rattle.ls_queue.specs.declared.views.Message.TheVariants as message
 use Rattle.ls_queue.specs.declared.views.View.{View}
-use Rattle.ls_queue.specs.Account.{job, numbered, jobs_in, IsWithin, weight_put, weight_taken, marks_taken, Past, FitsPuts, FitsTakes, Fits, Kept, source_view, worker_view, after_put, AfterTake}
+use Rattle.ls_queue.specs.View.Account.{job, numbered, jobs_in, IsWithin, weight_put, weight_taken, marks_taken, Past, FitsPuts, FitsTakes, Fits, Kept, source_view, worker_view, after_put, AfterTake}
 use Rattle.ls_queue.proofs.AccountLists.{all_append, all_map, all_none, each_set, sum_set, numbered-more, jobs_of-own, jobs_of-other, jobs_in-append, marks_in-append, IsWithin-later, IsWithin-last, one_more_job, front_job}
 
 pub false_true : {Y : Type 0} → false ≡ true → Y

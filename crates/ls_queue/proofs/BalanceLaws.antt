@@ -10,8 +10,8 @@ use Rattle.ls_queue.specs.declared.views.Takes.{Takes}
 use Rattle.ls_queue.specs.declared.running.Queue.{Queue}
 use Rattle.ls_queue.specs.declared.running.Finished.{Finished}
 use Rattle.ls_queue.specs.declared.running.WorkerSeat.{WorkerSeat}
-use Rattle.ls_queue.specs.Account.{IsCounted, IsWithin, numbered, jobs_of, weight_at, is_job}
-use Rattle.ls_queue.specs.Running.{Balances, TookAll, sources_of, puts_of, takes_of}
+use Rattle.ls_queue.specs.View.Account.{IsCounted, IsWithin, numbered, jobs_of, weight_at, is_job}
+use Rattle.ls_queue.specs.View.Running.{Balances, TookAll, sources_of, puts_of, takes_of}
 use Rattle.ls_queue.proofs.AccountLists.{all_map}
 use Rattle.ls_queue.proofs.AccountLaws.{own_jobs, one_each, item_at}
 

@@ -5,8 +5,8 @@ use Rattle.std.proofs.lemmas.Bool.Decides.{eqb_tells}
 use Rattle.std.proofs.lemmas.List.{map-append, get_or-set_same, get_or-set_other, length-set, length_push}
 use Rattle.std.proofs.lemmas.List.Elements.{filter-append}
 use Rattle.ls_queue.specs.declared.replies.Job.{Job}
-use Rattle.ls_queue.specs.Queue.{Queue, count_of}
-use Rattle.ls_queue.specs.View.Cores.{AreLastBefore, numbers_of, IsCore}
+use Rattle.ls_queue.specs.Queue.{Queue, count_of, numbers_of}
+use Rattle.ls_queue.specs.View.Cores.{AreLastBefore, IsCore}
 
 -- one number more
 pub AreLastBefore-push : (end : ℕ) (ns : List ℕ) → AreLastBefore end ns → AreLastBefore (end + 1) (ns ++ end ∷ [])

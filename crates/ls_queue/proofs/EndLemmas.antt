@@ -1,8 +1,8 @@
 -- Ends as they are joined and counted.
 use Rattle.std.proofs.Common.{◌≡◌, ◌≢◌, ℕ, zero, suc, ◌+◌, ◌-◌, ◌<◌, ◌≤◌, ◌⊎◌, inl, inr, ⊎_elim, Bool, true, false, true≢false, ◌||◌, ◌==◌, List, [], ◌∷◌, ◌++◌, length, set, get_or, refl, sym, ap, subst, ◌∙◌, arith, append_assoc, append-nil}
 use Rattle.std.specs.Prelude.{⊤, Some, slice_get, slice_index_or}
-use Rattle.std.specs.List.{remove}
-use Rattle.std.proofs.lemmas.Bool.{ne_eqb}
+use Rattle.std.specs.List.{AllByRecursion, remove}
+use Rattle.std.proofs.lemmas.Bool.{eq-eqb, eqb-true, ne_eqb}
 use Rattle.std.proofs.lemmas.Bool.Decides.{eqb_tells}
 use Rattle.std.proofs.lemmas.Option.{same_Some}
 use Rattle.std.proofs.lemmas.List.{get_or-set_same, get_or-set_other}
@@ -11,8 +11,8 @@ use Rattle.ls_queue.specs.declared.views.Message.TheVariants as message
 use Rattle.ls_queue.specs.declared.views.Puts.{Puts}
 use Rattle.ls_queue.specs.declared.views.View.{View}
 use Rattle.ls_queue.specs.declared.running.Ended.{Ended}
-use Rattle.ls_queue.specs.Account.{Kept, source_view, ending_view, joined, spent_view, after_mark, with_marks, IsCounted}
-use Rattle.ls_queue.specs.Running.{has_end, EachHasEnd, AreInOrder, parts_of, items_ended}
+use Rattle.ls_queue.specs.View.Account.{Kept, source_view, ending_view, joined, spent_view, after_mark, with_marks, IsCounted}
+use Rattle.ls_queue.specs.View.Running.{has_end, EachHasEnd, AreInOrder, parts_of, items_ended}
 use Rattle.ls_queue.proofs.AccountSeats.{joins, sends_mark}
 
 pub took_first : {A : Type 0} (old new : List A) (e : A) → e ≡ slice_index_or old 0 e → new ≡ remove old 0 → length new + 1 ≡ length old → old ≡ e ∷ new
@@ -45,6 +45,32 @@ or_right false t is h = h
 or_more : (c t t' : Bool) → (t ≡ true → t' ≡ true) → (c || t) ≡ true → (c || t') ≡ true
 or_more true t t' f h = refl
 or_more false t t' f h = f h
+
+neither : (c t : Bool) → (c || t) ≡ false → (c ≡ false) × (t ≡ false)
+neither true t h = absurd (true≢false h)
+neither false t h = (refl, h)
+
+either : (c t : Bool) → (c || t) ≡ true → (c ≡ true) ⊎ (t ≡ true)
+either true t h = inl refl
+either false t h = inr h
+
+-- ---- whether an end is there
+
+module _ {X : Type 0} where
+  pub no_end_of : (source : ℕ) (ended : List (Ended X)) → has_end source ended ≡ false → AllByRecursion (λ (e : Ended X). e.source ≢ source) ended
+  no_end_of source [] none = tt
+  no_end_of source (e ∷ es) none =
+      let apart = neither (e.source == source) (has_end source es) none in
+      (λ is. true≢false (sym (eq-eqb e.source source is) ∙ apart.0), no_end_of source es apart.1)
+
+  pub some_end_of : (s : ℕ) (ended : List (Ended X)) → has_end s ended ≡ true → (n : ℕ) × (e : Ended X) × (slice_get ended n ≡ Some e) × (e.source ≡ s)
+  some_end_of s [] some = absurd (true≢false (sym some))
+  some_end_of s (e ∷ es) some = elim (either (e.source == s) (has_end s es) some) [
+    | inl here ↦ (0, e, refl, eqb-true e.source s here)
+    | inr later ↦ let rest = some_end_of s es later in (suc rest.0, rest.1, rest.2, rest.3)
+  ]
+
+-- ---- joining
 
 module _ {X : Type 0} where
   pub end_joins : (p : ℕ) (v : View X) (m s w : ℕ) (other : ℕ) (u : View X) (t : ℕ) (xs : List X) → v ≡ ending_view m v.puts s w 0 → u ≡ source_view t xs → Merges Kept p v other u (joined v u) spent_view

@@ -13,10 +13,9 @@ use Rattle.ls_queue.specs.declared.steps.Step.{Step}
 use Rattle.ls_queue.specs.declared.steps.Step.TheVariants as step
 use Rattle.ls_queue.specs.declared.steps.Reply.{Reply}
 use Rattle.ls_queue.specs.declared.steps.Reply.TheVariants as reply
-use Rattle.ls_queue.specs.Queue.{Queue, spent_count, all_true, new_queue, count_of, is_closed, put_reply, after_reply, take_of}
+use Rattle.ls_queue.specs.Queue.{Queue, spent_count, all_true, new_queue, count_of, is_closed, put_reply, after_reply, take_of, numbers_of}
 use Rattle.ls_queue.specs.Steps.{is_known, reply_of, after_step, replies_of}
 use Rattle.ls_queue.specs.History.{Event, event, history, job_put, job_in, jobs_in, jobs_out, items_of, sent, taken, held, closes, was_closed, lawful_reply, AreLawful, IsHistory}
-use Rattle.ls_queue.specs.View.Cores.{numbers_of}
 use Rattle.ls_queue.proofs.JobLemmas.{items_of-append, items_of-other, AreNumbered, AreNumbered-front, numbers_in_order}
 use Rattle.ls_queue.proofs.HistoryLemmas.{IsAfter, IsAfter-new, IsAfter-step, IsAfter-kept, IsAfter-held, reply_of-lawful, was_closed-push, or-true}
 

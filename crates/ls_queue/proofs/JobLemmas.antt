@@ -8,7 +8,7 @@ use Rattle.std.proofs.lemmas.List.Elements.{filter-append}
 use Rattle.std.proofs.lemmas.List.Folds.{list_any-append}
 use Rattle.ls_queue.specs.declared.replies.Job.{Job}
 use Rattle.ls_queue.specs.History.{items_of, is_same, is_among}
-use Rattle.ls_queue.specs.View.Cores.{numbers_of}
+use Rattle.ls_queue.specs.Queue.{numbers_of}
 
 pub items_of-append : (s : ℕ) (xs ys : List (Job ℕ)) → items_of s (xs ++ ys) ≡ items_of s xs ++ items_of s ys
 items_of-append s xs ys =

@@ -7,8 +7,8 @@ use Rattle.ls_queue.specs.declared.views.View.{View}
 use Rattle.ls_queue.specs.declared.account.Channel.{Channel}
 use Rattle.ls_queue.specs.declared.running.SourceSeat.{SourceSeat}
 use Rattle.ls_queue.specs.declared.running.WorkerSeat.{WorkerSeat}
-use Rattle.ls_queue.specs.Account.{Kept, source_view, worker_view, closer_view, source_made, worker_made}
-use Rattle.ls_queue.specs.Running.{AreNewSources, AreNewWorkers, items_put, jobs_taken, items_in, jobs_in_first}
+use Rattle.ls_queue.specs.View.Account.{Kept, source_view, worker_view, closer_view, source_made, worker_made}
+use Rattle.ls_queue.specs.View.Running.{AreNewSources, AreNewWorkers, items_put, jobs_taken, items_in, jobs_in_first}
 use Rattle.ls_queue.proofs.AccountSeats.{makes_source, makes_worker}
 
 pub length_more : {A : Type 0} (new old : List A) (a : A) (n : ℕ) → length old ≡ n → new ≡ old ++ a ∷ [] → length new ≡ n + 1

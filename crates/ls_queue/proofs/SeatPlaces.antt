@@ -5,7 +5,7 @@ use Rattle.std.specs.List.{AllByRecursion}
 use Rattle.ls_queue.specs.declared.account.Channel.{Channel}
 use Rattle.ls_queue.specs.declared.running.SourceSeat.{SourceSeat}
 use Rattle.ls_queue.specs.declared.running.WorkerSeat.{WorkerSeat}
-use Rattle.ls_queue.specs.Running.{AreNewSources, AreNewWorkers, IsSourceAt, IsWorkerAt}
+use Rattle.ls_queue.specs.View.Running.{AreNewSources, AreNewWorkers, IsSourceAt, IsWorkerAt}
 
 -- what holds at each place holds of each element
 pub each_at : {A : Type 0} (P : A → Type 0) (xs : List A) → ((i : ℕ) (d : A) → i < length xs → P (slice_index_or xs i d)) → AllByRecursion P xs

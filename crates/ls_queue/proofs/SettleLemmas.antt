@@ -8,8 +8,8 @@ use Rattle.ls_queue.specs.declared.views.Puts.{Puts}
 use Rattle.ls_queue.specs.declared.views.Takes.{Takes}
 use Rattle.ls_queue.specs.declared.views.View.{View}
 use Rattle.ls_queue.specs.declared.running.WorkerSeat.{WorkerSeat}
-use Rattle.ls_queue.specs.Account.{Kept, worker_view, ending_view, joined, spent_view, with_takes, IsSettled}
-use Rattle.ls_queue.specs.Running.{takes_of, all_done, is_done, jobs_taken}
+use Rattle.ls_queue.specs.View.Account.{Kept, worker_view, ending_view, joined, spent_view, with_takes, IsSettled}
+use Rattle.ls_queue.specs.View.Running.{takes_of, all_done, is_done, jobs_taken}
 use Rattle.ls_queue.proofs.AccountSeats.{joins, settles}
 
 and_left : (a b : Bool) → (a && b) ≡ true → a ≡ true

@@ -3,18 +3,27 @@ use Rattle.std.specs.Prelude.{ℕ, ◌||◌, not, List, Option, Some, None, if�
 use Rattle.ls_queue.specs.declared.steps.Step.{Step}
 use Rattle.ls_queue.specs.declared.faults.QueueFault.{QueueFault}
 use Rattle.ls_queue.specs.declared.faults.QueueFault.TheVariants.{Sources, Capacity, Workers, NoSource}
-use Rattle.ls_queue.specs.declared.faults.TheConstants.{MOST_SOURCES, MOST_CAPACITY, MOST_WORKERS}
 use Rattle.ls_queue.specs.Steps.{is_known}
+
+-- the most sources of a queue, the most jobs that it may hold, and the most workers of a running one
+abbrev pub most_sources : ℕ
+most_sources = 16
+
+abbrev pub most_capacity : ℕ
+most_capacity = 256
+
+abbrev pub most_workers : ℕ
+most_workers = 16
 
 -- a queue has 1 to 16 sources, and then a capacity of 1 to 256
 abbrev pub range_fault : ℕ → ℕ → Option QueueFault
 range_fault sources capacity =
-    (if sources == 0 || nat_lt MOST_SOURCES sources then Some Sources else (if capacity == 0 || nat_lt MOST_CAPACITY capacity then Some Capacity else None))
+    (if sources == 0 || nat_lt most_sources sources then Some Sources else (if capacity == 0 || nat_lt most_capacity capacity then Some Capacity else None))
 
 -- a running queue also has 1 to 16 workers
 abbrev pub worker_fault : Option QueueFault → ℕ → Option QueueFault
 worker_fault (Some fault) workers = Some fault
-worker_fault None workers = (if workers == 0 || nat_lt MOST_WORKERS workers then Some Workers else None)
+worker_fault None workers = (if workers == 0 || nat_lt most_workers workers then Some Workers else None)
 
 abbrev pub open_fault : ℕ → ℕ → ℕ → Option QueueFault
 open_fault sources workers capacity = worker_fault (range_fault sources capacity) workers

@@ -1,5 +1,5 @@
 -- A bounded queue of several sources: its answer to each call, and what it is afterwards.
-use Rattle.std.specs.Prelude.{ℕ, ◌+◌, ◌-◌, ◌^◌, Bool, true, false, ◌&&◌, ◌==◌, if◌then◌else◌, List, [], ◌∷◌, ◌++◌, length, drop, replicate, slice_index, slice_index_or, slice_set}
+use Rattle.std.specs.Prelude.{ℕ, ◌+◌, ◌-◌, ◌^◌, Bool, true, false, ◌&&◌, ◌==◌, if◌then◌else◌, List, [], ◌∷◌, ◌++◌, length, drop, filter, map, replicate, slice_index, slice_index_or, slice_set}
 use Rattle.ls_queue.specs.declared.replies.Job.{Job}
 use Rattle.ls_queue.specs.declared.replies.Put.{Put}
 use Rattle.ls_queue.specs.declared.replies.Put.TheVariants as put
@@ -25,6 +25,10 @@ all_true [] = true
 all_true (b ∷ bs) = b && all_true bs
 
 module _ {X : Type 0} where
+  -- the numbers of the jobs of source s
+  abbrev pub numbers_of : ℕ → List (Job X) → List ℕ
+  numbers_of s jobs = map (λ (j : Job X). j.number) (filter (λ (j : Job X). j.source == s) jobs)
+
   -- each source is open, and no job is held
   abbrev pub new_queue : ℕ → ℕ → Queue X
   new_queue sources capacity = record { capacity = capacity; counts = replicate sources 0; closed = replicate sources false; held = [] }

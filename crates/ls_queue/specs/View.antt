@@ -1,1 +1,4 @@
+-- How a queue, its channel and its seats are seen.
+pub mod Account
 pub mod Cores
+pub mod Running

@@ -6,11 +6,11 @@ use crate::views::{Message, View};
 use crossbeam_channel::protocol::{Join, Lesson, Outcome, Protocol, Split};
 use crossbeam_channel::{Pass, RuledReceiver, RuledSender};
 
-/// The rule: the account of `specs/Account.antt`.
+/// The rule: the account of `specs/View/Account.antt`.
 pub struct Rule;
 
 impl<T> Protocol<Message<T>, View<T>> for Rule {
-    ghost use Rattle.ls_queue.specs.Account.{Kept, first_view};
+    ghost use Rattle.ls_queue.specs.View.Account.{Kept, first_view};
 
     ghost holds = { λ items views. Kept items views };
 
@@ -22,7 +22,7 @@ pub struct SourceSeated;
 
 impl<T> Split<View<T>> for SourceSeated {
     ghost use Rattle.std.specs.Prelude.{[]};
-    ghost use Rattle.ls_queue.specs.Account.{source_made, source_view};
+    ghost use Rattle.ls_queue.specs.View.Account.{source_made, source_view};
 
     ghost left = { λ v. source_made v };
 
@@ -34,7 +34,7 @@ pub struct WorkerSeated;
 
 impl<T> Split<View<T>> for WorkerSeated {
     ghost use Rattle.std.specs.Prelude.{[], false};
-    ghost use Rattle.ls_queue.specs.Account.{worker_made, worker_view};
+    ghost use Rattle.ls_queue.specs.View.Account.{worker_made, worker_view};
 
     ghost left = { λ v. worker_made v };
 
@@ -46,7 +46,7 @@ pub struct JobSent;
 
 impl<T> Outcome<Message<T>, View<T>> for JobSent {
     ghost use Rattle.std.specs.Prelude.{◌≡◌};
-    ghost use Rattle.ls_queue.specs.Account.{after_put};
+    ghost use Rattle.ls_queue.specs.View.Account.{after_put};
 
     ghost then = { λ v x w. w ≡ after_put v x };
 }
@@ -61,7 +61,7 @@ impl<T> Lesson<Message<T>, View<T>> for JobSent {
 pub struct Received;
 
 impl<T> Outcome<Message<T>, View<T>> for Received {
-    ghost use Rattle.ls_queue.specs.Account.{AfterTake};
+    ghost use Rattle.ls_queue.specs.View.Account.{AfterTake};
 
     ghost then = { λ v x w. AfterTake v x w };
 }
@@ -77,7 +77,7 @@ pub struct MarkSent;
 
 impl<T> Outcome<Message<T>, View<T>> for MarkSent {
     ghost use Rattle.std.specs.Prelude.{◌≡◌};
-    ghost use Rattle.ls_queue.specs.Account.{after_mark};
+    ghost use Rattle.ls_queue.specs.View.Account.{after_mark};
 
     ghost then = { λ v x w. w ≡ after_mark v };
 }
@@ -92,7 +92,7 @@ impl<T> Lesson<Message<T>, View<T>> for MarkSent {
 pub struct Settled;
 
 impl<T> Lesson<Message<T>, View<T>> for Settled {
-    ghost use Rattle.ls_queue.specs.Account.{IsSettled};
+    ghost use Rattle.ls_queue.specs.View.Account.{IsSettled};
 
     ghost fact = { λ v items. IsSettled v items };
 }
@@ -101,7 +101,7 @@ impl<T> Lesson<Message<T>, View<T>> for Settled {
 pub struct Joined;
 
 impl<T> Join<View<T>> for Joined {
-    ghost use Rattle.ls_queue.specs.Account.{joined, spent_view};
+    ghost use Rattle.ls_queue.specs.View.Account.{joined, spent_view};
 
     ghost both = { λ v w. joined v w };
 

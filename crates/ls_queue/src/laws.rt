@@ -1,12 +1,12 @@
 //! What follows from lawful replies, whatever the steps, and from the account of a running queue. Each law is the contract of a function that has nothing to do.
-ghost use Rattle.std.specs.Prelude.{◌≡◌, ℕ, ◌-◌, ◌^◌, ◌++◌, [], ◌∷◌, List, length, All, IsTrue, Some, slice_get, slice_index_or};
-ghost use Rattle.std.specs.List.{range_with_len};
-ghost use Rattle.ls_queue.specs.Queue.{new_queue};
+ghost use Rattle.std.specs.Prelude.{◌≡◌, ◌≢◌, ℕ, ◌-◌, ◌<◌, ◌^◌, ◌++◌, [], ◌∷◌, List, length, All, IsTrue, None, Some, slice_get, slice_index_or};
+ghost use Rattle.std.specs.List.{AllByRecursion, range_with_len};
+ghost use Rattle.ls_queue.specs.Queue.{new_queue, numbers_of};
+ghost use Rattle.ls_queue.specs.Faults.{open_fault};
 ghost use Rattle.ls_queue.specs.Steps.{is_known, replies_of};
 ghost use Rattle.ls_queue.specs.History.{Event, event, history, sent, taken, held, items_of, jobs_out, AreLawful, IsHistory, IsReplay};
-ghost use Rattle.ls_queue.specs.View.Cores.{numbers_of};
-ghost use Rattle.ls_queue.specs.Account.{IsCounted, Kept, EachOnce, EachItem, NoOthers, EachRises, MarksAreLast, AllIsTaken, LastIsSettled};
-ghost use Rattle.ls_queue.specs.Running.{AreInOrder, Balances, TookAll, sources_of, puts_of, parts_of, items_ended};
+ghost use Rattle.ls_queue.specs.View.Account.{IsCounted, Kept, EachOnce, EachItem, NoOthers, EachRises, MarksAreLast, AllIsTaken, LastIsSettled};
+ghost use Rattle.ls_queue.specs.View.Running.{AreInOrder, Balances, IsLowestMissing, TookAll, sources_of, puts_of, parts_of, items_ended};
 ghost use Rattle.ls_queue.specs.declared.running.Ended.{Ended};
 ghost use Rattle.ls_queue.specs.declared.running.Finished.{Finished};
 ghost use Rattle.ls_queue.specs.declared.running.Queue.{Queue};
@@ -14,6 +14,7 @@ ghost use Rattle.ls_queue.specs.declared.running.WorkerSeat.{WorkerSeat};
 ghost use Rattle.ls_queue.specs.declared.views.Message.{Message};
 ghost use Rattle.ls_queue.specs.declared.views.View.{View};
 
+use crate::faults::QueueFault;
 use crate::replies::{Close, Put, Take};
 use crate::steps::{Reply, Step};
 
@@ -100,9 +101,32 @@ pub fn each_count_is_that_of_its_end<T>()
         → IsCounted counts (parts_of ended) s → slice_index_or counts s 0 ≡ length (items_ended end) }
 {}
 
+/// A source that `finish` names is one of the queue's; none of the ends is of it, and one is of each source below it.
+pub fn the_lowest_missing_source_is_named<T>()
+    ensures known { (sources source : ℕ) (ended : List (Ended T)) → IsLowestMissing sources ended source → source < sources }
+    ensures missing { (sources source : ℕ) (ended : List (Ended T)) → IsLowestMissing sources ended source
+        → AllByRecursion (λ (end : Ended T). end.source ≢ source) ended }
+    ensures lowest { (sources source : ℕ) (ended : List (Ended T)) → IsLowestMissing sources ended source
+        → (s : ℕ) → s < source → (n : ℕ) × (end : Ended T) × (slice_get ended n ≡ Some end) × (end.source ≡ s) }
+{}
+
 /// Where a queue was settled: of each source the workers took the jobs with the numbers below its count, each once, and with the
 /// item that was put under it; and they took no others.
 pub fn a_settled_queue_was_taken_whole<T>()
     ensures { (queue : Queue T) (finished : Finished T) (seats : List (WorkerSeat T)) (counts : List ℕ) → Balances queue finished seats counts
         → TookAll (sources_of queue) (puts_of finished) seats counts }
+{}
+
+/// The least and the most that a queue can be opened with, and the fault of each number beside them; of several faults, the first.
+pub fn queues_have_these_limits()
+    ensures least { open_fault 1 1 1 ≡ None }
+    ensures most { open_fault 16 16 256 ≡ None }
+    ensures no_source { open_fault 0 1 1 ≡ Some QueueFault.Sources }
+    ensures sources { open_fault 17 16 256 ≡ Some QueueFault.Sources }
+    ensures no_capacity { open_fault 1 1 0 ≡ Some QueueFault.Capacity }
+    ensures capacity { open_fault 16 16 257 ≡ Some QueueFault.Capacity }
+    ensures no_worker { open_fault 1 0 1 ≡ Some QueueFault.Workers }
+    ensures workers { open_fault 16 17 256 ≡ Some QueueFault.Workers }
+    ensures first { open_fault 0 0 0 ≡ Some QueueFault.Sources }
+    ensures second { open_fault 1 0 0 ≡ Some QueueFault.Capacity }
 {}

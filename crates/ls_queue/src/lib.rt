@@ -44,8 +44,8 @@
 //!
 //! With the contracts of its closures, and checks, that is `use_queue` of `src/crowd.rt` in `ls_queue_tests`, by which the tests use a queue.
 //!
-//! What is true between any two steps of its channel, for any number of threads, is the account (`specs/Account.antt`), and
-//! `laws` says what follows from it; what its calls do to seats and ends is said in `specs/Running.antt`. `docs/QUEUE.md` tells
+//! What is true between any two steps of its channel, for any number of threads, is the account (`specs/View/Account.antt`), and
+//! `laws` says what follows from it; what its calls do to seats and ends is said in `specs/View/Running.antt`. `docs/QUEUE.md` tells
 //! the whole.
 //!
 //! In reading order: `faults` (why a queue can't be made), `replies` (jobs and answers), `bounded` (`Core`, the queue by

@@ -4,9 +4,9 @@ ghost use Rattle.std.specs.List.{AllByRecursion};
 ghost use Rattle.crossbeam_channel.specs.Claims.{view, IsSeatAt};
 ghost use Rattle.crossbeam_channel.specs.Ends.{sends_on, receives_on, ruled_capacity};
 ghost use Rattle.ls_queue.specs.Queue.{spent_count};
-ghost use Rattle.ls_queue.specs.Account.{closer_view, ending_view, after_mark, with_marks, with_takes, IsCounted};
+ghost use Rattle.ls_queue.specs.View.Account.{closer_view, ending_view, after_mark, with_marks, with_takes, IsCounted};
 ghost use Rattle.ls_queue.specs.Faults.{open_fault};
-ghost use Rattle.ls_queue.specs.Running.{sources_of, workers_of, places_of, AreAllSources, AreAllWorkers, AreWorkerSeats, AreEnds, IsSourceSeat, IsWorkerSeat, IsWorkerAt, Balances, IsUnsettled, all_done, takes_of, IsEnded, IsEndedAt, IsCloser, IsFinished, IsMissing, IsLowestMissing, EachHasEnd, has_end, puts_of, parts_of, AreNewSources, AreNewWorkers, items_put, jobs_taken, is_done, items_ended, Takes};
+ghost use Rattle.ls_queue.specs.View.Running.{sources_of, workers_of, places_of, AreAllSources, AreAllWorkers, AreWorkerSeats, AreEnds, IsSourceSeat, IsWorkerSeat, IsWorkerAt, Balances, IsUnsettled, all_done, takes_of, IsEnded, IsEndedAt, IsCloser, IsFinished, IsMissing, IsLowestMissing, EachHasEnd, has_end, puts_of, parts_of, AreNewSources, AreNewWorkers, items_put, jobs_taken, is_done, items_ended, Takes};
 
 use crate::account::{
     Account, Channel, JobSent, Joined, MarkSent, Received, Settled, SourceSeated, Token,

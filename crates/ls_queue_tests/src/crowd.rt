@@ -1,7 +1,7 @@
 //! A queue whose seats have a thread each.
 ghost use Rattle.std.specs.Prelude.{◌≡◌, IfSome, IfOk};
 ghost use Rattle.std.specs.List.{AllByRecursion};
-ghost use Rattle.ls_queue.specs.Running.{sources_of, IsSourceSeat, IsWorkerSeat, IsEnded, IsCloser, IsFinished, AreAllSources, AreAllWorkers, AreWorkerSeats, AreEnds};
+ghost use Rattle.ls_queue.specs.View.Running.{sources_of, IsSourceSeat, IsWorkerSeat, IsEnded, IsCloser, IsFinished, AreAllSources, AreAllWorkers, AreWorkerSeats, AreEnds};
 
 use crate::testing::{check, next_source};
 use ls_queue::{

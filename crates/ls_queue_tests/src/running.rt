@@ -1,5 +1,5 @@
 ghost use Rattle.std.specs.Prelude.{◌≡◌, [], ◌∷◌, ◌++◌, IfSome, IfOk};
-ghost use Rattle.ls_queue.specs.Running.{IsWorkerSeat, IsCloser, IsFinished, AreEnds, AreWorkerSeats};
+ghost use Rattle.ls_queue.specs.View.Running.{IsWorkerSeat, IsCloser, IsFinished, AreEnds, AreWorkerSeats};
 
 use crate::crowd::{Usage, use_queue};
 use crate::testing::{Memory, check, next_source, next_worker};

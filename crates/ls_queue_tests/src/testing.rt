@@ -1,6 +1,6 @@
 //! Steps with the replies that they must have, and checks for the tests.
 ghost use Rattle.std.specs.Prelude.{◌≡◌, suc, ◌+◌, ◌<◌, [], length, false};
-ghost use Rattle.ls_queue.specs.Running.{AreNewSources, AreNewWorkers, IsSourceSeat, IsWorkerSeat, items_put, jobs_taken, is_done};
+ghost use Rattle.ls_queue.specs.View.Running.{AreNewSources, AreNewWorkers, IsSourceSeat, IsWorkerSeat, items_put, jobs_taken, is_done};
 
 use ls_queue::{Close, Job, Put, Queue, Reply, SourceSeat, Step, Take, WorkerSeat};
 use std::process::Abort;

@@ -5,7 +5,7 @@ use Rattle.std.proofs.Math.ListN.{get_or-map}
 use Rattle.std.proofs.Math.Numerals.{add-one}
 use Rattle.std.proofs.lemmas.List.{map-append, length-map}
 use Rattle.ls_recorder.specs.declared.delivery.ends.Inbox.{Inbox}
-use Rattle.ls_recorder.specs.Boxes.{AreFrom}
+use Rattle.ls_recorder.specs.View.Boxes.{AreFrom}
 
 AreFrom-push_from : (n : ℕ) (inboxes : List Inbox) (inbox : Inbox) → AreFrom n inboxes → inbox.source ≡ n + length inboxes → AreFrom n (inboxes ++ inbox ∷ [])
 AreFrom-push_from n [] inbox before is = (let here : inbox.source ≡ n = omega arith in (here, tt))

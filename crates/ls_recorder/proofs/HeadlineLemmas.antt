@@ -21,14 +21,15 @@ use Rattle.ls_frame.specs.Netpbm.{magic, IsImageOf}
 use Rattle.ls_film.specs.Film.{IsFilm}
 use Rattle.ls_film.specs.Coding.{file, with_defaults, default_file}
 use Rattle.ls_film.proofs.OneFilmLemmas.{one_film}
-use Rattle.ls_recorder.specs.declared.playing.PlayFault.{PlayFault}
+use Rattle.ls_film.specs.declared.playing.PlayFault.{PlayFault}
 use Rattle.ls_recorder.specs.declared.recording.Track.{Track}
 use Rattle.ls_recorder.specs.declared.headline.PlayedBack.{PlayedBack}
-use Rattle.ls_recorder.specs.Orders.{Ordered}
+use Rattle.ls_pieces.specs.Orders.{Ordered}
 use Rattle.ls_recorder.specs.View.Lanes.{with_tuning, AreTuned, tuned_file, Records, StopsLane, HasPut, WroteFront, WroteFewer, AreOrdersOf}
-use Rattle.ls_recorder.specs.View.Playing.{IsCodable, frames_of}
+use Rattle.ls_film.specs.View.Playing.{IsCodable, frames_of}
 use Rattle.ls_recorder.specs.View.Recordings.{IsTrack, AreTracks}
 use Rattle.ls_recorder.proofs.ListLemmas.{zip-through, zip-weaker}
+use Rattle.ls_recorder.proofs.RecordingLemmas.{each-track}
 use Rattle.ls_recorder.specs.View.Headline.{by_default, ComesBack, StopsShort, ShowsFront, PlaysFront, CameOf, ComeBack, PlaysBack, IntoMemory, held_by, IsUnrecorded, IsPlayed}
 
 -- ---- a film of Netpbm images is of one list of frames
@@ -177,16 +178,16 @@ module _ (maxval : (maxval : ℕ) → (default_parameters maxval).maxval ≡ max
   unstarted recording shown tuning played none plays = shows recording shown played tuning [] [] [] refl tt (omega arith) none plays
 
   module _ (failed_reads : Bor (List ℕ) → ℕ) (failed_writes : IntoMemory → ℕ) where
-    one_back : (film : Bor (List ℕ) × Tuning) (lane : Bor (List ℕ) × IntoMemory × Tuning) (track : Track (Bor (List ℕ)) IntoMemory) (r : PlayedBack) → IsUnrecorded film lane
-        → IsTrack (λ b. Some b.now) failed_reads held_by failed_writes lane track → IsPlayed track r → CameOf film r
-    one_back film lane track r fresh done played =
+    one_back : (film : Bor (List ℕ) × Tuning) (lane : Bor (List ℕ) × IntoMemory × Tuning) (count : ℕ) (track : Track (Bor (List ℕ)) IntoMemory) (r : PlayedBack) → IsUnrecorded film lane
+        → IsTrack (λ b. Some b.now) failed_reads held_by failed_writes lane count track → IsPlayed track r → CameOf film r
+    one_back film lane count track r fresh done played =
         let bytes = film.0.now in
         let back = ComesBack bytes film.1 r.recording.items r.shown.items r.played in
         let short = (λ (fault : LaneFault). StopsShort bytes film.1 r.recording.items fault × PlaysFront film.1 r.recording.items r.shown.items r.played fault) in (
           subst (λ x. MatchResult x back short) (sym played.recorded)
               (elim done.did [
                 | inl refused ↦ subst (λ x. MatchResult x back short) (sym refused.0)
-                    (let none = same_Some _ _ (sym played.recording ∙ ap held_by refused.2 ∙ fresh.empty) in
+                    (let none = same_Some _ _ (sym played.recording ∙ ap held_by refused.3 ∙ fresh.empty) in
                     (inl (refl, none), unstarted r.recording.items r.shown.items film.1 r.played none played.plays))
                 | inr ran ↦ MatchResult-weaker track.result
                     (rw (ap (λ (b : Bor (List ℕ)). b.now) fresh.reader, fresh.tuning, fresh.empty, played.recording) at ran)
@@ -196,8 +197,8 @@ module _ (maxval : (maxval : ℕ) → (default_parameters maxval).maxval ≡ max
           played.shows,
         )
 
-    pub all_back : (films : List (Bor (List ℕ) × Tuning)) (lanes : List (Bor (List ℕ) × IntoMemory × Tuning)) (tracks : List (Track (Bor (List ℕ)) IntoMemory)) (played_back : List PlayedBack)
-        → AllZip IsUnrecorded films lanes → AreTracks (λ b. Some b.now) failed_reads held_by failed_writes lanes tracks → AllZip IsPlayed tracks played_back → ComeBack films played_back
-    all_back films lanes tracks played_back fresh done played =
-        zip-weaker _ _ films played_back (λ film r all. one_back film all.1.0 all.0 r all.1.1 all.1.2 all.2)
-        (zip-through _ _ films tracks played_back (zip-through _ _ films lanes tracks fresh done) played)
+    pub all_back : (films : List (Bor (List ℕ) × Tuning)) (lanes : List (Bor (List ℕ) × IntoMemory × Tuning)) (counts : List ℕ) (s : ℕ) (tracks : List (Track (Bor (List ℕ)) IntoMemory)) (played_back : List PlayedBack)
+        → AllZip IsUnrecorded films lanes → AreTracks (λ b. Some b.now) failed_reads held_by failed_writes counts s lanes tracks → AllZip IsPlayed tracks played_back → ComeBack films played_back
+    all_back films lanes counts s tracks played_back fresh done played =
+        zip-weaker _ _ films played_back (λ film r all. one_back film all.1.0 all.1.2.0 all.0 r all.1.1 all.1.2.1 all.2)
+        (zip-through _ _ films tracks played_back (zip-through _ _ films lanes tracks fresh (each-track (λ b. Some b.now) failed_reads held_by failed_writes counts s lanes tracks done)) played)

@@ -8,11 +8,11 @@ use Rattle.std.proofs.lemmas.Bool.{ne_eqb}
 use Rattle.std.proofs.lemmas.Option.{get_or_from_slice_get}
 use Rattle.ls_film.specs.Coding.{file}
 use Rattle.ls_queue.specs.declared.replies.Job.{Job}
-use Rattle.ls_recorder.specs.declared.collector.Slot.{Slot}
-use Rattle.ls_recorder.specs.Orders.{Ordered, coded}
-use Rattle.ls_recorder.specs.Collecting.{Collection, booked, misfit_of, after_accept, is_full, after_book, first_piece, next_reply, after_reply, after_next, job_of, ArePieces, IsCollection}
+use Rattle.ls_pieces.specs.declared.collector.Slot.{Slot}
+use Rattle.ls_pieces.specs.Orders.{Ordered, coded}
+use Rattle.ls_pieces.specs.Collecting.{Collection, booked, misfit_of, after_accept, is_full, after_book, first_piece, next_reply, after_reply, after_next, job_of, ArePieces, IsCollection}
 use Rattle.ls_recorder.specs.View.Lanes.{WroteFront, WroteFewer, WrotePart, orders_in, IsWriting}
-use Rattle.ls_recorder.proofs.CollectorLemmas.{fits}
+use Rattle.ls_pieces.proofs.CollectorLemmas.{fits}
 
 -- ---- codestreams, one more at a time
 

@@ -1,10 +1,6 @@
 pub mod BoxLemmas
-pub mod CollectorLemmas
 pub mod HeadlineLemmas
 pub mod LaneLemmas
 pub mod ListLemmas
-pub mod NextLemmas
-pub mod PlayLemmas
-pub mod RecordedLemmas
 pub mod RecordingLemmas
 pub mod RunLemmas

@@ -1,6 +1,6 @@
 -- Lists of seats, lanes and tracks as they grow.
 use Rattle.std.proofs.Common.{◌≡◌, ℕ, suc, ◌+◌, ◌<◌, ◌≤◌, ◌⊎◌, inl, inr, Bool, true, false, true≢false, ◌&&◌, ◌||◌, ◌==◌, List, [], ◌∷◌, ◌++◌, length, refl, sym, ap, subst, ◌∙◌, arith, append_assoc, append-nil}
-use Rattle.std.specs.List.{AllByRecursion}
+use Rattle.std.specs.List.{AllByRecursion, AllZip}
 use Rattle.std.proofs.lemmas.List.{length_push}
 use Rattle.ls_queue.specs.declared.running.WorkerSeat.{WorkerSeat}
 use Rattle.std.specs.Prelude.{slice_index_or, Option, Result, Ok, Err, IfOk, IfErr, MatchResult, map}
@@ -10,21 +10,21 @@ use Rattle.ls_recorder.specs.View.Lanes.{Records, with_tuning}
 use Rattle.std.proofs.lemmas.Bool.Decides.{eqb_tells}
 use Rattle.std.proofs.Math.Nat.{eq-or-lt_of_le}
 use Rattle.ls_queue.specs.declared.running.Ended.{Ended}
-use Rattle.ls_queue.specs.Running.{is_done, all_done, has_end, AreNewSources, IsSourceAt, items_put, AreEnds, parts_of, AreNewWorkers, IsWorkerAt}
-use Rattle.ls_queue.specs.Account.{IsCounted}
+use Rattle.ls_queue.specs.View.Running.{is_done, all_done, has_end, AreNewSources, IsSourceAt, items_put, items_ended, AreEnds, parts_of, AreNewWorkers, IsWorkerAt}
+use Rattle.ls_queue.specs.View.Account.{IsCounted}
 use Rattle.ls_queue.specs.declared.account.Channel.{Channel}
 use Rattle.ls_queue.specs.declared.running.SourceSeat.{SourceSeat}
 use Rattle.ls_recorder.specs.declared.delivery.ends.Inbox.{Inbox}
 use Rattle.ls_queue.specs.declared.running.Queue.{Queue}
 use Rattle.ls_frame.specs.declared.tuning.Tuning.{Tuning}
-use Rattle.ls_recorder.specs.Orders.{Ordered}
-use Rattle.ls_recorder.specs.declared.recording.threads.Lane.{Lane}
+use Rattle.ls_pieces.specs.Orders.{Ordered}
+use Rattle.ls_recorder.specs.declared.recording.lanes.Lane.{Lane}
 use Rattle.ls_recorder.specs.declared.recording.Track.{Track}
 use Rattle.crossbeam_channel.specs.Ends.{sends_on, receives_on}
 use Rattle.ls_recorder.specs.declared.delivery.ends.Door.{Door}
 use Rattle.ls_recorder.specs.declared.delivery.ends.Outbox.{Outbox}
-use Rattle.ls_recorder.specs.Boxes.{AreFrom, LeadTo}
-use Rattle.ls_recorder.specs.View.Recordings.{IsLaneEnd, IsStarted, AreStarted, AreDone, AreTracks, AreCounted, LeadToAll}
+use Rattle.ls_recorder.specs.View.Boxes.{AreFrom, LeadTo}
+use Rattle.ls_recorder.specs.View.Recordings.{IsTrack, IsLaneEnd, IsStarted, AreStarted, AreDone, AreTracks, AreCounted, LeadToAll}
 
 and_both : (a b : Bool) → a ≡ true → b ≡ true → (a && b) ≡ true
 and_both true b is is' = is'
@@ -155,14 +155,6 @@ module _ {R W : Type 0} (remaining : R → Option (List ℕ)) (failed_reads : R 
     | inr later ↦ or_second (e.source == k) _ (done-each (suc s) fs es ts all.1 k (omega arith) (omega arith))
   ]
 
-  pub done-tracks : (s : ℕ) (films : List (R × W × Tuning)) (es : List (Ended Ordered)) (ts : List (Track R W)) → AreDone remaining failed_reads contents failed_writes queue s films es ts → AreTracks remaining failed_reads contents failed_writes films ts
-  done-tracks s [] [] [] all = _
-  done-tracks s [] [] (t ∷ ts) all = absurd all
-  done-tracks s [] (e ∷ es) ts all = absurd all
-  done-tracks s (f ∷ fs) [] ts all = absurd all
-  done-tracks s (f ∷ fs) (e ∷ es) [] all = absurd all
-  done-tracks s (f ∷ fs) (e ∷ es) (t ∷ ts) all = (all.0.track, done-tracks (suc s) fs es ts all.1)
-
   -- a source below s isn't counted by the ends from s on
   not_below : (counts : List ℕ) (s : ℕ) (films : List (R × W × Tuning)) (es : List (Ended Ordered)) (ts : List (Track R W)) → AreDone remaining failed_reads contents failed_writes queue s films es ts
       → (k : ℕ) → k < s → IsCounted counts (parts_of es) k → ⊥
@@ -174,6 +166,22 @@ module _ {R W : Type 0} (remaining : R → Option (List ℕ)) (failed_reads : R 
   not_below counts s (f ∷ fs) (e ∷ es) (t ∷ ts) all k less counted = elim counted [
     | inl here ↦ (let a = all.0.source in let b = here.0 in absurd (omega arith))
     | inr later ↦ not_below counts (suc s) fs es ts all.1 k (omega arith) later
+  ]
+
+  -- the count of source s is that of its end
+  count-here : (counts : List ℕ) (s : ℕ) (f : R × W × Tuning) (fs : List (R × W × Tuning)) (e : Ended Ordered) (es : List (Ended Ordered)) (t : Track R W) (ts : List (Track R W))
+      → AreDone remaining failed_reads contents failed_writes queue s (f ∷ fs) (e ∷ es) (t ∷ ts) → IsCounted counts (parts_of (e ∷ es)) s → slice_index_or counts s 0 ≡ length (items_ended e)
+  count-here counts s f fs e es t ts all counted = elim counted [
+    | inl here ↦ here.1
+    | inr later ↦ absurd (not_below counts (suc s) fs es ts all.1 s (omega arith) later)
+  ]
+
+  -- and the counts of the sources after it are those of the ends after it
+  counts-later : (counts : List ℕ) (s n : ℕ) (e : Ended Ordered) (es : List (Ended Ordered)) → e.source ≡ s
+      → ((k : ℕ) → s ≤ k → k < s + suc n → IsCounted counts (parts_of (e ∷ es)) k) → (k : ℕ) → suc s ≤ k → k < suc s + n → IsCounted counts (parts_of es) k
+  counts-later counts s n e es is counted k from less = elim (counted k (omega arith) (omega arith)) [
+    | inl here ↦ (let b = here.0 in absurd (omega arith))
+    | inr later ↦ later
   ]
 
   ok-both : {A E : Type 0} (r : Result A E) (P Q : A → Type 0) → ((x : A) → P x → Q x) → IfOk r P → IfOk r Q
@@ -188,15 +196,33 @@ module _ {R W : Type 0} (remaining : R → Option (List ℕ)) (failed_reads : R 
   done-counted counts s (f ∷ fs) [] ts all counted = absurd all
   done-counted counts s (f ∷ fs) (e ∷ es) [] all counted = absurd all
   done-counted counts s (f ∷ fs) (e ∷ es) (t ∷ ts) all counted = (
-    elim (counted s (omega arith) (omega arith)) [
-      | inl here ↦ ok-both t.result (λ n. e.count ≡ n) (λ n. slice_index_or counts s 0 ≡ n) (λ n is. here.1 ∙ (sym all.0.ended.count ∙ is)) all.0.count
-      | inr later ↦ absurd (not_below counts (suc s) fs es ts all.1 s (omega arith) later)
-    ],
-    done-counted counts (suc s) fs es ts all.1 (λ k from less. elim (counted k (omega arith) (omega arith)) [
-      | inl here ↦ (let a = all.0.source in let b = here.0 in absurd (omega arith))
-      | inr later ↦ later
-    ]),
+    ok-both t.result (λ n. e.count ≡ n) (λ n. slice_index_or counts s 0 ≡ n)
+        (λ n is. count-here counts s f fs e es t ts all (counted s (omega arith) (omega arith)) ∙ (sym all.0.ended.count ∙ is)) all.0.count,
+    done-counted counts (suc s) fs es ts all.1 (counts-later counts s (length fs) e es all.0.source counted),
   )
+
+  pub done-tracks : (counts : List ℕ) (s : ℕ) (films : List (R × W × Tuning)) (es : List (Ended Ordered)) (ts : List (Track R W)) → AreDone remaining failed_reads contents failed_writes queue s films es ts
+      → ((k : ℕ) → s ≤ k → k < s + length films → IsCounted counts (parts_of es) k) → AreTracks remaining failed_reads contents failed_writes counts s films ts
+  done-tracks counts s [] [] [] all counted = _
+  done-tracks counts s [] [] (t ∷ ts) all counted = absurd all
+  done-tracks counts s [] (e ∷ es) ts all counted = absurd all
+  done-tracks counts s (f ∷ fs) [] ts all counted = absurd all
+  done-tracks counts s (f ∷ fs) (e ∷ es) [] all counted = absurd all
+  done-tracks counts s (f ∷ fs) (e ∷ es) (t ∷ ts) all counted = (
+    subst (λ n. IsTrack remaining failed_reads contents failed_writes f n t)
+        (all.0.ended.count ∙ sym (count-here counts s f fs e es t ts all (counted s (omega arith) (omega arith)))) all.0.track,
+    done-tracks counts (suc s) fs es ts all.1 (counts-later counts s (length fs) e es all.0.source counted),
+  )
+
+-- each film has its track
+pub each-track : {R W : Type 0} (remaining : R → Option (List ℕ)) (failed_reads : R → ℕ) (contents : W → Option (List ℕ)) (failed_writes : W → ℕ) (counts : List ℕ) (s : ℕ)
+    (films : List (R × W × Tuning)) (ts : List (Track R W)) → AreTracks remaining failed_reads contents failed_writes counts s films ts
+    → AllZip (λ f t. (n : ℕ) × IsTrack remaining failed_reads contents failed_writes f n t) films ts
+each-track remaining failed_reads contents failed_writes counts s [] [] all = _
+each-track remaining failed_reads contents failed_writes counts s [] (t ∷ ts) all = all
+each-track remaining failed_reads contents failed_writes counts s (f ∷ fs) [] all = all
+each-track remaining failed_reads contents failed_writes counts s (f ∷ fs) (t ∷ ts) all =
+    ((slice_index_or counts s 0, all.0), each-track remaining failed_reads contents failed_writes counts (suc s) fs ts all.1)
 
 pub new-workers : {X : Type 0} (channel : Channel X) (seats : List (WorkerSeat X)) → AreNewWorkers channel seats → AllByRecursion (IsWorkerAt channel) seats
 new-workers channel [] all = _

@@ -1,7 +1,8 @@
 -- A lane's run: what it read and what it wrote of that, and how it ends.
-use Rattle.std.proofs.Common.{◌≡◌, ℕ, ◌+◌, ◌≤◌, inl, inr, Bool, true, false, List, [], ◌∷◌, ◌++◌, length, map, Option, refl, sym, ap, subst, ◌∙◌, arith, append_assoc, append-nil, IsTrue}
+use Rattle.std.proofs.Common.{◌≡◌, ℕ, ◌+◌, ◌≤◌, inl, inr, Bool, true, false, List, [], ◌∷◌, ◌++◌, length, map, ◌⊎◌, Option, refl, sym, ap, subst, ◌∙◌, arith, append_assoc, append-nil, IsTrue}
 use Rattle.std.specs.Prelude.{Ok}
 use Rattle.std.specs.Io.KnownBytes.{Appends}
+use Rattle.std.specs.List.{AllByRecursion}
 use Rattle.std.proofs.KnownBytes.{Appends-nil}
 use Rattle.std.proofs.lemmas.List.{length_push, map-append}
 use Rattle.ls_frame.specs.declared.tuning.Tuning.{Tuning}
@@ -10,20 +11,20 @@ use Rattle.ls_frame.specs.Parameters.{explicit_parameters}
 use Rattle.ls_frame.specs.Tuning.{tuned}
 use Rattle.ls_frame.specs.Netpbm.{IsImageOf}
 use Rattle.ls_frame.specs.Faults.{IsBroken, blames_bytes}
-use Rattle.ls_frame.specs.View.Devices.{count_after}
+use Rattle.ls_frame.specs.View.Devices.{count_after, risen}
 use Rattle.ls_frame.specs.View.Known.{Gave, WasAtEnd}
 use Rattle.ls_film.specs.Film.{most_frames}
 use Rattle.ls_film.specs.Coding.{file}
 use Rattle.ls_film.specs.View.Given.{GaveFrames}
 use Rattle.ls_film.proofs.FilmLemmas.{GaveFrames-none, GaveFrames-more, GaveFilm-end, IsBrokenAfter-next, BeginsWithFrames-gave}
-use Rattle.ls_recorder.specs.declared.collector.Slot.{Slot}
+use Rattle.ls_pieces.specs.declared.collector.Slot.{Slot}
 use Rattle.ls_recorder.specs.declared.lane.LaneFault.{LaneFault}
 use Rattle.ls_recorder.specs.declared.lane.LaneFault.TheVariants.{Input, Output, NoMemory, Misfit, Lost, NotStarted, TooMany, Tuning as BadTuning}
-use Rattle.ls_recorder.specs.Orders.{Ordered}
-use Rattle.ls_recorder.specs.Collecting.{Collection, new_collection}
-use Rattle.ls_recorder.specs.View.Lanes.{with_tuning, AreOrdersOf, tuned_file, WroteFront, StopsWriting, orders_in, IsWriting, StopsReading, Records, HasPut, StopsLane, ReadsSo, blames_reader, blames_writer}
+use Rattle.ls_pieces.specs.Orders.{Ordered}
+use Rattle.ls_pieces.specs.Collecting.{Collection, new_collection}
+use Rattle.ls_recorder.specs.View.Lanes.{with_tuning, AreTuned, AreOrdersOf, tuned_file, WroteFront, StopsWriting, orders_in, IsWriting, StopsReading, Records, HasPut, StopsLane, ReadsSo, blames_reader, blames_writer}
 use Rattle.ls_recorder.proofs.LaneLemmas.{writes-front}
-use Rattle.ls_recorder.proofs.ListLemmas.{all-more}
+use Rattle.ls_film.proofs.FilmLemmas.{all-more}
 
 -- what was read so far, all of which was put
 pub record HasRead (tuning : Tuning) (items : List Ordered) (read now : Option (List ℕ)) (n : ℕ) : Type 0 where
@@ -31,6 +32,10 @@ pub record HasRead (tuning : Tuning) (items : List Ordered) (read now : Option (
   pub count : length frames ≡ n
   pub gave : GaveFrames IsImageOf read now frames
   pub put : AreOrdersOf tuning frames items
+
+lawful-frames : (tuning : Tuning) (frames : List Picture) → AreTuned tuning frames → AllByRecursion IsFrame frames
+lawful-frames tuning [] tuned_all = tt
+lawful-frames tuning (f ∷ frames) tuned_all = (tuned_all.0.0, lawful-frames tuning frames tuned_all.1)
 
 -- ---- the beginning
 
@@ -101,6 +106,7 @@ module _ (tuning : Tuning) (items : List Ordered) (read mid : Option (List ℕ))
       frames = run.frames;
       count = run.count;
       few = omega (arith, run.count, few);
+      lawful = lawful-frames tuning run.frames run.put.1;
       gave = GaveFilm-end IsImageOf read mid new run.frames run.gave end;
       wrote = wrote-tuned start now c bytes run writing none;
     };
@@ -127,6 +133,7 @@ module _ (tuning : Tuning) (items : List Ordered) (read mid : Option (List ℕ))
       frames = run.frames;
       count = run.count ∙ sym why.0;
       few = omega (arith, run.count, few);
+      lawful = lawful-frames tuning run.frames run.put.1;
       begins = BeginsWithFrames-gave IsImageOf read mid run.frames run.gave;
       broken = IsBrokenAfter-next IsImageOf read mid run.frames (λ rest. IsTrue (blames_bytes fault) → IsBroken rest fault) run.gave (λ told blamed. why.2 blamed told);
       wrote = wrote-tuned start now c bytes run writing none;
@@ -144,7 +151,8 @@ module _ (tuning : Tuning) (items : List Ordered) (read mid : Option (List ℕ))
       frames = run.frames;
       last = why.1;
       count = run.count ∙ why.0;
-      gave = GaveFrames-more IsImageOf read mid new run.frames why.1 run.gave why.2;
+      lawful = all-more IsFrame run.frames why.1 (lawful-frames tuning run.frames run.put.1) why.2;
+      gave = GaveFrames-more IsImageOf read mid new run.frames why.1 run.gave why.3;
       wrote = wrote-tuned start now c bytes run writing none;
     };
     put = run.put;
@@ -160,35 +168,40 @@ module _ (tuning : Tuning) (items : List Ordered) (read mid : Option (List ℕ))
     wrote = wrote-tuned start now c bytes run writing none;
   }
 
-  -- an end for want of memory, at whatever point
+  -- memory was refused, at whatever point
   pub stops-memory : (new start now : Option (List ℕ)) (c : Collection) (bytes : ℕ) → HasRead tuning items read mid n → n ≤ most_frames → IsWriting items start now c bytes
       → StopsLane tuning items read new start now NoMemory
   stops-memory new start now c bytes run few writing = (HasPut-read new start now run few, writes-front items start now c bytes writing)
 
 -- ---- devices
 
-pub reads-so : (b : Bool) (old new : ℕ) → new ≡ count_after b old → ReadsSo b old new
-reads-so true old new is = is
-reads-so false old new is = inl is
+-- it stops at the next frame
+pub reads-so : (tuning : Tuning) (read read' : Option (List ℕ)) (n : ℕ) (fault : LaneFault) (old new : ℕ) → StopsReading tuning read read' n fault → new ≡ count_after (blames_reader fault) old
+    → ReadsSo fault old new
+reads-so tuning read read' n (Input m fault) old new why is = is
+reads-so tuning read read' n (Output bytes) old new why is = absurd why
+reads-so tuning read read' n NoMemory old new why is = inl is
+reads-so tuning read read' n (Misfit misfit) old new why is = absurd why
+reads-so tuning read read' n Lost old new why is = absurd why
+reads-so tuning read read' n NotStarted old new why is = absurd why
+reads-so tuning read read' n TooMany old new why is = is
+reads-so tuning read read' n (BadTuning m fault) old new why is = is
 
-none-or-one : (b : Bool) (old new : ℕ) → new ≡ count_after b old → ReadsSo false old new
+none-or-one : (b : Bool) (old new : ℕ) → new ≡ count_after b old → (new ≡ old) ⊎ (new ≡ risen old)
 none-or-one true old new is = inr is
 none-or-one false old new is = inl is
 
-not-reader : (items : List Ordered) (start now : Option (List ℕ)) (fault : LaneFault) → StopsWriting items start now fault → blames_reader fault ≡ false
-not-reader items start now (Input m fault) why = absurd why
-not-reader items start now (Output bytes) why = refl
-not-reader items start now NoMemory why = refl
-not-reader items start now (Misfit misfit) why = refl
-not-reader items start now Lost why = refl
-not-reader items start now NotStarted why = absurd why
-not-reader items start now TooMany why = absurd why
-not-reader items start now (BadTuning m fault) why = absurd why
-
 -- it stops while pieces are awaited or written, after a read that may have failed
 pub reads-writing : (items : List Ordered) (start now : Option (List ℕ)) (fault : LaneFault) (b : Bool) (old new : ℕ) → StopsWriting items start now fault → new ≡ count_after b old
-    → ReadsSo (blames_reader fault) old new
-reads-writing items start now fault b old new why is = rw (not-reader items start now fault why) (none-or-one b old new is)
+    → ReadsSo fault old new
+reads-writing items start now (Input m fault) b old new why is = absurd why
+reads-writing items start now (Output bytes) b old new why is = none-or-one b old new is
+reads-writing items start now NoMemory b old new why is = none-or-one b old new is
+reads-writing items start now (Misfit misfit) b old new why is = none-or-one b old new is
+reads-writing items start now Lost b old new why is = none-or-one b old new is
+reads-writing items start now NotStarted b old new why is = absurd why
+reads-writing items start now TooMany b old new why is = absurd why
+reads-writing items start now (BadTuning m fault) b old new why is = absurd why
 
 not-writer : (tuning : Tuning) (read read' : Option (List ℕ)) (n : ℕ) (fault : LaneFault) → StopsReading tuning read read' n fault → blames_writer fault ≡ false
 not-writer tuning read read' n (Input m fault) why = refl

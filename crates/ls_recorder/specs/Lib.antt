@@ -1,5 +1,2 @@
-pub mod Boxes
-pub mod Collecting
-pub mod Orders
-pub mod Showing
+pub mod Sizes
 pub mod View

@@ -1,6 +1,5 @@
--- How a reader, a writer and the code's faults are seen as recordings and what they show; and when orders are equal.
-pub mod Alike
+-- What a recording does, seen by its films, its threads and their boxes.
+pub mod Boxes
 pub mod Headline
 pub mod Lanes
-pub mod Playing
 pub mod Recordings

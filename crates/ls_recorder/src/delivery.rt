@@ -4,15 +4,15 @@ mod ends;
 ghost use Rattle.std.specs.Prelude.{◌≡◌, ◌<◌, ◌⊎◌, None, Some, length, IfOk, MatchResult};
 ghost use Rattle.std.specs.List.{AllByRecursion};
 ghost use Rattle.ls_recorder.specs.declared.delivery.ends.Outbox.{Outbox};
-ghost use Rattle.ls_recorder.specs.Boxes.{box_fault, AreFrom, HaveRoom, LeadTo, LeadAlike, AreBoxes};
+ghost use Rattle.ls_recorder.specs.Sizes.{box_fault};
+ghost use Rattle.ls_recorder.specs.View.Boxes.{AreFrom, HaveRoom, LeadTo, LeadAlike, AreBoxes};
 
-use crate::collector::MOST_WINDOW;
 use crate::faults::RecordFault;
+use crate::sizes::Sizes;
 use crossbeam_channel::bounded_with;
 use crossbeam_channel::protocol::Free;
 use ends::{Another, Door};
 pub use ends::{Answer, Inbox, Outbox};
-use ls_queue::{MOST_SOURCES, MOST_WORKERS};
 use std::alloc::{AllocError, Global};
 use std::sync::Wait;
 
@@ -32,28 +32,18 @@ pub fn boxes<R: Wait>(
         (λ made. (box_fault sources workers window ≡ None) × AreBoxes sources workers window made.0.items made.1.items)
         (λ fault. (box_fault sources workers window ≡ Some fault) ⊎ ((box_fault sources workers window ≡ None) × (fault ≡ RecordFault.NoMemory))) }
 {
-    if let Some(fault) = box_fault(sources, workers, window) {
+    // Boxes hold no jobs: any capacity does.
+    let sizes = Sizes {
+        workers,
+        capacity: 1,
+        window,
+    };
+    if let Some(fault) = sizes.fault(usize::from(sources)) {
         return Err(fault);
     }
     let (inboxes, doors) = channels(alloc, sources, window)?;
     let outboxes = outboxes(alloc, doors, workers)?;
     Ok((inboxes, outboxes))
-}
-
-/// The fault of the numbers that boxes are made with, if there is one.
-fn box_fault(sources: u8, workers: usize, window: usize) -> Option<RecordFault>
-    ensures { result ≡ box_fault sources workers window }
-{
-    if sources == 0 || sources > MOST_SOURCES {
-        return Some(RecordFault::Sources);
-    }
-    if workers == 0 || workers > MOST_WORKERS {
-        return Some(RecordFault::Workers);
-    }
-    if window == 0 || window > MOST_WINDOW {
-        return Some(RecordFault::Window);
-    }
-    None
 }
 
 /// A box for each source, with a door that leads to it.

@@ -6,9 +6,9 @@ ghost use Rattle.ls_recorder.specs.View.Recordings.{record_fault};
 
 use crate::faults::RecordFault;
 use crate::lane::LaneFault;
-use crate::playing::{PlayFault, play_bytes};
 use crate::recording::{Track, record};
 use crate::working::Gate;
+use ls_film::{PlayFault, play_bytes};
 use ls_frame::laws::{
     default_parameters_are_legal, images_have_one_frame, no_image_begins_another,
     parameters_are_legal_or_at_fault,

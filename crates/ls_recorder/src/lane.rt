@@ -8,17 +8,15 @@ ghost use Rattle.ls_frame.specs.Tuning.{tuned};
 ghost use Rattle.ls_frame.specs.View.Devices.{count_after};
 ghost use Rattle.ls_frame.specs.View.Known.{Gave, WasAtEnd};
 ghost use Rattle.ls_film.specs.Film.{most_frames};
-ghost use Rattle.ls_queue.specs.Running.{IsSourceSeat, IsEnded, items_put, items_ended};
-ghost use Rattle.ls_recorder.specs.Orders.{coded};
-ghost use Rattle.ls_recorder.specs.Collecting.{booked, after_book};
-ghost use Rattle.ls_recorder.specs.View.Lanes.{Records, StopsLane, ReadsSo, GoesOn, StopsSo, StopsReading, blames_reader, failed_reader, failed_writer};
+ghost use Rattle.ls_queue.specs.View.Running.{IsSourceSeat, IsEnded, items_put, items_ended};
+ghost use Rattle.ls_pieces.specs.Orders.{coded};
+ghost use Rattle.ls_pieces.specs.Collecting.{booked, after_book, most_window};
+ghost use Rattle.ls_recorder.specs.View.Lanes.{Records, StopsLane, ReadsSo, GoesOn, StopsSo, StopsReading, failed_reader, failed_writer};
 
-use crate::collector::{Collector, MOST_WINDOW, Misfit};
 use crate::delivery::Inbox;
-use crate::orders::Order;
-use crate::pieces::Coded;
 use ls_film::MOST_FRAMES;
 use ls_frame::{Feed, NetpbmFault, Outlet, PresetFault, Tuning, next_frame, write_bytes};
+use ls_pieces::{Coded, Collector, Misfit, Order};
 use ls_queue::{Ended, Queue, SourceSeat};
 use std::alloc::Global;
 use std::sync::{Arc, Wait};
@@ -86,14 +84,14 @@ pub fn lane<F: Feed, W: Outlet, R: Wait>(
     requires seat { IsSourceSeat queue.now seat }
     requires new { items_put seat ≡ [] }
     requires window { 1 ≤ window }
-    requires narrow { window ≤ MOST_WINDOW }
+    requires narrow { window ≤ most_window }
     ensures ended { IsEnded queue.now result.ended × (result.ended.source ≡ seat.source) × (result.ended.count ≡ length (items_ended result.ended)) }
     ensures completes { IfOk result.result (Records tuning (items_ended result.ended)
         (F.remaining reader) (F.remaining result.reader) (W.contents writer) (W.contents result.writer)) }
     ensures stops { IfErr result.result (StopsLane tuning (items_ended result.ended)
         (F.remaining reader) (F.remaining result.reader) (W.contents writer) (W.contents result.writer)) }
     ensures reads { MatchResult result.result (λ frames. F.failed_reads result.reader ≡ F.failed_reads reader)
-        (λ fault. ReadsSo (blames_reader fault) (F.failed_reads reader) (F.failed_reads result.reader)) }
+        (λ fault. ReadsSo fault (F.failed_reads reader) (F.failed_reads result.reader)) }
     ensures writes { W.failed_writes result.writer ≡ count_after (failed_writer result.result) (W.failed_writes writer) }
 {
     let mut seat = seat;
@@ -135,14 +133,14 @@ fn run<F: Feed, W: Outlet, R: Wait>(
     requires seat { IsSourceSeat queue.now seat.old }
     requires new { items_put seat.old ≡ [] }
     requires window { 1 ≤ window }
-    requires narrow { window ≤ MOST_WINDOW }
+    requires narrow { window ≤ most_window }
     ensures seat { IsSourceSeat queue.now seat.new × (seat.new.source ≡ seat.old.source) }
     ensures completes { IfOk result (Records tuning.now (items_put seat.new)
         (F.remaining reader.old) (F.remaining reader.new) (W.contents writer.old) (W.contents writer.new)) }
     ensures stops { IfErr result (StopsLane tuning.now (items_put seat.new)
         (F.remaining reader.old) (F.remaining reader.new) (W.contents writer.old) (W.contents writer.new)) }
     ensures reads { MatchResult result (λ frames. F.failed_reads reader.new ≡ F.failed_reads reader.old)
-        (λ fault. ReadsSo (blames_reader fault) (F.failed_reads reader.old) (F.failed_reads reader.new)) }
+        (λ fault. ReadsSo fault (F.failed_reads reader.old) (F.failed_reads reader.new)) }
     ensures writes { W.failed_writes writer.new ≡ count_after (failed_writer result) (W.failed_writes writer.old) }
 {
     let mut collector = match Collector::new(alloc, inbox.source, window) {

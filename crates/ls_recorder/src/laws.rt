@@ -1,28 +1,22 @@
-//! Laws: each is the contract of a function.
-ghost use Rattle.std.specs.Prelude.{◌≡◌, List, IfOk, MatchResult};
-ghost use Rattle.ls_frame.specs.Netpbm.{IsImageOf};
-ghost use Rattle.ls_frame.specs.Picture.{Picture};
-ghost use Rattle.ls_film.specs.Film.{IsFilm};
-ghost use Rattle.ls_recorder.specs.Showing.{show};
-ghost use Rattle.ls_recorder.specs.View.Playing.{IsWantOfMemory};
+//! Laws: each is the contract of a function that has nothing to do.
+ghost use Rattle.std.specs.Prelude.{◌≡◌, None, Some};
+ghost use Rattle.ls_recorder.specs.Sizes.{record_fault};
 
-use crate::playing::{PlayFault, play_bytes};
-use ls_film::{FilmFault, code_bytes};
-use ls_frame::laws::default_parameters_are_legal;
-use std::alloc::Global;
+use crate::faults::RecordFault;
 
-/// What is coded of a film is played back as the film's frames, each as its canonical Netpbm image; or memory was refused.
-///
-/// It answers how the coding ended, what the playing wrote, and how it ended.
-pub fn recordings_are_played_back(
-    alloc: Global,
-    film: &[u8],
-) -> (Result<u64, FilmFault>, Vec<u8>, Result<u64, PlayFault>)
-    ensures { IfOk result.0 (λ count. (frames : List Picture) × IsFilm IsImageOf film.now frames
-        × MatchResult result.2 (λ played. (played ≡ count) × (result.1.items ≡ show frames)) IsWantOfMemory) }
-{
-    default_parameters_are_legal();
-    let (recording, coded) = code_bytes(alloc, film);
-    let (shown, played) = play_bytes(alloc, &recording);
-    (coded, shown, played)
-}
+/// The least and the most that films can be recorded with, and the fault of each number beside them; of several faults, the first.
+pub fn recordings_have_these_limits()
+    ensures least { record_fault 1 1 1 1 ≡ None }
+    ensures most { record_fault 16 16 256 64 ≡ None }
+    ensures no_source { record_fault 0 1 1 1 ≡ Some RecordFault.Sources }
+    ensures sources { record_fault 17 16 256 64 ≡ Some RecordFault.Sources }
+    ensures no_worker { record_fault 1 0 1 1 ≡ Some RecordFault.Workers }
+    ensures workers { record_fault 16 17 256 64 ≡ Some RecordFault.Workers }
+    ensures no_capacity { record_fault 1 1 0 1 ≡ Some RecordFault.Capacity }
+    ensures capacity { record_fault 16 16 257 64 ≡ Some RecordFault.Capacity }
+    ensures no_window { record_fault 1 1 1 0 ≡ Some RecordFault.Window }
+    ensures window { record_fault 16 16 256 65 ≡ Some RecordFault.Window }
+    ensures first { record_fault 0 0 0 0 ≡ Some RecordFault.Sources }
+    ensures second { record_fault 1 0 0 0 ≡ Some RecordFault.Workers }
+    ensures third { record_fault 1 1 0 0 ≡ Some RecordFault.Capacity }
+{}

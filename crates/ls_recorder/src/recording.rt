@@ -1,23 +1,26 @@
 //! Recording films side by side: each has a lane, in a thread of its own, and workers code the frames of all.
+mod lanes;
 mod threads;
+mod workers;
 
 ghost use Rattle.std.specs.Prelude.{◌≡◌, ℕ, max, List, ◌⊎◌, Some, None, length, IfOk, IfErr};
-ghost use Rattle.ls_queue.specs.Running.{sources_of, workers_of, places_of};
-ghost use Rattle.ls_recorder.specs.Boxes.{HaveRoom};
-ghost use Rattle.ls_recorder.specs.View.Recordings.{AreTracks, AreCounted, AreParts, HasRun, record_fault};
+ghost use Rattle.ls_queue.specs.View.Running.{sources_of, workers_of, places_of};
+ghost use Rattle.ls_recorder.specs.View.Boxes.{HaveRoom};
+ghost use Rattle.ls_recorder.specs.Sizes.{record_fault};
+ghost use Rattle.ls_recorder.specs.View.Recordings.{AreTracks, AreCounted, AreParts, HasRun};
 
-use crate::collector::MOST_WINDOW;
 use crate::delivery::boxes;
 use crate::faults::RecordFault;
 use crate::lane::LaneFault;
-use crate::orders::Order;
+use crate::sizes::Sizes;
 use crate::working::Gate;
 use ls_frame::{Feed, Outlet, Tuning};
-use ls_queue::{Account, MOST_CAPACITY, MOST_SOURCES, MOST_WORKERS, Queue, open, settle};
+use ls_pieces::Order;
+use ls_queue::{Account, Queue, open, settle};
 use std::alloc::Global;
 use std::sync::Wait;
 use std::thread::Threads;
-use threads::{Parts, Ran, flags_for, room_for, run_in_scope};
+use threads::{Parts, Ran, Shared, flags_for, room_for, run_in_scope};
 
 /// A film's reader and writer as its lane gives them back, and how many frames it recorded, or why it stopped.
 #[derive(Drop)]
@@ -58,14 +61,19 @@ pub fn record<Rt: Threads + Wait + Sync, R: Feed + Send + Drop, W: Outlet + Send
     window: usize,
     gate: &G,
 ) -> Result<Recording<R, W>, (RecordFault, Vec<(R, W, Tuning)>)>
-    ensures tracks { IfOk result (λ recording. AreTracks R.remaining R.failed_reads W.contents W.failed_writes films.items recording.tracks.items) }
+    ensures tracks { IfOk result (λ recording. AreTracks R.remaining R.failed_reads W.contents W.failed_writes recording.account.counts 0 films.items recording.tracks.items) }
     ensures account { IfOk result (λ recording. AreCounted recording.account.counts 0 recording.tracks.items) }
     ensures sources { IfOk result (λ recording. recording.account.sources ≡ length films.items) }
     ensures refused { IfErr result (λ refused. (refused.1.items ≡ films.items)
         × ((record_fault (length films.items) workers capacity window ≡ Some refused.0)
         ⊎ ((record_fault (length films.items) workers capacity window ≡ None) × ((refused.0 ≡ RecordFault.NoMemory) ⊎ (refused.0 ≡ RecordFault.NotStarted))))) }
 {
-    if let Some(fault) = record_fault(films.len(), workers, capacity, window) {
+    let sizes = Sizes {
+        workers,
+        capacity,
+        window,
+    };
+    if let Some(fault) = sizes.fault(films.len()) {
         return Err((fault, films));
     }
     let (Ok(flags), Ok(room)) = (
@@ -74,38 +82,21 @@ pub fn record<Rt: Threads + Wait + Sync, R: Feed + Send + Drop, W: Outlet + Send
     ) else {
         return Err((RecordFault::NoMemory, films));
     };
-    let Ok((queue, parts)) = make_queue(rt, alloc, films.len() as u8, workers, capacity, window)
-    else {
+    let Ok((queue, parts)) = make_queue(rt, alloc, films.len() as u8, sizes) else {
         return Err((RecordFault::NoMemory, films));
     };
-    match run_in_scope(rt, alloc, &queue, gate, &flags, window, films, parts, room) {
+    let shared = Shared {
+        rt,
+        alloc,
+        queue: &queue,
+        gate,
+        refused: &flags,
+        window,
+    };
+    match run_in_scope(&shared, films, parts, room) {
         Ok(ran) => Ok(settled(rt, queue, ran)),
         Err(films) => Err((RecordFault::NotStarted, films)),
     }
-}
-
-/// The fault of the numbers that a recording is made with, if there is one.
-fn record_fault(
-    sources: usize,
-    workers: usize,
-    capacity: usize,
-    window: usize,
-) -> Option<RecordFault>
-    ensures { result ≡ record_fault sources workers capacity window }
-{
-    if sources == 0 || sources > MOST_SOURCES as usize {
-        return Some(RecordFault::Sources);
-    }
-    if workers == 0 || workers > MOST_WORKERS {
-        return Some(RecordFault::Workers);
-    }
-    if capacity == 0 || capacity > MOST_CAPACITY {
-        return Some(RecordFault::Capacity);
-    }
-    if window == 0 || window > MOST_WINDOW {
-        return Some(RecordFault::Window);
-    }
-    None
 }
 
 /// A queue with all its seats and as many places as the capacity or one a worker, and a box for each source, which holds as many answers as
@@ -114,14 +105,17 @@ fn make_queue<Rt: Wait>(
     rt: &Rt,
     alloc: Global,
     sources: u8,
-    workers: usize,
-    capacity: usize,
-    window: usize,
+    sizes: Sizes,
 ) -> Result<(Queue<Order>, Parts), RecordFault>
-    requires { record_fault sources workers capacity window ≡ None }
-    ensures parts { IfOk result (λ made. (sources_of made.0 ≡ sources) × (workers_of made.0 ≡ workers) × AreParts made.0 made.1) }
-    ensures places { IfOk result (λ made. (places_of made.0 ≡ max capacity workers) × HaveRoom window made.1.inboxes.items) }
+    requires { record_fault sources sizes.workers sizes.capacity sizes.window ≡ None }
+    ensures parts { IfOk result (λ made. (sources_of made.0 ≡ sources) × (workers_of made.0 ≡ sizes.workers) × AreParts made.0 made.1) }
+    ensures places { IfOk result (λ made. (places_of made.0 ≡ max sizes.capacity sizes.workers) × HaveRoom sizes.window made.1.inboxes.items) }
 {
+    let Sizes {
+        workers,
+        capacity,
+        window,
+    } = sizes;
     let Ok((inboxes, outboxes)) = boxes(rt, alloc, sources, workers, window) else {
         return Err(RecordFault::NoMemory);
     };
@@ -148,7 +142,7 @@ fn settled<Rt: Wait, R: Feed + Drop, W: Outlet + Drop>(
 ) -> Recording<R, W>
     requires { (films : List (R × W × Tuning)) × (length films ≡ sources_of queue) × HasRun R.remaining R.failed_reads W.contents W.failed_writes queue films ran }
     ensures tracks { (films : List (R × W × Tuning)) → length films ≡ sources_of queue → HasRun R.remaining R.failed_reads W.contents W.failed_writes queue films ran
-        → AreTracks R.remaining R.failed_reads W.contents W.failed_writes films result.tracks.items }
+        → AreTracks R.remaining R.failed_reads W.contents W.failed_writes result.account.counts 0 films result.tracks.items }
     ensures account { (films : List (R × W × Tuning)) → length films ≡ sources_of queue → HasRun R.remaining R.failed_reads W.contents W.failed_writes queue films ran
         → AreCounted result.account.counts 0 result.tracks.items }
     ensures sources { result.account.sources ≡ sources_of queue }

@@ -1,10 +1,9 @@
 //! What a worker does: it takes jobs, codes them, and answers into the boxes of their sources.
 ghost use Rattle.std.specs.Prelude.{◌≡◌, ◌+◌, ◌≤◌, true, length};
-ghost use Rattle.ls_queue.specs.Running.{IsWorkerSeat, jobs_taken, is_done, sources_of};
+ghost use Rattle.ls_queue.specs.View.Running.{IsWorkerSeat, jobs_taken, is_done, sources_of};
 
 use crate::delivery::Outbox;
-use crate::orders::Order;
-use crate::pieces::Coded;
+use ls_pieces::{Coded, Order};
 use ls_queue::{Queue, Taken, WorkerSeat};
 use std::alloc::Global;
 use std::sync::Wait;

@@ -4,8 +4,6 @@
 #![tactic(auto)]
 
 #[cfg(test)]
-mod collector;
-#[cfg(test)]
 mod delivery;
 #[cfg(test)]
 mod faults;
@@ -13,12 +11,6 @@ mod faults;
 mod headline;
 #[cfg(test)]
 mod lane;
-#[cfg(test)]
-mod orders;
-#[cfg(test)]
-mod pieces;
-#[cfg(test)]
-mod playing;
 #[cfg(test)]
 mod recording;
 #[cfg(test)]

@@ -1,39 +1,10 @@
-//! Films, recordings, and orders of single pixels, for the tests.
+//! Films and recordings, for the tests.
 ghost use Rattle.std.specs.Prelude.{◌≡◌, [], IfSome};
-ghost use Rattle.ls_queue.specs.Running.{AreAllSources, IsSourceSeat, items_put};
+ghost use Rattle.ls_queue.specs.View.Running.{AreAllSources, IsSourceSeat, items_put};
 
-use ls_frame::{Frame, Kind, Presets, Tuning};
-use ls_queue::{Job, Queue, SourceSeat};
-use ls_recorder::{Coded, Order};
-use ls_testing::{Mishap, Sink};
-use std::alloc::Global;
-use std::fmt::Display;
-use std::io::Write;
-use std::process::Abort;
-use std::sync::Arc;
-
-/// The codestream of T.87's Annex H.3, 4 by 4 up to 255.
-pub const ANNEX_H: &[u8] = b"\xff\xd8\
-\xff\xf7\x00\x0b\x08\x00\x04\x00\x04\x01\x01\x11\x00\
-\xff\xda\x00\x08\x01\x01\x00\x00\x00\x00\
-\xc0\x00\x00\x6c\x80\x20\x8e\x01\xc0\x00\x00\x57\x40\x00\x00\x6e\xe6\x00\x00\x01\xbc\x18\x00\
-\x00\x05\xd8\x00\x00\x91\x60\xff\xd9";
-
-pub const ANNEX_H_IMAGE: &[u8] = b"P5\n4 4\n255\n\
-\x00\x00\x5a\x4a\x44\x32\x2b\xcd\x40\x91\x91\x91\x64\x91\x91\x91";
-
-/// A sample of 1 up to 1.
-pub const TWO_VALUES: &[u8] = b"\xff\xd8\
-\xff\xf7\x00\x0b\x02\x00\x01\x00\x01\x01\x01\x11\x00\
-\xff\xf8\x00\x0d\x01\x00\x01\x00\x01\x00\x01\x00\x01\x00\x40\
-\xff\xda\x00\x08\x01\x01\x00\x00\x00\x00\x40\xff\xd9";
-
-/// A black pixel in colour, up to 255.
-pub const COLOUR: &[u8] = b"\xff\xd8\
-\xff\xf7\x00\x11\x08\x00\x01\x00\x01\x03\x01\x11\x00\x02\x11\x00\x03\x11\x00\
-\xff\xda\x00\x08\x01\x01\x00\x00\x00\x00\x80\
-\xff\xda\x00\x08\x01\x02\x00\x00\x00\x00\x80\
-\xff\xda\x00\x08\x01\x03\x00\x00\x00\x00\x80\xff\xd9";
+use ls_frame::Tuning;
+use ls_queue::{Queue, SourceSeat};
+use ls_recorder::Order;
 
 /// Each parameter by default.
 pub const DEFAULTS: Tuning = Tuning {
@@ -73,55 +44,6 @@ pub const RUNS_CODED: &[u8] = b"\xff\xd8\
 
 /// How many workers there are, and the window.
 pub const MEANS: [(usize, usize); 6] = [(1, 1), (1, 8), (2, 1), (2, 8), (4, 1), (4, 8)];
-
-/// That a check of this name went right. It wasn't made if memory was refused before, which isn't right if there was ample.
-pub fn check(rt: &impl Abort, name: &str, right: Option<bool>, ample: bool) {
-    assert_eq!(rt; right.unwrap_or(!ample), true, "{name}");
-}
-
-/// That a fault has this text.
-pub fn check_text<F: Display + Drop>(rt: &impl Abort, fault: F, text: &str) {
-    let mut sink = Sink::new(4096, Mishap::Nothing);
-    let written = write!(sink, "{fault}").is_ok();
-    assert_eq!(rt;
-        (written, sink.written()),
-        (true, text.as_bytes()),
-        "{text}"
-    );
-}
-
-/// An order for a gray pixel of this sample up to 255, with the default thresholds and this RESET. `None` if memory is refused.
-pub fn pixel_order(alloc: Global, sample: u16, reset: u16) -> Option<Order> {
-    let mut samples = Vec::new(alloc);
-    samples.push(sample).ok()?;
-    let Ok(frame) = Frame::new(Kind::Gray, 1, 1, 255, samples) else {
-        return None;
-    };
-    let Ok(presets) = Presets::explicit(255, 3, 7, 21, reset) else {
-        return None;
-    };
-    let Ok(frame) = Arc::new(alloc, frame) else {
-        return None;
-    };
-    Some(Order::new(frame, presets))
-}
-
-/// The piece of such an order, under this source and number.
-pub fn pixel_piece(
-    alloc: Global,
-    source: u8,
-    number: u64,
-    sample: u16,
-    reset: u16,
-) -> Option<Coded> {
-    let item = pixel_order(alloc, sample, reset)?;
-    let job = Job {
-        source,
-        number,
-        item,
-    };
-    Coded::make(alloc, job).ok()
-}
 
 /// The seat of source 0, of the seats that a queue was opened with.
 pub fn first_seat(queue: &Queue<Order>, seats: Vec<SourceSeat<Order>>) -> Option<SourceSeat<Order>>

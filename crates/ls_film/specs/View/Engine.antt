@@ -1,8 +1,10 @@
 -- What an engine does that reads frames and writes a text of them, and where it may stop. What an image is of a frame is a
--- parameter, as in `Film`; the reader's and the writer's known bytes before and after the run come after it.
+-- parameter, as in `Film`; the reader's and the writer's known bytes before and after the run come after it. What was read are
+-- frames whether or not the reader's bytes are known.
 use Rattle.std.specs.Prelude.{◌≡◌, ℕ, ◌<◌, ◌≤◌, List, [], ◌∷◌, ◌++◌, length, take, Option}
 use Rattle.std.specs.Io.KnownBytes.{Appends}
-use Rattle.ls_frame.specs.Picture.{Picture}
+use Rattle.std.specs.List.{AllByRecursion}
+use Rattle.ls_frame.specs.Picture.{Picture, IsFrame}
 use Rattle.ls_film.specs.Film.{most_frames}
 use Rattle.ls_film.specs.View.Given.{GaveFrames, GaveFramesAnd, GaveFilm, IsBrokenAfter, BeginsWithFrames}
 
@@ -12,6 +14,7 @@ module _ (IsImage : List ℕ → Picture → Type 0) (text : List Picture → Li
     pub frames : List Picture
     pub count : length frames ≡ n
     pub few : length frames ≤ most_frames
+    pub lawful : AllByRecursion IsFrame frames
     pub gave : GaveFilm IsImage read read' frames
     pub wrote : Appends written written' (text frames)
 
@@ -20,6 +23,7 @@ module _ (IsImage : List ℕ → Picture → Type 0) (text : List Picture → Li
     pub frames : List Picture
     pub count : length frames ≡ m
     pub few : length frames ≤ most_frames
+    pub lawful : AllByRecursion IsFrame frames
     pub begins : BeginsWithFrames IsImage read frames
     pub broken : IsBrokenAfter IsImage read frames P
     pub wrote : Appends written written' (text frames)
@@ -28,6 +32,7 @@ module _ (IsImage : List ℕ → Picture → Type 0) (text : List Picture → Li
   pub record StopsAtOutput (bytes : ℕ) : Type 0 where
     pub frames : List Picture
     pub few : length frames ≤ most_frames
+    pub lawful : AllByRecursion IsFrame frames
     pub gave : GaveFrames IsImage read read' frames
     pub part : bytes < length (text frames)
     pub wrote : Appends written written' (take bytes (text frames))
@@ -37,6 +42,7 @@ module _ (IsImage : List ℕ → Picture → Type 0) (text : List Picture → Li
   pub record StopsForMemory (P : List ℕ → Type 0) : Type 0 where
     pub frames : List Picture
     pub few : length frames ≤ most_frames
+    pub lawful : AllByRecursion IsFrame frames
     pub gave : GaveFramesAnd IsImage read read' frames P
     pub wrote : Appends written written' (text frames)
 
@@ -45,6 +51,7 @@ module _ (IsImage : List ℕ → Picture → Type 0) (text : List Picture → Li
     pub frames : List Picture
     pub last : Picture
     pub count : length frames ≡ most_frames
+    pub lawful : AllByRecursion IsFrame (frames ++ last ∷ [])
     pub gave : GaveFrames IsImage read read' (frames ++ last ∷ [])
     pub wrote : Appends written written' (text frames)
 
@@ -53,6 +60,7 @@ module _ (IsImage : List ℕ → Picture → Type 0) (text : List Picture → Li
     pub frames : List Picture
     pub count : length frames ≡ n
     pub few : length frames ≤ most_frames
+    pub lawful : AllByRecursion IsFrame frames
     pub gave : GaveFrames IsImage read read' frames
     pub wrote : Appends written written' (text frames)
     pub bytes_are : bytes ≡ length (text frames)

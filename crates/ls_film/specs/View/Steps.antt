@@ -53,9 +53,9 @@ StopsNext Unread read read' n (Output bytes) = ⊥
 StopsNext Unread read read' n NoMemory = ⊥
 StopsNext Unread read read' n TooMany = ⊥
 
--- what an end at a piece that is written after so many bytes says: its first bytes went out
-abbrev pub StopsPiece : {E : Type 0} → Option (List ℕ) → Option (List ℕ) → ℕ → List ℕ → Stopped E → Type 0
-StopsPiece written written' bytes piece (Input m fault) = ⊥
-StopsPiece written written' bytes piece (Output n) = (here : ℕ) × (n ≡ bytes + here) × (here < length piece) × Appends written written' (take here piece)
-StopsPiece written written' bytes piece NoMemory = ⊥
-StopsPiece written written' bytes piece TooMany = ⊥
+-- what an end at a chunk that is written after so many bytes says: its first bytes went out
+abbrev pub StopsChunk : {E : Type 0} → Option (List ℕ) → Option (List ℕ) → ℕ → List ℕ → Stopped E → Type 0
+StopsChunk written written' bytes chunk (Input m fault) = ⊥
+StopsChunk written written' bytes chunk (Output n) = (here : ℕ) × (n ≡ bytes + here) × (here < length chunk) × Appends written written' (take here chunk)
+StopsChunk written written' bytes chunk NoMemory = ⊥
+StopsChunk written written' bytes chunk TooMany = ⊥

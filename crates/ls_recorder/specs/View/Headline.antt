@@ -14,13 +14,13 @@ use Rattle.ls_film.specs.Coding.{file, default_file}
 use Rattle.ls_film.specs.View.Memory.{IsTextOf}
 use Rattle.ls_recorder.specs.declared.lane.LaneFault.{LaneFault}
 use Rattle.ls_recorder.specs.declared.lane.LaneFault.TheVariants.{Input, Output, NoMemory, Misfit, Lost, NotStarted, TooMany, Tuning as BadTuning}
-use Rattle.ls_recorder.specs.declared.playing.PlayFault.{PlayFault}
+use Rattle.ls_film.specs.declared.playing.PlayFault.{PlayFault}
 use Rattle.ls_recorder.specs.declared.recording.Track.{Track}
 use Rattle.ls_recorder.specs.declared.headline.PlayedBack.{PlayedBack}
-use Rattle.ls_recorder.specs.Orders.{Ordered}
-use Rattle.ls_recorder.specs.Showing.{show}
+use Rattle.ls_pieces.specs.Orders.{Ordered}
+use Rattle.ls_film.specs.Showing.{show}
 use Rattle.ls_recorder.specs.View.Lanes.{tuned_file, StopsLane}
-use Rattle.ls_recorder.specs.View.Playing.{IsShownOf, IsWantOfMemory, IsCodable, frames_of}
+use Rattle.ls_film.specs.View.Playing.{IsShownOf, IsOutOfMemory, IsCodable, frames_of}
 
 -- each parameter is left to its default
 abbrev pub by_default : Tuning
@@ -34,7 +34,7 @@ pub record ComesBack (bytes : List ℕ) (tuning : Tuning) (recording shown : Lis
   pub film : IsFilm IsImageOf bytes frames
   pub recorded : recording ≡ tuned_file tuning frames
   pub coded : tuning ≡ by_default → (alone : List ℕ) (m : ℕ) → IsTextOf default_file bytes alone m → recording ≡ alone
-  pub plays : MatchResult played (λ m. (m ≡ n) × (shown ≡ show frames)) IsWantOfMemory
+  pub plays : MatchResult played (λ m. (m ≡ n) × (shown ≡ show frames)) IsOutOfMemory
 
 -- The lane of a film stopped: it wasn't started, and nothing is recorded; or its recording is what the fault says.
 abbrev pub StopsShort : List ℕ → Tuning → List ℕ → LaneFault → Type 0
@@ -46,7 +46,7 @@ StopsShort bytes tuning recording fault =
 pub record ShowsFront (tuning : Tuning) (recording shown : List ℕ) (played : Result ℕ PlayFault) : Type 0 where
   pub frames : List Picture
   pub recorded : recording ≡ tuned_file tuning frames
-  pub plays : MatchResult played (λ m. (m ≡ length frames) × (shown ≡ show frames)) IsWantOfMemory
+  pub plays : MatchResult played (λ m. (m ≡ length frames) × (shown ≡ show frames)) IsOutOfMemory
 
 -- a lane that stopped, but for one whose writer failed, has recorded whole codestreams
 abbrev pub PlaysFront : Tuning → List ℕ → List ℕ → Result ℕ PlayFault → LaneFault → Type 0
@@ -75,7 +75,7 @@ ComeBack films played_back = AllZip CameOf films played_back
 -- If the recording is the codestreams of frames, playing it shows these.
 abbrev pub PlaysBack : List ℕ → List ℕ → Result ℕ PlayFault → Type 0
 PlaysBack recording shown played = (frames : List (Picture × Parameters)) → length frames ≤ most_frames → AllByRecursion IsCodable frames → recording ≡ file frames
-    → MatchResult played (λ n. (n ≡ length frames) × (shown ≡ show (frames_of frames))) IsWantOfMemory
+    → MatchResult played (λ n. (n ≡ length frames) × (shown ≡ show (frames_of frames))) IsOutOfMemory
 
 -- a writer into memory, and what it holds
 abbrev pub IntoMemory : Type 0

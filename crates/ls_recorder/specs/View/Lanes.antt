@@ -1,5 +1,5 @@
 -- What a lane did: of its reader's known bytes before and after, of its writer's, and of what its seat put.
-use Rattle.std.specs.Prelude.{◌≡◌, ◌≢◌, ◌⊎◌, ℕ, ◌<◌, ◌≤◌, Bool, true, false, IsTrue, List, [], ◌∷◌, ◌++◌, length, map, take, Option, Result, Ok, Err}
+use Rattle.std.specs.Prelude.{◌≡◌, ◌≢◌, ◌⊎◌, ℕ, ◌<◌, ◌≤◌, Bool, true, false, IsTrue, List, [], ◌∷◌, ◌++◌, length, map, take, Option, Some, Result, Ok, Err}
 use Rattle.std.specs.Io.KnownBytes.{Appends}
 use Rattle.std.specs.List.{AllByRecursion}
 use Rattle.ls_frame.specs.declared.tuning.Tuning.{Tuning}
@@ -11,15 +11,18 @@ use Rattle.ls_frame.specs.Parameters.{explicit_parameters}
 use Rattle.ls_frame.specs.Tuning.{tuned}
 use Rattle.ls_frame.specs.Netpbm.{IsImageOf}
 use Rattle.ls_frame.specs.Faults.{IsBroken, blames_bytes, blames_device}
-use Rattle.ls_frame.specs.View.Devices.{risen}
+use Rattle.ls_frame.specs.View.Devices.{risen, count_after}
 use Rattle.ls_frame.specs.View.Known.{Tells, Gave, known}
 use Rattle.ls_film.specs.Film.{most_frames}
 use Rattle.ls_film.specs.Coding.{file}
 use Rattle.ls_film.specs.View.Given.{GaveFrames, BeginsWithFrames}
 use Rattle.ls_film.specs.View.Engine.{Completes, StopsAtInput, StopsAtMost}
-use Rattle.ls_recorder.specs.Orders.{Ordered}
-use Rattle.ls_recorder.specs.declared.collector.Slot.{Slot}
-use Rattle.ls_recorder.specs.Collecting.{Collection}
+use Rattle.ls_film.specs.View.Stopping.{IsHeadingOrImage}
+use Rattle.ls_pieces.specs.Orders.{Ordered}
+use Rattle.ls_pieces.specs.declared.collector.Slot.{Slot}
+use Rattle.ls_pieces.specs.Collecting.{Collection, misfit_of}
+use Rattle.ls_pieces.specs.declared.collector.Misfit.{Misfit as Cause}
+use Rattle.ls_queue.specs.declared.replies.Job.{Job}
 use Rattle.ls_recorder.specs.declared.lane.LaneFault.{LaneFault}
 use Rattle.ls_recorder.specs.declared.lane.LaneFault.TheVariants.{Input, Output, NoMemory, Misfit, Lost, NotStarted, TooMany, Tuning as BadTuning}
 
@@ -59,17 +62,6 @@ module _ (items : List Ordered) (start now : Option (List ℕ)) where
     pub part : bytes < length (file items)
     pub wrote : Appends start now (take bytes (file items))
 
-  -- what an end that isn't the reader's says
-  abbrev pub StopsWriting : LaneFault → Type 0
-  StopsWriting (Input m fault) = ⊥
-  StopsWriting (Output bytes) = WrotePart bytes
-  StopsWriting NoMemory = WroteFront
-  StopsWriting (Misfit misfit) = WroteFewer
-  StopsWriting Lost = WroteFewer
-  StopsWriting NotStarted = ⊥
-  StopsWriting TooMany = ⊥
-  StopsWriting (BadTuning m fault) = ⊥
-
 -- the orders of a collector that weren't handed out
 abbrev pub orders_in : Collection → List Ordered
 orders_in c = map (λ (slot : Slot). slot.order) c.slots
@@ -80,6 +72,26 @@ pub record IsWriting (items : List Ordered) (start now : Option (List ℕ)) (c :
   pub items_are : items ≡ done ++ orders_in c
   pub wrote : Appends start now (file done)
   pub bytes_are : bytes ≡ length (file done)
+
+module _ (items : List Ordered) (start now : Option (List ℕ)) where
+  -- the collector of those that wait refused a piece so
+  pub record IsMisfit (misfit : Cause) : Type 0 where
+    pub collection : Collection
+    pub bytes : ℕ
+    pub piece : Job Ordered
+    pub writing : IsWriting items start now collection bytes
+    pub refused : misfit_of collection piece ≡ Some misfit
+
+  -- what an end that isn't the reader's says
+  abbrev pub StopsWriting : LaneFault → Type 0
+  StopsWriting (Input m fault) = ⊥
+  StopsWriting (Output bytes) = WrotePart items start now bytes
+  StopsWriting NoMemory = WroteFront items start now
+  StopsWriting (Misfit misfit) = WroteFewer items start now × IsMisfit misfit
+  StopsWriting Lost = WroteFewer items start now
+  StopsWriting NotStarted = ⊥
+  StopsWriting TooMany = ⊥
+  StopsWriting (BadTuning m fault) = ⊥
 
 -- whatever was put and wherever writing began, it goes on
 abbrev pub GoesOn : Option (List ℕ) → Collection → ℕ → Option (List ℕ) → Collection → ℕ → Type 0
@@ -96,11 +108,11 @@ abbrev pub StopsReading : Tuning → Option (List ℕ) → Option (List ℕ) →
 StopsReading tuning read read' n (Input m fault) =
     (m ≡ n) × (fault ≢ netpbm.NoMemory) × (IsTrue (blames_bytes fault) → Tells read → IsBroken (known read) fault)
 StopsReading tuning read read' n (Output bytes) = ⊥
-StopsReading tuning read read' n NoMemory = Unit {0}
+StopsReading tuning read read' n NoMemory = Gave read read' IsHeadingOrImage
 StopsReading tuning read read' n (Misfit misfit) = ⊥
 StopsReading tuning read read' n Lost = ⊥
 StopsReading tuning read read' n NotStarted = ⊥
-StopsReading tuning read read' n TooMany = (n ≡ most_frames) × (last : Picture) × Gave read read' (λ image. IsImageOf image last)
+StopsReading tuning read read' n TooMany = (n ≡ most_frames) × (last : Picture) × IsFrame last × Gave read read' (λ image. IsImageOf image last)
 StopsReading tuning read read' n (BadTuning m fault) =
     (m ≡ n) × (n < most_frames) × (last : Picture) × Gave read read' (λ image. IsImageOf image last) × (explicit_parameters (tuned tuning last.maxval) ≡ Err fault)
 
@@ -146,7 +158,7 @@ module _ (tuning : Tuning) (items : List Ordered) (read read' written written' :
   StopsLane (Input m fault) = RecordsBefore m fault
   StopsLane (Output bytes) = HasPut × WrotePart items written written' bytes
   StopsLane NoMemory = HasPut × WroteFront items written written'
-  StopsLane (Misfit misfit) = HasPut × WroteFewer items written written'
+  StopsLane (Misfit misfit) = HasPut × WroteFewer items written written' × IsMisfit items written written' misfit
   StopsLane Lost = HasPut × WroteFewer items written written'
   StopsLane NotStarted = ⊥
   StopsLane TooMany = RecordsMost
@@ -154,10 +166,17 @@ module _ (tuning : Tuning) (items : List Ordered) (read read' written written' :
 
 -- ---- devices
 
--- how many reads failed: one, if it is what the end blames; else none, or one before the lane stopped for another cause
-abbrev pub ReadsSo : Bool → ℕ → ℕ → Type 0
-ReadsSo true old new = new ≡ risen old
-ReadsSo false old new = (new ≡ old) ⊎ (new ≡ risen old)
+-- how many reads failed: one, if it is what the end blames; none, if it is another end of the reading; else none, or one before the
+-- lane stopped for another cause
+abbrev pub ReadsSo : LaneFault → ℕ → ℕ → Type 0
+ReadsSo (Input m fault) old new = new ≡ count_after (blames_device fault) old
+ReadsSo (Output bytes) old new = (new ≡ old) ⊎ (new ≡ risen old)
+ReadsSo NoMemory old new = (new ≡ old) ⊎ (new ≡ risen old)
+ReadsSo (Misfit misfit) old new = (new ≡ old) ⊎ (new ≡ risen old)
+ReadsSo Lost old new = (new ≡ old) ⊎ (new ≡ risen old)
+ReadsSo NotStarted old new = new ≡ old
+ReadsSo TooMany old new = new ≡ old
+ReadsSo (BadTuning m fault) old new = new ≡ old
 
 -- whether a lane's end blames its reader's device, and whether it blames its writer's
 abbrev pub blames_reader : LaneFault → Bool

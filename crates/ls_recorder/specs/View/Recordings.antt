@@ -1,18 +1,15 @@
 -- What a recording did: each lane for its film, the workers, and the account.
-use Rattle.std.specs.Prelude.{◌≡◌, ◌⊎◌, ℕ, suc, ◌≤◌, ◌==◌, ◌||◌, nat_lt, if◌then◌else◌, true, List, [], ◌∷◌, length, Option, Some, None, Err, IfOk, MatchResult, slice_index_or, vec_capacity}
-use Rattle.std.specs.List.{AllByRecursion, AllZip}
+use Rattle.std.specs.Prelude.{◌≡◌, ◌⊎◌, ℕ, suc, ◌≤◌, true, List, [], ◌∷◌, length, Option, Err, IfOk, MatchResult, slice_index_or, vec_capacity}
+use Rattle.std.specs.List.{AllByRecursion}
 use Rattle.std.specs.declared.sync.atomic.AtomicBool.{AtomicBool}
 use Rattle.std.specs.declared.thread.PromisedHandle.{PromisedHandle}
 use Rattle.ls_frame.specs.declared.tuning.Tuning.{Tuning}
 use Rattle.ls_frame.specs.View.Devices.{count_after}
-use Rattle.ls_queue.specs.declared.faults.TheConstants.{MOST_SOURCES, MOST_CAPACITY, MOST_WORKERS}
 use Rattle.ls_queue.specs.declared.running.Queue.{Queue}
 use Rattle.ls_queue.specs.declared.running.Ended.{Ended}
-use Rattle.ls_queue.specs.Running.{IsEnded, IsWorkerSeat, is_done, puts_of, parts_of, IsFinished, IsCloser, AreAllSources, AreWorkerSeats, all_done, sources_of, workers_of}
-use Rattle.ls_recorder.specs.declared.collector.TheConstants.{MOST_WINDOW}
+use Rattle.ls_queue.specs.View.Running.{IsEnded, IsSourceSeat, IsWorkerSeat, items_put, is_done, puts_of, parts_of, IsFinished, IsCloser, AreAllSources, AreWorkerSeats, all_done, sources_of, workers_of}
+use Rattle.ls_pieces.specs.Collecting.{most_window}
 use Rattle.ls_recorder.specs.declared.delivery.ends.Outbox.{Outbox}
-use Rattle.ls_recorder.specs.declared.faults.RecordFault.{RecordFault}
-use Rattle.ls_recorder.specs.declared.faults.RecordFault.TheVariants.{Sources, Workers, Capacity, Window}
 use Rattle.ls_recorder.specs.declared.lane.LaneEnd.{LaneEnd}
 use Rattle.ls_recorder.specs.declared.lane.LaneFault.TheVariants.{NotStarted}
 use Rattle.ls_recorder.specs.declared.working.Worked.{Worked}
@@ -20,21 +17,13 @@ use Rattle.ls_recorder.specs.declared.recording.Track.{Track}
 use Rattle.ls_recorder.specs.declared.recording.threads.Parts.{Parts}
 use Rattle.ls_recorder.specs.declared.recording.threads.Room.{Room}
 use Rattle.ls_recorder.specs.declared.recording.threads.Ran.{Ran}
-use Rattle.ls_recorder.specs.declared.recording.threads.WorkerOf.{WorkerOf}
-use Rattle.ls_recorder.specs.declared.recording.threads.Lane.{Lane}
-use Rattle.ls_recorder.specs.declared.recording.threads.Lane.TheVariants as lane
-use Rattle.ls_recorder.specs.Boxes.{AreFrom}
-use Rattle.ls_recorder.specs.Orders.{Ordered}
-use Rattle.ls_recorder.specs.View.Lanes.{Records, StopsLane, ReadsSo, blames_reader, failed_writer}
-
--- why a recording can't begin: the first of these that is so
-abbrev pub record_fault : ℕ → ℕ → ℕ → ℕ → Option RecordFault
-record_fault sources workers capacity window =
-    if sources == 0 || nat_lt MOST_SOURCES sources then Some Sources
-    else (if workers == 0 || nat_lt MOST_WORKERS workers then Some Workers
-    else (if capacity == 0 || nat_lt MOST_CAPACITY capacity then Some Capacity
-    else (if window == 0 || nat_lt MOST_WINDOW window then Some Window
-    else None)))
+use Rattle.ls_recorder.specs.declared.recording.workers.WorkerOf.{WorkerOf}
+use Rattle.ls_recorder.specs.declared.recording.lanes.Lane.{Lane}
+use Rattle.ls_recorder.specs.declared.recording.lanes.Start.{Start}
+use Rattle.ls_recorder.specs.declared.recording.lanes.Lane.TheVariants as lane
+use Rattle.ls_recorder.specs.View.Boxes.{AreFrom}
+use Rattle.ls_pieces.specs.Orders.{Ordered}
+use Rattle.ls_recorder.specs.View.Lanes.{Records, StopsLane, ReadsSo, failed_writer}
 
 -- ---- films and their tracks. A film is what reads it, what takes its recording, and a tuning.
 
@@ -42,27 +31,31 @@ module _ {R W : Type 0} (remaining : R → Option (List ℕ)) (failed_reads : R 
   -- a lane wasn't started, or it did for its film what a lane does, with these items put
   abbrev pub DidLane : R × W × Tuning → List Ordered → Track R W → Type 0
   DidLane film items track =
-      ((track.result ≡ Err NotStarted) × (track.reader ≡ film.0) × (track.writer ≡ film.1))
+      ((track.result ≡ Err NotStarted) × (items ≡ []) × (track.reader ≡ film.0) × (track.writer ≡ film.1))
       ⊎ MatchResult track.result
       (Records film.2 items (remaining film.0) (remaining track.reader) (contents film.1) (contents track.writer))
       (StopsLane film.2 items (remaining film.0) (remaining track.reader) (contents film.1) (contents track.writer))
 
-  -- what a track says of its film, and of its devices
-  pub record IsTrack (film : R × W × Tuning) (track : Track R W) : Type 0 where
+  -- what a track says of its film, of how many items of it were put, and of its devices
+  pub record IsTrack (film : R × W × Tuning) (count : ℕ) (track : Track R W) : Type 0 where
     pub items : List Ordered
+    pub put : count ≡ length items
     pub did : DidLane film items track
-    pub reads : MatchResult track.result (λ frames. failed_reads track.reader ≡ failed_reads film.0) (λ fault. ReadsSo (blames_reader fault) (failed_reads film.0) (failed_reads track.reader))
+    pub reads : MatchResult track.result (λ frames. failed_reads track.reader ≡ failed_reads film.0) (λ fault. ReadsSo fault (failed_reads film.0) (failed_reads track.reader))
     pub writes : failed_writes track.writer ≡ count_after (failed_writer track.result) (failed_writes film.1)
 
-  -- a track for each film, in their order
-  abbrev pub AreTracks : List (R × W × Tuning) → List (Track R W) → Type 0
-  AreTracks films tracks = AllZip IsTrack films tracks
+  -- a track for each film, in their order from source s on, and the count of its items
+  abbrev pub AreTracks : List ℕ → ℕ → List (R × W × Tuning) → List (Track R W) → Type 0
+  AreTracks counts s [] [] = Unit {0}
+  AreTracks counts s [] (t ∷ ts) = ⊥
+  AreTracks counts s (f ∷ fs) [] = ⊥
+  AreTracks counts s (f ∷ fs) (t ∷ ts) = IsTrack f (slice_index_or counts s 0) t × AreTracks counts (suc s) fs ts
 
   -- how the lane of source s ended: its track, and how many items it put
   pub record IsLaneEnd (queue : Queue Ordered) (s : ℕ) (tuning : Tuning) (reader : R) (writer : W) (end : LaneEnd R W) : Type 0 where
     pub ended : IsEnded queue end.ended
     pub source : end.ended.source ≡ s
-    pub track : IsTrack (reader, writer, tuning) (record { reader = end.reader; writer = end.writer; result = end.result })
+    pub track : IsTrack (reader, writer, tuning) end.ended.count (record { reader = end.reader; writer = end.writer; result = end.result })
     pub count : IfOk end.result (λ n. end.ended.count ≡ n)
 
   -- the lane of a film was started, or it has ended
@@ -140,6 +133,14 @@ pub record AreParts (queue : Queue Ordered) (parts : Parts) : Type 0 where
   pub outboxes : LeadToAll (sources_of queue) parts.outboxes.items
   pub outboxes_are : length parts.outboxes.items ≡ workers_of queue
 
+-- what a lane's thread is started with: a seat that has put nothing, a box of its source, and a window
+pub record MayStart {R W : Type 0} (queue : Queue Ordered) (start : Start R W) : Type 0 where
+  pub seat : IsSourceSeat queue start.seat
+  pub new : items_put start.seat ≡ []
+  pub inbox : start.inbox.source ≡ start.seat.source
+  pub some : 1 ≤ start.window
+  pub few : start.window ≤ most_window
+
 -- the films, and all that was made for their lanes and for the workers
 pub record MayRun {R W : Type 0} (queue : Queue Ordered) (refused : List AtomicBool) (window : ℕ) (films : List (R × W × Tuning)) (parts : Parts) (room : Room R W) : Type 0 where
   pub films_are : length films ≡ sources_of queue
@@ -147,5 +148,5 @@ pub record MayRun {R W : Type 0} (queue : Queue Ordered) (refused : List AtomicB
   pub seats : AreParts queue parts
   pub flags : length refused ≡ sources_of queue
   pub some : 1 ≤ window
-  pub few : window ≤ MOST_WINDOW
+  pub few : window ≤ most_window
   pub places : IsRoom (sources_of queue) (workers_of queue) room

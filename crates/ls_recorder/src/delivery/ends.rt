@@ -2,10 +2,11 @@
 ghost use Rattle.std.specs.Prelude.{◌≡◌, ◌<◌, length, IfOk, IfErr};
 ghost use Rattle.crossbeam_channel.specs.Claims.{IsSeatAt};
 ghost use Rattle.crossbeam_channel.specs.Ends.{sends_on, receives_on};
+ghost use Rattle.ls_recorder.specs.View.Boxes.{LeadAlike};
 
-use crate::pieces::{Coded, Uncoded};
 use crossbeam_channel::protocol::{Free, Split};
 use crossbeam_channel::{Pass, RuledReceiver, RuledSender, TryRecvError};
+use ls_pieces::{Coded, Uncoded};
 use std::alloc::AllocError;
 use std::hint::spin_loop;
 use std::sync::Wait;
@@ -51,11 +52,12 @@ pub struct Outbox {
 }
 
 impl Inbox {
-    /// Takes an answer out. Waits for one; `None` is answered if nobody is left to send any.
+    /// Takes an answer out. Waits for one; `None` is answered if nobody is left to send any. It stays the same box.
     ///
     /// Nothing is proved of which answer comes out, and when.
     pub fn recv<R: Wait>(&mut self, rt: &R) -> Option<Answer>
-        ensures { self.new.source ≡ self.old.source }
+        ensures source { self.new.source ≡ self.old.source }
+        ensures box { receives_on self.new.exit ≡ receives_on self.old.exit }
     {
         for _look in 0..LOOKS {
             match self.exit.try_recv_as::<Free, R>(rt, &mut self.pass) {
@@ -89,11 +91,12 @@ impl Outbox {
     }
 
     /// Puts an answer into the box of a source, which has to be one of those that the boxes were made for. Waits while there is
-    /// no room. The answer comes back if the lane that takes from the box is gone.
+    /// no room. The answer comes back if the lane that takes from the box is gone. All doors lead where they led.
     pub fn send<R: Wait>(&mut self, rt: &R, source: u8, answer: Answer) -> Result<(), Answer>
         requires { source < length self.old.doors.items }
         ensures refused { IfErr result (λ back. back ≡ answer) }
         ensures sources { length self.new.doors.items ≡ length self.old.doors.items }
+        ensures doors { LeadAlike self.new.doors.items self.old.doors.items }
     {
         let door = &mut self.doors[source as usize];
         match door.entrance.send_as::<Free, R>(rt, &mut door.pass, answer) {

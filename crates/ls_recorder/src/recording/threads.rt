@@ -1,23 +1,32 @@
 //! The threads of a recording: one for each worker, and then one for each lane. They are started and joined in a scope.
-ghost use Rattle.std.specs.Prelude.{◌≡◌, ℕ, List, ◌+◌, ◌≤◌, [], true, length, vec_len, vec_capacity, IfOk, IfErr};
-ghost use Rattle.ls_queue.specs.Running.{AreAllSources, EachHasEnd, IsFinished, IsCloser, puts_of, parts_of, sources_of, IsSourceSeat, IsWorkerSeat, AreWorkerSeats, AreEnds, items_put, all_done};
-ghost use Rattle.ls_recorder.specs.declared.collector.TheConstants.{MOST_WINDOW};
-ghost use Rattle.ls_recorder.specs.Boxes.{AreFrom};
-ghost use Rattle.ls_recorder.specs.View.Recordings.{IsLaneEnd, IsWorked, AreWorking, IsStarted, AreStarted, AreDone, HasRun, MayRun, IsRoom, LeadToAll};
+ghost use Rattle.std.specs.Prelude.{◌≡◌, List, ◌≤◌, [], length, vec_capacity, IfOk, IfErr};
+ghost use Rattle.ls_queue.specs.View.Running.{AreAllSources, EachHasEnd, IsFinished, IsCloser, puts_of, parts_of, sources_of, AreEnds};
+ghost use Rattle.ls_recorder.specs.View.Recordings.{HasRun, MayRun, IsRoom};
 
 use crate::delivery::{Inbox, Outbox};
-use crate::lane::{LaneEnd, LaneFault, lane};
-use crate::orders::Order;
 use crate::recording::Track;
-use crate::working::{Gate, Worked, work};
+use crate::recording::lanes::{Lane, join_lanes, start_lanes};
+use crate::recording::workers::{WorkerOf, join_workers, start_workers};
+use crate::working::{Gate, Worked};
 use ls_frame::{Feed, Outlet, Tuning};
+use ls_pieces::Order;
 use ls_queue::{Closer, Ended, Finished, Queue, SourceSeat, WorkerSeat};
 use std::alloc::{AllocError, Global};
-use std::snapshot::Snapshot;
 use std::sync::Wait;
-use std::sync::atomic::{AtomicBool, Ordering};
+use std::sync::atomic::AtomicBool;
 use std::thread;
-use std::thread::{Promise, PromisedHandle, Scope, Threads};
+use std::thread::{PromisedHandle, Scope, Threads};
+
+/// What all threads of a recording share.
+pub struct Shared<'s, Rt, G> {
+    pub rt: &'s Rt,
+    pub alloc: Global,
+    pub queue: &'s Queue<Order>,
+    pub gate: &'s G,
+    /// A flag for each source: no thread could be made for its lane.
+    pub refused: &'s [AtomicBool],
+    pub window: usize,
+}
 
 /// The seats and boxes of a queue.
 #[derive(Drop)]
@@ -82,31 +91,22 @@ pub fn run_in_scope<
     W: Outlet + Send + Drop,
     G: Gate,
 >(
-    rt: &Rt,
-    alloc: Global,
-    queue: &Queue<Order>,
-    gate: &G,
-    refused: &[AtomicBool],
-    window: usize,
+    shared: &Shared<'_, Rt, G>,
     films: Vec<(R, W, Tuning)>,
     parts: Parts,
     room: Room<R, W>,
 ) -> Result<Ran<R, W>, Vec<(R, W, Tuning)>>
-    requires { MayRun queue.now refused.now window films.items parts room }
-    ensures ran { IfOk result (HasRun R.remaining R.failed_reads W.contents W.failed_writes queue.now films.items) }
+    requires { MayRun shared.now.queue.now shared.now.refused.now shared.now.window films.items parts room }
+    ensures ran { IfOk result (HasRun R.remaining R.failed_reads W.contents W.failed_writes shared.now.queue.now films.items) }
     ensures refused { IfErr result (λ back. back.items ≡ films.items) }
 {
     thread::scope(
         thread::scope_env(),
-        rt,
+        shared.rt,
         move |scope| -> Result<Ran<R, W>, Vec<(R, W, Tuning)>>
-            requires { MayRun queue.now refused.now window films.items parts room }
-            ensures { IfOk result (HasRun R.remaining R.failed_reads W.contents W.failed_writes queue.entry.now films.items) × IfErr result (λ back. back.items ≡ films.items) }
-        {
-            run_threads(
-                scope, rt, alloc, queue, gate, refused, window, films, parts, room,
-            )
-        },
+            requires { MayRun shared.now.queue.now shared.now.refused.now shared.now.window films.items parts room }
+            ensures { IfOk result (HasRun R.remaining R.failed_reads W.contents W.failed_writes shared.entry.now.queue.now films.items) × IfErr result (λ back. back.items ≡ films.items) }
+        { run_threads(scope, shared, films, parts, room) },
     )
 }
 
@@ -120,18 +120,13 @@ fn run_threads<
     G: Gate,
 >(
     scope: &Scope<'s, E>,
-    rt: &'s Rt,
-    alloc: Global,
-    queue: &'s Queue<Order>,
-    gate: &'s G,
-    refused: &'s [AtomicBool],
-    window: usize,
+    shared: &Shared<'s, Rt, G>,
     films: Vec<(R, W, Tuning)>,
     parts: Parts,
     room: Room<R, W>,
 ) -> Result<Ran<R, W>, Vec<(R, W, Tuning)>>
-    requires { MayRun queue.now refused.now window films.items parts room }
-    ensures ran { IfOk result (HasRun R.remaining R.failed_reads W.contents W.failed_writes queue.now films.items) }
+    requires { MayRun shared.now.queue.now shared.now.refused.now shared.now.window films.items parts room }
+    ensures ran { IfOk result (HasRun R.remaining R.failed_reads W.contents W.failed_writes shared.now.queue.now films.items) }
     ensures refused { IfErr result (λ back. back.items ≡ films.items) }
 {
     let Parts {
@@ -148,23 +143,14 @@ fn run_threads<
         mut tracks,
         mut seats,
     } = room;
-    if !start_workers(
-        scope,
-        rt,
-        alloc,
-        queue,
-        gate,
-        workers,
-        outboxes,
-        &mut working,
-    ) {
+    let rt = shared.rt;
+    let queue = shared.queue;
+    if !start_workers(scope, shared, workers, outboxes, &mut working) {
         end_all(rt, queue, sources, &mut ended);
         let _finished = finish_queue(rt, queue, closer, ended);
         return Err(films);
     }
-    start_lanes(
-        scope, rt, alloc, queue, refused, window, films, sources, inboxes, &mut lanes,
-    );
+    start_lanes(scope, shared, films, sources, inboxes, &mut lanes);
     join_lanes(rt, queue, lanes, &mut ended, &mut tracks);
     let finished = finish_queue(rt, queue, closer, ended);
     join_workers(rt, queue, working, &mut seats);
@@ -173,274 +159,6 @@ fn run_threads<
         finished,
         seats,
     })
-}
-
-/// What a worker's thread will answer.
-#[derive(Drop)]
-pub struct WorkerOf {
-    pub queue: Snapshot<Queue<Order>>,
-}
-
-impl Promise<Worked> for WorkerOf {
-    ghost use Rattle.ls_recorder.specs.View.Recordings.{IsWorked};
-
-    ghost kept_by = { λ p worked. IsWorked p.queue.value worked };
-}
-
-/// Starts a worker for each seat, as far as threads can be made; whether all were.
-fn start_workers<'s, E, Rt: Threads + Wait + Sync, G: Gate>(
-    scope: &Scope<'s, E>,
-    rt: &'s Rt,
-    alloc: Global,
-    queue: &'s Queue<Order>,
-    gate: &'s G,
-    mut seats: Vec<WorkerSeat<Order>>,
-    mut outboxes: Vec<Outbox>,
-    working: &mut Vec<PromisedHandle<Worked, WorkerOf>>,
-) -> bool
-    requires seats { AreWorkerSeats queue.now seats.items }
-    requires outboxes { LeadToAll (sources_of queue.now) outboxes.items × (length outboxes.items ≡ length seats.items) }
-    requires room { vec_len working.old + length seats.items ≤ vec_capacity working.old }
-    requires working { AreWorking queue.now working.old.items }
-    ensures working { AreWorking queue.now working.new.items }
-    ensures all { result ≡ true → vec_len working.new ≡ vec_len working.old + length seats.items }
-{
-    while !seats.is_empty() {
-        let seat = seats.remove(0);
-        let outbox = outboxes.remove(0);
-        let promise = WorkerOf {
-            queue: Snapshot::of(queue),
-        };
-        let started = scope.spawn_with(
-            promise,
-            move || -> Worked
-                requires { IsWorkerSeat queue.now seat × (sources_of queue.now ≤ length outbox.doors.items) }
-                ensures { IsWorked queue.entry.now result }
-            { work(rt, alloc, queue, seat, outbox, gate) },
-        );
-        match started {
-            Ok(handle) => working.push_reserved(handle),
-            Err(_refused) => return false,
-        }
-    }
-    true
-}
-
-/// Joins the workers: their seats.
-fn join_workers<Rt: Threads>(
-    rt: &Rt,
-    queue: &Queue<Order>,
-    mut working: Vec<PromisedHandle<Worked, WorkerOf>>,
-    seats: &mut Vec<WorkerSeat<Order>>,
-)
-    requires working { AreWorking queue.now working.items }
-    requires room { length working.items ≤ vec_capacity seats.old }
-    requires none { seats.old.items ≡ [] }
-    ensures seats { AreWorkerSeats queue.now seats.new.items }
-    ensures done { all_done seats.new.items ≡ true }
-    ensures len { length seats.new.items ≡ length working.items }
-{
-    while !working.is_empty() {
-        let worked = working.remove(0).join(rt);
-        seats.push_reserved(worked.seat);
-    }
-}
-
-/// What a lane's thread will answer.
-#[derive(Drop)]
-pub struct LaneOf<R: Feed + Drop, W: Outlet + Drop> {
-    pub queue: Snapshot<Queue<Order>>,
-    pub source: u8,
-    pub tuning: Tuning,
-    pub reader: Snapshot<R>,
-    pub writer: Snapshot<W>,
-}
-
-impl<R: Feed + Drop, W: Outlet + Drop> Promise<LaneEnd<R, W>> for LaneOf<R, W> {
-    ghost use Rattle.ls_recorder.specs.View.Recordings.{IsLaneEnd};
-
-    ghost kept_by = { λ p end. IsLaneEnd R.remaining R.failed_reads W.contents W.failed_writes p.queue.value p.source p.tuning p.reader.value p.writer.value end };
-}
-
-/// A lane that was started, or that couldn't be.
-#[derive(Drop)]
-pub enum Lane<R: Feed + Drop, W: Outlet + Drop> {
-    Running(PromisedHandle<LaneEnd<R, W>, LaneOf<R, W>>),
-    Refused(LaneEnd<R, W>),
-}
-
-/// Starts a lane for each film, in order from source 0.
-fn start_lanes<
-    's,
-    E,
-    Rt: Threads + Wait + Sync,
-    R: Feed + Send + Drop + 's,
-    W: Outlet + Send + Drop + 's,
->(
-    scope: &Scope<'s, E>,
-    rt: &'s Rt,
-    alloc: Global,
-    queue: &'s Queue<Order>,
-    refused: &'s [AtomicBool],
-    window: usize,
-    mut films: Vec<(R, W, Tuning)>,
-    mut seats: Vec<SourceSeat<Order>>,
-    mut inboxes: Vec<Inbox>,
-    lanes: &mut Vec<Lane<R, W>>,
-)
-    requires films { length films.items ≡ sources_of queue.now }
-    requires seats { AreAllSources queue.now seats.items }
-    requires inboxes { AreFrom 0 inboxes.items × (length inboxes.items ≡ sources_of queue.now) }
-    requires refused { length refused.now ≡ sources_of queue.now }
-    requires sources { sources_of queue.now ≤ 16 }
-    requires some { 1 ≤ window }
-    requires few { window ≤ MOST_WINDOW }
-    requires room { length films.items ≤ vec_capacity lanes.old }
-    requires none { lanes.old.items ≡ [] }
-    ensures lanes { AreStarted R.remaining R.failed_reads W.contents W.failed_writes queue.now 0 films.items lanes.new.items }
-    ensures many { length lanes.new.items ≡ length films.items }
-{
-    let mut source: u8 = 0;
-    while !films.is_empty() {
-        let film = films.remove(0);
-        let seat = seats.remove(0);
-        let inbox = inboxes.remove(0);
-        let refusal = &refused[source as usize];
-        lanes.push_reserved(start_lane(
-            scope, rt, alloc, queue, refusal, source, seat, inbox, window, film,
-        ));
-        source += 1;
-    }
-}
-
-/// Starts a lane in a thread of its own; if none can be made, its film comes back as it was.
-fn start_lane<
-    's,
-    E,
-    Rt: Threads + Wait + Sync,
-    R: Feed + Send + Drop + 's,
-    W: Outlet + Send + Drop + 's,
->(
-    scope: &Scope<'s, E>,
-    rt: &'s Rt,
-    alloc: Global,
-    queue: &'s Queue<Order>,
-    refused: &'s AtomicBool,
-    source: u8,
-    seat: SourceSeat<Order>,
-    inbox: Inbox,
-    window: usize,
-    film: (R, W, Tuning),
-) -> Lane<R, W>
-    requires seat { IsSourceSeat queue.now seat }
-    requires source { seat.source ≡ source }
-    requires new { items_put seat ≡ [] }
-    requires inbox { inbox.source ≡ seat.source }
-    requires some { 1 ≤ window }
-    requires few { window ≤ MOST_WINDOW }
-    ensures { IsStarted R.remaining R.failed_reads W.contents W.failed_writes queue.now source film result }
-{
-    let promise = LaneOf {
-        queue: Snapshot::of(queue),
-        source,
-        tuning: film.2,
-        reader: Snapshot::of(&film.0),
-        writer: Snapshot::of(&film.1),
-    };
-    let started = scope.spawn_with(
-        promise,
-        move || -> LaneEnd<R, W>
-            requires { IsSourceSeat queue.now seat × (items_put seat ≡ []) × (inbox.source ≡ seat.source) × (1 ≤ window) × (window ≤ MOST_WINDOW) }
-            ensures { IsLaneEnd R.remaining R.failed_reads W.contents W.failed_writes queue.entry.now seat.source film.2 film.0 film.1 result }
-        { begin_lane(rt, alloc, queue, refused, seat, inbox, window, film) },
-    );
-    match started {
-        Ok(handle) => Lane::Running(handle),
-        Err(closure) => {
-            refused.store(true, Ordering::SeqCst);
-            Lane::Refused((closure.value)())
-        }
-    }
-}
-
-/// A lane, unless its thread was refused.
-fn begin_lane<Rt: Wait, R: Feed, W: Outlet>(
-    rt: &Rt,
-    alloc: Global,
-    queue: &Queue<Order>,
-    refused: &AtomicBool,
-    seat: SourceSeat<Order>,
-    inbox: Inbox,
-    window: usize,
-    film: (R, W, Tuning),
-) -> LaneEnd<R, W>
-    requires seat { IsSourceSeat queue.now seat }
-    requires new { items_put seat ≡ [] }
-    requires inbox { inbox.source ≡ seat.source }
-    requires some { 1 ≤ window }
-    requires few { window ≤ MOST_WINDOW }
-    ensures { IsLaneEnd R.remaining R.failed_reads W.contents W.failed_writes queue.now seat.source film.2 film.0 film.1 result }
-{
-    let (reader, writer, tuning) = film;
-    if refused.load(Ordering::SeqCst) {
-        let ended = queue.end(rt, seat);
-        return LaneEnd {
-            ended,
-            reader,
-            writer,
-            result: Err(LaneFault::NotStarted),
-        };
-    }
-    lane(
-        rt, alloc, queue, seat, inbox, window, tuning, reader, writer,
-    )
-}
-
-/// Joins the lanes: their ends, and their tracks.
-fn join_lanes<Rt: Threads, R: Feed + Drop, W: Outlet + Drop>(
-    rt: &Rt,
-    queue: &Queue<Order>,
-    mut lanes: Vec<Lane<R, W>>,
-    ended: &mut Vec<Ended<Order>>,
-    tracks: &mut Vec<Track<R, W>>,
-)
-    requires ended_room { length lanes.items ≤ vec_capacity ended.old }
-    requires tracks_room { length lanes.items ≤ vec_capacity tracks.old }
-    requires no_ended { ended.old.items ≡ [] }
-    requires no_tracks { tracks.old.items ≡ [] }
-    ensures { (films : List (R × W × Tuning)) → AreStarted R.remaining R.failed_reads W.contents W.failed_writes queue.now 0 films lanes.items
-        → AreDone R.remaining R.failed_reads W.contents W.failed_writes queue.now 0 films ended.new.items tracks.new.items }
-{
-    while !lanes.is_empty() {
-        let lane = lanes.remove(0);
-        let LaneEnd {
-            ended: last,
-            reader,
-            writer,
-            result,
-        } = join_lane(rt, queue, lane);
-        ended.push_reserved(last);
-        tracks.push_reserved(Track {
-            reader,
-            writer,
-            result,
-        });
-    }
-}
-
-/// Joins a lane.
-fn join_lane<Rt: Threads, R: Feed + Drop, W: Outlet + Drop>(
-    rt: &Rt,
-    queue: &Queue<Order>,
-    lane: Lane<R, W>,
-) -> LaneEnd<R, W>
-    ensures { (s : ℕ) (film : R × W × Tuning) → IsStarted R.remaining R.failed_reads W.contents W.failed_writes queue.now s film lane
-        → IsLaneEnd R.remaining R.failed_reads W.contents W.failed_writes queue.now s film.2 film.0 film.1 result }
-{
-    match lane {
-        Lane::Running(handle) => handle.join(rt),
-        Lane::Refused(end) => end,
-    }
 }
 
 /// Ends all sources, before anything was put.

@@ -1,5 +1,5 @@
 use Rattle.std.proofs.Common.{arith}
-use Rattle.ls_queue.specs.Running.{IsEndedAt}
+use Rattle.ls_queue.specs.View.Running.{IsEndedAt}
 use Rattle.ls_queue.proofs.SeatPlaces.{each_at, source_at}
 use Rattle.ls_bench.proofs.queue.put_by_all.Goals as goal
 

@@ -1,4 +1,4 @@
-use Rattle.ls_queue.specs.Running.{IsSourceAt}
+use Rattle.ls_queue.specs.View.Running.{IsSourceAt}
 use Rattle.ls_bench.proofs.queue.put_items.Given as goal
 
 abbrev pub invariant-loop-item : goal.invariant-loop-item

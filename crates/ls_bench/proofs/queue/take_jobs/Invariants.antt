@@ -1,4 +1,4 @@
-use Rattle.ls_queue.specs.Running.{IsWorkerAt}
+use Rattle.ls_queue.specs.View.Running.{IsWorkerAt}
 use Rattle.ls_bench.proofs.queue.take_jobs.Given as goal
 
 abbrev pub invariant-loop : goal.invariant-loop

@@ -2,7 +2,7 @@ use Rattle.std.proofs.Common.{◌≡◌, ◌*◌, ◌^◌, ◌≤◌}
 use Rattle.ls_film.specs.View.Engine.{HasRun}
 use Rattle.ls_film.proofs.engine.write_text.Given as goal
 
--- the frames so far were read, and their pieces written
+-- the frames so far were read, and their chunks written
 abbrev pub invariant-loop-number : goal.invariant-loop-number
 invariant-loop-number g l = record {
   run : HasRun g.I.Images.image g.T.Text.text (g.R.Read.remaining l.fn.reader) (g.R.Read.remaining l.reader) (g.W.Write.contents l.fn.writer) (g.W.Write.contents l.writer) l.number l.written;

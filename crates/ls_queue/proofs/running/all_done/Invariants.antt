@@ -1,5 +1,5 @@
 use Rattle.std.proofs.Common.{◌≡◌, drop}
-use Rattle.ls_queue.specs.Running.{all_done}
+use Rattle.ls_queue.specs.View.Running.{all_done}
 use Rattle.ls_queue.proofs.running.all_done.Given as goal
 
 -- the seats so far are done

@@ -1,5 +1,5 @@
 use Rattle.std.proofs.Common.{◌≡◌, drop}
-use Rattle.ls_queue.specs.Running.{has_end}
+use Rattle.ls_queue.specs.View.Running.{has_end}
 use Rattle.ls_queue.proofs.running.has_end.Given as goal
 
 -- the end isn't among those so far

@@ -1,7 +1,7 @@
 use Rattle.std.proofs.Common.{rules, ◌≡◌, ◌<◌, ◌+◌, ◌∙◌, subst, refl, ◌∷◌, length, arith}
 use Rattle.std.specs.List.{AllByRecursion}
 use Rattle.crossbeam_channel.specs.Claims.{view}
-use Rattle.ls_queue.specs.Running.{IsEndedAt, items_ended}
+use Rattle.ls_queue.specs.View.Running.{IsEndedAt, items_ended}
 use Rattle.ls_queue.proofs.AccountLists.{set_length}
 use Rattle.ls_queue.proofs.EndLemmas.{took_first, none_left, end_joins, end_known, end_puts, counted_next, parts_next, ends_known}
 use Rattle.ls_queue.proofs.running.join_ends.Goals as goal

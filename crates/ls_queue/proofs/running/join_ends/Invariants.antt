@@ -3,8 +3,8 @@ use Rattle.std.specs.Prelude.{◌⊎◌}
 use Rattle.std.specs.List.{AllByRecursion}
 use Rattle.crossbeam_channel.specs.Claims.{view, IsSeatAt}
 use Rattle.crossbeam_channel.specs.Ends.{sends_on}
-use Rattle.ls_queue.specs.Account.{ending_view, IsCounted}
-use Rattle.ls_queue.specs.Running.{IsEndedAt, has_end, parts_of}
+use Rattle.ls_queue.specs.View.Account.{ending_view, IsCounted}
+use Rattle.ls_queue.specs.View.Running.{IsEndedAt, has_end, parts_of}
 use Rattle.ls_queue.proofs.running.join_ends.Given as goal
 
 -- the passes so far are joined, and their sources are counted; the others are left

@@ -1,7 +1,7 @@
 use Rattle.std.proofs.Common.{rules, ◌≡◌, ◌+◌, ◌∙◌, subst, ◌∷◌, length, arith}
 use Rattle.std.specs.List.{AllByRecursion}
 use Rattle.crossbeam_channel.specs.Claims.{view}
-use Rattle.ls_queue.specs.Running.{IsWorkerAt}
+use Rattle.ls_queue.specs.View.Running.{IsWorkerAt}
 use Rattle.ls_queue.proofs.EndLemmas.{took_first, none_left}
 use Rattle.ls_queue.proofs.SettleLemmas.{seat_joins, seat_closes, seat_known, seats_known}
 use Rattle.ls_queue.proofs.running.join_seats.Goals as goal

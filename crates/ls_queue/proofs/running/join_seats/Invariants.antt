@@ -2,8 +2,8 @@ use Rattle.std.proofs.Common.{◌≡◌, length, true}
 use Rattle.std.specs.List.{AllByRecursion}
 use Rattle.crossbeam_channel.specs.Claims.{view, IsSeatAt}
 use Rattle.crossbeam_channel.specs.Ends.{sends_on}
-use Rattle.ls_queue.specs.Account.{with_takes}
-use Rattle.ls_queue.specs.Running.{IsWorkerAt, takes_of}
+use Rattle.ls_queue.specs.View.Account.{with_takes}
+use Rattle.ls_queue.specs.View.Running.{IsWorkerAt, takes_of}
 use Rattle.ls_queue.proofs.running.join_seats.Given as goal
 
 -- the passes so far are joined; with those that are left it is all of them

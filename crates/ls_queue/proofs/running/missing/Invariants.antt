@@ -1,4 +1,4 @@
-use Rattle.ls_queue.specs.Running.{EachHasEnd}
+use Rattle.ls_queue.specs.View.Running.{EachHasEnd}
 use Rattle.ls_queue.proofs.running.missing.Given as goal
 
 -- each source so far has an end

@@ -1,7 +1,7 @@
 use Rattle.std.proofs.Common.{◌≡◌}
 use Rattle.crossbeam_channel.specs.Claims.{view, IsSeatAt}
 use Rattle.crossbeam_channel.specs.Ends.{sends_on}
-use Rattle.ls_queue.specs.Account.{with_marks}
+use Rattle.ls_queue.specs.View.Account.{with_marks}
 use Rattle.ls_queue.proofs.running.send_marks.Given as goal
 
 abbrev pub invariant-loop-mark : goal.invariant-loop-mark

@@ -1,5 +1,5 @@
 use Rattle.std.proofs.Common.{rules, ◌≡◌, ◌≤◌, refl, true, length}
-use Rattle.ls_queue.specs.Running.{all_done}
+use Rattle.ls_queue.specs.View.Running.{all_done}
 use Rattle.ls_queue.proofs.SettleLemmas.{last_learns, last_settled}
 use Rattle.ls_queue.proofs.running.settle.Goals as goal
 

@@ -1,6 +1,6 @@
 use Rattle.std.proofs.Common.{◌∙◌, ap, sym, subst, refl, [], arith}
-use Rattle.ls_queue.specs.Account.{source_view}
-use Rattle.ls_queue.specs.Running.{AreNewSources}
+use Rattle.ls_queue.specs.View.Account.{source_view}
+use Rattle.ls_queue.specs.View.Running.{AreNewSources}
 use Rattle.ls_queue.proofs.SeatLemmas.{source_forks, source_known, AreNewSources-more, length_more}
 use Rattle.ls_queue.proofs.running.source_seats.Goals as goal
 

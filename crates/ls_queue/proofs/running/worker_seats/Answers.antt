@@ -1,6 +1,6 @@
 use Rattle.std.proofs.Common.{◌∙◌, ap, sym, subst, refl, false, [], arith}
-use Rattle.ls_queue.specs.Account.{worker_view}
-use Rattle.ls_queue.specs.Running.{AreNewWorkers}
+use Rattle.ls_queue.specs.View.Account.{worker_view}
+use Rattle.ls_queue.specs.View.Running.{AreNewWorkers}
 use Rattle.ls_queue.proofs.SeatLemmas.{worker_forks, worker_known, AreNewWorkers-more, length_more}
 use Rattle.ls_queue.proofs.running.worker_seats.Goals as goal
 

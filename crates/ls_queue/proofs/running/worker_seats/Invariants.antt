@@ -1,8 +1,8 @@
 use Rattle.std.proofs.Common.{◌≡◌, ◌-◌, length}
 use Rattle.crossbeam_channel.specs.Claims.{view, IsSeatAt}
 use Rattle.crossbeam_channel.specs.Ends.{sends_on}
-use Rattle.ls_queue.specs.Account.{closer_view}
-use Rattle.ls_queue.specs.Running.{AreNewWorkers}
+use Rattle.ls_queue.specs.View.Account.{closer_view}
+use Rattle.ls_queue.specs.View.Running.{AreNewWorkers}
 use Rattle.ls_queue.proofs.running.worker_seats.Given as goal
 
 -- the seats of the workers so far, each with one of the closer's shares

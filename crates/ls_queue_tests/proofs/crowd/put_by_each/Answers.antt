@@ -1,5 +1,5 @@
 use Rattle.std.proofs.Common.{arith}
-use Rattle.ls_queue.specs.Running.{IsEndedAt}
+use Rattle.ls_queue.specs.View.Running.{IsEndedAt}
 use Rattle.ls_queue.proofs.SeatPlaces.{each_at}
 use Rattle.ls_queue_tests.proofs.PlaceLemmas.{at_place}
 use Rattle.ls_queue_tests.proofs.crowd.put_by_each.Goals as goal

@@ -1,5 +1,5 @@
 use Rattle.std.proofs.Common.{arith}
-use Rattle.ls_queue.specs.Running.{IsWorkerAt}
+use Rattle.ls_queue.specs.View.Running.{IsWorkerAt}
 use Rattle.ls_queue.proofs.SeatPlaces.{each_at, worker_at}
 use Rattle.ls_queue_tests.proofs.crowd.take_by_all.Goals as goal
 

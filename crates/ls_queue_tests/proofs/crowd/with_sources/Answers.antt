@@ -1,6 +1,6 @@
 use Rattle.std.proofs.Common.{sym, subst, arith}
 use Rattle.std.specs.List.{AllByRecursion}
-use Rattle.ls_queue.specs.Running.{AreNewSources}
+use Rattle.ls_queue.specs.View.Running.{AreNewSources}
 use Rattle.ls_queue.proofs.AccountLists.{all_append}
 use Rattle.ls_queue_tests.proofs.crowd.with_sources.Goals as goal
 

@@ -1,6 +1,6 @@
 use Rattle.std.specs.Prelude.{◌≡◌}
 use Rattle.std.specs.List.{AllByRecursion}
-use Rattle.ls_queue.specs.Running.{AreNewSources, IsSourceAt}
+use Rattle.ls_queue.specs.View.Running.{AreNewSources, IsSourceAt}
 use Rattle.ls_queue_tests.proofs.crowd.with_sources.Given as goal
 
 -- the seats with their sources so far, and those that are left, from the next source on

@@ -2,7 +2,7 @@ use Rattle.std.proofs.Common.{sym, ap, ◌∙◌, rules}
 use Rattle.crossbeam_channel.specs.Ends.{sends_on, receives_on, ruled_capacity}
 use Rattle.ls_recorder.specs.declared.delivery.ends.Inbox.{Inbox}
 use Rattle.ls_recorder.specs.declared.delivery.ends.Door.{Door}
-use Rattle.ls_recorder.proofs.ListLemmas.{all-more}
+use Rattle.ls_film.proofs.FilmLemmas.{all-more}
 use Rattle.ls_recorder.proofs.BoxLemmas.{AreFrom-push, both-push}
 use Rattle.ls_recorder.proofs.delivery.channels.Goals as goal
 

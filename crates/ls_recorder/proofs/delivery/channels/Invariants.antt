@@ -1,5 +1,5 @@
 use Rattle.std.proofs.Common.{◌≡◌, length}
-use Rattle.ls_recorder.specs.Boxes.{AreFrom, HaveRoom, LeadTo}
+use Rattle.ls_recorder.specs.View.Boxes.{AreFrom, HaveRoom, LeadTo}
 use Rattle.ls_recorder.proofs.delivery.channels.Given as goal
 
 -- a box for each source so far

@@ -1,7 +1,7 @@
 use Rattle.std.proofs.Common.{◌≡◌, length, take, map}
 use Rattle.crossbeam_channel.specs.Ends.{sends_on}
 use Rattle.ls_recorder.specs.declared.delivery.ends.Door.{Door}
-use Rattle.ls_recorder.specs.Boxes.{LeadAlike}
+use Rattle.ls_recorder.specs.View.Boxes.{LeadAlike}
 use Rattle.ls_recorder.proofs.delivery.copies.Given as goal
 
 -- the copies of the doors so far; the doors lead where they led

@@ -1,7 +1,7 @@
 use Rattle.std.proofs.Common.{◌≡◌, length}
 use Rattle.std.specs.List.{AllByRecursion}
 use Rattle.ls_recorder.specs.declared.delivery.ends.Outbox.{Outbox}
-use Rattle.ls_recorder.specs.Boxes.{LeadAlike}
+use Rattle.ls_recorder.specs.View.Boxes.{LeadAlike}
 use Rattle.ls_recorder.proofs.delivery.outboxes.Given as goal
 
 -- the outboxes of the workers so far; the doors lead where they led

@@ -9,7 +9,10 @@ pub returns-in-None-clause-stops : goal.returns-in-None-clause-stops
 returns-in-None-clause-stops g c = λ items start writing. writes-fewer items start _ _ _ c.requires.some writing
 
 pub returns-in-Err-clause-stops : goal.returns-in-Err-clause-stops
-returns-in-Err-clause-stops g c = λ items start writing. writes-fewer items start _ _ _ c.requires.some writing
+returns-in-Err-clause-stops g c = λ items start writing. (
+  writes-fewer items start _ _ _ c.requires.some writing,
+  record { collection = c.args.collector.now; bytes = c.args.written; piece = c.in-Some-Ok.piece; writing = writing; refused = c.in-Err.ensures.1 },
+)
 
 pub returns-in_err-written-clause-stops : goal.returns-in_err-written-clause-stops
 returns-in_err-written-clause-stops g c =

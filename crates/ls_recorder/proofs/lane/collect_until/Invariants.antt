@@ -1,5 +1,5 @@
 use Rattle.std.proofs.Common.{◌≡◌, ◌*◌, ◌^◌, ◌≤◌}
-use Rattle.ls_recorder.specs.Collecting.{booked}
+use Rattle.ls_pieces.specs.Collecting.{booked}
 use Rattle.ls_recorder.specs.View.Lanes.{GoesOn}
 use Rattle.ls_recorder.proofs.lane.collect_until.Given as goal
 

@@ -2,7 +2,7 @@ use Rattle.std.proofs.Common.{◌+◌, ◌<◌, false, length, ap, ◌∙◌, ar
 use Rattle.std.proofs.lemmas.List.{length_push}
 use Rattle.std.proofs.lemmas.Result.{err_from_is_err_and}
 use Rattle.ls_frame.specs.View.Devices.{count_after}
-use Rattle.ls_queue.specs.Running.{items_put}
+use Rattle.ls_queue.specs.View.Running.{items_put}
 use Rattle.ls_recorder.specs.View.Lanes.{blames_reader, blames_writer}
 use Rattle.ls_recorder.proofs.LaneLemmas.{books}
 use Rattle.ls_recorder.proofs.RunLemmas.{HasRead-more, IsWriting-more, records-all, stops-writing, stops-reading, stops-memory, reads-so, reads-writing, writes-reading}
@@ -69,7 +69,7 @@ returns-in-Err-next_order g c =
       seat = (inv.seat, inv.source);
       completes = tt;
       stops = stops-reading c.args.tuning.now _ _ _ _ _ _ _ _ _ c.in-Err-next_order.fault inv.read inv.few c.in-Err-next_order.ensures.stops writing c.in_ok-_all-in-Err-next_order.ensures.few;
-      reads = reads-so (blames_reader c.in-Err-next_order.fault) _ _ (c.in-Err-next_order.ensures.failures ∙ ap (count_after (blames_reader c.in-Err-next_order.fault)) inv.reads);
+      reads = reads-so c.args.tuning.now _ _ _ c.in-Err-next_order.fault _ _ c.in-Err-next_order.ensures.stops (c.in-Err-next_order.ensures.failures ∙ ap (count_after (blames_reader c.in-Err-next_order.fault)) inv.reads);
       writes = writes-reading c.args.tuning.now _ _ _ c.in-Err-next_order.fault _ _ c.in-Err-next_order.ensures.stops (c.in_ok-_all-in-Err-next_order.ensures.failures ∙ c.in_ok-written.ensures.failures ∙ inv.writes);
     }
 

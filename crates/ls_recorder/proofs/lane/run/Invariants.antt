@@ -1,6 +1,6 @@
 use Rattle.std.proofs.Common.{◌≡◌, ◌*◌, ◌-◌, ◌^◌, ◌≤◌, length}
-use Rattle.ls_queue.specs.Running.{IsSourceSeat, items_put}
-use Rattle.ls_recorder.specs.Collecting.{booked}
+use Rattle.ls_queue.specs.View.Running.{IsSourceSeat, items_put}
+use Rattle.ls_pieces.specs.Collecting.{booked}
 use Rattle.ls_recorder.specs.View.Lanes.{IsWriting}
 use Rattle.ls_recorder.proofs.RunLemmas.{HasRead}
 use Rattle.ls_recorder.proofs.lane.run.Given as goal

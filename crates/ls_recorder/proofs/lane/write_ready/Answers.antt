@@ -1,6 +1,6 @@
 use Rattle.std.proofs.Common.{◌≡◌, Some, ◌∙◌, arith, rules}
 use Rattle.std.proofs.lemmas.Result.{err_from_is_err_and}
-use Rattle.ls_recorder.specs.Collecting.{next_reply}
+use Rattle.ls_pieces.specs.Collecting.{next_reply}
 use Rattle.ls_recorder.proofs.LaneLemmas.{hands_out, writes-piece, writes-part}
 use Rattle.ls_recorder.proofs.lane.write_ready.Goals as goal
 

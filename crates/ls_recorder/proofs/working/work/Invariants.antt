@@ -1,5 +1,5 @@
 use Rattle.std.proofs.Common.{◌+◌, ◌≤◌, length}
-use Rattle.ls_queue.specs.Running.{IsWorkerSeat, jobs_taken, sources_of}
+use Rattle.ls_queue.specs.View.Running.{IsWorkerSeat, jobs_taken, sources_of}
 use Rattle.ls_recorder.proofs.working.work.Given as goal
 
 -- each job so far was coded at most once, and answered at most once

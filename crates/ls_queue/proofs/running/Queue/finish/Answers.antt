@@ -1,6 +1,6 @@
 use Rattle.std.proofs.Common.{rules, sym, subst, arith}
-use Rattle.ls_queue.specs.Account.{IsCounted}
-use Rattle.ls_queue.specs.Running.{EachHasEnd}
+use Rattle.ls_queue.specs.View.Account.{IsCounted}
+use Rattle.ls_queue.specs.View.Running.{EachHasEnd}
 use Rattle.ls_queue.proofs.EndLemmas.{enough_ends, finished_known, finished_puts}
 use Rattle.ls_queue.proofs.running.Queue.finish.Goals as goal
 

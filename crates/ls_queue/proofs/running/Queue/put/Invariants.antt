@@ -2,7 +2,7 @@ use Rattle.std.proofs.Common.{◌≡◌}
 use Rattle.crossbeam_channel.specs.Claims.{view, IsSeatAt}
 use Rattle.crossbeam_channel.specs.Ends.{sends_on}
 use Rattle.ls_queue.specs.declared.views.Message.TheVariants as message
-use Rattle.ls_queue.specs.Account.{job}
+use Rattle.ls_queue.specs.View.Account.{job}
 use Rattle.ls_queue.proofs.running.Queue.put.Given as goal
 
 -- the job isn't sent yet, and the seat is as it was

@@ -1,8 +1,8 @@
 use Rattle.std.proofs.Common.{◌≡◌, ◌+◌, ◌∷◌, true, length, sym, ap, subst, ◌∙◌, arith}
-use Rattle.ls_queue.specs.Running.{AreNewSources, AreEnds, has_end}
+use Rattle.ls_queue.specs.View.Running.{AreNewSources, AreEnds, has_end}
 use Rattle.std.proofs.lemmas.List.{length_push}
 use Rattle.ls_queue.proofs.EndLemmas.{took_first}
-use Rattle.ls_recorder.proofs.ListLemmas.{all-more}
+use Rattle.ls_film.proofs.FilmLemmas.{all-more}
 use Rattle.ls_recorder.proofs.RecordingLemmas.{each-more}
 use Rattle.ls_recorder.proofs.recording.threads.end_all.Goals as goal
 

@@ -1,5 +1,5 @@
 use Rattle.std.proofs.Common.{◌≡◌, ℕ, ◌+◌, ◌<◌, true, length, vec_capacity}
-use Rattle.ls_queue.specs.Running.{AreNewSources, AreEnds, has_end, sources_of}
+use Rattle.ls_queue.specs.View.Running.{AreNewSources, AreEnds, has_end, sources_of}
 use Rattle.ls_recorder.proofs.recording.threads.end_all.Given as goal
 
 -- the first sources have ended; the seats of the others are left

@@ -1,0 +1,83 @@
+-- What the engine's end over codestreams is to a recording.
+use Rattle.std.proofs.Common.{◌≡◌, ◌⊎◌, ℕ, Bool, true, false, inl, inr, List, ◌++◌, length, Option, refl, ap, ◌∙◌, append_assoc}
+use Rattle.ls_frame.specs.View.Known.{Tells, known}
+use Rattle.ls_stream.specs.declared.faults.StreamFault.{StreamFault}
+use Rattle.ls_stream.specs.declared.faults.StreamFault.TheVariants as stream
+use Rattle.ls_stream.specs.Grammar.{Spells}
+use Rattle.ls_film.specs.Film.{IsFilm}
+use Rattle.ls_film.specs.View.Engine.{HasRun, StopsAtInput, StopsForMemory}
+use Rattle.ls_film.specs.View.Memory.{AnyBytes}
+use Rattle.ls_film.specs.View.Steps.{IsSomeImage, HasStopped}
+use Rattle.ls_film.specs.declared.engine.Stopped.{Stopped}
+use Rattle.ls_film.specs.declared.engine.Stopped.TheVariants.{Input, Output, NoMemory, TooMany}
+use Rattle.ls_film.proofs.FilmLemmas.{IsBrokenAfter-next, BeginsWithFrames-gave}
+use Rattle.ls_film.specs.declared.playing.Unread.{Unread}
+use Rattle.ls_film.specs.declared.playing.Unread.TheVariants as unread
+use Rattle.ls_film.specs.Showing.{show}
+use Rattle.ls_film.specs.View.Playing.{BreaksBy, IsUnread, Stops, play_fault}
+
+abbrev wants_memory : StreamFault → Bool
+wants_memory stream.Truncated = false
+wants_memory stream.NotSoi = false
+wants_memory stream.BadSegment = false
+wants_memory (stream.Unsupported what) = false
+wants_memory (stream.BadPresets fault) = false
+wants_memory stream.TooLarge = false
+wants_memory (stream.BadCode component) = false
+wants_memory (stream.LeftoverBits component) = false
+wants_memory stream.NoMemory = true
+
+other_than_memory : (fault : StreamFault) → wants_memory fault ≡ false → fault ≡ stream.NoMemory → ⊥
+other_than_memory fault other is = let memory : wants_memory fault ≡ true = ap wants_memory is in let clash : ⊥ = cc in absurd clash
+
+module _ (read read' written written' : Option (List ℕ)) where
+  -- the frames so far were shown, and of what follows P holds
+  stops_after : (mid : Option (List ℕ)) (m bytes : ℕ) (P : List ℕ → Type 0) → HasRun Spells show read mid written written' m bytes → (Tells mid → P (known mid))
+      → StopsAtInput Spells show read read' written written' m P
+  stops_after mid m bytes P run follows = record {
+    frames = run.frames;
+    count = run.count;
+    few = run.few;
+    lawful = run.lawful;
+    begins = BeginsWithFrames-gave Spells read mid run.frames run.gave;
+    broken = IsBrokenAfter-next Spells read mid run.frames P run.gave follows;
+    wrote = run.wrote;
+  }
+
+  -- the next codestream can't be decoded
+  at_codestream : (mid : Option (List ℕ)) (m bytes : ℕ) (fault : StreamFault) → wants_memory fault ≡ false → HasRun Spells show read mid written written' m bytes
+      → (fault ≡ stream.NoMemory) ⊎ (Tells mid → BreaksBy fault (known mid))
+      → StopsAtInput Spells show read read' written written' m (BreaksBy fault) × (fault ≡ stream.NoMemory → ⊥)
+  at_codestream mid m bytes fault other run (inl memory) = absurd (other_than_memory fault other memory)
+  at_codestream mid m bytes fault other run (inr none) = (stops_after mid m bytes (BreaksBy fault) run none, other_than_memory fault other)
+
+  -- memory was refused for the image of a frame
+  at_image : (run : StopsForMemory Spells show read read' written written' (IsSomeImage Spells)) → StopsAtInput Spells show read read' written written' (length run.frames) AnyBytes
+  at_image run =
+      let begins : (told : Tells read) → (film : List ℕ) × (rest : List ℕ) × (known read ≡ film ++ rest) × IsFilm Spells film run.frames = λ told.
+      let front = run.gave told in let last = front.3 in
+      (last.0, last.1 ++ known read', front.2 ∙ ap (λ s. s ++ known read') last.2 ∙ append_assoc last.0 last.1 (known read'), last.3) in
+      record {
+        frames = run.frames;
+        count = refl;
+        few = run.few;
+        lawful = run.lawful;
+        begins = begins;
+        broken = λ told. let b = begins told in (b.0, b.1, b.2, b.3, tt);
+        wrote = run.wrote;
+      }
+
+  pub play-stops : (stopped : Stopped Unread) → HasStopped Spells IsUnread show read read' written written' stopped → Stops read read' written written' (play_fault stopped)
+  play-stops (Input m (unread.Stream stream.Truncated)) why = at_codestream why.0 m why.1 stream.Truncated refl why.2 why.3
+  play-stops (Input m (unread.Stream stream.NotSoi)) why = at_codestream why.0 m why.1 stream.NotSoi refl why.2 why.3
+  play-stops (Input m (unread.Stream stream.BadSegment)) why = at_codestream why.0 m why.1 stream.BadSegment refl why.2 why.3
+  play-stops (Input m (unread.Stream (stream.Unsupported what))) why = at_codestream why.0 m why.1 (stream.Unsupported what) refl why.2 why.3
+  play-stops (Input m (unread.Stream (stream.BadPresets fault))) why = at_codestream why.0 m why.1 (stream.BadPresets fault) refl why.2 why.3
+  play-stops (Input m (unread.Stream stream.TooLarge)) why = at_codestream why.0 m why.1 stream.TooLarge refl why.2 why.3
+  play-stops (Input m (unread.Stream (stream.BadCode component))) why = at_codestream why.0 m why.1 (stream.BadCode component) refl why.2 why.3
+  play-stops (Input m (unread.Stream (stream.LeftoverBits component))) why = at_codestream why.0 m why.1 (stream.LeftoverBits component) refl why.2 why.3
+  play-stops (Input m (unread.Stream stream.NoMemory)) why = (m, stops_after why.0 m why.1 AnyBytes why.2 (λ told. tt))
+  play-stops (Input m unread.Io) why = stops_after why.0 m why.1 AnyBytes why.2 (λ told. tt)
+  play-stops (Output bytes) why = why
+  play-stops NoMemory why = (length why.frames, at_image why)
+  play-stops TooMany why = why

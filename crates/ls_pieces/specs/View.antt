@@ -1,0 +1,2 @@
+-- When orders are equal.
+pub mod Alike

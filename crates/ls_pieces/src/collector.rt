@@ -1,0 +1,198 @@
+//! The collector of a source: pieces come in any order, and go out in that of their numbers.
+ghost use Rattle.std.specs.Prelude.{◌≡◌, ◌<◌, ◌-◌, ◌+◌, ◌⊎◌, ◌==◌, ◌^◌, ℕ, None, Some, length, MatchResult, IfErr};
+ghost use Rattle.ls_pieces.specs.Collecting.{window_fault, new_collection, booked, is_full, book_reply, after_book, misfit_of, after_accept, next_reply, after_next, IsCollection};
+
+use crate::orders::Order;
+use crate::pieces::Coded;
+use circular_buffer::HeapCircularBuffer;
+use std::alloc::{AllocError, Global};
+use std::marker::Model;
+use thiserror::Error;
+
+/// The most orders that a collector may wait for.
+pub const MOST_WINDOW: usize = 64;
+
+/// Why there is no collector.
+#[derive(Clone, Copy, Debug, Drop, PartialEq, Eq, Error)]
+pub enum CollectorFault {
+    /// The window isn't 1 to 64.
+    #[error("window")]
+    Window,
+    /// An allocation failed.
+    #[error("no memory")]
+    NoMemory,
+}
+
+impl From<AllocError> for CollectorFault {
+    ghost use Rattle.std.specs.Prelude.{◌≡◌};
+    ghost use Rattle.ls_pieces.specs.declared.collector.CollectorFault.TheVariants.{NoMemory};
+
+    ghost from_gives = { λ _ fault. fault ≡ NoMemory };
+
+    fn from(_refused: AllocError) -> CollectorFault {
+        CollectorFault::NoMemory
+    }
+}
+
+/// Why a piece isn't accepted. `Collector::accept` looks in this order.
+#[derive(Clone, Copy, Debug, Drop, PartialEq, Eq, Error)]
+pub enum Misfit {
+    /// It is of another source.
+    #[error("another source")]
+    Stranger,
+    /// No order of its number was booked.
+    #[error("not booked")]
+    NotBooked,
+    /// A piece of its number was accepted before.
+    #[error("accepted before")]
+    Twice,
+    /// It is of another frame than was booked, or was coded with other parameters.
+    #[error("another frame")]
+    OtherFrame,
+}
+
+/// A booked order, and its piece once it was accepted.
+#[derive(Drop)]
+pub struct Slot {
+    pub order: Order,
+    pub piece: Option<Coded>,
+}
+
+impl Slot {
+    ghost use Rattle.std.specs.Prelude.{◌≡◌, Some};
+
+    /// Keeps a piece with the order.
+    fn fill(&mut self, piece: Coded)
+        ensures { self.new ≡ record { order = self.old.order; piece = Some piece } }
+    {
+        self.piece = Some(piece);
+    }
+}
+
+/// The orders of one source that were booked and weren't handed out, at most `window` of them, each with its piece or none.
+///
+/// Orders are numbered from 0 as they are booked.
+#[derive(Drop)]
+pub struct Collector {
+    source: u8,
+    /// How many orders were handed out: the number of the first slot's.
+    first: u64,
+    /// What is booked, in order, and room for as much as may be.
+    slots: HeapCircularBuffer<Slot>,
+}
+
+impl Model for Collector {
+    ghost use Rattle.ls_pieces.specs.Collecting.{Collection, IsCollection};
+
+    ghost Value = { Collection };
+
+    ghost view = { λ c. record { source = c.source; window = c.slots.capacity; first = c.first; slots = c.slots.items } };
+
+    ghost invariant = { λ c. IsCollection (record { source = c.source; window = c.slots.capacity; first = c.first; slots = c.slots.items }) };
+}
+
+impl Collector {
+    /// A collector for a source, with nothing booked. The window is 1 to 64, else `Window` is answered; else it fails only if an
+    /// allocation fails.
+    ///
+    /// It takes all the memory that the collector will need.
+    pub fn new(alloc: Global, source: u8, window: usize) -> Result<Collector, CollectorFault>
+        ensures { MatchResult result
+            (λ collector. (window_fault window ≡ None) × (collector ≡ new_collection source window))
+            (λ fault. (window_fault window ≡ Some fault) ⊎ ((window_fault window ≡ None) × (fault ≡ CollectorFault.NoMemory))) }
+    {
+        if window == 0 || window > MOST_WINDOW {
+            return Err(CollectorFault::Window);
+        }
+        Ok(Collector {
+            source,
+            first: 0,
+            slots: HeapCircularBuffer::with_capacity(alloc, window)?,
+        })
+    }
+
+    /// Books an order, and answers its number: how many were booked before. The order comes back exactly if as many booked
+    /// orders as the window has weren't handed out; then nothing has changed. Fewer than 2^64 - 1 orders may have been booked.
+    pub fn book(&mut self, order: Order) -> Result<u64, Order>
+        requires { booked self.old < 2 ^ 64 - 1 }
+        ensures reply { result ≡ book_reply self.old order }
+        ensures state { self.new ≡ after_book self.old order }
+    {
+        let number = self.first + self.slots.len() as u64;
+        let slot = Slot { order, piece: None };
+        match self.slots.try_push_back(slot) {
+            Ok(()) => {}
+            Err(slot) => return Err(slot.order),
+        }
+        Ok(number)
+    }
+
+    /// Accepts the piece of an order that was booked. A piece that doesn't fit comes back with the first `Misfit` that is so;
+    /// then nothing has changed.
+    pub fn accept(&mut self, piece: Coded) -> Result<(), (Coded, Misfit)>
+        ensures { MatchResult result
+            (λ _. (misfit_of self.old piece ≡ None) × (self.new ≡ after_accept self.old piece))
+            (λ back. (back.0 ≡ piece) × (misfit_of self.old piece ≡ Some back.1) × (self.new ≡ self.old)) }
+    {
+        if let Some(misfit) = self.misfit_of(&piece) {
+            return Err((piece, misfit));
+        }
+        let place = (piece.number() - self.first) as usize;
+        if let Some(slot) = self.slots.get_mut(place) {
+            slot.fill(piece);
+        }
+        Ok(())
+    }
+
+    /// Why a piece doesn't fit: the first `Misfit` that is so.
+    fn misfit_of(&self, piece: &Coded) -> Option<Misfit>
+        ensures reply { result ≡ misfit_of self.now piece.now }
+        ensures lawful { IsCollection self.now }
+    {
+        if piece.source() != self.source {
+            return Some(Misfit::Stranger);
+        }
+        if piece.number() < self.first {
+            return Some(Misfit::Twice);
+        }
+        let place = (piece.number() - self.first) as usize;
+        match self.slots.get(place) {
+            None => Some(Misfit::NotBooked),
+            Some(slot) if slot.piece.is_some() => Some(Misfit::Twice),
+            Some(slot) if slot.order != *piece.order() => Some(Misfit::OtherFrame),
+            Some(_) => None,
+        }
+    }
+
+    /// Hands out the piece of the lowest number that wasn't handed out, if it is there.
+    pub fn next(&mut self) -> Option<Coded>
+        ensures reply { result ≡ next_reply self.old }
+        ensures state { self.new ≡ after_next self.old }
+        ensures lawful { IsCollection self.old }
+    {
+        match self.slots.front() {
+            Some(Slot { piece: Some(_), .. }) => {}
+            _ => return None,
+        }
+        let slot = self.slots.pop_front()?;
+        self.first += 1;
+        slot.piece
+    }
+
+    /// How many orders were booked: the number of the next one.
+    pub fn booked(&self) -> u64
+        ensures value { result ≡ booked self.now }
+        ensures lawful { IsCollection self.now }
+    {
+        self.first + self.slots.len() as u64
+    }
+
+    /// How many of the booked orders weren't handed out, at most as many as the window has: `book` gives an order back if that
+    /// many are.
+    pub fn waiting(&self) -> usize
+        ensures value { result ≡ length self.now.slots }
+        ensures lawful { IsCollection self.now }
+    {
+        self.slots.len()
+    }
+}

@@ -1,0 +1,111 @@
+//! Pieces: codestreams of orders, as workers hand them to lanes.
+ghost use Rattle.std.specs.Prelude.{◌≡◌, ◌^◌, ◌<◌, length, MatchResult, IfOk};
+ghost use Rattle.std.specs.Arc.{arc_value};
+ghost use Rattle.ls_pieces.specs.Orders.{IsOrder, IsCoded, coded};
+
+use crate::orders::Order;
+use ls_frame::{Frame, Presets};
+use ls_queue::Job;
+use ls_stream::{Lines, code_bound, encode_within};
+use std::alloc::{AllocError, Global};
+use std::marker::Model;
+use std::sync::Arc;
+
+/// A job that was done: the codestream of its frame with its parameters.
+///
+/// It is seen as the job. Whoever made it, its bytes are the codestream of its order.
+#[derive(Drop)]
+pub struct Coded {
+    job: Job<Order>,
+    bytes: Vec<u8>,
+}
+
+impl Model for Coded {
+    ghost use Rattle.ls_queue.specs.declared.replies.Job.{Job};
+    ghost use Rattle.ls_pieces.specs.Orders.{Ordered, IsOrder, IsCoded};
+
+    ghost Value = { Job Ordered };
+
+    ghost view = { λ c. c.job };
+
+    ghost invariant = { λ c. IsCoded c.job.item c.bytes.items };
+}
+
+/// A job that couldn't be done, since an allocation failed.
+#[derive(Clone, Copy, Debug, Drop, PartialEq, Eq)]
+pub struct Uncoded {
+    pub source: u8,
+    pub number: u64,
+}
+
+impl Coded {
+    /// Codes a job. The piece is of this job, and `Uncoded` has its source and its number.
+    ///
+    /// Fails only if an allocation fails: it asks for `code_bound` bytes and for two lines before it codes.
+    pub fn make(alloc: Global, job: Job<Order>) -> Result<Coded, Uncoded>
+        ensures { MatchResult result (λ piece. piece ≡ job) (λ uncoded. (uncoded.source ≡ job.source) × (uncoded.number ≡ job.number)) }
+    {
+        match code(alloc, &job.item) {
+            Ok(bytes) => Ok(Coded { job, bytes }),
+            Err(AllocError) => Err(Uncoded {
+                source: job.source,
+                number: job.number,
+            }),
+        }
+    }
+
+    /// The source of the job.
+    pub fn source(&self) -> u8
+        ensures { result ≡ self.now.source }
+    {
+        self.job.source
+    }
+
+    /// The number of the job among those of its source, from 0.
+    pub fn number(&self) -> u64
+        ensures { result ≡ self.now.number }
+    {
+        self.job.number
+    }
+
+    /// What was coded.
+    pub fn order(&self) -> &Order
+        ensures { result.now ≡ self.now.item }
+    {
+        &self.job.item
+    }
+
+    /// The frame that was coded.
+    pub fn frame(&self) -> &Arc<Frame>
+        ensures { arc_value result.now ≡ self.now.item.0 }
+    {
+        self.job.item.frame()
+    }
+
+    /// The parameters that it was coded with.
+    pub fn presets(&self) -> &Presets
+        ensures { result.now ≡ self.now.item.1 }
+    {
+        self.job.item.presets()
+    }
+
+    /// The codestream of the frame with the parameters, of fewer than 2^32 bytes.
+    pub fn bytes(&self) -> &[u8]
+        ensures value { result.now ≡ coded self.now.item }
+        ensures short { length result.now < 2 ^ 32 }
+    {
+        self.bytes.as_slice()
+    }
+}
+
+/// The codestream of an order. Fails only if an allocation fails.
+fn code(alloc: Global, order: &Order) -> Result<Vec<u8>, AllocError>
+    ensures { IfOk result (λ bytes. IsCoded order.now bytes.items) }
+{
+    let frame = &**order.frame();
+    let presets = order.presets();
+    let room = code_bound(frame, presets) as usize;
+    let bytes = Vec::with_capacity(alloc, room)?;
+    let mut lines = Lines::new(alloc, frame.width())?;
+    Ok(encode_within(frame, presets, &mut lines, bytes))
+}

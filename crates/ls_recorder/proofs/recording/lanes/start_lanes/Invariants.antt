@@ -1,0 +1,25 @@
+use Rattle.std.proofs.Common.{◌≡◌, ◌+◌, List, ◌++◌, length, vec_capacity}
+use Rattle.ls_frame.specs.declared.tuning.Tuning.{Tuning}
+use Rattle.ls_queue.specs.View.Running.{AreNewSources}
+use Rattle.ls_recorder.specs.View.Recordings.{AreStarted}
+use Rattle.ls_recorder.specs.View.Boxes.{AreFrom}
+use Rattle.ls_recorder.proofs.recording.lanes.start_lanes.Given as goal
+
+-- the first films have their lanes; what is left of all is in order from the next source on
+abbrev pub invariant-loop-alloc : goal.invariant-loop-alloc
+invariant-loop-alloc g l = record {
+  done : List (g.row.R.Denot × g.row.W.Denot × Tuning);
+  whole : done ++ l.films.items ≡ l.fn.films.items;
+  count : length done ≡ l.source;
+  started : AreStarted g.R.Read.remaining g.R.Feed.failed_reads g.W.Write.contents g.W.Outlet.failed_writes l.shared.queue 0 done l.lanes.items;
+  lanes : length l.lanes.items ≡ l.source;
+  seats : AreNewSources l.shared.queue.channel l.source l.seats.items;
+  inboxes : AreFrom l.source l.inboxes.items;
+  many_seats : length l.seats.items ≡ length l.films.items;
+  many_inboxes : length l.inboxes.items ≡ length l.films.items;
+  sum : l.source + length l.films.items ≡ length l.fn.films.items;
+  room : vec_capacity l.lanes ≡ vec_capacity l.fn.lanes;
+}
+
+abbrev pub decreases-loop-alloc : goal.decreases-loop-alloc
+decreases-loop-alloc g l = length l.films.items
