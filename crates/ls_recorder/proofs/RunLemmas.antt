@@ -119,7 +119,7 @@ module _ (tuning : Tuning) (items : List Ordered) (read mid : Option (List ℕ))
   stops-writing new start now (Input m fault) run few why = absurd why
   stops-writing new start now (Output bytes) run few why = (HasPut-read new start now run few, why)
   stops-writing new start now NoMemory run few why = (HasPut-read new start now run few, why)
-  stops-writing new start now (Misfit misfit) run few why = (HasPut-read new start now run few, why)
+  stops-writing new start now (Misfit misfit) run few why = (HasPut-read new start now run few, why.0, why.1)
   stops-writing new start now Lost run few why = (HasPut-read new start now run few, why)
   stops-writing new start now NotStarted run few why = absurd why
   stops-writing new start now TooMany run few why = absurd why

@@ -2,7 +2,7 @@
 ghost use Rattle.std.specs.Prelude.{◌≡◌, ◌⊎◌, ◌≤◌, [], None, Some, length, vec_capacity, IfOk, IfErr};
 ghost use Rattle.std.specs.List.{AllZip};
 ghost use Rattle.ls_recorder.specs.View.Headline.{IsUnrecorded, IsPlayed, ComeBack};
-ghost use Rattle.ls_recorder.specs.View.Recordings.{record_fault};
+ghost use Rattle.ls_recorder.specs.Sizes.{record_fault};
 
 use crate::faults::RecordFault;
 use crate::lane::LaneFault;

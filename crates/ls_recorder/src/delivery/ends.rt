@@ -1,8 +1,7 @@
 //! The ends of boxes.
-ghost use Rattle.std.specs.Prelude.{◌≡◌, ◌<◌, length, IfOk, IfErr};
+ghost use Rattle.std.specs.Prelude.{◌≡◌, ◌<◌, length, map, IfOk, IfErr};
 ghost use Rattle.crossbeam_channel.specs.Claims.{IsSeatAt};
 ghost use Rattle.crossbeam_channel.specs.Ends.{sends_on, receives_on};
-ghost use Rattle.ls_recorder.specs.View.Boxes.{LeadAlike};
 
 use crossbeam_channel::protocol::{Free, Split};
 use crossbeam_channel::{Pass, RuledReceiver, RuledSender, TryRecvError};
@@ -57,7 +56,7 @@ impl Inbox {
     /// Nothing is proved of which answer comes out, and when.
     pub fn recv<R: Wait>(&mut self, rt: &R) -> Option<Answer>
         ensures source { self.new.source ≡ self.old.source }
-        ensures box { receives_on self.new.exit ≡ receives_on self.old.exit }
+        ensures same { receives_on self.new.exit ≡ receives_on self.old.exit }
     {
         for _look in 0..LOOKS {
             match self.exit.try_recv_as::<Free, R>(rt, &mut self.pass) {
@@ -96,7 +95,7 @@ impl Outbox {
         requires { source < length self.old.doors.items }
         ensures refused { IfErr result (λ back. back ≡ answer) }
         ensures sources { length self.new.doors.items ≡ length self.old.doors.items }
-        ensures doors { LeadAlike self.new.doors.items self.old.doors.items }
+        ensures doors { map (λ door. sends_on door.entrance) self.new.doors.items ≡ map (λ door. sends_on door.entrance) self.old.doors.items }
     {
         let door = &mut self.doors[source as usize];
         match door.entrance.send_as::<Free, R>(rt, &mut door.pass, answer) {

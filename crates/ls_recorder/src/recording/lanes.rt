@@ -1,5 +1,5 @@
 //! A thread for each film's lane: its start and its end. A lane for which none can be made gives its film back as it was.
-ghost use Rattle.std.specs.Prelude.{◌≡◌, ℕ, List, ◌≤◌, [], length, vec_capacity};
+ghost use Rattle.std.specs.Prelude.{◌≡◌, ℕ, List, ◌<◌, ◌≤◌, [], length, vec_capacity};
 ghost use Rattle.ls_queue.specs.View.Running.{AreAllSources, sources_of};
 ghost use Rattle.ls_pieces.specs.Collecting.{most_window};
 ghost use Rattle.ls_recorder.specs.View.Boxes.{AreFrom};
@@ -51,7 +51,7 @@ pub enum Lane<R: Feed + Drop, W: Outlet + Drop> {
 }
 
 /// Starts a lane for each film, in order from source 0.
-fn start_lanes<
+pub fn start_lanes<
     's,
     E,
     Rt: Threads + Wait + Sync,
@@ -173,7 +173,7 @@ fn begin_lane<Rt: Wait, R: Feed + Drop, W: Outlet + Drop>(
 }
 
 /// Joins the lanes: their ends, and their tracks.
-fn join_lanes<Rt: Threads, R: Feed + Drop, W: Outlet + Drop>(
+pub fn join_lanes<Rt: Threads, R: Feed + Drop, W: Outlet + Drop>(
     rt: &Rt,
     queue: &Queue<Order>,
     mut lanes: Vec<Lane<R, W>>,

@@ -18,6 +18,7 @@ use std::thread;
 use std::thread::{PromisedHandle, Scope, Threads};
 
 /// What all threads of a recording share.
+#[derive(Drop)]
 pub struct Shared<'s, Rt, G> {
     pub rt: &'s Rt,
     pub alloc: Global,

@@ -25,7 +25,7 @@ impl Promise<Worked> for WorkerOf {
 }
 
 /// Starts a worker for each seat, as far as threads can be made; whether all were.
-fn start_workers<'s, E, Rt: Threads + Wait + Sync, G: Gate>(
+pub fn start_workers<'s, E, Rt: Threads + Wait + Sync, G: Gate>(
     scope: &Scope<'s, E>,
     shared: &Shared<'s, Rt, G>,
     mut seats: Vec<WorkerSeat<Order>>,
@@ -65,7 +65,7 @@ fn start_workers<'s, E, Rt: Threads + Wait + Sync, G: Gate>(
 }
 
 /// Joins the workers: their seats.
-fn join_workers<Rt: Threads>(
+pub fn join_workers<Rt: Threads>(
     rt: &Rt,
     queue: &Queue<Order>,
     mut working: Vec<PromisedHandle<Worked, WorkerOf>>,

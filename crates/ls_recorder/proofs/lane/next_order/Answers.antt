@@ -5,7 +5,3 @@ use Rattle.ls_recorder.proofs.lane.next_order.Goals as goal
 pub returns-in-Err-NoMemory-clause-stops : goal.returns-in-Err-NoMemory-clause-stops
 returns-in-Err-NoMemory-clause-stops g c =
     Gave-weaker _ _ _ _ (c.in-Err-NoMemory.ensures.memory c.in-Err-NoMemory.field-0-is) (λ bytes heading. inl heading)
-
-pub returns-in-Err-new-clause-stops : goal.returns-in-Err-new-clause-stops
-returns-in-Err-new-clause-stops g c =
-    Gave-weaker _ _ _ _ c.in-Ok-Some.ensures.frame (λ bytes image. inr (c.in-Ok-Some.frame, image))
