@@ -1,7 +1,7 @@
 //! What faults come of.
-use ls_film::FilmFault;
+use ls_film::{FilmFault, PlayFault};
 use ls_frame::NetpbmFault;
-use ls_recorder::{LaneFault, PlayFault};
+use ls_recorder::LaneFault;
 use ls_stream::StreamFault;
 
 /// What a fault comes of.

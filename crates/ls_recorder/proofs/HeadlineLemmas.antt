@@ -3,7 +3,7 @@ use Rattle.std.proofs.Common.{◌≡◌, inl, inr, ℕ, ◌<◌, ◌≤◌, List
 use Rattle.std.proofs.lemmas.List.{length-map, length-append}
 use Rattle.std.proofs.lemmas.Option.{same_Some}
 use Rattle.std.proofs.lemmas.Result.{MatchResult-weaker}
-use Rattle.std.specs.Prelude.{None, Result, Ok, MatchResult, take, drop, map}
+use Rattle.std.specs.Prelude.{None, Result, Ok, MatchResult, take, drop}
 use Rattle.std.proofs.lemmas.List.{take-append-drop, take-map}
 use Rattle.ls_film.specs.Film.{most_frames}
 use Rattle.ls_recorder.specs.declared.lane.LaneFault.{LaneFault}
@@ -25,7 +25,7 @@ use Rattle.ls_film.specs.declared.playing.PlayFault.{PlayFault}
 use Rattle.ls_recorder.specs.declared.recording.Track.{Track}
 use Rattle.ls_recorder.specs.declared.headline.PlayedBack.{PlayedBack}
 use Rattle.ls_pieces.specs.Orders.{Ordered}
-use Rattle.ls_recorder.specs.View.Lanes.{with_tuning, AreTuned, tuned_file, Records, StopsLane, HasPut, WroteFront, WroteFewer, AreOrdersOf}
+use Rattle.ls_recorder.specs.View.Lanes.{with_tuning, AreTuned, tuned_file, Records, StopsLane, HasPut, AreOrdersOf}
 use Rattle.ls_film.specs.View.Playing.{IsCodable, frames_of}
 use Rattle.ls_recorder.specs.View.Recordings.{IsTrack, AreTracks}
 use Rattle.ls_recorder.proofs.ListLemmas.{zip-through, zip-weaker}

@@ -43,8 +43,6 @@ pub use faults::RecordFault;
 pub use headline::{PlayedBack, record_and_play};
 pub use lane::{LaneEnd, LaneFault};
 pub use ls_film::{PlayFault, play, play_bytes};
-pub use ls_pieces::{
-    Coded, Collector, CollectorFault, MOST_WINDOW, Misfit, Order, Uncoded,
-};
+pub use ls_pieces::{Coded, Collector, CollectorFault, MOST_WINDOW, Misfit, Order, Uncoded};
 pub use recording::{Recording, Track, record};
 pub use working::{Gate, Moment, OpenGate, Worked, work};

@@ -102,12 +102,7 @@ fn start_lane<
     R: Feed + Send + Drop + 's,
     W: Outlet + Send + Drop + 's,
     G,
->(
-    scope: &Scope<'s, E>,
-    shared: &Shared<'s, Rt, G>,
-    source: u8,
-    start: Start<R, W>,
-) -> Lane<R, W>
+>(scope: &Scope<'s, E>, shared: &Shared<'s, Rt, G>, source: u8, start: Start<R, W>) -> Lane<R, W>
     requires may { MayStart shared.now.queue.now start }
     requires source { start.seat.source ≡ source }
     requires flag { source < length shared.now.refused.now }

@@ -1,4 +1,4 @@
-use Rattle.std.proofs.Common.{inl, inr}
+use Rattle.std.proofs.Common.{inl}
 use Rattle.ls_film.proofs.FilmLemmas.{Gave-weaker}
 use Rattle.ls_recorder.proofs.lane.next_order.Goals as goal
 
