@@ -3,7 +3,8 @@ ghost use Rattle.std.specs.Prelude.{◌≡◌, ◌+◌, ◌-◌, ◌*◌, ◌^�
 ghost use Rattle.ls_frame.specs.Parameters.{qbpp_of, limit_of};
 ghost use Rattle.ls_bits.specs.Golomb.{IsGolomb, most_value};
 ghost use Rattle.ls_coding.specs.Samples.{AreSamples, Interrupts};
-ghost use Rattle.ls_coding.specs.Contexts.{is_run, signed_context};
+ghost use Rattle.ls_coding.specs.Contexts.{is_run};
+ghost use Rattle.ls_coding.specs.View.SignedContexts.{signed_context};
 ghost use Rattle.ls_coding.specs.Runs.{order, run_of, run_word, word_bits, tail_of, TailFits};
 ghost use Rattle.ls_coding.specs.Interruptions.{ri_type_of, interruption_error};
 ghost use Rattle.ls_coding.specs.Events.{Event, run, golomb_bits};

@@ -1,7 +1,7 @@
 -- How the planes that bits may be of grow fewer while the bits are read: until one plane is left, or none.
 use Rattle.std.specs.Prelude.{◌≡◌, ◌↔◌, ℕ, ◌+◌, ◌-◌, ◌*◌, ◌<◌, ◌≤◌, Bool, true, false, List, [], ◌++◌, length, slice_index, slice_index_or, ℤ, pos}
 use Rattle.ls_frame.specs.Parameters.{Parameters}
-use Rattle.ls_coding.specs.Contexts.{half_context}
+use Rattle.ls_coding.specs.View.SignedContexts.{half_context}
 use Rattle.ls_coding.specs.View.States.{Coding}
 use Rattle.ls_frame.specs.Picture.{Picture}
 use Rattle.ls_stream.specs.declared.segments.read.FrameHeader.{FrameHeader}
@@ -13,7 +13,7 @@ use Rattle.ls_stream.specs.declared.faults.StreamFault.{StreamFault}
 use Rattle.ls_stream.specs.declared.faults.StreamFault.TheVariants as stream
 use Rattle.ls_stream.specs.declared.decode.scan.ScanFault.{ScanFault}
 use Rattle.ls_stream.specs.declared.decode.scan.ScanFault.TheVariants.{Code, LeftoverBits}
-use Rattle.ls_stream.specs.Faults.{BreakInPlane, HaveLeftoverBits}
+use Rattle.ls_stream.specs.View.FirstFaults.{BreakInPlane, HaveLeftoverBits}
 use Rattle.ls_stream.specs.Planes.{Plane, IsSamplePlane, at, left, Span, row_from, rows_from}
 use Rattle.ls_stream.specs.Components.{component_plane}
 use Rattle.ls_stream.specs.Grammar.{IsCoded}

@@ -9,7 +9,7 @@ ghost use Rattle.ls_stream.specs.Grammar.{IsCoded};
 ghost use Rattle.ls_stream.specs.View.BitFaults.{BreaksSpans, BreaksPlane};
 ghost use Rattle.ls_stream.specs.View.Decoding.{RowsMayBeRead, ScanBreaks};
 
-use crate::buffers::Lines;
+use crate::buffers::DecoderLines;
 use crate::decode::decoder::Decoder;
 use crate::decode::row::decode_row;
 use crate::lines::clear;
@@ -32,7 +32,7 @@ pub fn decode_scan(
     presets: &Presets,
     regions: &Regions,
     bytes: &[u8],
-    lines: &mut Lines,
+    lines: &mut DecoderLines,
     samples: &mut [u16],
     shape: Shape,
     component: usize,
@@ -62,9 +62,9 @@ pub fn decode_scan(
     let mut decoder = Decoder::new(presets, regions, &words, &mut state, bytes);
     let read = decode_plane(
         &mut decoder,
-        &mut lines.above,
-        &mut lines.line,
-        &mut lines.contexts,
+        &mut lines.lines.above,
+        &mut lines.lines.line,
+        &mut lines.half_contexts,
         samples,
         shape,
         component,
