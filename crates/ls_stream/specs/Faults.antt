@@ -1,5 +1,5 @@
--- How bytes break the grammar of a codestream, as far as markers and segments go: the legal pieces from the left, and then what breaks the
--- next one.
+-- How bytes break the grammar of a codestream, as far as markers and segments go: the legal pieces from the left, and then what
+-- breaks the next one.
 use Rattle.std.specs.Prelude.{◌≡◌, ◌≢◌, ℕ, suc, ◌+◌, ◌*◌, ◌<◌, ◌≤◌, ◌&&◌, ◌||◌, ◌==◌, not, nat_le, Bool, true, false, if◌then◌else◌, List, [], ◌∷◌, ◌++◌, length, drop, replicate, slice_index, ◌⊎◌, Option, None, Some, Ok, Err}
 use Rattle.std.specs.List.{AllByRecursion, list_any}
 use Rattle.ls_frame.specs.declared.presets.PresetFault.{PresetFault}
@@ -206,7 +206,8 @@ pub record HasScan (bytes contents : List ℕ) (before between : List Miscellane
   pub whole : middle ≡ miscellaneous_bytes between ++ (filled fill (segment StartOfScan (scan_contents (slice_index contents 6))) ++ rest)
   pub lawful : AllByRecursion MayPrecedeScans between
 
--- The bytes begin with a whole legal opening: all that stands before the data of the first scan, with coding parameters that are legal.
+-- The bytes begin with a whole legal opening: all that stands before the data of the first scan, with coding parameters that are
+-- legal.
 pub record BeginsWithOpening (bytes : List ℕ) : Type 0 where
   pub contents : List ℕ
   pub before : List Miscellaneous

@@ -38,13 +38,14 @@ pub struct Decoded {
 /// The frame of the codestream at the front of bytes; what stands after it isn't looked at.
 ///
 /// If any front of the bytes is a codestream of a frame (`specs/Grammar.antt`), this answers that frame and the front's length, or
-/// NoMemory. Any other fault comes only if no front is one; it is the first from the left (`specs/Faults.antt`): of a marker or a
-/// segment; of a scan's data LeftoverBits if 16 bits or more follow those of a plane, BadCode at the first word, run or sample that
-/// no encoder writes for any plane, and if the bits run out before, Truncated if the input ends them, BadCode if a marker does.
-/// TooLarge stands for Truncated where there are more bytes than a codestream may have. NoMemory comes only if an allocation fails:
-/// those of two lines and a row of half contexts, of a table of 2 * MAXVAL + 1 bytes, and of the samples, all after the bytes were
-/// found to begin with a whole legal opening: SOI, the frame header, the segments before the first scan, its header, and coding
-/// parameters that are legal.
+/// NoMemory. Any other fault comes only if no front is one; it is the first from the left (`specs/View/FirstFaults.antt`): of a
+/// marker or a segment; of a scan's data LeftoverBits if 16 bits or more follow those of a plane, BadCode at the first word, run or
+/// sample that no encoder writes for any plane, and if the bits run out before, Truncated if the input ends them, BadCode if a marker
+/// does. TooLarge stands for Truncated where there are more bytes than a codestream may have.
+///
+/// NoMemory comes only if an allocation fails, and only for bytes that begin with a whole legal opening: SOI, the frame header, the
+/// segments before the first scan and its header, with coding parameters that are legal. What is asked for is two lines and a row of
+/// half contexts, a table of 2 * MAXVAL + 1 bytes, and the samples.
 pub fn decode_frame(alloc: Global, bytes: &[u8]) -> Result<Decoded, StreamFault>
     ensures ok { IfOk result (λ decoded. (decoded.used ≤ length bytes.now) × Spells (take decoded.used bytes.now) decoded.frame) }
     ensures fault { IfErr result (λ fault. (fault ≡ StreamFault.NoMemory)

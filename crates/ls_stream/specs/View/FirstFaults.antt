@@ -1,5 +1,5 @@
--- The first fault of bytes: markers, segments and the planes in the scans' data together. A scan's bits break where the code that is read
--- for the next span of a plane finds no word, no run or no sample.
+-- The first fault of bytes: markers, segments and the planes in the scans' data together. Where a scan's bits break is said by the
+-- code that a reader takes the next span of a plane by (`BitFaults`).
 use Rattle.std.specs.Prelude.{◌≡◌, ℕ, ◌+◌, ◌≤◌, Bool, List, [], ◌∷◌, ◌++◌, length, take, drop, slice_index, ◌⊎◌, Ok}
 use Rattle.ls_frame.specs.Parameters.{Parameters}
 use Rattle.ls_bits.specs.declared.data.Stop.{Stop}

@@ -95,7 +95,7 @@ impl<'a> Decoder<'a> {
         self.source.left()
     }
 
-    /// The context of a sample, of which `half` is what the line above says of it.
+    /// The context of a sample, of which `half` is the part that the line above decides.
     pub fn context_of(&self, half: i16, neighbours: &Neighbours) -> i16
         requires half { half ≡ half_context self.now.state.parameters neighbours.now.b neighbours.now.c neighbours.now.d }
         requires samples { AreSamples self.now.state.parameters.maxval neighbours.now }

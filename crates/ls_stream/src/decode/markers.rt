@@ -39,7 +39,7 @@ pub fn first_bytes(bytes: &[u8]) -> &[u8]
     }
 }
 
-/// A fault of the first bytes, as many as a codestream may have: where there are more, a byte that is wanted after them is one too
+/// A fault of the first bytes, as many as a codestream may have: where there are more, a byte that is needed after them is one too
 /// many.
 #[tactic(auto, using(crate::proofs::MostLemmas::past_other))]
 pub fn fault_of(bytes: &[u8], fault: StreamFault) -> StreamFault
