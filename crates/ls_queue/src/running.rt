@@ -9,7 +9,7 @@ ghost use Rattle.ls_queue.specs.Faults.{open_fault};
 ghost use Rattle.ls_queue.specs.View.Running.{sources_of, workers_of, places_of, AreAllSources, AreAllWorkers, AreWorkerSeats, AreEnds, IsSourceSeat, IsWorkerSeat, IsWorkerAt, Balances, IsUnsettled, all_done, takes_of, IsEnded, IsEndedAt, IsCloser, IsFinished, IsMissing, IsLowestMissing, EachHasEnd, has_end, puts_of, parts_of, AreNewSources, AreNewWorkers, items_put, jobs_taken, is_done, items_ended, Takes};
 
 use crate::account::{
-    Account, Channel, JobSent, Joined, MarkSent, Received, Settled, SourceSeated, SeatPass,
+    Account, Channel, JobSent, Joined, MarkSent, Received, SeatPass, Settled, SourceSeated,
     WorkerSeated,
 };
 use crate::faults::{QueueFault, open_fault};
@@ -245,11 +245,7 @@ impl<T: Drop> Queue<T> {
             return Taken::Done;
         }
         for _ in rt.forever() {
-            match self
-                .channel
-                .exit
-                .recv_as::<Received, R>(rt, &mut seat.pass)
-            {
+            match self.channel.exit.recv_as::<Received, R>(rt, &mut seat.pass) {
                 Ok(Message::Job(job)) => return Taken::Job(job),
                 Ok(Message::Mark(_)) => {
                     seat.done = true;

@@ -153,7 +153,14 @@ fn run<F: Feed, W: Outlet, R: Wait>(
     };
     let mut written = 0;
     for number in 0..MOST_FRAMES + 1 {
-        written = collect_until(rt, inbox, &mut collector, writer, written, setting.window - 1)?;
+        written = collect_until(
+            rt,
+            inbox,
+            &mut collector,
+            writer,
+            written,
+            setting.window - 1,
+        )?;
         let order = match next_order(setting.alloc, reader, &setting.tuning, number) {
             Ok(Some(order)) => order,
             Ok(None) => {
