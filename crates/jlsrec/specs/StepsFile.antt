@@ -83,7 +83,7 @@ pub record BreaksAt (text : List ℕ) (n : ℕ) : Type 0 where
   pub says : AreLines front steps
   pub breaks : (steps : List Step) → IsLine line steps → ⊥
 
--- a fault other than want of memory names the first line that breaks
+-- a fault but for memory that was refused names the first line that breaks
 abbrev pub IsFaultOf : List ℕ → StepsFault → Type 0
 IsFaultOf text (NotAStep n) = BreaksAt text n
 IsFaultOf text NoMemory = Unit {0}

@@ -5,7 +5,7 @@ ghost use Rattle.ls_frame.specs.View.Devices.{count_after};
 ghost use Rattle.jlsrec.specs.ReplyLines.{job_line, reply_line, reply_lines};
 
 use itoa::Buffer;
-use ls_frame::{Outlet, WriteFault, write_bytes};
+use ls_frame::{Outlet, WriteFault, lay, write_bytes};
 use ls_queue::{Close, Job, Put, Reply, Take};
 
 /// The most bytes of a line.
@@ -45,14 +45,14 @@ fn put_reply(line: &mut [u8; ROOM], reply: &Reply) -> usize
 {
     match reply {
         Reply::Put(Put::Taken(number)) => put_numbered(line, b"taken ", *number),
-        Reply::Put(Put::Closed(_)) => put(line, 0, b"closed\n"),
-        Reply::Put(Put::Spent(_)) => put(line, 0, b"spent\n"),
-        Reply::Put(Put::Full(_)) => put(line, 0, b"full\n"),
+        Reply::Put(Put::Closed(_)) => lay(line, 0, b"closed\n"),
+        Reply::Put(Put::Spent(_)) => lay(line, 0, b"spent\n"),
+        Reply::Put(Put::Full(_)) => lay(line, 0, b"full\n"),
         Reply::Close(Close::Now(count)) => put_numbered(line, b"now ", *count),
         Reply::Close(Close::Already(count)) => put_numbered(line, b"already ", *count),
         Reply::Take(Take::Job(job)) => put_job(line, job),
-        Reply::Take(Take::Empty) => put(line, 0, b"empty\n"),
-        Reply::Take(Take::Done) => put(line, 0, b"done\n"),
+        Reply::Take(Take::Empty) => lay(line, 0, b"empty\n"),
+        Reply::Take(Take::Done) => lay(line, 0, b"done\n"),
     }
 }
 
@@ -63,9 +63,9 @@ fn put_numbered(line: &mut [u8; ROOM], word: &[u8], number: u64) -> usize
     ensures within { result ≤ 29 }
 {
     let mut digits = Buffer::new();
-    let mut end = put(line, 0, word);
-    end = put(line, end, digits.format(number).as_bytes());
-    put(line, end, b"\n")
+    let mut end = lay(line, 0, word);
+    end = lay(line, end, digits.format(number).as_bytes());
+    lay(line, end, b"\n")
 }
 
 /// Lays `job` and a job's source, number and item, with one blank between, and LF.
@@ -74,22 +74,11 @@ fn put_job(line: &mut [u8; ROOM], job: &Job<u64>) -> usize
     ensures within { result ≤ 50 }
 {
     let mut digits = Buffer::new();
-    let mut end = put(line, 0, b"job ");
-    end = put(line, end, digits.format(job.source).as_bytes());
-    end = put(line, end, b" ");
-    end = put(line, end, digits.format(job.number).as_bytes());
-    end = put(line, end, b" ");
-    end = put(line, end, digits.format(job.item).as_bytes());
-    put(line, end, b"\n")
-}
-
-/// Lays `text` after the `filled` bytes at the front of `line`, and says where it ends.
-fn put(line: &mut [u8], filled: usize, text: &[u8]) -> usize
-    requires { filled + length text.now ≤ length line.old }
-    ensures laid { take result line.new ≡ take filled line.old ++ text.now }
-    ensures end { result ≡ filled + length text.now }
-{
-    let end = filled + text.len();
-    line[filled..end].copy_from_slice(text);
-    end
+    let mut end = lay(line, 0, b"job ");
+    end = lay(line, end, digits.format(job.source).as_bytes());
+    end = lay(line, end, b" ");
+    end = lay(line, end, digits.format(job.number).as_bytes());
+    end = lay(line, end, b" ");
+    end = lay(line, end, digits.format(job.item).as_bytes());
+    lay(line, end, b"\n")
 }

@@ -14,10 +14,10 @@ pub record IsShort (k held zeros value : ℕ) (word : ℕ) (after_ff : Bool) (re
 pub short-taken : (k word held zeros low value : ℕ) (after_ff : Bool) (rest : List ℕ) → LeadingZeros held word zeros → zeros + 1 + k ≤ held
     → low ≡ word / 2 ^ (held - (zeros + 1) - k) % 2 ^ k → value ≡ zeros * 2 ^ k + low
     → IsShort k held zeros value word after_ff rest
-short-taken k word held zeros low value after_ff rest found room low_is value_is =
+short-taken k word held zeros low value after_ff rest zeros_are room low_is value_is =
     let below : low < 2 ^ k = subst (λ n. n < 2 ^ k) (sym low_is) (mod_below (word / 2 ^ (held - (zeros + 1) - k)) (2 ^ k) (pow_pos k)) in
     let parts = short_parts k zeros low (bits_left word held after_ff rest) (bits_left word (held - (zeros + 1)) after_ff rest) (bits_left word (held - (zeros + 1) - k) after_ff rest)
-    (one-taken word held zeros after_ff rest found (omega arith))
+    (one-taken word held zeros after_ff rest zeros_are (omega arith))
     (bits_left-take word (held - (zeros + 1)) k low after_ff rest (omega arith) low_is) below in
     record {
       taken = parts.1 ∙ ap (λ n. short_word k n ++ bits_left word (held - (zeros + 1) - k) after_ff rest) (sym value_is);

@@ -77,10 +77,10 @@ impl RoomSink {
     }
 
     /// The vector: the bytes that it had, and after them the bits, stuffed (T.87 C.1) as `BitSink::finish` stuffs them.
-    /// Allocates nothing and cannot fail; the vector's capacity is at least what it was.
+    /// Allocates nothing and cannot fail; the vector's capacity is what it was.
     pub fn finish(self) -> Vec<u8>
         ensures bytes { result.items ≡ self.front ++ stuff self.bits }
-        ensures capacity { length self.front + self.room ≤ vec_capacity result }
+        ensures capacity { vec_capacity result ≡ length self.front + self.room }
     {
         self.packer.finish()
     }

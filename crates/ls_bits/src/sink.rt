@@ -9,6 +9,9 @@ use std::alloc::{AllocError, Global};
 use std::marker::Model;
 
 /// The bits put so far, the first one first, which `finish` stuffs into bytes (T.87 C.1).
+///
+/// The sink for callers that know no bound of their bits beforehand: it allocates as it grows. The coder itself uses
+/// `RoomSink`, into memory that it asked for at once.
 #[derive(Drop)]
 pub struct BitSink {
     packer: Packer,

@@ -12,7 +12,8 @@ use Rattle.ls_frame.specs.Parameters.{Parameters, IsLegal}
 use Rattle.ls_coding.proofs.SignedLemmas.{through_16}
 use Rattle.ls_coding.specs.declared.neighbours.Neighbours.{Neighbours}
 use Rattle.ls_coding.specs.View.RegionTables.{AreRegions}
-use Rattle.ls_coding.specs.Contexts.{IsRegion, region, context_of, d1, d2, d3, is_zero, first_negative, signed, context_number, signed_context, half_context, merged}
+use Rattle.ls_coding.specs.Contexts.{IsRegion, region, context_of, d1, d2, d3, is_zero, first_negative, signed, context_number, merged}
+use Rattle.ls_coding.specs.View.SignedContexts.{signed_context, half_context}
 
 below_zero : (z : ℤ) → z <ℤ pos 0 → int_lt z (pos 0) ≡ true
 below_zero z h = grind (arith, ints)

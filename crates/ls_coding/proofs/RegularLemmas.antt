@@ -6,7 +6,8 @@ use Rattle.std.proofs.lemmas.Int.{ints}
 use Rattle.std.proofs.lemmas.List.FromFn.{get_or-map-range_with_len}
 use Rattle.ls_frame.specs.Parameters.{Parameters}
 use Rattle.ls_coding.specs.declared.neighbours.Neighbours.{Neighbours}
-use Rattle.ls_coding.specs.Contexts.{context_of, signed_context, signed}
+use Rattle.ls_coding.specs.Contexts.{context_of, signed}
+use Rattle.ls_coding.specs.View.SignedContexts.{signed_context}
 use Rattle.ls_coding.specs.Numbers.{clamped}
 use Rattle.ls_coding.specs.Errors.{median, error_of, is_inverted, mapped_error}
 use Rattle.ls_coding.specs.Stats.{Stats, stats, stats_step}

@@ -64,13 +64,5 @@ merged q1 q2 q3 = let negative = first_negative q1 q2 q3 in record {
   negative = negative;
 }
 
--- the regions of a sample's gradients as one number, before any changes its sign
-unfoldable pub signed_context : Parameters → Neighbours → ℤ
-signed_context p neighbours = context_number (region p (d1 neighbours)) (region p (d2 neighbours)) (region p (d3 neighbours))
-
--- the part of that number which the line above decides, the gradients D1 and D2, from Rb, Rc and Rd; the region of D3 is the rest
-unfoldable pub half_context : Parameters → ℕ → ℕ → ℕ → ℤ
-half_context p b c d = pos 81 *ℤ region p (pos d -ℤ pos b) +ℤ pos 9 *ℤ region p (pos b -ℤ pos c)
-
 unfoldable pub context_of : Parameters → Neighbours → Context
 context_of p neighbours = merged (region p (d1 neighbours)) (region p (d2 neighbours)) (region p (d3 neighbours))

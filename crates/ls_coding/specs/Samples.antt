@@ -1,4 +1,4 @@
--- The samples around one that is coded (T.87 Figure A.1), as the code has them.
+-- The samples around one that is coded (T.87 Figure A.1), and those that may interrupt a run.
 use Rattle.std.specs.Prelude.{ℕ, ◌≤◌, ◌≢◌}
 use Rattle.ls_coding.specs.declared.neighbours.Neighbours.{Neighbours}
 

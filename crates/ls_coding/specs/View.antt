@@ -4,5 +4,6 @@ pub mod Mirrors
 pub mod Plans
 pub mod Reached
 pub mod RegionTables
+pub mod SignedContexts
 pub mod Sizes
 pub mod States

@@ -1,6 +1,7 @@
 //! Contexts of regular mode (T.87 A.3).
 ghost use Rattle.std.specs.Prelude.{◌≡◌, ◌<◌, pos, neg_ℤ, ◌+ℤ◌, ◌-ℤ◌, ◌*ℤ◌, ◌≤ℤ◌, int_lt, unsigned_abs};
-ghost use Rattle.ls_coding.specs.Contexts.{region, IsRegion, is_zero, is_run, context_number, signed_context, half_context};
+ghost use Rattle.ls_coding.specs.Contexts.{region, IsRegion, is_zero, is_run, context_number};
+ghost use Rattle.ls_coding.specs.View.SignedContexts.{signed_context, half_context};
 ghost use Rattle.ls_coding.specs.Samples.{AreSamples};
 ghost use Rattle.ls_coding.specs.View.Sizes.{size_region};
 

@@ -1,7 +1,8 @@
 //! A table of regions, by which a context is made whole (T.87 A.3.3, A.3.4).
 ghost use Rattle.std.specs.Prelude.{◌≡◌, ◌+◌, ◌*◌, ◌<◌, ◌≤◌, ℕ, pos, neg_ℤ, ◌-ℤ◌, ◌≤ℤ◌, length, IfOk};
 ghost use Rattle.ls_frame.specs.Parameters.{IsLegal};
-ghost use Rattle.ls_coding.specs.Contexts.{region, IsRegion, is_zero, is_run, signed_context, half_context};
+ghost use Rattle.ls_coding.specs.Contexts.{region, IsRegion, is_zero, is_run};
+ghost use Rattle.ls_coding.specs.View.SignedContexts.{signed_context, half_context};
 ghost use Rattle.ls_coding.specs.View.RegionTables.{AreRegions};
 
 use crate::context::region_of;

@@ -3,7 +3,8 @@ ghost use Rattle.std.specs.Prelude.{◌≡◌, ◌+◌, ◌-◌, ◌*◌, ◌^�
 ghost use Rattle.ls_frame.specs.Parameters.{qbpp_of, limit_of};
 ghost use Rattle.ls_bits.specs.Golomb.{IsGolomb, most_value};
 ghost use Rattle.ls_coding.specs.Samples.{AreSamples, Interrupts};
-ghost use Rattle.ls_coding.specs.Contexts.{is_run, signed_context};
+ghost use Rattle.ls_coding.specs.Contexts.{is_run};
+ghost use Rattle.ls_coding.specs.View.SignedContexts.{signed_context};
 ghost use Rattle.ls_coding.specs.Runs.{order, run_of, run_word, word_bits, tail_of, TailFits};
 ghost use Rattle.ls_coding.specs.Interruptions.{ri_type_of, interruption_error};
 ghost use Rattle.ls_coding.specs.Events.{Event, run, golomb_bits};
@@ -75,6 +76,8 @@ impl State {
     ///
     /// Requires neighbours that call for regular mode (`mode_of`), these and the sample at most MAXVAL, and that `broken` is
     /// false, which it is afterwards too. Cannot fail.
+    ///
+    /// The plain form, of one sample by itself. The coder itself looks ahead and uses `code_regular_at`.
     pub fn code_regular(&mut self, neighbours: &Neighbours, sample: u16) -> Word
         requires may { MayCodeRegular self.old neighbours.now sample }
         ensures word { result ≡ regular_word_in self.old neighbours.now sample }
@@ -113,6 +116,8 @@ impl State {
     /// By which code the word of the next sample of regular mode is read, and what its value then stands for (A.3 to A.5).
     ///
     /// Requires what `code_regular` does of the neighbours and of `broken`. Changes nothing and cannot fail.
+    ///
+    /// The plain form, of one sample by itself. The decoder itself finds the context in two parts and uses `plan_regular_at`.
     pub fn plan_regular(&self, neighbours: &Neighbours) -> Plan
         requires samples { AreSamples self.now.parameters.maxval neighbours.now }
         requires regular { is_run neighbours.now ≡ false }

@@ -35,6 +35,8 @@ pub fn code_film<R: Feed, W: Outlet>(
 }
 
 /// The codestreams of a film in memory, as far as they were written, and how the coding ended.
+///
+/// The program codes by `code_film`. This is the same over bytes in memory, where nothing is left unknown.
 pub fn code_bytes(alloc: Global, film: &[u8]) -> (Vec<u8>, Result<u64, FilmFault>)
     ensures completes { IfOk result.1 (IsTextOf default_file film.now result.0.items) }
     ensures stops { IfErr result.1 (StopsOver default_file film.now result.0.items) }

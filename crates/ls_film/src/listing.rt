@@ -34,6 +34,8 @@ pub fn list_film<R: Feed, W: Outlet>(
 }
 
 /// The lines of a film in memory, as far as they were written, and how the listing ended.
+///
+/// The program lists by `list_film`. This is the same over bytes in memory, where nothing is left unknown.
 pub fn list_bytes(alloc: Global, film: &[u8]) -> (Vec<u8>, Result<u64, FilmFault>)
     ensures completes { IfOk result.1 (IsTextOf lines film.now result.0.items) }
     ensures stops { IfErr result.1 (StopsOver lines film.now result.0.items) }

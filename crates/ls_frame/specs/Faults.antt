@@ -48,7 +48,7 @@ abbrev pub failed_device : {X : Type 0} → Result X NetpbmFault → Bool
 failed_device (Ok x) = false
 failed_device (Err fault) = blames_device fault
 
--- whether a call failed for want of memory
+-- whether a call failed since memory was refused
 abbrev pub failed_for_memory : {X : Type 0} → Result X NetpbmFault → Bool
 failed_for_memory (Ok x) = false
 failed_for_memory (Err fault) = blames_memory fault

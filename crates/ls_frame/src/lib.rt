@@ -36,6 +36,6 @@ pub use device::{Counted, Failed, Feed, FeedFault, Outlet};
 pub use frame::{Frame, FrameFault, Kind};
 pub use memory::keep_blocks;
 pub use netpbm::{NetpbmFault, first_frame, next_frame, write_frame};
-pub use output::{WriteFault, write_bytes};
+pub use output::{WriteFault, lay, write_bytes};
 pub use presets::{PresetFault, Presets};
 pub use tuning::Tuning;

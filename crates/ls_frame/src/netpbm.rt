@@ -109,6 +109,8 @@ pub fn next_frame<R: Feed>(alloc: Global, reader: &mut R) -> Result<Option<Frame
 
 /// Reads the image at the front of `bytes`, and says how many of them it takes; `None` exactly if there
 /// are none. `NoMemory` comes only if a whole legal header stands at the front.
+///
+/// The program reads by `next_frame`. This is the same over bytes in memory, where nothing is left unknown.
 pub fn first_frame(alloc: Global, bytes: &[u8]) -> Result<Option<(Frame, usize)>, NetpbmFault>
     ensures frame { IfOk result (λ next. IfSome next (λ found. IsImageOf (take found.1 bytes.now) found.0)) }
     ensures within { IfOk result (λ next. IfSome next (λ found. found.1 ≤ length bytes.now)) }

@@ -1,5 +1,5 @@
-//! Writing bytes whole.
-ghost use Rattle.std.specs.Prelude.{◌≡◌, ◌<◌, OnOk, IfErr, is_err, length, take};
+//! Writing bytes whole, and laying texts side by side before they are written.
+ghost use Rattle.std.specs.Prelude.{◌≡◌, ◌+◌, ◌<◌, ◌≤◌, ◌++◌, OnOk, IfErr, is_err, length, take};
 ghost use Rattle.std.specs.Io.KnownBytes.{Appends};
 ghost use Rattle.ls_frame.specs.View.Devices.{count_after};
 
@@ -29,4 +29,15 @@ pub fn write_bytes<W: Outlet>(writer: &mut W, bytes: &[u8]) -> Result<(), WriteF
         }
     }
     Ok(())
+}
+
+/// Lays `text` after the `filled` bytes at the front of `room`, which has to have room for it, and says where it ends.
+pub fn lay(room: &mut [u8], filled: usize, text: &[u8]) -> usize
+    requires { filled + length text.now ≤ length room.old }
+    ensures laid { take result room.new ≡ take filled room.old ++ text.now }
+    ensures end { result ≡ filled + length text.now }
+{
+    let end = filled + text.len();
+    room[filled..end].copy_from_slice(text);
+    end
 }

@@ -27,7 +27,7 @@ fn seen(got: &Result<Option<Frame>, NetpbmFault>) -> Result<Option<Parts<'_>>, N
     }
 }
 
-/// That the wanted image or fault was read. Says whether memory was wanting instead.
+/// That the wanted image or fault was read. Says whether memory was refused instead.
 fn is_refused(
     rt: &impl Abort,
     memory: Memory,

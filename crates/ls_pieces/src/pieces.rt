@@ -6,7 +6,7 @@ ghost use Rattle.ls_pieces.specs.Orders.{IsOrder, IsCoded, coded};
 use crate::orders::Order;
 use ls_frame::{Frame, Presets};
 use ls_queue::Job;
-use ls_stream::{Lines, code_bound, encode_within};
+use ls_stream::encode_with;
 use std::alloc::{AllocError, Global};
 use std::marker::Model;
 use std::sync::Arc;
@@ -104,8 +104,5 @@ fn code(alloc: Global, order: &Order) -> Result<Vec<u8>, AllocError>
 {
     let frame = &**order.frame();
     let presets = order.presets();
-    let room = code_bound(frame, presets) as usize;
-    let bytes = Vec::with_capacity(alloc, room)?;
-    let mut lines = Lines::new(alloc, frame.width())?;
-    Ok(encode_within(frame, presets, &mut lines, bytes))
+    encode_with(alloc, frame, presets)
 }

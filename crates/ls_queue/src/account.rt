@@ -109,7 +109,7 @@ impl<T> Join<View<T>> for Joined {
 }
 
 /// What a seat carries: a pass of the channel, which takes no bytes.
-pub type Token<T> = Pass<Message<T>, View<T>>;
+pub type SeatPass<T> = Pass<Message<T>, View<T>>;
 
 /// The channel of a queue, with both its ends.
 #[derive(Drop)]

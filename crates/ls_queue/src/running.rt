@@ -9,7 +9,7 @@ ghost use Rattle.ls_queue.specs.Faults.{open_fault};
 ghost use Rattle.ls_queue.specs.View.Running.{sources_of, workers_of, places_of, AreAllSources, AreAllWorkers, AreWorkerSeats, AreEnds, IsSourceSeat, IsWorkerSeat, IsWorkerAt, Balances, IsUnsettled, all_done, takes_of, IsEnded, IsEndedAt, IsCloser, IsFinished, IsMissing, IsLowestMissing, EachHasEnd, has_end, puts_of, parts_of, AreNewSources, AreNewWorkers, items_put, jobs_taken, is_done, items_ended, Takes};
 
 use crate::account::{
-    Account, Channel, JobSent, Joined, MarkSent, Received, Settled, SourceSeated, Token,
+    Account, Channel, JobSent, Joined, MarkSent, Received, SeatPass, Settled, SourceSeated,
     WorkerSeated,
 };
 use crate::faults::{QueueFault, open_fault};
@@ -31,7 +31,7 @@ pub struct SourceSeat<T> {
     source: u8,
     /// How many items it put.
     count: u64,
-    token: Token<T>,
+    pass: SeatPass<T>,
 }
 
 /// The right to take jobs.
@@ -39,13 +39,13 @@ pub struct SourceSeat<T> {
 pub struct WorkerSeat<T> {
     /// Whether it was answered Done.
     done: bool,
-    token: Token<T>,
+    pass: SeatPass<T>,
 }
 
 /// The right to end the queue, once every source has ended.
 #[derive(Drop)]
 pub struct Closer<T> {
-    token: Token<T>,
+    pass: SeatPass<T>,
 }
 
 /// A source that puts no more: what `end` made of its seat.
@@ -54,7 +54,7 @@ pub struct Ended<T> {
     pub source: u8,
     /// How many items it put.
     pub count: u64,
-    token: Token<T>,
+    pass: SeatPass<T>,
 }
 
 /// A queue that was finished: every source has ended, and the end marks are sent.
@@ -62,7 +62,7 @@ pub struct Ended<T> {
 pub struct Finished<T> {
     /// For each source, how many items it put.
     counts: [u64; 16],
-    token: Token<T>,
+    pass: SeatPass<T>,
 }
 
 /// Why a queue can't be finished.
@@ -124,29 +124,29 @@ pub fn open<T: Drop, R: Wait>(
     if let Some(fault) = open_fault(sources, workers, capacity) {
         return Err(fault);
     }
-    let (entrance, exit, mut token) = bounded_with(alloc, capacity.max(workers))?;
+    let (entrance, exit, mut pass) = bounded_with(alloc, capacity.max(workers))?;
     let channel = Channel {
         entrance,
         exit,
         sources,
         workers,
     };
-    let source_seats = source_seats(alloc, &channel, &mut token)?;
-    let worker_seats = worker_seats(alloc, &channel, &mut token)?;
+    let source_seats = source_seats(alloc, &channel, &mut pass)?;
+    let worker_seats = worker_seats(alloc, &channel, &mut pass)?;
     let queue = Queue { channel };
-    Ok((queue, source_seats, worker_seats, Closer { token }))
+    Ok((queue, source_seats, worker_seats, Closer { pass }))
 }
 
-/// A seat for each source. `token` is the closer's, before it has made a seat.
+/// A seat for each source. `pass` is the closer's, before it has made a seat.
 fn source_seats<T: Drop>(
     alloc: Global,
     channel: &Channel<T>,
-    token: &mut Token<T>,
+    pass: &mut SeatPass<T>,
 ) -> Result<Vec<SourceSeat<T>>, AllocError>
-    requires token { IsSeatAt (sends_on channel.now.entrance) token.old }
-    requires first { view token.old ≡ closer_view 64 0 0 }
-    ensures token { IfOk result (λ seats. IsSeatAt (sends_on channel.now.entrance) token.new) }
-    ensures known { IfOk result (λ seats. view token.new ≡ closer_view (64 - channel.now.sources) channel.now.sources 0) }
+    requires pass { IsSeatAt (sends_on channel.now.entrance) pass.old }
+    requires first { view pass.old ≡ closer_view 64 0 0 }
+    ensures pass { IfOk result (λ seats. IsSeatAt (sends_on channel.now.entrance) pass.new) }
+    ensures known { IfOk result (λ seats. view pass.new ≡ closer_view (64 - channel.now.sources) channel.now.sources 0) }
     ensures seats { IfOk result (λ seats. AreNewSources channel.now 0 seats.items × (length seats.items ≡ channel.now.sources)) }
 {
     let mut seats = Vec::new(alloc);
@@ -154,29 +154,29 @@ fn source_seats<T: Drop>(
         seats.push(SourceSeat {
             source,
             count: 0,
-            token: channel.entrance.another::<SourceSeated>(token),
+            pass: channel.entrance.another::<SourceSeated>(pass),
         })?;
     }
     Ok(seats)
 }
 
-/// A seat for each worker. `token` is the closer's, when it has made the source seats alone.
+/// A seat for each worker. `pass` is the closer's, when it has made the source seats alone.
 fn worker_seats<T: Drop>(
     alloc: Global,
     channel: &Channel<T>,
-    token: &mut Token<T>,
+    pass: &mut SeatPass<T>,
 ) -> Result<Vec<WorkerSeat<T>>, AllocError>
-    requires token { IsSeatAt (sends_on channel.now.entrance) token.old }
-    requires sources { view token.old ≡ closer_view (64 - channel.now.sources) channel.now.sources 0 }
-    ensures token { IfOk result (λ seats. IsSeatAt (sends_on channel.now.entrance) token.new) }
-    ensures known { IfOk result (λ seats. view token.new ≡ closer_view (64 - channel.now.sources - channel.now.workers) channel.now.sources channel.now.workers) }
+    requires pass { IsSeatAt (sends_on channel.now.entrance) pass.old }
+    requires sources { view pass.old ≡ closer_view (64 - channel.now.sources) channel.now.sources 0 }
+    ensures pass { IfOk result (λ seats. IsSeatAt (sends_on channel.now.entrance) pass.new) }
+    ensures known { IfOk result (λ seats. view pass.new ≡ closer_view (64 - channel.now.sources - channel.now.workers) channel.now.sources channel.now.workers) }
     ensures seats { IfOk result (λ seats. AreNewWorkers channel.now seats.items × (length seats.items ≡ channel.now.workers)) }
 {
     let mut seats = Vec::new(alloc);
     for worker in 0..channel.workers {
         seats.push(WorkerSeat {
             done: false,
-            token: channel.entrance.another::<WorkerSeated>(token),
+            pass: channel.entrance.another::<WorkerSeated>(pass),
         })?;
     }
     Ok(seats)
@@ -205,7 +205,7 @@ impl<T: Drop> Queue<T> {
             match self
                 .channel
                 .entrance
-                .send_as::<JobSent, R>(rt, &mut seat.token, message)
+                .send_as::<JobSent, R>(rt, &mut seat.pass, message)
             {
                 Ok(()) => {
                     seat.count = number + 1;
@@ -226,12 +226,12 @@ impl<T: Drop> Queue<T> {
         let SourceSeat {
             source,
             count,
-            token,
+            pass,
         } = seat;
         Ended {
             source,
             count,
-            token,
+            pass,
         }
     }
 
@@ -245,11 +245,7 @@ impl<T: Drop> Queue<T> {
             return Taken::Done;
         }
         for _ in rt.forever() {
-            match self
-                .channel
-                .exit
-                .recv_as::<Received, R>(rt, &mut seat.token)
-            {
+            match self.channel.exit.recv_as::<Received, R>(rt, &mut seat.pass) {
                 Ok(Message::Job(job)) => return Taken::Job(job),
                 Ok(Message::Mark(_)) => {
                     seat.done = true;
@@ -282,10 +278,10 @@ impl<T: Drop> Queue<T> {
                 ended,
             });
         }
-        let Closer { mut token } = closer;
-        let counts = join_ends(&self.channel, &mut token, ended);
-        send_marks(rt, &self.channel, &mut token, counts);
-        Ok(Finished { counts, token })
+        let Closer { mut pass } = closer;
+        let counts = join_ends(&self.channel, &mut pass, ended);
+        send_marks(rt, &self.channel, &mut pass, counts);
+        Ok(Finished { counts, pass })
     }
 }
 
@@ -316,14 +312,14 @@ fn has_end<T>(source: u8, ended: &[Ended<T>]) -> bool
 /// Joins the passes of the ends to the closer's, and counts what each source put.
 fn join_ends<T: Drop>(
     channel: &Channel<T>,
-    token: &mut Token<T>,
+    pass: &mut SeatPass<T>,
     mut ended: Vec<Ended<T>>,
 ) -> [u64; 16]
-    requires token { IsSeatAt (sends_on channel.now.entrance) token.old }
-    requires known { view token.old ≡ closer_view (64 - channel.now.sources - channel.now.workers) channel.now.sources channel.now.workers }
+    requires pass { IsSeatAt (sends_on channel.now.entrance) pass.old }
+    requires known { view pass.old ≡ closer_view (64 - channel.now.sources - channel.now.workers) channel.now.sources channel.now.workers }
     requires ended { AllByRecursion (IsEndedAt channel.now) ended.items }
-    ensures token { IsSeatAt (sends_on channel.now.entrance) token.new }
-    ensures known { view token.new ≡ ending_view (64 - channel.now.sources - channel.now.workers + length ended.items) (parts_of ended.items) channel.now.sources channel.now.workers 0 }
+    ensures pass { IsSeatAt (sends_on channel.now.entrance) pass.new }
+    ensures known { view pass.new ≡ ending_view (64 - channel.now.sources - channel.now.workers + length ended.items) (parts_of ended.items) channel.now.sources channel.now.workers 0 }
     ensures counts { (s : ℕ) → has_end s ended.items ≡ true → IsCounted result (parts_of ended.items) s }
 {
     let mut counts: [u64; 16] = [0; 16];
@@ -331,10 +327,10 @@ fn join_ends<T: Drop>(
         let Ended {
             source,
             count,
-            token: pass,
+            pass: theirs,
         } = ended.remove(0);
         counts[source as usize] = count;
-        channel.entrance.absorb::<Joined>(token, pass);
+        channel.entrance.absorb::<Joined>(pass, theirs);
     }
     counts
 }
@@ -343,18 +339,18 @@ fn join_ends<T: Drop>(
 fn send_marks<T: Drop, R: Wait>(
     rt: &R,
     channel: &Channel<T>,
-    token: &mut Token<T>,
+    pass: &mut SeatPass<T>,
     counts: [u64; 16],
 )
-    requires token { IsSeatAt (sends_on channel.now.entrance) token.old }
-    requires closes { (view token.old).closes ≡ true }
-    requires none { (view token.old).marks ≡ 0 }
-    requires counts { (s : ℕ) → s < (view token.old).sources → IsCounted counts (view token.old).puts s }
-    ensures token { IsSeatAt (sends_on channel.now.entrance) token.new }
-    ensures sent { view token.new ≡ with_marks (view token.old) channel.now.workers }
+    requires pass { IsSeatAt (sends_on channel.now.entrance) pass.old }
+    requires closes { (view pass.old).closes ≡ true }
+    requires none { (view pass.old).marks ≡ 0 }
+    requires counts { (s : ℕ) → s < (view pass.old).sources → IsCounted counts (view pass.old).puts s }
+    ensures pass { IsSeatAt (sends_on channel.now.entrance) pass.new }
+    ensures sent { view pass.new ≡ with_marks (view pass.old) channel.now.workers }
 {
     for mark in 0..channel.workers {
-        send_mark(rt, channel, token, counts);
+        send_mark(rt, channel, pass, counts);
     }
 }
 
@@ -362,19 +358,19 @@ fn send_marks<T: Drop, R: Wait>(
 fn send_mark<T: Drop, R: Wait>(
     rt: &R,
     channel: &Channel<T>,
-    token: &mut Token<T>,
+    pass: &mut SeatPass<T>,
     counts: [u64; 16],
 )
-    requires token { IsSeatAt (sends_on channel.now.entrance) token.old }
-    requires closes { (view token.old).closes ≡ true }
-    requires counts { (s : ℕ) → s < (view token.old).sources → IsCounted counts (view token.old).puts s }
-    ensures token { IsSeatAt (sends_on channel.now.entrance) token.new }
-    ensures sent { view token.new ≡ after_mark (view token.old) }
+    requires pass { IsSeatAt (sends_on channel.now.entrance) pass.old }
+    requires closes { (view pass.old).closes ≡ true }
+    requires counts { (s : ℕ) → s < (view pass.old).sources → IsCounted counts (view pass.old).puts s }
+    ensures pass { IsSeatAt (sends_on channel.now.entrance) pass.new }
+    ensures sent { view pass.new ≡ after_mark (view pass.old) }
 {
     for _ in rt.forever() {
         match channel
             .entrance
-            .send_as::<MarkSent, R>(rt, token, Message::Mark(counts))
+            .send_as::<MarkSent, R>(rt, pass, Message::Mark(counts))
         {
             Ok(()) => return,
             Err(_) => {}
@@ -416,9 +412,9 @@ pub fn settle<T: Drop, R: Wait>(
         });
     }
     let Queue { channel } = queue;
-    let Finished { counts, mut token } = finished;
-    join_seats(&channel, &mut token, seats);
-    channel.entrance.learn_as::<Settled>(&mut token);
+    let Finished { counts, mut pass } = finished;
+    join_seats(&channel, &mut pass, seats);
+    channel.entrance.learn_as::<Settled>(&mut pass);
     Ok(Account {
         counts,
         sources: channel.sources,
@@ -438,18 +434,18 @@ fn all_done<T>(seats: &[WorkerSeat<T>]) -> bool
 }
 
 /// Joins the passes of the worker seats to the closer's.
-fn join_seats<T: Drop>(channel: &Channel<T>, token: &mut Token<T>, mut seats: Vec<WorkerSeat<T>>)
-    requires token { IsSeatAt (sends_on channel.now.entrance) token.old }
-    requires closes { (view token.old).closes ≡ true }
+fn join_seats<T: Drop>(channel: &Channel<T>, pass: &mut SeatPass<T>, mut seats: Vec<WorkerSeat<T>>)
+    requires pass { IsSeatAt (sends_on channel.now.entrance) pass.old }
+    requires closes { (view pass.old).closes ≡ true }
     requires seats { AllByRecursion (IsWorkerAt channel.now) seats.items }
-    ensures token { IsSeatAt (sends_on channel.now.entrance) token.new }
-    ensures known { view token.new ≡ with_takes (view token.old) (takes_of seats.items) }
+    ensures pass { IsSeatAt (sends_on channel.now.entrance) pass.new }
+    ensures known { view pass.new ≡ with_takes (view pass.old) (takes_of seats.items) }
 {
     while !seats.is_empty() {
         let WorkerSeat {
             done: _,
-            token: pass,
+            pass: theirs,
         } = seats.remove(0);
-        channel.entrance.absorb::<Joined>(token, pass);
+        channel.entrance.absorb::<Joined>(pass, theirs);
     }
 }

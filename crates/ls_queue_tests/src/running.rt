@@ -85,7 +85,7 @@ fn pushed<X: Drop>(mut list: Vec<X>, one: X) -> Result<Vec<X>, AllocError>
     Ok(list)
 }
 
-/// That the answer is this, or that it is want of memory if that may be.
+/// That the answer is this, or that memory was refused if it may be.
 fn check_answer(
     rt: &impl Abort,
     memory: Memory,

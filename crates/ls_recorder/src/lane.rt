@@ -98,17 +98,14 @@ pub fn lane<F: Feed, W: Outlet, R: Wait>(
     let mut inbox = inbox;
     let mut reader = reader;
     let mut writer = writer;
-    let result = run(
+    let setting = Setting {
         rt,
         alloc,
         queue,
-        &mut seat,
-        &mut inbox,
         window,
-        &tuning,
-        &mut reader,
-        &mut writer,
-    );
+        tuning,
+    };
+    let result = run(&setting, &mut seat, &mut inbox, &mut reader, &mut writer);
     let ended = queue.end(rt, seat);
     LaneEnd {
         ended,
@@ -118,39 +115,53 @@ pub fn lane<F: Feed, W: Outlet, R: Wait>(
     }
 }
 
+/// What stays the same all along a lane.
+#[derive(Drop)]
+struct Setting<'a, R> {
+    rt: &'a R,
+    alloc: Global,
+    queue: &'a Queue<Order>,
+    window: usize,
+    tuning: Tuning,
+}
+
 /// A lane up to the end of its source.
 fn run<F: Feed, W: Outlet, R: Wait>(
-    rt: &R,
-    alloc: Global,
-    queue: &Queue<Order>,
+    setting: &Setting<'_, R>,
     seat: &mut SourceSeat<Order>,
     inbox: &mut Inbox,
-    window: usize,
-    tuning: &Tuning,
     reader: &mut F,
     writer: &mut W,
 ) -> Result<u64, LaneFault>
-    requires seat { IsSourceSeat queue.now seat.old }
+    requires seat { IsSourceSeat setting.now.queue.now seat.old }
     requires new { items_put seat.old ≡ [] }
-    requires window { 1 ≤ window }
-    requires narrow { window ≤ most_window }
-    ensures seat { IsSourceSeat queue.now seat.new × (seat.new.source ≡ seat.old.source) }
-    ensures completes { IfOk result (Records tuning.now (items_put seat.new)
+    requires window { 1 ≤ setting.now.window }
+    requires narrow { setting.now.window ≤ most_window }
+    ensures seat { IsSourceSeat setting.now.queue.now seat.new × (seat.new.source ≡ seat.old.source) }
+    ensures completes { IfOk result (Records setting.now.tuning (items_put seat.new)
         (F.remaining reader.old) (F.remaining reader.new) (W.contents writer.old) (W.contents writer.new)) }
-    ensures stops { IfErr result (StopsLane tuning.now (items_put seat.new)
+    ensures stops { IfErr result (StopsLane setting.now.tuning (items_put seat.new)
         (F.remaining reader.old) (F.remaining reader.new) (W.contents writer.old) (W.contents writer.new)) }
     ensures reads { MatchResult result (λ frames. F.failed_reads reader.new ≡ F.failed_reads reader.old)
         (λ fault. ReadsSo fault (F.failed_reads reader.old) (F.failed_reads reader.new)) }
     ensures writes { W.failed_writes writer.new ≡ count_after (failed_writer result) (W.failed_writes writer.old) }
 {
-    let mut collector = match Collector::new(alloc, inbox.source, window) {
+    let rt = setting.rt;
+    let mut collector = match Collector::new(setting.alloc, inbox.source, setting.window) {
         Ok(collector) => collector,
         Err(_) => return Err(LaneFault::NoMemory),
     };
     let mut written = 0;
     for number in 0..MOST_FRAMES + 1 {
-        written = collect_until(rt, inbox, &mut collector, writer, written, window - 1)?;
-        let order = match next_order(alloc, reader, tuning, number) {
+        written = collect_until(
+            rt,
+            inbox,
+            &mut collector,
+            writer,
+            written,
+            setting.window - 1,
+        )?;
+        let order = match next_order(setting.alloc, reader, &setting.tuning, number) {
             Ok(Some(order)) => order,
             Ok(None) => {
                 let _all = collect_until(rt, inbox, &mut collector, writer, written, 0)?;
@@ -162,7 +173,7 @@ fn run<F: Feed, W: Outlet, R: Wait>(
                 return Err(fault);
             }
         };
-        put(rt, queue, seat, &mut collector, order)?;
+        put(rt, setting.queue, seat, &mut collector, order)?;
     }
     unreachable!()
 }

@@ -7,7 +7,8 @@ use mir.Syntax.{w16}
 use mir.Val.{to_z, of_z}
 use Rattle.ls_frame.specs.Parameters.{Parameters}
 use Rattle.ls_coding.specs.declared.neighbours.Neighbours.{Neighbours}
-use Rattle.ls_coding.specs.Contexts.{is_zero, is_run, signed_context}
+use Rattle.ls_coding.specs.Contexts.{is_zero, is_run}
+use Rattle.ls_coding.specs.View.SignedContexts.{signed_context}
 use Rattle.ls_coding.proofs.SignedLemmas.{through_16}
 use Rattle.ls_coding.proofs.ContextLemmas.{signed_range}
 

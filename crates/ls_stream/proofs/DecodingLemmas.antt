@@ -8,7 +8,8 @@ use mir.Val.{to_z, of_z}
 use Rattle.std.proofs.lemmas.Bool.{ltb-true, ltb-false, cases_lt, lt-ltb, le-ltb}
 use Rattle.ls_coding.specs.declared.neighbours.Neighbours.{Neighbours}
 use Rattle.ls_coding.specs.Samples.{Interrupts}
-use Rattle.ls_coding.specs.Contexts.{is_run, half_context}
+use Rattle.ls_coding.specs.Contexts.{is_run}
+use Rattle.ls_coding.specs.View.SignedContexts.{half_context}
 use Rattle.ls_coding.specs.Interruptions.{ri_type_of, interruption_error}
 use Rattle.ls_coding.specs.Runs.{run_of, run_bits}
 use Rattle.ls_coding.specs.Events.{golomb_bits}

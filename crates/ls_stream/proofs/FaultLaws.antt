@@ -18,8 +18,9 @@ use Rattle.ls_stream.specs.declared.segments.read.FrameHeader.{FrameHeader}
 use Rattle.ls_stream.specs.Markers.{IsMarker, marker}
 use Rattle.ls_stream.specs.Segments.{segment, field_of, Component, header_contents, scan_contents}
 use Rattle.ls_stream.specs.Grammar.{filled, Miscellaneous, miscellaneous_bytes, last_presets, no_presets, parameters_of}
-use Rattle.ls_stream.specs.Faults.{Due, frame_header, first_scan, next_scan, end_marker, is_late, MayStand, marker_fault, first_unmet, contents_checks, frame_checks, scan_checks, has_segment, BreaksSegment, fails, misplaced, broken, BreaksAfter, BreaksStart, no_byte, one_byte, another_first, another_second, HasFrame, HasScan, HasNextScan, later_ids, BreaksScans, BreaksOpening, at_start, before_frame, before_scan, bad_presets, in_opening, in_scans, BreaksPlanes, before_data, from_data}
-use Rattle.ls_stream.specs.View.Reading.{◌>>=◌, wanted, ahead_at, contents_at, frame_header_of, scan_header_of, is_start_of_frame, is_start_of_scan, is_end_of_image, start_at, frame_header_at, scan_header_at, next_scan_at, end_at, or_bad_presets, opening_at}
+use Rattle.ls_stream.specs.Faults.{Due, frame_header, first_scan, next_scan, end_marker, is_late, MayStand, marker_fault, first_unmet, contents_checks, frame_checks, scan_checks, has_segment, BreaksSegment, fails, misplaced, broken, BreaksAfter, BreaksStart, no_byte, one_byte, another_first, another_second, HasFrame, HasScan, BeginsWithOpening, HasNextScan, later_ids, BreaksScans, BreaksOpening, at_start, before_frame, before_scan, bad_presets, in_opening, in_scans}
+use Rattle.ls_stream.specs.View.FirstFaults.{BreaksPlanes, before_data, from_data}
+use Rattle.ls_stream.specs.View.Reading.{◌>>=◌, wanted, ahead_at, contents_at, frame_header_of, scan_header_of, is_start_of_frame, is_start_of_scan, is_end_of_image, start_at, frame_header_at, scan_header_at, next_scan_at, end_at, or_bad_presets, opening_at, HasOpening}
 use Rattle.ls_stream.specs.View.Outlines.{data_length, data_at, after_data, Outline, ids_in, scans_at, outline_at, OutlineFaultsBreak, ScansStop, at_opening, at_scans, StopsAreFirstFaults}
 use Rattle.ls_stream.proofs.StepLemmas.{same_fault, same_ok, step_ok, step_err, test_err}
 use Rattle.ls_stream.proofs.SegmentLemmas.{contents_read, bytes_along}
@@ -28,7 +29,7 @@ use Rattle.ls_stream.proofs.FrontLemmas.{data_length-is}
 use Rattle.ls_stream.proofs.CheckLemmas.{frame_agrees, scan_agrees, unmet_of, met_of}
 use Rattle.ls_stream.proofs.AheadLemmas.{Stops, stop_is, Stands, AheadRead, ahead_read}
 use Rattle.ls_stream.proofs.BreakLemmas.{no_err, segment_breaks, all_stand, ahead_breaks}
-use Rattle.ls_stream.proofs.OutlineLemmas.{is_frame, is_scan, presets_append, late_ones, ids, scan_header_read, start_read, frame_read, opening_read}
+use Rattle.ls_stream.proofs.OutlineLemmas.{is_frame, is_scan, presets_append, late_ones, ids, scan_header_read, start_read, frame_read, OpeningRead, opening_read}
 
 -- ---- another marker than the one that is due
 
@@ -400,12 +401,11 @@ planes_break p width height component (id ∷ later) bytes fault are stops =
       ],
     )
 
-pub stops_are_first_faults : StopsAreFirstFaults
-stops_are_first_faults bytes fault are (at_opening bad) = before_data (opening_breaks bytes fault are bad)
-stops_are_first_faults bytes fault are (at_scans h p rest opened stops) =
-    let opening = opening_read bytes (h, p, rest) are opened in
+-- an opening that was read stands there
+opening_has : (bytes : List ℕ) (h : FrameHeader) (p : Parameters) (rest : List ℕ) (opening : OpeningRead bytes h p rest)
+    → HasScan bytes opening.contents opening.before opening.between rest
+opening_has bytes h p rest opening =
     let contents = opening.contents in
-    let at = ids_at contents h opening.header in
     let middle : List ℕ = miscellaneous_bytes opening.between ++ (filled opening.scan_fill (segment StartOfScan (scan_contents (slice_index h.ids 0))) ++ rest) in
     let has : HasFrame bytes contents opening.before middle = record {
       fill = opening.fill;
@@ -413,9 +413,37 @@ stops_are_first_faults bytes fault are (at_scans h p rest opened stops) =
       lawful = opening.before_lawful;
       passed = met_of (frame_checks contents) (frame_header_of contents) h (frame_agrees contents) opening.read;
     } in
-    from_data contents rest opening.before opening.between p
-    (scan_stands contents bytes h opening.before opening.between middle rest opening.scan_fill has at.0 refl opening.between_lawful)
-    (ap (λ n. parameters_of n (last_presets no_presets (opening.before ++ opening.between))) (sym (precision_at contents h opening.header)) ∙ opening.parameters_are)
+    scan_stands contents bytes h opening.before opening.between middle rest opening.scan_fill has (ids_at contents h opening.header).0 refl opening.between_lawful
+
+-- with its parameters
+parameters_stand : (bytes : List ℕ) (h : FrameHeader) (p : Parameters) (rest : List ℕ) (opening : OpeningRead bytes h p rest)
+    → parameters_of (slice_index opening.contents 0) (last_presets no_presets (opening.before ++ opening.between)) ≡ Ok p
+parameters_stand bytes h p rest opening =
+    ap (λ n. parameters_of n (last_presets no_presets (opening.before ++ opening.between))) (sym (precision_at opening.contents h opening.header)) ∙ opening.parameters_are
+
+pub opening_begins : (bytes : List ℕ) → AreBytes bytes → HasOpening bytes → BeginsWithOpening bytes
+opening_begins bytes are found =
+    let h = found.0.0 in
+    let p = found.0.1 in
+    let rest = found.0.2 in
+    let opening = opening_read bytes found.0 are found.1 in
+    record {
+      contents = opening.contents;
+      before = opening.before;
+      between = opening.between;
+      rest = rest;
+      parameters = p;
+      scan = opening_has bytes h p rest opening;
+      parameters_are = parameters_stand bytes h p rest opening;
+    }
+
+pub stops_are_first_faults : StopsAreFirstFaults
+stops_are_first_faults bytes fault are (at_opening bad) = before_data (opening_breaks bytes fault are bad)
+stops_are_first_faults bytes fault are (at_scans h p rest opened stops) =
+    let opening = opening_read bytes (h, p, rest) are opened in
+    let contents = opening.contents in
+    let at = ids_at contents h opening.header in
+    from_data contents rest opening.before opening.between p (opening_has bytes h p rest opening) (parameters_stand bytes h p rest opening)
     (subst (λ n. BreaksPlanes p n (field_of contents 1) 0 (later_ids contents) rest fault) (sym opening.header.width_at)
     (subst (λ n. BreaksPlanes p h.width n 0 (later_ids contents) rest fault) (sym opening.header.height_at)
     (subst (λ ids. BreaksPlanes p h.width h.height 0 ids rest fault) at.1 (planes_break p h.width h.height 0 (drop 1 (ids_in h)) rest fault opening.rest_are stops))))

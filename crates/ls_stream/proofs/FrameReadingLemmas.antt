@@ -25,7 +25,7 @@ use Rattle.ls_stream.specs.declared.segments.read.FrameHeader.{FrameHeader}
 use Rattle.ls_stream.specs.Planes.{Plane, IsSamplePlane}
 use Rattle.ls_stream.specs.Components.{component_of, component_plane, plane_of}
 use Rattle.ls_stream.specs.Grammar.{IsCoded, Spells, most_bytes}
-use Rattle.ls_stream.specs.Faults.{BreaksData, IsPlaneData}
+use Rattle.ls_stream.specs.View.FirstFaults.{BreaksData, IsPlaneData}
 use Rattle.ls_stream.specs.View.Reading.{◌>>=◌, Take, Gives, opening_at, next_scan_at, end_at}
 use Rattle.ls_stream.specs.View.Outlines.{scans_at, outline_at, ids_in, data_at, after_data, ScansStop, Outline, AreDataOf, IsOutlineOf, fault_of, of_all, outline_of}
 use Rattle.ls_stream.specs.View.Decoding.{scan_in, AreScansOf, NoScans, picture}

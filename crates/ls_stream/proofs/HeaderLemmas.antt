@@ -116,37 +116,41 @@ gray_read contents ids e =
       count = refl;
     }
 
-color_read : (contents ids : List ℕ) → ids_of Color contents ≡ Ok ids → ComponentsRead Color contents ids
-unfolding ids_of header_in components_in component
-color_read contents ids e =
-    let one = step_ok (id_of [] contents 6) (λ a. id_of (a ∷ []) contents 9 >>= λ b. id_of (a ∷ b ∷ []) contents 12 >>= λ c. Ok (a ∷ b ∷ c ∷ [])) ids e in
-    let two = step_ok (id_of (one.0 ∷ []) contents 9) (λ b. id_of (one.0 ∷ b ∷ []) contents 12 >>= λ c. Ok (one.0 ∷ b ∷ c ∷ [])) ids one.2 in
-    let three = step_ok (id_of (one.0 ∷ two.0 ∷ []) contents 12) (λ c. Ok (one.0 ∷ two.0 ∷ c ∷ [])) ids two.2 in
-    let first = id_read [] contents 6 one.0 one.1 in
-    let second = id_read (one.0 ∷ []) contents 9 two.0 two.1 in
-    let third = id_read (one.0 ∷ two.0 ∷ []) contents 12 three.0 three.1 in
-    let same : one.0 ∷ two.0 ∷ three.0 ∷ [] ≡ ids = same_ok (one.0 ∷ two.0 ∷ three.0 ∷ []) ids three.2 in
-    let before_two = or_parts (eqb one.0 two.0) false second.another in
-    let before_three = or_parts (eqb one.0 three.0) (eqb two.0 three.0 || false) third.another in
-    let again_three = or_parts (eqb two.0 three.0) false before_three.1 in
-    let parts : AreApart (one.0 ∷ two.0 ∷ three.0 ∷ []) = (
+-- the identifiers of three components, each read where it stands
+color_joined : (contents ids : List ℕ) (one two three : ℕ) → IdRead [] contents 6 one → IdRead (one ∷ []) contents 9 two → IdRead (one ∷ two ∷ []) contents 12 three
+    → one ∷ two ∷ three ∷ [] ≡ ids → ComponentsRead Color contents ids
+unfolding header_in components_in component
+color_joined contents ids one two three first second third same =
+    let before_two = or_parts (eqb one two) false second.another in
+    let before_three = or_parts (eqb one three) (eqb two three || false) third.another in
+    let again_three = or_parts (eqb two three) false before_three.1 in
+    let parts : AreApart (one ∷ two ∷ three ∷ []) = (
       (
-        λ e. eqb-false one.0 two.0 before_two.0 (sym e),
-        (λ e. eqb-false one.0 three.0 before_three.0 (sym e), tt),
+        λ e. eqb-false one two before_two.0 (sym e),
+        (λ e. eqb-false one three before_three.0 (sym e), tt),
       ),
       (
-        (λ e. eqb-false two.0 three.0 again_three.0 (sym e), tt),
+        (λ e. eqb-false two three again_three.0 (sym e), tt),
         (tt, tt),
       ),
     ) in
-    let these : one.0 ∷ two.0 ∷ three.0 ∷ [] ≡ byte contents 6 ∷ byte contents 9 ∷ byte contents 12 ∷ [] =
-    ap (λ n. n ∷ two.0 ∷ three.0 ∷ []) first.is ∙ ap (λ n. byte contents 6 ∷ n ∷ three.0 ∷ []) second.is ∙ ap (λ n. byte contents 6 ∷ byte contents 9 ∷ n ∷ []) third.is in
+    let these : one ∷ two ∷ three ∷ [] ≡ byte contents 6 ∷ byte contents 9 ∷ byte contents 12 ∷ [] =
+    ap (λ n. n ∷ two ∷ three ∷ []) first.is ∙ ap (λ n. byte contents 6 ∷ n ∷ three ∷ []) second.is ∙ ap (λ n. byte contents 6 ∷ byte contents 9 ∷ n ∷ []) third.is in
     record {
       whole = λ size are count. color_whole contents first.sampled second.sampled third.sampled size are count;
       are = sym these ∙ ap (λ (ns : List ℕ). take 3 ns) same;
       apart = subst AreApart these parts;
       count = refl;
     }
+
+color_read : (contents ids : List ℕ) → ids_of Color contents ≡ Ok ids → ComponentsRead Color contents ids
+unfolding ids_of
+color_read contents ids e =
+    let one = step_ok (id_of [] contents 6) (λ a. id_of (a ∷ []) contents 9 >>= λ b. id_of (a ∷ b ∷ []) contents 12 >>= λ c. Ok (a ∷ b ∷ c ∷ [])) ids e in
+    let two = step_ok (id_of (one.0 ∷ []) contents 9) (λ b. id_of (one.0 ∷ b ∷ []) contents 12 >>= λ c. Ok (one.0 ∷ b ∷ c ∷ [])) ids one.2 in
+    let three = step_ok (id_of (one.0 ∷ two.0 ∷ []) contents 12) (λ c. Ok (one.0 ∷ two.0 ∷ c ∷ [])) ids two.2 in
+    color_joined contents ids one.0 two.0 three.0 (id_read [] contents 6 one.0 one.1) (id_read (one.0 ∷ []) contents 9 two.0 two.1) (id_read (one.0 ∷ two.0 ∷ []) contents 12 three.0 three.1)
+    (same_ok (one.0 ∷ two.0 ∷ three.0 ∷ []) ids three.2)
 
 ids_read : (kind : Kind) (contents ids : List ℕ) → ids_of kind contents ≡ Ok ids → ComponentsRead kind contents ids
 ids_read Gray contents ids e = gray_read contents ids e
@@ -176,6 +180,31 @@ positive : (n : ℕ) → eqb n 0 ≡ false → 0 < n
 positive zero e = absurd (eqb-false 0 0 e refl)
 positive (suc n) e = omega arith
 
+abbrev read_header : List ℕ → Kind → List ℕ → FrameHeader
+read_header contents kind ids = record { precision = byte contents 0; height = field_of contents 1; width = field_of contents 3; kind = kind; ids = ids }
+
+-- contents that passed each test, and their header
+header_joined : (contents : List ℕ) (kind : Kind) (ids : List ℕ) (h : FrameHeader) → AreBytes contents → length contents ≡ 6 + 3 * components kind
+    → byte contents 5 ≡ components kind → 2 ≤ byte contents 0 → byte contents 0 ≤ 16 → 0 < field_of contents 3 → ComponentsRead kind contents ids
+    → read_header contents kind ids ≡ h → HeaderRead contents h
+unfolding header_in
+header_joined contents kind ids h are size count some_bits bits some_width read same =
+    subst (λ (g : FrameHeader). HeaderRead contents g) same (record {
+      header = header_in kind contents;
+      whole = read.whole size are count;
+      some_bits = some_bits;
+      bits = bits;
+      precision = refl;
+      height = refl;
+      width = refl;
+      some_width = some_width;
+      height_at = refl;
+      width_at = refl;
+      count = read.count;
+      ids = read.are;
+      apart = read.apart;
+    })
+
 pub header_read : (contents : List ℕ) (h : FrameHeader) → AreBytes contents → frame_header_of contents ≡ Ok h → HeaderRead contents h
 unfolding frame_header_of header_in
 header_read contents h are e =
@@ -200,23 +229,8 @@ header_read contents h are e =
     let h6 = step_ok (ids_of kind contents) (λ ids. few kind ids) h h5.1 in
     let h7 = test_ok (leb (sample_count kind width height) most_samples) TooLarge (made kind h6.0) h h6.2 in
     let bits = and_parts (leb 2 precision) (leb precision 16) h1.0 in
-    let read = ids_read kind contents h6.0 h6.1 in
-    let all : FrameHeader = record { precision = precision; height = height; width = width; kind = kind; ids = h6.0 } in
-    subst (λ (g : FrameHeader). HeaderRead contents g) (same_ok all h h7.1) (record {
-      header = header_in kind contents;
-      whole = read.whole (eqb-true _ _ h5.0) are (kind_read (byte contents 5) kind h4.1);
-      some_bits = leb-true 2 precision bits.0;
-      bits = leb-true precision 16 bits.1;
-      precision = refl;
-      height = refl;
-      width = refl;
-      some_width = positive width (not-true _ h3.0);
-      height_at = refl;
-      width_at = refl;
-      count = read.count;
-      ids = read.are;
-      apart = read.apart;
-    })
+    header_joined contents kind h6.0 h are (eqb-true _ _ h5.0) (kind_read (byte contents 5) kind h4.1) (leb-true 2 precision bits.0) (leb-true precision 16 bits.1)
+    (positive width (not-true _ h3.0)) (ids_read kind contents h6.0 h6.1) (same_ok (record { precision = precision; height = height; width = width; kind = kind; ids = h6.0 }) h h7.1)
 
 -- ---- what is spelled is read
 

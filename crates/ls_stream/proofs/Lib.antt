@@ -29,6 +29,7 @@ pub mod LayoutLemmas
 pub mod LengthLemmas
 pub mod LineLemmas
 pub mod MarkerLemmas
+pub mod MemoryLemmas
 pub mod MostLemmas
 pub mod NextStopLaws
 pub mod OneBreakLemmas

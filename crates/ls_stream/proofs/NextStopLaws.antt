@@ -9,7 +9,7 @@ use Rattle.ls_bits.specs.declared.data.Stop.TheVariants.{Marker, End}
 use Rattle.ls_stream.specs.declared.faults.StreamFault.{StreamFault}
 use Rattle.ls_stream.specs.declared.faults.StreamFault.TheVariants.{Truncated}
 use Rattle.ls_stream.specs.Grammar.{most_bytes}
-use Rattle.ls_stream.specs.Faults.{BreaksData, wrong_code, marker_early, input_ends, leftover, IsPlaneData}
+use Rattle.ls_stream.specs.View.FirstFaults.{BreaksData, wrong_code, marker_early, input_ends, leftover, IsPlaneData}
 use Rattle.ls_stream.specs.View.Reading.{code_at, marker_at, next_scan_at, end_at, opening_at}
 use Rattle.ls_stream.specs.View.Outlines.{data_length, data_at, after_data, ids_in, ScansStop, DecodingStops, at_opening, at_scans, past_most, fault_of}
 use Rattle.ls_stream.specs.View.Extents.{segments_at, extent_at, StopsWith, NextStopsAlike}

@@ -16,7 +16,7 @@ use Rattle.ls_bits.specs.declared.source.CodeFault.TheVariants.{OutOfBits, NotCa
 use Rattle.ls_stream.specs.declared.faults.StreamFault.{StreamFault}
 use Rattle.ls_stream.specs.declared.segments.read.FrameHeader.{FrameHeader}
 use Rattle.ls_stream.specs.Grammar.{parameters_of, greatest_maxval, last_presets, no_presets}
-use Rattle.ls_stream.specs.Faults.{BreaksData, wrong_code, marker_early, input_ends, leftover, BreakInPlane, HaveLeftoverBits, IsPlaneData}
+use Rattle.ls_stream.specs.View.FirstFaults.{BreaksData, wrong_code, marker_early, input_ends, leftover, BreakInPlane, HaveLeftoverBits, IsPlaneData}
 use Rattle.ls_stream.specs.View.Outlines.{data_at, after_data, ids_in, ScansStop, DecodingStops, at_opening, at_scans}
 use Rattle.ls_stream.specs.View.Reading.{next_scan_at, end_at, opening_at}
 use Rattle.ls_stream.proofs.FrameLaws.{LegalWithoutFault, read_faultless, unless_ok}

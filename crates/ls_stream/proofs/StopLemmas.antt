@@ -8,7 +8,7 @@ use Rattle.ls_bits.specs.Stuffing.{unstuff}
 use Rattle.ls_stream.specs.declared.faults.StreamFault.{StreamFault}
 use Rattle.ls_stream.specs.declared.decode.scan.ScanFault.{ScanFault}
 use Rattle.ls_stream.specs.declared.decode.scan.ScanFault.TheVariants.{Code, LeftoverBits}
-use Rattle.ls_stream.specs.Faults.{BreaksData, wrong_code, marker_early, input_ends, leftover}
+use Rattle.ls_stream.specs.View.FirstFaults.{BreaksData, wrong_code, marker_early, input_ends, leftover}
 use Rattle.ls_stream.specs.View.Decoding.{ScanBreaks, fault_in}
 
 -- ---- the data of a scan

@@ -1,27 +1,20 @@
--- How bytes break the grammar of a codestream: the legal pieces from the left, and then what breaks the next one. First as far as
--- markers and segments go (`Breaks`), and then with the planes in the scans' data (`FirstFault`).
-use Rattle.std.specs.Prelude.{◌≡◌, ◌≢◌, ℕ, suc, ◌+◌, ◌*◌, ◌<◌, ◌≤◌, ◌&&◌, ◌||◌, ◌==◌, not, nat_le, Bool, true, false, if◌then◌else◌, List, [], ◌∷◌, ◌++◌, length, take, drop, replicate, slice_index, ◌⊎◌, Option, None, Some, Ok, Err}
+-- How bytes break the grammar of a codestream, as far as markers and segments go: the legal pieces from the left, and then what
+-- breaks the next one.
+use Rattle.std.specs.Prelude.{◌≡◌, ◌≢◌, ℕ, suc, ◌+◌, ◌*◌, ◌<◌, ◌≤◌, ◌&&◌, ◌||◌, ◌==◌, not, nat_le, Bool, true, false, if◌then◌else◌, List, [], ◌∷◌, ◌++◌, length, drop, replicate, slice_index, ◌⊎◌, Option, None, Some, Ok, Err}
 use Rattle.std.specs.List.{AllByRecursion, list_any}
 use Rattle.ls_frame.specs.declared.presets.PresetFault.{PresetFault}
 use Rattle.ls_frame.specs.Picture.{most_samples}
 use Rattle.ls_frame.specs.Parameters.{Parameters}
-use Rattle.ls_bits.specs.declared.data.Stop.{Stop}
-use Rattle.ls_bits.specs.declared.data.Stop.TheVariants as stops
-use Rattle.ls_bits.specs.declared.source.CodeFault.{CodeFault}
-use Rattle.ls_bits.specs.declared.source.CodeFault.TheVariants.{OutOfBits, NotCanonical}
 use Rattle.ls_bits.specs.Bits.{two_bytes}
-use Rattle.ls_bits.specs.Data.{DataAtFront, stop_at}
-use Rattle.ls_bits.specs.Stuffing.{unstuff}
+use Rattle.ls_bits.specs.Data.{DataAtFront}
 use Rattle.ls_stream.specs.declared.faults.StreamFault.{StreamFault}
-use Rattle.ls_stream.specs.declared.faults.StreamFault.TheVariants.{Truncated, NotSoi, BadSegment, Unsupported, BadPresets, TooLarge, BadCode, LeftoverBits}
+use Rattle.ls_stream.specs.declared.faults.StreamFault.TheVariants.{Truncated, NotSoi, BadSegment, Unsupported, BadPresets, TooLarge}
 use Rattle.ls_stream.specs.declared.faults.What.TheVariants as what
 use Rattle.ls_stream.specs.declared.marker.Marker.{Marker}
 use Rattle.ls_stream.specs.declared.marker.Marker.TheVariants.{StartOfImage, EndOfImage, StartOfScan, StartOfFrame, PresetParameters, Application, Comment, Other}
 use Rattle.ls_stream.specs.Markers.{code_of, IsMarker, marker}
 use Rattle.ls_stream.specs.Segments.{segment, field_of, scan_contents}
-use Rattle.ls_stream.specs.Planes.{Plane, IsSamplePlane, plane_bits}
-use Rattle.ls_stream.specs.View.BitFaults.{BreaksPlane}
-use Rattle.ls_stream.specs.Grammar.{filled, Miscellaneous, miscellaneous_bytes, MayPrecedeScans, MayFollowScan, last_presets, no_presets, parameters_of, IsCoded}
+use Rattle.ls_stream.specs.Grammar.{filled, Miscellaneous, miscellaneous_bytes, MayPrecedeScans, MayFollowScan, last_presets, no_presets, parameters_of}
 
 -- ---- what is due
 
@@ -213,6 +206,17 @@ pub record HasScan (bytes contents : List ℕ) (before between : List Miscellane
   pub whole : middle ≡ miscellaneous_bytes between ++ (filled fill (segment StartOfScan (scan_contents (slice_index contents 6))) ++ rest)
   pub lawful : AllByRecursion MayPrecedeScans between
 
+-- The bytes begin with a whole legal opening: all that stands before the data of the first scan, with coding parameters that are
+-- legal.
+pub record BeginsWithOpening (bytes : List ℕ) : Type 0 where
+  pub contents : List ℕ
+  pub before : List Miscellaneous
+  pub between : List Miscellaneous
+  pub rest : List ℕ
+  pub parameters : Parameters
+  pub scan : HasScan bytes contents before between rest
+  pub parameters_are : parameters_of (slice_index contents 0) (last_presets no_presets (before ++ between)) ≡ Ok parameters
+
 -- the identifiers of the components after the first
 abbrev pub later_ids : List ℕ → List ℕ
 later_ids contents = if slice_index contents 5 == 1 then [] else slice_index contents 9 ∷ slice_index contents 12 ∷ []
@@ -248,58 +252,3 @@ pub data Breaks (bytes : List ℕ) (fault : StreamFault) : Type 0 where
   in_opening : BreaksOpening bytes fault → Breaks bytes fault
   in_scans : (contents rest : List ℕ) (before between : List Miscellaneous) → HasScan bytes contents before between rest → BreaksScans (later_ids contents) rest fault
       → Breaks bytes fault
-
--- ---- the data of a scan
-
--- the bits begin with those of no plane of this width and height
-abbrev pub BeginWithNoPlane : Parameters → ℕ → ℕ → List Bool → Type 0
-BeginWithNoPlane p width height bits =
-    (plane : Plane) → IsSamplePlane p.maxval width height plane → (rest : List Bool) → bits ≡ plane_bits p plane ++ rest → ⊥
-
--- they begin with those of one, and 16 or more follow
-pub record HaveLeftoverBits (p : Parameters) (width height : ℕ) (bits : List Bool) : Type 0 where
-  pub plane : Plane
-  pub is_plane : IsSamplePlane p.maxval width height plane
-  pub more : List Bool
-  pub many : 16 ≤ length more
-  pub whole : bits ≡ plane_bits p plane ++ more
-
--- they begin with those of none, and after the first spans of one the next is at fault
-pub record BreakInPlane (p : Parameters) (width height : ℕ) (bits : List Bool) (fault : CodeFault) : Type 0 where
-  pub no_plane : BeginWithNoPlane p width height bits
-  pub breaks : BreaksPlane p width height bits fault
-
--- The data of a component's scan, and what ends it: the bits go on as those of no plane do; or they run out, at a marker or with the
--- input; or too many bits follow a plane's.
-pub data BreaksData (p : Parameters) (width height component : ℕ) (stuffed : List ℕ) (stop : Stop) (fault : StreamFault) : Type 0 where
-  wrong_code : BreakInPlane p width height (unstuff stuffed) NotCanonical → fault ≡ BadCode component → BreaksData p width height component stuffed stop fault
-  marker_early : BreakInPlane p width height (unstuff stuffed) OutOfBits → stop ≡ stops.Marker → fault ≡ BadCode component → BreaksData p width height component stuffed stop fault
-  input_ends : BreakInPlane p width height (unstuff stuffed) OutOfBits → stop ≡ stops.End → fault ≡ Truncated → BreaksData p width height component stuffed stop fault
-  leftover : HaveLeftoverBits p width height (unstuff stuffed) → fault ≡ LeftoverBits component → BreaksData p width height component stuffed stop fault
-
--- the data of a plane of this width and height
-pub record IsPlaneData (p : Parameters) (width height : ℕ) (stuffed : List ℕ) : Type 0 where
-  pub plane : Plane
-  pub is_plane : IsSamplePlane p.maxval width height plane
-  pub coded : IsCoded p plane stuffed
-
--- After the header of a component's scan: its data breaks; or it is a plane's, and the markers or segments after it break; or it is,
--- and after the header of the next component's scan the same goes for that one.
-abbrev pub BreaksPlanes : Parameters → ℕ → ℕ → ℕ → List ℕ → List ℕ → StreamFault → Type 0
-BreaksPlanes p width height component [] bytes fault =
-    (len : ℕ) × DataAtFront bytes len × (BreaksData p width height component (take len bytes) (stop_at (drop len bytes)) fault
-    ⊎ (IsPlaneData p width height (take len bytes) × BreaksAfter end_marker (drop len bytes) fault))
-BreaksPlanes p width height component (id ∷ later) bytes fault =
-    (len : ℕ) × DataAtFront bytes len × (BreaksData p width height component (take len bytes) (stop_at (drop len bytes)) fault
-    ⊎ (IsPlaneData p width height (take len bytes) × (BreaksAfter (next_scan id) (drop len bytes) fault
-    ⊎ ((more : List ℕ) × HasNextScan id (drop len bytes) more × BreaksPlanes p width height (component + 1) later more fault))))
-
--- ---- a codestream with its planes
-
--- The first fault of the bytes from the left: before the data of the first scan, or from there on, by the parameters and the size that
--- stand before it.
-pub data FirstFault (bytes : List ℕ) (fault : StreamFault) : Type 0 where
-  before_data : BreaksOpening bytes fault → FirstFault bytes fault
-  from_data : (contents rest : List ℕ) (before between : List Miscellaneous) (p : Parameters) → HasScan bytes contents before between rest
-      → parameters_of (slice_index contents 0) (last_presets no_presets (before ++ between)) ≡ Ok p
-      → BreaksPlanes p (field_of contents 3) (field_of contents 1) 0 (later_ids contents) rest fault → FirstFault bytes fault

@@ -3,6 +3,7 @@ pub mod Blocks
 pub mod Coded
 pub mod Decoding
 pub mod Extents
+pub mod FirstFaults
 pub mod LineBuffers
 pub mod Outlines
 pub mod Places

@@ -1,11 +1,10 @@
-//! What an encoder and a decoder need beside a frame: room for two lines, and for what the line above says of contexts.
+//! What an encoder and a decoder need beside a frame: two lines, and a decoder a row of half contexts.
 ghost use Rattle.std.specs.Prelude.{◌≡◌, IfOk};
 
 use std::alloc::{AllocError, Global};
 use std::marker::Model;
 
-/// Room for two lines of a plane, the one that is coded and the one above it, and for what the latter says of contexts. One value
-/// serves any number of frames up to its width.
+/// Buffers for two lines of a plane, the one that is coded and the one above it. One value serves any number of frames up to its width.
 ///
 /// In contracts it is its width, in samples.
 #[derive(Drop)]
@@ -15,8 +14,6 @@ pub struct Lines {
     pub(crate) above: Vec<u16>,
     /// The line that is coded, likewise.
     pub(crate) line: Vec<u16>,
-    /// For a decoder: what the line above says of the context of each of a line's samples.
-    pub(crate) contexts: Vec<i16>,
 }
 
 impl Model for Lines {
@@ -26,24 +23,18 @@ impl Model for Lines {
 
     ghost view = { λ l. l.width };
 
-    ghost invariant = { λ l. (vec_len l.above ≡ l.width + 2) × (vec_len l.line ≡ l.width + 2) × (vec_len l.contexts ≡ l.width) };
+    ghost invariant = { λ l. (vec_len l.above ≡ l.width + 2) × (vec_len l.line ≡ l.width + 2) };
 }
 
 impl Lines {
-    /// Room for lines of up to `width` samples, 0 to 65535. Fails only if an allocation fails.
+    /// Buffers for lines of up to `width` samples, 0 to 65535. Fails only if an allocation fails.
     pub fn new(alloc: Global, width: u16) -> Result<Lines, AllocError>
         ensures { IfOk result (λ lines. lines ≡ width) }
     {
         let places = usize::from(width) + 2;
         let above = vec![in alloc; 0u16; places]?;
         let line = vec![in alloc; 0u16; places]?;
-        let contexts = vec![in alloc; 0i16; usize::from(width)]?;
-        Ok(Lines {
-            width,
-            above,
-            line,
-            contexts,
-        })
+        Ok(Lines { width, above, line })
     }
 
     /// How many samples a line may have.
@@ -51,5 +42,40 @@ impl Lines {
         ensures { result ≡ self.now }
     {
         self.width
+    }
+}
+
+/// A decoder's lines: the two of a plane, and of the samples of the line that is read the half contexts that the line above gives
+/// (T.87 A.3).
+///
+/// In contracts it is its width, in samples.
+#[derive(Drop)]
+pub struct DecoderLines {
+    pub lines: Lines,
+    /// For each sample of a line the part of its context that the line above decides.
+    pub half_contexts: Vec<i16>,
+}
+
+impl Model for DecoderLines {
+    ghost use Rattle.std.specs.Prelude.{◌≡◌, ℕ, vec_len};
+
+    ghost Value = { ℕ };
+
+    ghost view = { λ l. l.lines };
+
+    ghost invariant = { λ l. vec_len l.half_contexts ≡ l.lines };
+}
+
+impl DecoderLines {
+    /// Buffers for lines of up to `width` samples. Fails only if an allocation fails.
+    pub fn new(alloc: Global, width: u16) -> Result<DecoderLines, AllocError>
+        ensures { IfOk result (λ lines. lines ≡ width) }
+    {
+        let lines = Lines::new(alloc, width)?;
+        let half_contexts = vec![in alloc; 0i16; usize::from(width)]?;
+        Ok(DecoderLines {
+            lines,
+            half_contexts,
+        })
     }
 }

@@ -9,13 +9,14 @@ ghost use Rattle.ls_bits.specs.Data.{stop_at};
 ghost use Rattle.ls_frame.specs.Picture.{Picture, IsFrame, components, sample_count, most_samples};
 ghost use Rattle.ls_stream.specs.Planes.{Plane, IsSamplePlane};
 ghost use Rattle.ls_stream.specs.Components.{component_plane};
-ghost use Rattle.ls_stream.specs.Grammar.{IsCoded, Spells};
-ghost use Rattle.ls_stream.specs.Faults.{BreaksData};
-ghost use Rattle.ls_stream.specs.View.Reading.{next_scan_at, end_at};
+ghost use Rattle.ls_stream.specs.Grammar.{IsCoded, Spells, most_bytes};
+ghost use Rattle.ls_stream.specs.Faults.{BeginsWithOpening};
+ghost use Rattle.ls_stream.specs.View.FirstFaults.{BreaksData};
+ghost use Rattle.ls_stream.specs.View.Reading.{next_scan_at, end_at, HasOpening};
 ghost use Rattle.ls_stream.specs.View.Outlines.{Outline, IsOutlineOf, ids_in, scans_at, outline_at, data_at, after_data, ScansStop, DecodingStops, IsFirstFault};
 ghost use Rattle.ls_stream.specs.View.Decoding.{AreScansOf, NoScans, fault_in, picture};
 
-use crate::buffers::Lines;
+use crate::buffers::DecoderLines;
 use crate::decode::markers::{fault_of, find_end, find_next_scan, first_bytes, read_opening};
 use crate::decode::scan::{ScanFault, decode_scan};
 use crate::faults::StreamFault;
@@ -37,11 +38,14 @@ pub struct Decoded {
 /// The frame of the codestream at the front of bytes; what stands after it isn't looked at.
 ///
 /// If any front of the bytes is a codestream of a frame (`specs/Grammar.antt`), this answers that frame and the front's length, or
-/// NoMemory. Any other fault comes only if no front is one; it is the first from the left (`specs/Faults.antt`): of a marker or a
-/// segment; of a scan's data LeftoverBits if 16 bits or more follow those of a plane, BadCode at the first word, run or sample that
-/// no encoder writes for any plane, and if the bits run out before, Truncated if the input ends them, BadCode if a marker does.
-/// TooLarge stands for Truncated where there are more bytes than a codestream may have. NoMemory comes only if an allocation fails:
-/// those of the samples, of two lines, and of a table of 2 * MAXVAL + 1 bytes, all after the first scan header was read.
+/// NoMemory. Any other fault comes only if no front is one; it is the first from the left (`specs/View/FirstFaults.antt`): of a
+/// marker or a segment; of a scan's data LeftoverBits if 16 bits or more follow those of a plane, BadCode at the first word, run or
+/// sample that no encoder writes for any plane, and if the bits run out before, Truncated if the input ends them, BadCode if a marker
+/// does. TooLarge stands for Truncated where there are more bytes than a codestream may have.
+///
+/// NoMemory comes only if an allocation fails, and only for bytes that begin with a whole legal opening: SOI, the frame header, the
+/// segments before the first scan and its header, with coding parameters that are legal. What is asked for is two lines and a row of
+/// half contexts, a table of 2 * MAXVAL + 1 bytes, and the samples.
 pub fn decode_frame(alloc: Global, bytes: &[u8]) -> Result<Decoded, StreamFault>
     ensures ok { IfOk result (λ decoded. (decoded.used ≤ length bytes.now) × Spells (take decoded.used bytes.now) decoded.frame) }
     ensures fault { IfErr result (λ fault. (fault ≡ StreamFault.NoMemory)
@@ -50,6 +54,7 @@ pub fn decode_frame(alloc: Global, bytes: &[u8]) -> Result<Decoded, StreamFault>
         ⊎ IsFirstFault bytes.now fault) }
     ensures whole { (front rest : List ℕ) (f : Picture) → bytes.now ≡ front ++ rest → Spells front f
         → MatchResult result (λ decoded. (decoded.frame ≡ f) × (decoded.used ≡ length front)) (λ fault. fault ≡ StreamFault.NoMemory) }
+    ensures memory { IfErr result (λ fault. fault ≡ StreamFault.NoMemory → BeginsWithOpening (take most_bytes bytes.now)) }
 {
     let first = first_bytes(bytes);
     match decode_first(alloc, first) {
@@ -67,13 +72,14 @@ fn decode_first(alloc: Global, bytes: &[u8]) -> Result<Decoded, StreamFault>
     ensures none { IfErr result (λ fault. (fault ≡ StreamFault.NoMemory)
         ⊎ ((o : Outline) (left : List ℕ) (f : Picture) → outline_at bytes.now ≡ Ok (o, left) → IsFrame f → IsOutlineOf f o → ⊥)) }
     ensures stops { IfErr result (λ fault. (fault ≡ StreamFault.NoMemory) ⊎ DecodingStops bytes.now fault) }
+    ensures memory { IfErr result (λ fault. fault ≡ StreamFault.NoMemory → HasOpening bytes.now) }
 {
     let (header, presets, rest) = match read_opening(bytes) {
         Ok(opening) => opening,
         Err(fault) => return Err(fault),
     };
     let shape = shape_of(&header);
-    let mut lines = Lines::new(alloc, header.width)?;
+    let mut lines = DecoderLines::new(alloc, header.width)?;
     let regions = Regions::new(alloc, &presets)?;
     let mut samples = vec![in alloc; 0u16; shape.height * shape.width * shape.components]?;
     let rest = decode_scans(&presets, &regions, &header, &mut lines, &mut samples, rest)?;
@@ -102,7 +108,7 @@ fn decode_scans<'a>(
     presets: &Presets,
     regions: &Regions,
     header: &FrameHeader,
-    lines: &mut Lines,
+    lines: &mut DecoderLines,
     samples: &mut [u16],
     bytes: &'a [u8],
 ) -> Result<&'a [u8], StreamFault>
@@ -136,7 +142,7 @@ fn decode_scans<'a>(
 fn decode_data<'a>(
     presets: &Presets,
     regions: &Regions,
-    lines: &mut Lines,
+    lines: &mut DecoderLines,
     samples: &mut [u16],
     shape: Shape,
     component: usize,

@@ -20,10 +20,12 @@ use std::alloc::{AllocError, Global};
 
 /// The codestream of a frame, coded with the default parameters of its maxval (T.87 C.2.4.1.1). It has fewer than 2^32 bytes.
 ///
-/// Fails only if an allocation fails: it asks for `code_bound` bytes and for two lines before it codes.
+/// Fails only if an allocation fails: it asks for `code_bound` bytes, which the vector comes back with as its capacity, and for two
+/// lines before it codes.
 pub fn encode_frame(alloc: Global, frame: &Frame) -> Result<Vec<u8>, AllocError>
     ensures bytes { let f = frame.now in IfOk result (λ bytes. bytes.items ≡ codestream f (default_parameters f.maxval)) }
     ensures short { IfOk result (λ bytes. length bytes.items < 2 ^ 32) }
+    ensures capacity { let f = frame.now in IfOk result (λ bytes. vec_capacity bytes ≡ bound f (default_parameters f.maxval)) }
 {
     encode_with(alloc, frame, &Presets::default_of(frame.maxval()))
 }
@@ -31,11 +33,13 @@ pub fn encode_frame(alloc: Global, frame: &Frame) -> Result<Vec<u8>, AllocError>
 /// The codestream of a frame, coded with these parameters, whose maxval has to be the frame's. It has fewer than 2^32 bytes, and
 /// an LSE segment only where the parameters aren't the defaults of the greatest MAXVAL of the precision.
 ///
-/// Fails only if an allocation fails: it asks for `code_bound` bytes and for two lines before it codes.
+/// Fails only if an allocation fails: it asks for `code_bound` bytes, which the vector comes back with as its capacity, and for two
+/// lines before it codes.
 pub fn encode_with(alloc: Global, frame: &Frame, presets: &Presets) -> Result<Vec<u8>, AllocError>
     requires maxval { presets.now.maxval ≡ frame.now.maxval }
     ensures bytes { IfOk result (λ bytes. bytes.items ≡ codestream frame.now presets.now) }
     ensures short { IfOk result (λ bytes. length bytes.items < 2 ^ 32) }
+    ensures capacity { IfOk result (λ bytes. vec_capacity bytes ≡ bound frame.now presets.now) }
 {
     let room = code_bound(frame, presets) as usize;
     let bytes = Vec::with_capacity(alloc, room)?;
@@ -43,8 +47,7 @@ pub fn encode_with(alloc: Global, frame: &Frame, presets: &Presets) -> Result<Ve
     Ok(encode_within(frame, presets, &mut lines, bytes))
 }
 
-/// The codestream of a frame, written after the bytes that the vector has. The vector comes back with at least the capacity that
-/// it had.
+/// The codestream of a frame, written after the bytes that the vector has. The vector comes back with the capacity that it had.
 ///
 /// It requires parameters of the frame's maxval, lines at least as wide as the frame, and room in the vector for `code_bound`
 /// more bytes. It allocates nothing and cannot fail.
@@ -53,7 +56,7 @@ pub fn encode_within(frame: &Frame, presets: &Presets, lines: &mut Lines, bytes:
     requires width { frame.now.width ≤ lines.old }
     requires room { vec_len bytes + bound frame.now presets.now ≤ vec_capacity bytes }
     ensures bytes { result.items ≡ bytes.items ++ codestream frame.now presets.now }
-    ensures capacity { vec_capacity bytes ≤ vec_capacity result }
+    ensures capacity { vec_capacity result ≡ vec_capacity bytes }
     ensures lines { lines.new ≡ lines.old }
 {
     let mut bytes = bytes;
@@ -108,7 +111,7 @@ fn put_scans(frame: &Frame, presets: &Presets, lines: &mut Lines, bytes: Vec<u8>
     requires room { vec_len bytes + components frame.now.kind * (10 + scan_bound frame.now presets.now) + 2 ≤ vec_capacity bytes }
     ensures bytes { result.items ≡ bytes.items ++ scans_up_to frame.now presets.now (components frame.now.kind) }
     ensures room { vec_len result + 2 ≤ vec_capacity result }
-    ensures capacity { vec_capacity bytes ≤ vec_capacity result }
+    ensures capacity { vec_capacity result ≡ vec_capacity bytes }
     ensures lines { lines.new ≡ lines.old }
 {
     let mut bytes = bytes;

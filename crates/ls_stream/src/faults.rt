@@ -3,7 +3,7 @@ use ls_frame::PresetFault;
 use std::alloc::AllocError;
 use thiserror::Error;
 
-/// Why no frame can be decoded: the first fault of the bytes, from left to right, or want of memory.
+/// Why no frame can be decoded: the first fault of the bytes, from left to right, or that memory was refused.
 #[derive(Clone, Copy, Debug, Drop, PartialEq, Eq, Error)]
 pub enum StreamFault {
     /// The bytes end before the codestream does.
@@ -32,7 +32,7 @@ pub enum StreamFault {
     /// After the plane of the component of this number, from 0, its data has 16 bits or more.
     #[error("leftover bits in component {0}")]
     LeftoverBits(u8),
-    /// An allocation failed, when exactly the header of the first scan had been read.
+    /// An allocation failed, after the bytes were found to begin with a whole legal opening, up to the header of the first scan.
     #[error("no memory")]
     NoMemory,
 }

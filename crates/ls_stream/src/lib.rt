@@ -13,7 +13,7 @@
 //! ```
 //!
 //! In reading order: `encode` (frames to codestreams), and in it `scan` (the rows of a component), `row` (a row, from left to
-//! right), `coder` (one event, as bits); `decode`, its mirror image, and in it `markers` (markers and segments at the front of bytes),
+//! right), `coder` (one event, as bits); `decode`, its mirror image, and in it `markers` (what stands around the data of scans),
 //! `scan`, `row`, `decoder` (one event, out of bits); `faults` (why bytes can't be decoded); `next` (one codestream at a time off a
 //! reader), and in it `awaited` (what its next byte is). What encoding and decoding share: `marker`, `segments`,
 //! `shape` (where a frame's samples stand), `lines` (a line with the places around it), `buffers` (what is needed beside a frame). `laws`

@@ -12,6 +12,7 @@ ghost use Rattle.ls_stream.specs.View.Extents.{IsNext, with_left, failed_feed};
 ghost use Rattle.ls_stream.specs.View.Places.{GivesNext};
 ghost use Rattle.ls_stream.specs.View.Outlines.{outline_of, IsFirstFault};
 
+use crate::segments::MOST_BYTES;
 use awaited::Awaited;
 use ls_frame::{Feed, FeedFault};
 use std::alloc::Global;
@@ -30,9 +31,6 @@ pub enum NextFault {
     #[error("no memory")]
     NoMemory,
 }
-
-/// The most bytes of a codestream.
-const MOST_BYTES: usize = 4_294_967_295;
 
 /// Takes the bytes of the next codestream off a reader, and not a byte more; `None` exactly at the end of input.
 ///

@@ -5,6 +5,9 @@ ghost use Rattle.ls_stream.specs.Grammar.{greatest_maxval};
 pub mod read;
 pub mod write;
 
+/// The most bytes of a codestream.
+pub const MOST_BYTES: usize = 4_294_967_295;
+
 /// The sampling factors of a component, both 1, in one byte.
 const SAMPLED_ONE_BY_ONE: u8 = 0x11;
 

@@ -77,9 +77,9 @@ fn codestreams_are_decoded_to_their_frames_with_ample_memory(rt: HostRuntime) ->
     Ok(())
 }
 
-/// The answer is want of memory, or what it is with ample memory.
+/// The answer is that memory was refused, or what it is with ample memory.
 #[test]
-fn codestreams_are_decoded_or_memory_is_wanting(rt: HostRuntime) {
+fn codestreams_are_decoded_or_memory_is_refused(rt: HostRuntime) {
     for ((kind, width, height, maxval, samples), bytes, _) in CODESTREAMS {
         let decoded = decode_frame(rt.alloc(), bytes);
         let want = match decoded {

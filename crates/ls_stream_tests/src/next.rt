@@ -285,9 +285,9 @@ fn a_failed_read_is_named_and_counted_once_with_ample_memory(
     Ok(())
 }
 
-/// The answer is want of memory, or what it is with ample memory.
+/// The answer is that memory was refused, or what it is with ample memory.
 #[test]
-fn codestreams_are_taken_or_memory_is_wanting(rt: HostRuntime) {
+fn codestreams_are_taken_or_memory_is_refused(rt: HostRuntime) {
     for (at, (_, codestream, _)) in CODESTREAMS.into_iter().enumerate() {
         let mut rest = codestream;
         let next = next_stream(rt.alloc(), &mut rest);

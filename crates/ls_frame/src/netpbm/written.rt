@@ -10,7 +10,7 @@ ghost use Rattle.ls_frame.specs.View.Reading.{byte_count};
 use super::raster::is_wide;
 use crate::device::Outlet;
 use crate::frame::{Frame, Kind};
-use crate::output::{WriteFault, write_bytes};
+use crate::output::{WriteFault, lay, write_bytes};
 use itoa::Buffer;
 
 /// How many bytes go out at once at most: an even number, and enough for a header.
@@ -90,25 +90,14 @@ fn put_heading(piece: &mut [u8; PIECE], frame: &Frame) -> usize
     ensures within { result ≤ 21 }
 {
     let mut number = Buffer::new();
-    let mut end = put(piece, 0, magic(frame.kind()));
-    end = put(piece, end, b"\n");
-    end = put(piece, end, number.format(frame.width()).as_bytes());
-    end = put(piece, end, b" ");
-    end = put(piece, end, number.format(frame.height()).as_bytes());
-    end = put(piece, end, b"\n");
-    end = put(piece, end, number.format(frame.maxval()).as_bytes());
-    put(piece, end, b"\n")
-}
-
-/// Lays `text` after the `filled` bytes at the front of `piece`, and says where it ends.
-fn put(piece: &mut [u8], filled: usize, text: &[u8]) -> usize
-    requires { filled + length text.now ≤ length piece.old }
-    ensures laid { take result piece.new ≡ take filled piece.old ++ text.now }
-    ensures end { result ≡ filled + length text.now }
-{
-    let end = filled + text.len();
-    piece[filled..end].copy_from_slice(text);
-    end
+    let mut end = lay(piece, 0, magic(frame.kind()));
+    end = lay(piece, end, b"\n");
+    end = lay(piece, end, number.format(frame.width()).as_bytes());
+    end = lay(piece, end, b" ");
+    end = lay(piece, end, number.format(frame.height()).as_bytes());
+    end = lay(piece, end, b"\n");
+    end = lay(piece, end, number.format(frame.maxval()).as_bytes());
+    lay(piece, end, b"\n")
 }
 
 fn magic(kind: Kind) -> &'static [u8]

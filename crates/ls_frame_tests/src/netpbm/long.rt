@@ -21,7 +21,7 @@ fn long_image(alloc: Global, is_wide: bool) -> Result<Vec<u8>, AllocError> {
     Ok(bytes)
 }
 
-/// That the image was read, or memory was wanting where it may be.
+/// That the image was read, or memory was refused where it may be.
 fn check_long_image(
     rt: &impl Abort,
     memory: Memory,

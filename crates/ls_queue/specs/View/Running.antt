@@ -33,11 +33,11 @@ module _ {X : Type 0} where
 
   -- the items that a source seat put, in order
   abbrev pub items_put : SourceSeat X → List X
-  items_put seat = items_in (view seat.token).puts
+  items_put seat = items_in (view seat.pass).puts
 
   -- the jobs that a worker seat took, in order
   abbrev pub jobs_taken : WorkerSeat X → List (Job X)
-  jobs_taken seat = jobs_in_first (view seat.token).takes
+  jobs_taken seat = jobs_in_first (view seat.pass).takes
 
   -- whether it was answered Done
   abbrev pub is_done : WorkerSeat X → Bool
@@ -45,7 +45,7 @@ module _ {X : Type 0} where
 
   -- the items that a source put before its end, in order
   abbrev pub items_ended : Ended X → List X
-  items_ended ended = items_in (view ended.token).puts
+  items_ended ended = items_in (view ended.pass).puts
 
   -- how many sources and how many workers a queue was opened for
   abbrev pub sources_of : Queue X → ℕ
@@ -60,8 +60,8 @@ module _ {X : Type 0} where
 
   -- these are seats, ends and the closer of the queue with this channel
   pub record IsSourceAt (channel : Channel X) (seat : SourceSeat X) : Type 0 where
-    pub token : IsSeatAt (sends_on channel.entrance) seat.token
-    pub known : view seat.token ≡ source_view seat.source (items_put seat)
+    pub pass : IsSeatAt (sends_on channel.entrance) seat.pass
+    pub known : view seat.pass ≡ source_view seat.source (items_put seat)
     pub count : seat.count ≡ length (items_put seat)
     pub source : seat.source < channel.sources
 
@@ -69,15 +69,15 @@ module _ {X : Type 0} where
   IsSourceSeat queue seat = IsSourceAt queue.channel seat
 
   pub record IsWorkerAt (channel : Channel X) (seat : WorkerSeat X) : Type 0 where
-    pub token : IsSeatAt (sends_on channel.entrance) seat.token
-    pub known : view seat.token ≡ worker_view channel.sources (jobs_taken seat) (is_done seat)
+    pub pass : IsSeatAt (sends_on channel.entrance) seat.pass
+    pub known : view seat.pass ≡ worker_view channel.sources (jobs_taken seat) (is_done seat)
 
   abbrev pub IsWorkerSeat : Queue X → WorkerSeat X → Type 0
   IsWorkerSeat queue seat = IsWorkerAt queue.channel seat
 
   pub record IsEndedAt (channel : Channel X) (ended : Ended X) : Type 0 where
-    pub token : IsSeatAt (sends_on channel.entrance) ended.token
-    pub known : view ended.token ≡ source_view ended.source (items_ended ended)
+    pub pass : IsSeatAt (sends_on channel.entrance) ended.pass
+    pub known : view ended.pass ≡ source_view ended.source (items_ended ended)
     pub count : ended.count ≡ length (items_ended ended)
     pub source : ended.source < channel.sources
 
@@ -85,8 +85,8 @@ module _ {X : Type 0} where
   IsEnded queue ended = IsEndedAt queue.channel ended
 
   pub record IsCloser (queue : Queue X) (closer : Closer X) : Type 0 where
-    pub token : IsSeatAt (sends_on queue.channel.entrance) closer.token
-    pub known : view closer.token ≡ closer_view (64 - queue.channel.sources - queue.channel.workers) queue.channel.sources queue.channel.workers
+    pub pass : IsSeatAt (sends_on queue.channel.entrance) closer.pass
+    pub known : view closer.pass ≡ closer_view (64 - queue.channel.sources - queue.channel.workers) queue.channel.sources queue.channel.workers
 
   -- a seat for each source from number n on, by which nothing was put
   abbrev pub AreNewSources : Channel X → ℕ → List (SourceSeat X) → Type 0
@@ -141,13 +141,13 @@ module _ {X : Type 0} where
 
   -- the items of all sources, once the queue is finished
   abbrev pub puts_of : Finished X → List (Puts X)
-  puts_of finished = (view finished.token).puts
+  puts_of finished = (view finished.pass).puts
 
   -- all sources have ended, each with its count, and there is an end mark for each worker
   pub record IsFinished (queue : Queue X) (finished : Finished X) : Type 0 where
-    pub token : IsSeatAt (sends_on queue.channel.entrance) finished.token
+    pub pass : IsSeatAt (sends_on queue.channel.entrance) finished.pass
     pub shares : ℕ
-    pub known : view finished.token ≡ ending_view shares (puts_of finished) queue.channel.sources queue.channel.workers queue.channel.workers
+    pub known : view finished.pass ≡ ending_view shares (puts_of finished) queue.channel.sources queue.channel.workers queue.channel.workers
     pub left : 64 ≤ shares + queue.channel.workers
     pub counted : (s : ℕ) → s < queue.channel.sources → IsCounted finished.counts (puts_of finished) s
 

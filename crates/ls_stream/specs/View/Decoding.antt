@@ -1,7 +1,7 @@
 -- How the planes that bits may be of grow fewer while the bits are read: until one plane is left, or none.
 use Rattle.std.specs.Prelude.{◌≡◌, ◌↔◌, ℕ, ◌+◌, ◌-◌, ◌*◌, ◌<◌, ◌≤◌, Bool, true, false, List, [], ◌++◌, length, slice_index, slice_index_or, ℤ, pos}
 use Rattle.ls_frame.specs.Parameters.{Parameters}
-use Rattle.ls_coding.specs.Contexts.{half_context}
+use Rattle.ls_coding.specs.View.SignedContexts.{half_context}
 use Rattle.ls_coding.specs.View.States.{Coding}
 use Rattle.ls_frame.specs.Picture.{Picture}
 use Rattle.ls_stream.specs.declared.segments.read.FrameHeader.{FrameHeader}
@@ -13,13 +13,13 @@ use Rattle.ls_stream.specs.declared.faults.StreamFault.{StreamFault}
 use Rattle.ls_stream.specs.declared.faults.StreamFault.TheVariants as stream
 use Rattle.ls_stream.specs.declared.decode.scan.ScanFault.{ScanFault}
 use Rattle.ls_stream.specs.declared.decode.scan.ScanFault.TheVariants.{Code, LeftoverBits}
-use Rattle.ls_stream.specs.Faults.{BreakInPlane, HaveLeftoverBits}
+use Rattle.ls_stream.specs.View.FirstFaults.{BreakInPlane, HaveLeftoverBits}
 use Rattle.ls_stream.specs.Planes.{Plane, IsSamplePlane, at, left, Span, row_from, rows_from}
 use Rattle.ls_stream.specs.Components.{component_plane}
 use Rattle.ls_stream.specs.Grammar.{IsCoded}
 use Rattle.ls_stream.specs.View.BitFaults.{BreaksSpans}
 use Rattle.ls_stream.specs.View.Coded.{bits_from}
-use Rattle.ls_stream.specs.View.LineBuffers.{HoldsLine}
+use Rattle.ls_stream.specs.View.LineBuffers.{HoldsLine, ArePadded}
 
 -- a plane of this width, of samples of at most maxval, that has a row i
 pub record HasSampleRow (maxval width : ℕ) (plane : Plane) (i : ℕ) : Type 0 where
@@ -84,6 +84,21 @@ pub record BreaksFrom (maxval width : ℕ) (above : List ℕ) (one : Place) (fau
   pub breaks : (plane : Plane) (i : ℕ) → HasSampleRow maxval width plane i → HoldsRowTo plane i above line column → (more : List Span)
       → BreaksSpans plane (row_from plane i one.column ++ more) one.state one.bits fault
 
+-- From one place the row was read to another: what was read is of the planes that it may be of, whatever follows, and bits that break
+-- later break all. The buffer has samples, its first place is as it was, and no run is broken.
+pub record ReadsOn (width : ℕ) (above : List ℕ) (one other : Place) : Type 0 where
+  pub same : AreSamePlanes one.state.parameters.maxval width above one other
+  pub later : BreaksLater one.state.parameters.maxval width above one other
+  pub lines : ArePadded other.state.parameters.maxval width above other.line
+  pub first : slice_index other.line 0 ≡ slice_index one.line 0
+  pub whole : other.state.broken ≡ false
+  pub parameters : other.state.parameters ≡ one.state.parameters
+
+-- From there it can't be read on: what is left is of no plane, and breaks so.
+pub record ReadsNoFurther (width : ℕ) (above : List ℕ) (one : Place) (fault : CodeFault) : Type 0 where
+  pub none : IsNoPlane one.state.parameters.maxval width above one
+  pub breaks : BreaksFrom one.state.parameters.maxval width above one fault
+
 -- ---- in a scan
 
 -- so many rows of a plane stand among samples, in the places of one of `count` components
@@ -107,12 +122,12 @@ pub record AreRepeated (old : List ℕ) (column end : ℕ) (new : List ℕ) : Ty
   pub after : (k : ℕ) → end < k → slice_index new k ≡ slice_index old k
 
 -- what the line above says of the context of a column's sample
-abbrev pub half_in : Parameters → List ℕ → ℕ → ℤ
-half_in p above j = half_context p (slice_index above (j + 1)) (slice_index above j) (slice_index above (j + 2))
+abbrev pub half_context_in : Parameters → List ℕ → ℕ → ℤ
+half_context_in p above j = half_context p (slice_index above (j + 1)) (slice_index above j) (slice_index above (j + 2))
 
 -- and of those of the columns from one up to another
-abbrev pub AreHalves : Parameters → ℕ → ℕ → List ℕ → List ℤ → Type 0
-AreHalves p start end above halves = (j : ℕ) → start ≤ j → j < end → slice_index_or halves j (pos 0) ≡ half_in p above j
+abbrev pub AreHalfContexts : Parameters → ℕ → ℕ → List ℕ → List ℤ → Type 0
+AreHalfContexts p start end above half_contexts = (j : ℕ) → start ≤ j → j < end → slice_index_or half_contexts j (pos 0) ≡ half_context_in p above j
 
 -- a run of so many samples, with so many left in the line: one that ends with the line has all of them, one that is broken fewer
 pub record EndsInLine (left count : ℕ) (broken : Bool) : Type 0 where

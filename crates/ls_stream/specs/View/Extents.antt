@@ -14,6 +14,7 @@ use Rattle.ls_stream.specs.declared.next.NextFault.{NextFault}
 use Rattle.ls_stream.specs.declared.next.NextFault.TheVariants as next_fault
 use Rattle.ls_stream.specs.Markers.{code_of}
 use Rattle.ls_stream.specs.Grammar.{Spells, most_bytes}
+use Rattle.ls_stream.specs.Faults.{BeginsWithOpening}
 use Rattle.ls_stream.specs.View.Reading.{◌>>=◌, Take, start_at, marker_at, contents_at}
 use Rattle.ls_stream.specs.View.Outlines.{after_data, Outline, outline_at, DecodingStops, fault_of, IsFirstFault}
 
@@ -74,13 +75,14 @@ with_left rest (Err fault) = Err fault
 abbrev pub StopsWith : List ℕ → StreamFault → Type 0
 StopsWith bytes fault = (cause : StreamFault) × (fault ≡ fault_of bytes cause) × DecodingStops (take most_bytes bytes) cause
 
--- What decoding bytes answers: the frame of the codestream at their front, with how many bytes that has, or their first fault; or want
--- of memory.
+-- What decoding bytes answers: the frame of the codestream at their front, with how many bytes that has; their first fault; or, after
+-- a whole legal opening, that memory was refused.
 pub record IsDecoding (bytes : List ℕ) (result : Result Decoded StreamFault) : Type 0 where
   pub ok : IfOk result (λ decoded. (decoded.used ≤ length bytes) × Spells (take decoded.used bytes) decoded.frame)
   pub first : IfErr result (λ fault. (fault ≡ stream_fault.NoMemory) ⊎ IsFirstFault bytes fault)
   pub whole : (front rest : List ℕ) (f : Picture) → bytes ≡ front ++ rest → Spells front f
       → MatchResult result (λ decoded. (decoded.frame ≡ f) × (decoded.used ≡ length front)) (λ fault. fault ≡ stream_fault.NoMemory)
+  pub memory : IfErr result (λ fault. fault ≡ stream_fault.NoMemory → BeginsWithOpening (take most_bytes bytes))
 
 -- It decoded the next codestream of these bytes.
 pub record IsDecodingOfNext (bytes : List ℕ) (result : Result Decoded StreamFault) : Type 0 where

@@ -10,7 +10,8 @@ use Rattle.ls_stream.specs.declared.faults.StreamFault.TheVariants.{Truncated, T
 use Rattle.ls_stream.specs.declared.segments.read.FrameHeader.{FrameHeader}
 use Rattle.ls_stream.specs.Components.{plane_of}
 use Rattle.ls_stream.specs.Grammar.{IsCoded, Spells, most_bytes}
-use Rattle.ls_stream.specs.Faults.{Breaks, BreaksData, IsPlaneData, FirstFault}
+use Rattle.ls_stream.specs.Faults.{Breaks}
+use Rattle.ls_stream.specs.View.FirstFaults.{BreaksData, IsPlaneData, FirstFault}
 use Rattle.ls_stream.specs.View.Reading.{◌>>=◌, Take, opening_at, next_scan_at, end_at}
 
 -- ---- the data of a scan

@@ -262,6 +262,10 @@ opening_at bytes = do
   parameters ← or_bad_presets (parameters_of frame.0.precision scan.0)
   Ok (frame.0, parameters, scan.1)
 
+-- an opening is read at the front of bytes
+abbrev pub HasOpening : List ℕ → Type 0
+HasOpening bytes = (opening : FrameHeader × Parameters × List ℕ) × (opening_at bytes ≡ Ok opening)
+
 -- ---- what a function of the code gives
 
 -- What was returned, seen by view, is what reading gives.

@@ -4,7 +4,8 @@ ghost use Rattle.ls_frame.specs.Parameters.{qbpp_of, limit_of};
 ghost use Rattle.ls_bits.specs.Stuffing.{unstuff};
 ghost use Rattle.ls_bits.specs.Data.{IsData};
 ghost use Rattle.ls_coding.specs.Samples.{AreSamples, Interrupts};
-ghost use Rattle.ls_coding.specs.Contexts.{is_zero, is_run, signed_context, half_context};
+ghost use Rattle.ls_coding.specs.Contexts.{is_zero, is_run};
+ghost use Rattle.ls_coding.specs.View.SignedContexts.{signed_context, half_context};
 ghost use Rattle.ls_coding.specs.Interruptions.{ri_type_of, interruption_error};
 ghost use Rattle.ls_coding.specs.Runs.{run_of, run_bits};
 ghost use Rattle.ls_coding.specs.Events.{golomb_bits};
@@ -94,7 +95,7 @@ impl<'a> Decoder<'a> {
         self.source.left()
     }
 
-    /// The context of a sample, of which `half` is what the line above says of it.
+    /// The context of a sample, of which `half` is the part that the line above decides.
     pub fn context_of(&self, half: i16, neighbours: &Neighbours) -> i16
         requires half { half ≡ half_context self.now.state.parameters neighbours.now.b neighbours.now.c neighbours.now.d }
         requires samples { AreSamples self.now.state.parameters.maxval neighbours.now }

@@ -1,17 +1,19 @@
-//! Markers and segments at the front of bytes (T.87 Annex C; T.81 B.1.1). Each function answers what it read and the bytes that are
-//! left, or the first fault from the left. They allocate nothing.
+//! What stands around the data of scans, at the front of bytes: headers and EOI, with the miscellaneous segments before them (T.87
+//! Annex C; T.81 B.2). Each function answers what it read and the bytes that are left, or the first fault from the left. They
+//! allocate nothing.
 ghost use Rattle.std.specs.Prelude.{◌≡◌, ◌<◌, ◌≤◌, length, take, IfOk};
 ghost use Rattle.ls_frame.specs.Picture.{sample_count, most_samples};
 ghost use Rattle.ls_stream.specs.Grammar.{parameters_of, most_bytes};
 ghost use Rattle.ls_stream.specs.View.Outlines.{fault_of};
-ghost use Rattle.ls_stream.specs.View.Reading.{Gives, byte_at, start_at, code_at, marker_at, contents_at, skipped_at, presets_at, after_marker, piece_at, ahead_at, frame_header_at, scan_header_at, next_scan_at, end_at, opening_at, fields_of};
+ghost use Rattle.ls_stream.specs.View.Reading.{Gives, start_at, skipped_at, presets_at, after_marker, piece_at, ahead_at, frame_header_at, scan_header_at, next_scan_at, end_at, opening_at, fields_of};
 
 use crate::faults::{StreamFault, What};
 use crate::marker::Marker;
-use crate::segments::greatest_maxval;
 use crate::segments::read::{
-    FrameHeader, PresetFields, field, read_frame_header, read_presets, read_scan_header,
+    FrameHeader, PresetFields, read_byte, read_contents, read_frame_header, read_marker,
+    read_presets, read_scan_header,
 };
+use crate::segments::{MOST_BYTES, greatest_maxval};
 use ls_frame::{PresetFault, Presets, Tuning};
 
 /// Each parameter by default, as where a codestream has no preset parameters.
@@ -25,9 +27,6 @@ const NO_PRESETS: PresetFields = PresetFields {
     },
 };
 
-/// The most bytes of a codestream.
-const MOST_BYTES: usize = 4_294_967_295;
-
 /// The first bytes, as many as a codestream may have.
 #[tactic(auto, using(crate::proofs::MostLemmas::first_all))]
 pub fn first_bytes(bytes: &[u8]) -> &[u8]
@@ -40,7 +39,7 @@ pub fn first_bytes(bytes: &[u8]) -> &[u8]
     }
 }
 
-/// A fault of the first bytes, as many as a codestream may have: where there are more, a byte that is wanted after them is one too
+/// A fault of the first bytes, as many as a codestream may have: where there are more, a byte that is needed after them is one too
 /// many.
 #[tactic(auto, using(crate::proofs::MostLemmas::past_other))]
 pub fn fault_of(bytes: &[u8], fault: StreamFault) -> StreamFault
@@ -252,68 +251,4 @@ fn read_written(
     let (contents, rest) = read_contents(bytes)?;
     let written = read_presets(contents)?;
     Ok((None, written, rest))
-}
-
-/// The contents of a segment, by the length after its marker.
-#[tactic(auto, unfolding(crate::specs::View::Reading::contents_at))]
-fn read_contents(bytes: &[u8]) -> Result<(&[u8], &[u8]), StreamFault>
-    ensures value { Gives (λ x. (x.0.now, x.1.now)) result (contents_at bytes.now) }
-    ensures no_longer { IfOk result (λ x. length x.1.now ≤ length bytes.now) }
-{
-    if bytes.len() < 2 {
-        return Err(StreamFault::Truncated);
-    }
-    let len = usize::from(field(bytes, 0));
-    if len < 2 {
-        return Err(StreamFault::BadSegment);
-    }
-    if bytes.len() < len {
-        return Err(StreamFault::Truncated);
-    }
-    Ok((&bytes[2..len], &bytes[len..]))
-}
-
-/// A marker, and the fill bytes before it (T.81 B.1.1.2).
-#[tactic(auto, unfolding(crate::specs::View::Reading::marker_at))]
-fn read_marker(bytes: &[u8]) -> Result<(Marker, &[u8]), StreamFault>
-    ensures value { Gives (λ x. (x.0, x.1.now)) result (marker_at bytes.now) }
-    ensures shorter { IfOk result (λ x. length x.1.now < length bytes.now) }
-{
-    let (first, rest) = read_byte(bytes)?;
-    if first != 0xFF {
-        return Err(StreamFault::BadSegment);
-    }
-    let (code, rest) = read_code(rest)?;
-    Ok((Marker::of_code(code), rest))
-}
-
-/// The code of a marker after its FF.
-#[tactic(auto, using(crate::proofs::MarkerLemmas::code_lemmas))]
-fn read_code(bytes: &[u8]) -> Result<(u8, &[u8]), StreamFault>
-    ensures value { Gives (λ x. (x.0, x.1.now)) result (code_at bytes.now) }
-    ensures shorter { IfOk result (λ x. length x.1.now < length bytes.now) }
-{
-    let mut rest = bytes;
-    loop {
-        let (byte, left) = read_byte(rest)?;
-        rest = left;
-        if byte == 0 {
-            return Err(StreamFault::BadSegment);
-        }
-        if byte != 0xFF {
-            return Ok((byte, rest));
-        }
-    }
-}
-
-/// A byte.
-#[tactic(auto, using(crate::proofs::MarkerLemmas::byte_lemmas))]
-fn read_byte(bytes: &[u8]) -> Result<(u8, &[u8]), StreamFault>
-    ensures value { Gives (λ x. (x.0, x.1.now)) result (byte_at bytes.now) }
-    ensures shorter { IfOk result (λ x. length x.1.now < length bytes.now) }
-{
-    if bytes.len() == 0 {
-        return Err(StreamFault::Truncated);
-    }
-    Ok((bytes[0], &bytes[1..]))
 }

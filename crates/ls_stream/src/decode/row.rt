@@ -2,7 +2,7 @@
 ghost use Rattle.std.specs.Prelude.{◌≡◌, ◌+◌, ◌<◌, ◌≤◌, true, false, length, slice_index, IfOk, IfErr};
 ghost use Rattle.ls_coding.specs.Contexts.{is_run};
 ghost use Rattle.ls_stream.specs.View.LineBuffers.{neighbours_in, ArePadded};
-ghost use Rattle.ls_stream.specs.View.Decoding.{place, AreSamePlanes, IsNoPlane, BreaksLater, BreaksFrom, AreRepeated, AreHalves, half_in};
+ghost use Rattle.ls_stream.specs.View.Decoding.{place, ReadsOn, ReadsNoFurther, AreRepeated, AreHalfContexts, half_context_in};
 
 use crate::decode::decoder::Decoder;
 use crate::lines::neighbours_in;
@@ -13,49 +13,51 @@ use ls_frame::Presets;
 /// For how many samples the line above is looked at ahead. Those after a long run would be looked at in vain.
 const BLOCK: usize = 64;
 
-/// Reads a row into its line, whose first place is filled; `above` is the line above it, and `halves` is room for what that line says
-/// of the contexts.
+/// Reads a row into its line, whose first place is filled; `above` is the line above it, and `half_contexts` is a buffer for the half
+/// contexts that it gives.
 pub fn decode_row(
     decoder: &mut Decoder,
     above: &[u16],
     line: &mut [u16],
-    halves: &mut [i16],
+    half_contexts: &mut [i16],
     width: usize,
 ) -> Result<(), CodeFault>
     requires lines { ArePadded decoder.old.state.parameters.maxval width above.now line.old }
-    requires halves { length halves.old ≡ width }
+    requires half_contexts { length half_contexts.old ≡ width }
     requires narrow { width ≤ 65535 }
     requires whole { decoder.old.state.broken ≡ false }
-    ensures row { IfOk result (λ _. AreSamePlanes decoder.old.state.parameters.maxval width above.now
+    ensures on { IfOk result (λ _. ReadsOn width above.now
         (place 0 line.old decoder.old.state decoder.old.bits) (place width line.new decoder.new.state decoder.new.bits)) }
-    ensures none { IfErr result (λ fault. IsNoPlane decoder.old.state.parameters.maxval width above.now
-        (place 0 line.old decoder.old.state decoder.old.bits)) }
-    ensures later { IfOk result (λ _. BreaksLater decoder.old.state.parameters.maxval width above.now
-        (place 0 line.old decoder.old.state decoder.old.bits) (place width line.new decoder.new.state decoder.new.bits)) }
-    ensures breaks { IfErr result (λ fault. BreaksFrom decoder.old.state.parameters.maxval width above.now
-        (place 0 line.old decoder.old.state decoder.old.bits) fault) }
-    ensures lines { IfOk result (λ _. ArePadded decoder.old.state.parameters.maxval width above.now line.new) }
-    ensures first { IfOk result (λ _. slice_index line.new 0 ≡ slice_index line.old 0) }
-    ensures whole { IfOk result (λ _. decoder.new.state.broken ≡ false) }
-    ensures parameters { IfOk result (λ _. decoder.new.state.parameters ≡ decoder.old.state.parameters) }
+    ensures stops { IfErr result (λ fault. ReadsNoFurther width above.now (place 0 line.old decoder.old.state decoder.old.bits) fault) }
 {
     let mut column = 0;
     'columns: while column < width {
         let end = (column + BLOCK).min(width);
-        find_halves(decoder.presets(), above, halves, column, end);
-        column = decode_block(decoder, above, line, halves, width, column, end)?;
+        find_half_contexts(decoder.presets(), above, half_contexts, column, end);
+        column = decode_block(decoder, above, line, half_contexts, width, column, end)?;
     }
     Ok(())
 }
 
-/// Finds what the line above says of the contexts of the samples from column `start` up to `end`.
-fn find_halves(presets: &Presets, above: &[u16], halves: &mut [i16], start: usize, end: usize)
-    requires above { length above.now ≡ length halves.old + 2 }
-    requires end { end ≤ length halves.old }
-    ensures { AreHalves presets.now start end above.now halves.new }
+/// Finds the half contexts of the samples from column `start` up to `end`, by the line above.
+fn find_half_contexts(
+    presets: &Presets,
+    above: &[u16],
+    half_contexts: &mut [i16],
+    start: usize,
+    end: usize,
+)
+    requires above { length above.now ≡ length half_contexts.old + 2 }
+    requires end { end ≤ length half_contexts.old }
+    ensures { AreHalfContexts presets.now start end above.now half_contexts.new }
 {
     for column in start..end {
-        halves[column] = half_context(presets, above[column + 1], above[column], above[column + 2]);
+        half_contexts[column] = half_context(
+            presets,
+            above[column + 1],
+            above[column],
+            above[column + 2],
+        );
     }
 }
 
@@ -64,40 +66,31 @@ fn decode_block(
     decoder: &mut Decoder,
     above: &[u16],
     line: &mut [u16],
-    halves: &[i16],
+    half_contexts: &[i16],
     width: usize,
     start: usize,
     end: usize,
 ) -> Result<usize, CodeFault>
     requires lines { ArePadded decoder.old.state.parameters.maxval width above.now line.old }
-    requires halves { AreHalves decoder.old.state.parameters start end above.now halves.now }
-    requires long { end ≤ length halves.now }
+    requires half_contexts { AreHalfContexts decoder.old.state.parameters start end above.now half_contexts.now }
+    requires long { end ≤ length half_contexts.now }
     requires some { start < end }
     requires inside { end ≤ width }
     requires narrow { width ≤ 65535 }
     requires whole { decoder.old.state.broken ≡ false }
-    ensures block { IfOk result (λ next. AreSamePlanes decoder.old.state.parameters.maxval width above.now
-        (place start line.old decoder.old.state decoder.old.bits) (place next line.new decoder.new.state decoder.new.bits)) }
-    ensures none { IfErr result (λ fault. IsNoPlane decoder.old.state.parameters.maxval width above.now
-        (place start line.old decoder.old.state decoder.old.bits)) }
-    ensures later { IfOk result (λ next. BreaksLater decoder.old.state.parameters.maxval width above.now
-        (place start line.old decoder.old.state decoder.old.bits) (place next line.new decoder.new.state decoder.new.bits)) }
-    ensures breaks { IfErr result (λ fault. BreaksFrom decoder.old.state.parameters.maxval width above.now
-        (place start line.old decoder.old.state decoder.old.bits) fault) }
     ensures next { IfOk result (λ next. (start < next) × (next ≤ width)) }
-    ensures lines { IfOk result (λ _. ArePadded decoder.old.state.parameters.maxval width above.now line.new) }
-    ensures first { IfOk result (λ _. slice_index line.new 0 ≡ slice_index line.old 0) }
-    ensures whole { IfOk result (λ _. decoder.new.state.broken ≡ false) }
-    ensures parameters { IfOk result (λ _. decoder.new.state.parameters ≡ decoder.old.state.parameters) }
+    ensures on { IfOk result (λ next. ReadsOn width above.now
+        (place start line.old decoder.old.state decoder.old.bits) (place next line.new decoder.new.state decoder.new.bits)) }
+    ensures stops { IfErr result (λ fault. ReadsNoFurther width above.now (place start line.old decoder.old.state decoder.old.bits) fault) }
 {
     let mut column = start;
     'spans: while column < end {
-        column = decode_span(decoder, halves[column], above, line, width, column)?;
+        column = decode_span(decoder, half_contexts[column], above, line, width, column)?;
     }
     Ok(column)
 }
 
-/// Reads the span that begins at a column, and answers the column after it; `half` is what the line above says of the column's context.
+/// Reads the span that begins at a column, and answers the column after it; `half` is the column's half context.
 fn decode_span(
     decoder: &mut Decoder,
     half: i16,
@@ -106,24 +99,15 @@ fn decode_span(
     width: usize,
     column: usize,
 ) -> Result<usize, CodeFault>
-    requires half { half ≡ half_in decoder.old.state.parameters above.now column }
+    requires half { half ≡ half_context_in decoder.old.state.parameters above.now column }
     requires lines { ArePadded decoder.old.state.parameters.maxval width above.now line.old }
     requires inside { column < width }
     requires narrow { width ≤ 65535 }
     requires whole { decoder.old.state.broken ≡ false }
-    ensures span { IfOk result (λ next. AreSamePlanes decoder.old.state.parameters.maxval width above.now
-        (place column line.old decoder.old.state decoder.old.bits) (place next line.new decoder.new.state decoder.new.bits)) }
-    ensures none { IfErr result (λ fault. IsNoPlane decoder.old.state.parameters.maxval width above.now
-        (place column line.old decoder.old.state decoder.old.bits)) }
-    ensures later { IfOk result (λ next. BreaksLater decoder.old.state.parameters.maxval width above.now
-        (place column line.old decoder.old.state decoder.old.bits) (place next line.new decoder.new.state decoder.new.bits)) }
-    ensures breaks { IfErr result (λ fault. BreaksFrom decoder.old.state.parameters.maxval width above.now
-        (place column line.old decoder.old.state decoder.old.bits) fault) }
     ensures next { IfOk result (λ next. (column < next) × (next ≤ width)) }
-    ensures lines { IfOk result (λ _. ArePadded decoder.old.state.parameters.maxval width above.now line.new) }
-    ensures first { IfOk result (λ _. slice_index line.new 0 ≡ slice_index line.old 0) }
-    ensures whole { IfOk result (λ _. decoder.new.state.broken ≡ false) }
-    ensures parameters { IfOk result (λ _. decoder.new.state.parameters ≡ decoder.old.state.parameters) }
+    ensures on { IfOk result (λ next. ReadsOn width above.now
+        (place column line.old decoder.old.state decoder.old.bits) (place next line.new decoder.new.state decoder.new.bits)) }
+    ensures stops { IfErr result (λ fault. ReadsNoFurther width above.now (place column line.old decoder.old.state decoder.old.bits) fault) }
 {
     let neighbours = neighbours_in(above, line, column);
     let context = decoder.context_of(half, &neighbours);
@@ -147,19 +131,10 @@ fn decode_run_span(
     requires inside { column < width }
     requires narrow { width ≤ 65535 }
     requires whole { decoder.old.state.broken ≡ false }
-    ensures span { IfOk result (λ next. AreSamePlanes decoder.old.state.parameters.maxval width above.now
-        (place column line.old decoder.old.state decoder.old.bits) (place next line.new decoder.new.state decoder.new.bits)) }
-    ensures none { IfErr result (λ fault. IsNoPlane decoder.old.state.parameters.maxval width above.now
-        (place column line.old decoder.old.state decoder.old.bits)) }
-    ensures later { IfOk result (λ next. BreaksLater decoder.old.state.parameters.maxval width above.now
-        (place column line.old decoder.old.state decoder.old.bits) (place next line.new decoder.new.state decoder.new.bits)) }
-    ensures breaks { IfErr result (λ fault. BreaksFrom decoder.old.state.parameters.maxval width above.now
-        (place column line.old decoder.old.state decoder.old.bits) fault) }
     ensures next { IfOk result (λ next. (column < next) × (next ≤ width)) }
-    ensures lines { IfOk result (λ _. ArePadded decoder.old.state.parameters.maxval width above.now line.new) }
-    ensures first { IfOk result (λ _. slice_index line.new 0 ≡ slice_index line.old 0) }
-    ensures whole { IfOk result (λ _. decoder.new.state.broken ≡ false) }
-    ensures parameters { IfOk result (λ _. decoder.new.state.parameters ≡ decoder.old.state.parameters) }
+    ensures on { IfOk result (λ next. ReadsOn width above.now
+        (place column line.old decoder.old.state decoder.old.bits) (place next line.new decoder.new.state decoder.new.bits)) }
+    ensures stops { IfErr result (λ fault. ReadsNoFurther width above.now (place column line.old decoder.old.state decoder.old.bits) fault) }
 {
     let run = decoder.decode_run((width - column) as u32)?;
     let end = column + run.count as usize;

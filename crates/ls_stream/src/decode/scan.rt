@@ -9,7 +9,7 @@ ghost use Rattle.ls_stream.specs.Grammar.{IsCoded};
 ghost use Rattle.ls_stream.specs.View.BitFaults.{BreaksSpans, BreaksPlane};
 ghost use Rattle.ls_stream.specs.View.Decoding.{RowsMayBeRead, ScanBreaks};
 
-use crate::buffers::Lines;
+use crate::buffers::DecoderLines;
 use crate::decode::decoder::Decoder;
 use crate::decode::row::decode_row;
 use crate::lines::clear;
@@ -32,7 +32,7 @@ pub fn decode_scan(
     presets: &Presets,
     regions: &Regions,
     bytes: &[u8],
-    lines: &mut Lines,
+    lines: &mut DecoderLines,
     samples: &mut [u16],
     shape: Shape,
     component: usize,
@@ -62,9 +62,9 @@ pub fn decode_scan(
     let mut decoder = Decoder::new(presets, regions, &words, &mut state, bytes);
     let read = decode_plane(
         &mut decoder,
-        &mut lines.above,
-        &mut lines.line,
-        &mut lines.contexts,
+        &mut lines.lines.above,
+        &mut lines.lines.line,
+        &mut lines.half_contexts,
         samples,
         shape,
         component,
@@ -78,19 +78,19 @@ pub fn decode_scan(
     Ok(())
 }
 
-/// Reads a component's plane, at a scan's start; `above`, `line` and `halves` are room for what a row is read by.
+/// Reads a component's plane, at a scan's start; `above`, `line` and `half_contexts` are buffers for what a row is read by.
 fn decode_plane(
     decoder: &mut Decoder,
     above: &mut Vec<u16>,
     line: &mut Vec<u16>,
-    halves: &mut Vec<i16>,
+    half_contexts: &mut Vec<i16>,
     samples: &mut [u16],
     shape: Shape,
     component: usize,
 ) -> Result<(), CodeFault>
     requires above { shape.width + 2 ≤ vec_len above.old }
     requires line { shape.width + 2 ≤ vec_len line.old }
-    requires halves { shape.width ≤ vec_len halves.old }
+    requires half_contexts { shape.width ≤ vec_len half_contexts.old }
     requires some { 1 ≤ shape.width }
     requires narrow { shape.width ≤ 65535 }
     requires samples { length samples.old ≡ shape.height * shape.width * shape.components }
@@ -111,33 +111,33 @@ fn decode_plane(
     ensures len { length samples.new ≡ length samples.old }
     ensures above { vec_len above.new ≡ vec_len above.old }
     ensures line { vec_len line.new ≡ vec_len line.old }
-    ensures halves { vec_len halves.new ≡ vec_len halves.old }
+    ensures half_contexts { vec_len half_contexts.new ≡ vec_len half_contexts.old }
 {
     let places = shape.width + 2;
     decode_rows(
         decoder,
         &mut above[..places],
         &mut line[..places],
-        &mut halves[..shape.width],
+        &mut half_contexts[..shape.width],
         samples,
         shape,
         component,
     )
 }
 
-/// Reads the rows of one component; `above`, `line` and `halves` are room for what a row is read by.
+/// Reads the rows of one component; `above`, `line` and `half_contexts` are buffers for what a row is read by.
 fn decode_rows(
     decoder: &mut Decoder,
     above: &mut [u16],
     line: &mut [u16],
-    halves: &mut [i16],
+    half_contexts: &mut [i16],
     samples: &mut [u16],
     shape: Shape,
     component: usize,
 ) -> Result<(), CodeFault>
     requires above { length above.old ≡ shape.width + 2 }
     requires line { length line.old ≡ shape.width + 2 }
-    requires halves { length halves.old ≡ shape.width }
+    requires half_contexts { length half_contexts.old ≡ shape.width }
     requires some { 1 ≤ shape.width }
     requires narrow { shape.width ≤ 65535 }
     requires samples { length samples.old ≡ shape.height * shape.width * shape.components }
@@ -160,7 +160,7 @@ fn decode_rows(
     clear(line);
     for row in 0..shape.height {
         line[0] = above[1];
-        decode_row(decoder, above, line, halves, shape.width)?;
+        decode_row(decoder, above, line, half_contexts, shape.width)?;
         line[shape.width + 1] = line[shape.width];
         store_row(samples, line, row, shape, component);
         above.copy_from_slice(line);

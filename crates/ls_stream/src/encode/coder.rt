@@ -121,10 +121,10 @@ impl<'a> Coder<'a> {
         put_word(&mut self.sink, self.qbpp, word);
     }
 
-    /// The vector: the bytes that it had, and after them the bits of the scan, stuffed. Its capacity is at least what it was.
+    /// The vector: the bytes that it had, and after them the bits of the scan, stuffed. Its capacity is what it was.
     pub fn finish(self) -> Vec<u8>
         ensures bytes { result.items ≡ self.entry.front ++ stuff self.entry.bits }
-        ensures capacity { length self.entry.front + self.entry.room ≤ vec_capacity result }
+        ensures capacity { vec_capacity result ≡ length self.entry.front + self.entry.room }
     {
         self.sink.finish()
     }

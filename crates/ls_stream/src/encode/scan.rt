@@ -32,7 +32,7 @@ pub fn put_scan(
     requires room { vec_len bytes + scan_bound frame.now presets.now ≤ vec_capacity bytes }
     ensures bytes { result.items ≡ bytes.items ++ stuff (plane_bits presets.now (plane_of frame.now component)) }
     ensures short { vec_len result ≤ vec_len bytes + scan_bound frame.now presets.now }
-    ensures capacity { vec_capacity bytes ≤ vec_capacity result }
+    ensures capacity { vec_capacity result ≡ vec_capacity bytes }
     ensures lines { lines.new ≡ lines.old }
 {
     let mut state = State::new(presets);

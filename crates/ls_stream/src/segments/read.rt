@@ -1,11 +1,12 @@
-//! Reading the contents of marker segments (T.87 Annex C). Each function looks for faults in the order of the fields; a length that
-//! doesn't fit them comes as soon as it shows.
+//! Reading markers and the contents of marker segments (T.87 Annex C; T.81 B.1.1). Each function looks for faults in the order of the
+//! fields; a length that doesn't fit them comes as soon as it shows. They allocate nothing.
 ghost use Rattle.std.specs.Prelude.{◌≡◌, ◌+◌, ◌*◌, ◌<◌, ◌≤◌, length, IfOk};
 ghost use Rattle.ls_frame.specs.Picture.{components, sample_count, most_samples};
 ghost use Rattle.ls_stream.specs.Segments.{field_of};
-ghost use Rattle.ls_stream.specs.View.Reading.{Gives, kind_of_count, id_of, ids_of, frame_header_of, preset_fields_of, fields_of, scan_header_of};
+ghost use Rattle.ls_stream.specs.View.Reading.{Gives, byte_at, code_at, marker_at, contents_at, kind_of_count, id_of, ids_of, frame_header_of, preset_fields_of, fields_of, scan_header_of};
 
 use crate::faults::{StreamFault, What};
+use crate::marker::Marker;
 use crate::segments::SAMPLED_ONE_BY_ONE;
 use byteorder::{BigEndian, ByteOrder};
 use ls_frame::frame::MOST_SAMPLES;
@@ -30,6 +31,39 @@ pub struct FrameHeader {
 pub struct PresetFields {
     pub maxval: u16,
     pub tuning: Tuning,
+}
+
+/// A marker, and the fill bytes before it (T.81 B.1.1.2).
+#[tactic(auto, unfolding(crate::specs::View::Reading::marker_at))]
+pub fn read_marker(bytes: &[u8]) -> Result<(Marker, &[u8]), StreamFault>
+    ensures value { Gives (λ x. (x.0, x.1.now)) result (marker_at bytes.now) }
+    ensures shorter { IfOk result (λ x. length x.1.now < length bytes.now) }
+{
+    let (first, rest) = read_byte(bytes)?;
+    if first != 0xFF {
+        return Err(StreamFault::BadSegment);
+    }
+    let (code, rest) = read_code(rest)?;
+    Ok((Marker::of_code(code), rest))
+}
+
+/// The contents of a segment, by the length after its marker.
+#[tactic(auto, unfolding(crate::specs::View::Reading::contents_at))]
+pub fn read_contents(bytes: &[u8]) -> Result<(&[u8], &[u8]), StreamFault>
+    ensures value { Gives (λ x. (x.0.now, x.1.now)) result (contents_at bytes.now) }
+    ensures no_longer { IfOk result (λ x. length x.1.now ≤ length bytes.now) }
+{
+    if bytes.len() < 2 {
+        return Err(StreamFault::Truncated);
+    }
+    let len = usize::from(field(bytes, 0));
+    if len < 2 {
+        return Err(StreamFault::BadSegment);
+    }
+    if bytes.len() < len {
+        return Err(StreamFault::Truncated);
+    }
+    Ok((&bytes[2..len], &bytes[len..]))
 }
 
 /// The contents of a frame header (SOF55; T.87 C.2.2), of which the quantization tables aren't looked at.
@@ -132,12 +166,43 @@ pub fn read_scan_header(contents: &[u8], id: u8) -> Result<(), StreamFault>
     Ok(())
 }
 
+/// A byte.
+#[tactic(auto, using(crate::proofs::MarkerLemmas::byte_lemmas))]
+pub fn read_byte(bytes: &[u8]) -> Result<(u8, &[u8]), StreamFault>
+    ensures value { Gives (λ x. (x.0, x.1.now)) result (byte_at bytes.now) }
+    ensures shorter { IfOk result (λ x. length x.1.now < length bytes.now) }
+{
+    if bytes.len() == 0 {
+        return Err(StreamFault::Truncated);
+    }
+    Ok((bytes[0], &bytes[1..]))
+}
+
 /// The field of two bytes at a place.
 pub fn field(bytes: &[u8], place: usize) -> u16
     requires { place + 1 < length bytes.now }
     ensures { result ≡ field_of bytes.now place }
 {
     BigEndian::read_u16(&bytes[place..])
+}
+
+/// The code of a marker after its FF.
+#[tactic(auto, using(crate::proofs::MarkerLemmas::code_lemmas))]
+fn read_code(bytes: &[u8]) -> Result<(u8, &[u8]), StreamFault>
+    ensures value { Gives (λ x. (x.0, x.1.now)) result (code_at bytes.now) }
+    ensures shorter { IfOk result (λ x. length x.1.now < length bytes.now) }
+{
+    let mut rest = bytes;
+    loop {
+        let (byte, left) = read_byte(rest)?;
+        rest = left;
+        if byte == 0 {
+            return Err(StreamFault::BadSegment);
+        }
+        if byte != 0xFF {
+            return Ok((byte, rest));
+        }
+    }
 }
 
 /// The kind of frame that has so many components (Nf).

@@ -2,7 +2,8 @@ use Rattle.std.proofs.Common.{pos, ◌-ℤ◌, ap, ◌∙◌, arith}
 use Rattle.std.proofs.lemmas.Int.{ints}
 use mir.Syntax.{w16}
 use mir.Val.{to_z, of_z}
-use Rattle.ls_coding.specs.Contexts.{region, half_context}
+use Rattle.ls_coding.specs.Contexts.{region}
+use Rattle.ls_coding.specs.View.SignedContexts.{half_context}
 use Rattle.ls_coding.proofs.SignedLemmas.{through_16}
 use Rattle.ls_coding.proofs.ContextLemmas.{half_number, region_through}
 use Rattle.ls_coding.proofs.context.half_context.Goals as goal

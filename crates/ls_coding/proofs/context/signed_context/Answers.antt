@@ -2,7 +2,8 @@ use Rattle.std.proofs.Common.{ap, ◌∙◌}
 use Rattle.std.specs.Prelude.{◌&&◌}
 use mir.Syntax.{w16}
 use mir.Val.{to_z, of_z}
-use Rattle.ls_coding.specs.Contexts.{region, is_zero, context_number, signed_context, d1, d2}
+use Rattle.ls_coding.specs.Contexts.{region, is_zero, context_number, d1, d2}
+use Rattle.ls_coding.specs.View.SignedContexts.{signed_context}
 use Rattle.ls_coding.proofs.SignedLemmas.{through_16}
 use Rattle.ls_coding.proofs.ContextLemmas.{region_through, zero_1}
 use Rattle.ls_coding.proofs.context.signed_context.Goals as goal

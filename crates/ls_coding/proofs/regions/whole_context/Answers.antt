@@ -1,6 +1,7 @@
 use Rattle.std.proofs.Common.{◌+ℤ◌, ap, sym, ◌∙◌}
 use Rattle.ls_coding.specs.declared.neighbours.Neighbours.{Neighbours}
-use Rattle.ls_coding.specs.Contexts.{is_zero, half_context}
+use Rattle.ls_coding.specs.Contexts.{is_zero}
+use Rattle.ls_coding.specs.View.SignedContexts.{half_context}
 use Rattle.ls_coding.proofs.ContextLemmas.{whole_through, whole-zero, signed_context-halves}
 use Rattle.ls_coding.proofs.regions.whole_context.Goals as goal
 

@@ -21,10 +21,10 @@ loop-ended-preserved g c =
     let size : length rest + 1 ≡ length c.loop-ended.ended.items = omega (arith, c.remove-source.ensures.len, c.remove-source.new.self.ok, c.loop-ended.ended.ok) in
     let first : c.loop-ended.ended.items ≡ end ∷ rest = took_first c.loop-ended.ended.items rest end c.remove-source.ensures.value c.remove-source.ensures.items size in
     let left : AllByRecursion (IsEndedAt c.args.channel.now) (end ∷ rest) = subst (AllByRecursion (IsEndedAt c.args.channel.now)) first before.left in
-    let puts = end_puts (view c.loop-ended.token) (view end.token) (view c.absorb.new.pass) end.source (items_ended end) left.0.known c.absorb.ensures.rule in
+    let puts = end_puts (view c.loop-ended.pass) (view end.pass) (view c.absorb.new.pass) end.source (items_ended end) left.0.known c.absorb.ensures.rule in
     let small : end.source < 16 = (let b = left.0.source in let f = c.args.channel.now.few_sources in omega arith) in
     record {
-      token = c.absorb.ensures.channel.0;
+      pass = c.absorb.ensures.channel.0;
       left = left.1;
       known = end_known _ _ _ _ _ _ _ _ _ before.known left.0.known c.absorb.ensures.rule (let f = before.fewer in omega arith);
       fewer = (let f = before.fewer in omega arith);

@@ -10,13 +10,13 @@ use Rattle.ls_queue.proofs.running.join_ends.Given as goal
 -- the passes so far are joined, and their sources are counted; the others are left
 abbrev pub invariant-loop-ended : goal.invariant-loop-ended
 invariant-loop-ended g l = record {
-  token : IsSeatAt (sends_on l.channel.entrance) l.token;
+  pass : IsSeatAt (sends_on l.channel.entrance) l.pass;
   left : AllByRecursion (IsEndedAt l.channel) l.ended.items;
-  known : view l.token ≡ ending_view (64 - l.channel.sources - l.channel.workers + (length l.fn.ended.items - length l.ended.items)) (view l.token).puts l.channel.sources l.channel.workers 0;
+  known : view l.pass ≡ ending_view (64 - l.channel.sources - l.channel.workers + (length l.fn.ended.items - length l.ended.items)) (view l.pass).puts l.channel.sources l.channel.workers 0;
   fewer : length l.ended.items ≤ length l.fn.ended.items;
-  parts : (view l.token).puts ++ parts_of l.ended.items ≡ parts_of l.fn.ended.items;
+  parts : (view l.pass).puts ++ parts_of l.ended.items ≡ parts_of l.fn.ended.items;
   size : length l.counts ≡ 16;
-  counted : (s : ℕ) → has_end s l.fn.ended.items ≡ true → (has_end s l.ended.items ≡ true) ⊎ IsCounted l.counts (view l.token).puts s;
+  counted : (s : ℕ) → has_end s l.fn.ended.items ≡ true → (has_end s l.ended.items ≡ true) ⊎ IsCounted l.counts (view l.pass).puts s;
 }
 
 abbrev pub decreases-loop-ended : goal.decreases-loop-ended

@@ -8,24 +8,24 @@ use Rattle.ls_queue.proofs.running.join_seats.Goals as goal
 
 pub absorb-requires-clause-rule : goal.absorb-requires-clause-rule
 absorb-requires-clause-rule g c =
-    let size : length c.remove-pass.new.self.items + 1 ≡ length c.loop-seats.seats.items = omega (arith, c.remove-pass.ensures.len, c.remove-pass.new.self.ok, c.loop-seats.seats.ok) in
-    let first = took_first c.loop-seats.seats.items c.remove-pass.new.self.items c.remove-pass.result c.remove-pass.ensures.value c.remove-pass.ensures.items size in
+    let size : length c.remove-theirs.new.self.items + 1 ≡ length c.loop-seats.seats.items = omega (arith, c.remove-theirs.ensures.len, c.remove-theirs.new.self.ok, c.loop-seats.seats.ok) in
+    let first = took_first c.loop-seats.seats.items c.remove-theirs.new.self.items c.remove-theirs.result c.remove-theirs.ensures.value c.remove-theirs.ensures.items size in
     let left = subst (AllByRecursion (IsWorkerAt c.args.channel.now)) first c.loop-seats.invariant.left in
     seat_joins _ _ _ _ _ _ _ c.loop-seats.invariant.closes left.0.known
 
 pub loop-seats-preserved : goal.loop-seats-preserved
 loop-seats-preserved g c =
     let before = c.loop-seats.invariant in
-    let seat = c.remove-pass.result in
-    let rest = c.remove-pass.new.self.items in
-    let size : length rest + 1 ≡ length c.loop-seats.seats.items = omega (arith, c.remove-pass.ensures.len, c.remove-pass.new.self.ok, c.loop-seats.seats.ok) in
-    let first : c.loop-seats.seats.items ≡ seat ∷ rest = took_first c.loop-seats.seats.items rest seat c.remove-pass.ensures.value c.remove-pass.ensures.items size in
+    let seat = c.remove-theirs.result in
+    let rest = c.remove-theirs.new.self.items in
+    let size : length rest + 1 ≡ length c.loop-seats.seats.items = omega (arith, c.remove-theirs.ensures.len, c.remove-theirs.new.self.ok, c.loop-seats.seats.ok) in
+    let first : c.loop-seats.seats.items ≡ seat ∷ rest = took_first c.loop-seats.seats.items rest seat c.remove-theirs.ensures.value c.remove-theirs.ensures.items size in
     let left : AllByRecursion (IsWorkerAt c.args.channel.now) (seat ∷ rest) = subst (AllByRecursion (IsWorkerAt c.args.channel.now)) first before.left in
     record {
-      token = c.absorb.ensures.channel.0;
-      closes = seat_closes (view c.loop-seats.token) (view seat.token) (view c.absorb.new.pass) before.closes c.absorb.ensures.rule;
+      pass = c.absorb.ensures.channel.0;
+      closes = seat_closes (view c.loop-seats.pass) (view seat.pass) (view c.absorb.new.pass) before.closes c.absorb.ensures.rule;
       left = left.1;
-      known = seat_known (view c.loop-seats.token) (view seat.token) (view c.absorb.new.pass) _ seat rest c.loop-seats.seats.items left.0.known c.absorb.ensures.rule first ∙ before.known;
+      known = seat_known (view c.loop-seats.pass) (view seat.pass) (view c.absorb.new.pass) _ seat rest c.loop-seats.seats.items left.0.known c.absorb.ensures.rule first ∙ before.known;
     }
 
 pub returns-clause-known : goal.returns-clause-known

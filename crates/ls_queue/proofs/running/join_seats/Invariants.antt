@@ -9,10 +9,10 @@ use Rattle.ls_queue.proofs.running.join_seats.Given as goal
 -- the passes so far are joined; with those that are left it is all of them
 abbrev pub invariant-loop-seats : goal.invariant-loop-seats
 invariant-loop-seats g l = record {
-  token : IsSeatAt (sends_on l.channel.entrance) l.token;
-  closes : (view l.token).closes ≡ true;
+  pass : IsSeatAt (sends_on l.channel.entrance) l.pass;
+  closes : (view l.pass).closes ≡ true;
   left : AllByRecursion (IsWorkerAt l.channel) l.seats.items;
-  known : with_takes (view l.token) (takes_of l.seats.items) ≡ with_takes (view l.fn.token) (takes_of l.fn.seats.items);
+  known : with_takes (view l.pass) (takes_of l.seats.items) ≡ with_takes (view l.fn.pass) (takes_of l.fn.seats.items);
 }
 
 abbrev pub decreases-loop-seats : goal.decreases-loop-seats

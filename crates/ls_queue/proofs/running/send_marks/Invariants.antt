@@ -6,6 +6,6 @@ use Rattle.ls_queue.proofs.running.send_marks.Given as goal
 
 abbrev pub invariant-loop-mark : goal.invariant-loop-mark
 invariant-loop-mark g l = record {
-  token : IsSeatAt (sends_on l.channel.entrance) l.token;
-  sent : view l.token ≡ with_marks (view l.fn.token) l.mark;
+  pass : IsSeatAt (sends_on l.channel.entrance) l.pass;
+  sent : view l.pass ≡ with_marks (view l.fn.pass) l.mark;
 }

@@ -11,7 +11,7 @@ pub loop-source-preserved : goal.loop-source-preserved
 loop-source-preserved g c =
     let before = c.loop-source.invariant in
     record {
-      token = c.another.ensures.channel.0;
+      pass = c.another.ensures.channel.0;
       known = source_known c.loop-source.source _ _ before.known c.another.ensures.rule.0;
       seats = subst (AreNewSources c.args.channel.now 0) (sym c.in_ok-push.ensures.items)
           (AreNewSources-more c.args.channel.now 0 c.loop-source.source c.loop-source.seats.items _ before.seats (let m = before.many in omega arith) c.another.ensures.channel.2

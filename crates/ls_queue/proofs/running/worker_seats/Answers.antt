@@ -12,7 +12,7 @@ pub loop-worker-preserved : goal.loop-worker-preserved
 loop-worker-preserved g c =
     let before = c.loop-worker.invariant in
     record {
-      token = c.another.ensures.channel.0;
+      pass = c.another.ensures.channel.0;
       known = worker_known c.args.channel.now.sources c.loop-worker.worker _ _ before.known c.another.ensures.rule.0;
       seats = subst (AreNewWorkers c.args.channel.now) (sym c.in_ok-push.ensures.items)
           (AreNewWorkers-more c.args.channel.now c.loop-worker.seats.items _ before.seats c.another.ensures.channel.2

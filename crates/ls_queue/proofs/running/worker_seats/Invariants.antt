@@ -8,8 +8,8 @@ use Rattle.ls_queue.proofs.running.worker_seats.Given as goal
 -- the seats of the workers so far, each with one of the closer's shares
 abbrev pub invariant-loop-worker : goal.invariant-loop-worker
 invariant-loop-worker g l = record {
-  token : IsSeatAt (sends_on l.channel.entrance) l.token;
-  known : view l.token ≡ closer_view (64 - l.channel.sources - l.worker) l.channel.sources l.worker;
+  pass : IsSeatAt (sends_on l.channel.entrance) l.pass;
+  known : view l.pass ≡ closer_view (64 - l.channel.sources - l.worker) l.channel.sources l.worker;
   seats : AreNewWorkers l.channel l.seats.items;
   many : length l.seats.items ≡ l.worker;
 }

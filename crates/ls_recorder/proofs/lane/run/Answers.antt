@@ -12,7 +12,7 @@ pub returns-in_err-written-clause-stops : goal.returns-in_err-written-clause-sto
 returns-in_err-written-clause-stops g c =
     let inv = c.loop-number.invariant in
     let p = err_from_is_err_and c.from_residual.result c.from_residual.ensures.1 in
-    rw (p.1, p.2) (stops-writing c.args.tuning.now _ _ _ _ _ _ _ _ inv.read inv.few (c.in_err-written.ensures.stops _ _ inv.writing))
+    rw (p.1, p.2) (stops-writing c.args.setting.now.tuning _ _ _ _ _ _ _ _ inv.read inv.few (c.in_err-written.ensures.stops _ _ inv.writing))
 
 pub returns-in_err-written-clause-reads : goal.returns-in_err-written-clause-reads
 returns-in_err-written-clause-reads g c =
@@ -25,7 +25,7 @@ returns-in_err-_all-in-Ok-None-clause-stops g c =
     let inv = c.loop-number.invariant in
     let writing = c.in_ok-written.ensures.goes_on _ _ inv.writing in
     let p = err_from_is_err_and c.from_residual-in_err-_all-in-Ok-None.result c.from_residual-in_err-_all-in-Ok-None.ensures.1 in
-    rw (p.1, p.2) (stops-writing c.args.tuning.now _ _ _ _ _ _ _ _ inv.read inv.few (c.in_err-_all-in-Ok-None.ensures.stops _ _ writing))
+    rw (p.1, p.2) (stops-writing c.args.setting.now.tuning _ _ _ _ _ _ _ _ inv.read inv.few (c.in_err-_all-in-Ok-None.ensures.stops _ _ writing))
 
 pub returns-in_err-_all-in-Ok-None-clause-reads : goal.returns-in_err-_all-in-Ok-None-clause-reads
 returns-in_err-_all-in-Ok-None-clause-reads g c =
@@ -39,13 +39,13 @@ returns-in-Ok-None-clause-completes g c =
     let inv = c.loop-number.invariant in
     let writing = c.in_ok-_all-in-Ok-None.ensures.goes_on _ _ (c.in_ok-written.ensures.goes_on _ _ inv.writing) in
     let end = rw c.in-Ok-None.field-0-is at c.in-Ok-None.ensures.end in
-    records-all c.args.tuning.now _ _ _ _ _ _ _ _ _ inv.read inv.few end writing c.in_ok-_all-in-Ok-None.ensures.few
+    records-all c.args.setting.now.tuning _ _ _ _ _ _ _ _ _ inv.read inv.few end writing c.in_ok-_all-in-Ok-None.ensures.few
 
 pub returns-in-Err-NoMemory-clause-stops : goal.returns-in-Err-NoMemory-clause-stops
 returns-in-Err-NoMemory-clause-stops g c =
     let inv = c.loop-number.invariant in
     let writing = c.in_ok-written.ensures.goes_on _ _ inv.writing in
-    stops-memory c.args.tuning.now _ _ _ _ _ _ _ _ _ inv.read inv.few writing
+    stops-memory c.args.setting.now.tuning _ _ _ _ _ _ _ _ _ inv.read inv.few writing
 
 pub returns-in_err-_all-in-Err-next_order : goal.returns-in_err-_all-in-Err-next_order
 returns-in_err-_all-in-Err-next_order g c =
@@ -56,7 +56,7 @@ returns-in_err-_all-in-Err-next_order g c =
     record {
       seat = (inv.seat, inv.source);
       completes = rw p.1 tt;
-      stops = rw (p.1, p.2) (stops-writing c.args.tuning.now _ _ _ _ _ _ _ _ inv.read inv.few why);
+      stops = rw (p.1, p.2) (stops-writing c.args.setting.now.tuning _ _ _ _ _ _ _ _ inv.read inv.few why);
       reads = rw (p.1, p.2) (reads-writing _ _ _ _ (blames_reader c.in-Err-next_order.fault) _ _ why (c.in-Err-next_order.ensures.failures ∙ ap (count_after (blames_reader c.in-Err-next_order.fault)) inv.reads));
       writes = rw (p.1, p.2) (c.in_err-_all-in-Err-next_order.ensures.failures ∙ ap (count_after (blames_writer c.in_err-_all-in-Err-next_order.field-0.0)) (c.in_ok-written.ensures.failures ∙ inv.writes));
     }
@@ -68,9 +68,9 @@ returns-in-Err-next_order g c =
     record {
       seat = (inv.seat, inv.source);
       completes = tt;
-      stops = stops-reading c.args.tuning.now _ _ _ _ _ _ _ _ _ c.in-Err-next_order.fault inv.read inv.few c.in-Err-next_order.ensures.stops writing c.in_ok-_all-in-Err-next_order.ensures.few;
-      reads = reads-so c.args.tuning.now _ _ _ c.in-Err-next_order.fault _ _ c.in-Err-next_order.ensures.stops (c.in-Err-next_order.ensures.failures ∙ ap (count_after (blames_reader c.in-Err-next_order.fault)) inv.reads);
-      writes = writes-reading c.args.tuning.now _ _ _ c.in-Err-next_order.fault _ _ c.in-Err-next_order.ensures.stops (c.in_ok-_all-in-Err-next_order.ensures.failures ∙ c.in_ok-written.ensures.failures ∙ inv.writes);
+      stops = stops-reading c.args.setting.now.tuning _ _ _ _ _ _ _ _ _ c.in-Err-next_order.fault inv.read inv.few c.in-Err-next_order.ensures.stops writing c.in_ok-_all-in-Err-next_order.ensures.few;
+      reads = reads-so c.args.setting.now.tuning _ _ _ c.in-Err-next_order.fault _ _ c.in-Err-next_order.ensures.stops (c.in-Err-next_order.ensures.failures ∙ ap (count_after (blames_reader c.in-Err-next_order.fault)) inv.reads);
+      writes = writes-reading c.args.setting.now.tuning _ _ _ c.in-Err-next_order.fault _ _ c.in-Err-next_order.ensures.stops (c.in_ok-_all-in-Err-next_order.ensures.failures ∙ c.in_ok-written.ensures.failures ∙ inv.writes);
     }
 
 pub returns-in_err-put-clause-stops : goal.returns-in_err-put-clause-stops
@@ -79,7 +79,7 @@ returns-in_err-put-clause-stops g c =
     let writing = c.in_ok-written.ensures.goes_on _ _ inv.writing in
     let p = err_from_is_err_and c.from_residual-in_err-put.result c.from_residual-in_err-put.ensures.1 in
     let refused = c.in_err-put.ensures.refused in
-    rw (p.1, p.2, refused.0, refused.1) (stops-memory c.args.tuning.now _ _ _ _ _ _ _ _ _ inv.read inv.few writing)
+    rw (p.1, p.2, refused.0, refused.1) (stops-memory c.args.setting.now.tuning _ _ _ _ _ _ _ _ _ inv.read inv.few writing)
 
 pub loop-number-preserved : goal.loop-number-preserved
 loop-number-preserved g c =
@@ -96,7 +96,7 @@ loop-number-preserved g c =
       source = c.put.ensures.seat.1 ∙ inv.source;
       few = omega (arith, order.0);
       many = ap length put.0 ∙ length_push (items_put c.loop-number.seat) c.in-Ok-Some.order ∙ ap (λ k. k + 1) inv.many;
-      read = HasRead-more c.args.tuning.now _ _ _ _ _ _ c.in-Ok-Some.order inv.read order.1 order.2 order.3 order.4 put.0;
+      read = HasRead-more c.args.setting.now.tuning _ _ _ _ _ _ c.in-Ok-Some.order inv.read order.1 order.2 order.3 order.4 put.0;
       writing = IsWriting-more _ _ _ _ _ _ _ c.in-Ok-Some.order writing book.orders put.0;
       small = omega (arith, c.in_ok-written.ensures.small, book.first);
       booked = book.booked ∙ ap (λ k. k + 1) (same.0 ∙ inv.booked);

@@ -1,9 +1,10 @@
-use Rattle.std.proofs.Common.{◌≡◌, ◌*◌, length, get_or, Fits, w8, inr, sym, ◌∙◌, ap, subst, arith}
+use Rattle.std.proofs.Common.{◌≡◌, ◌*◌, length, get_or, Fits, w8, Err, inr, sym, ◌∙◌, ap, subst, arith}
 use Rattle.ls_frame.specs.Picture.{Picture, IsFrame, components}
 use Rattle.ls_frame.specs.Parameters.{IsLegal}
 use Rattle.std.proofs.lemmas.Result.{err_from_is_err_and}
 use Rattle.ls_stream.specs.View.Outlines.{at_opening, at_scans}
 use Rattle.ls_stream.specs.View.Decoding.{AreScansOf, picture}
+use Rattle.ls_stream.proofs.MemoryLemmas.{opening_needs_none}
 use Rattle.ls_stream.proofs.FrameReadingLemmas.{IsPutTogether, frame_outlined, frame_has_outline, no_frame, no_opening, only_frame, outlined, left_short, are_bytes, opening_ids, err_by, is_frame, written_back}
 use Rattle.ls_stream.proofs.decode.decode_first.Goals as goal
 
@@ -107,3 +108,11 @@ pub returns-in_err-rest-clause-stops : goal.returns-in_err-rest-clause-stops
 returns-in_err-rest-clause-stops c =
     let fault = err_from_is_err_and c.from_residual-in_err-rest.result c.from_residual-in_err-rest.ensures.1 in
     rw (fault.1, fault.2) (inr (at_scans c.in-Ok.opening.0 c.in-Ok.opening.1 c.in-Ok.opening.2.now c.in-Ok.ensures.value c.in_err-rest.ensures.stops))
+
+-- ---- where memory is refused
+
+pub returns-in-Err-clause-memory : goal.returns-in-Err-clause-memory
+returns-in-Err-clause-memory c = λ e. absurd (opening_needs_none c.args.bytes.now (c.in-Err.ensures.value ∙ ap Err e))
+
+pub returns-in_err-rest-clause-memory : goal.returns-in_err-rest-clause-memory
+returns-in_err-rest-clause-memory c = err_by c.from_residual-in_err-rest.result _ (λ fault e. ((c.in-Ok.opening.0, c.in-Ok.opening.1, c.in-Ok.opening.2.now), c.in-Ok.ensures.value))

@@ -1,8 +1,10 @@
 use Rattle.std.proofs.Common.{◌≡◌, ℕ, List, ◌++◌, length, take, get_or, Fits, w8, Ok, inl, inr, sym, ◌∙◌, ap, subst, arith}
 use Rattle.ls_frame.specs.Picture.{Picture, IsFrame}
 use Rattle.ls_stream.specs.Grammar.{Spells, most_bytes}
+use Rattle.ls_stream.specs.View.Reading.{HasOpening}
 use Rattle.ls_stream.specs.View.Outlines.{Outline, IsOutlineOf, outline_at, fault_of, DecodingStops}
-use Rattle.ls_stream.proofs.FaultLaws.{stops_are_first_faults}
+use Rattle.ls_stream.proofs.FaultLaws.{opening_begins, stops_are_first_faults}
+use Rattle.ls_stream.proofs.MemoryLemmas.{memory_of_first}
 use Rattle.ls_stream.proofs.FrameReadingLemmas.{are_bytes, bytes_take, front_spells, IsFoundAt, found_at, same_left, no_memory_kept}
 use Rattle.ls_stream.proofs.decode.decode_frame.Goals as goal
 
@@ -25,7 +27,7 @@ returns-in-Ok-clause-whole c front rest f e spelled =
       omega (arith, found.5, ap length left, ap length c.first_bytes-first.ensures, there.count),
     )
 
--- a fault other than want of memory
+-- a fault, and memory wasn't refused
 no_front : (bytes first : List ℕ) → first ≡ take most_bytes bytes
     → ((o : Outline) (left : List ℕ) (f : Picture) → outline_at first ≡ Ok (o, left) → IsFrame f → IsOutlineOf f o → ⊥)
     → (front rest : List ℕ) (f : Picture) → bytes ≡ front ++ rest → Spells front f → ⊥
@@ -55,3 +57,10 @@ returns-in-Err-clause-first c =
       | inl memory ↦ inl (c.fault_of.ensures ∙ ap (fault_of bytes) memory ∙ no_memory_kept bytes)
       | inr stops ↦ inr (c.in-Err.fault, c.fault_of.ensures, stops_are_first_faults (take most_bytes bytes) c.in-Err.fault are (subst (λ first. DecodingStops first c.in-Err.fault) c.first_bytes-first.ensures stops))
     ]
+
+pub returns-in-Err-clause-memory : goal.returns-in-Err-clause-memory
+returns-in-Err-clause-memory c = λ e.
+    let bytes = c.args.bytes.now in
+    let are = bytes_take most_bytes bytes (are_bytes bytes (λ i. let fits : Fits w8 (get_or bytes i 0) = c.type_inv.bytes i in omega arith)) in
+    let refused = memory_of_first bytes c.in-Err.fault (sym c.fault_of.ensures ∙ e) in
+    opening_begins (take most_bytes bytes) are (subst HasOpening c.first_bytes-first.ensures (c.in-Err.ensures.memory refused))

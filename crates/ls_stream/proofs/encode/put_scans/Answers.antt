@@ -12,7 +12,7 @@ unfolding scans_up_to
 loop-component-init c = record {
   bytes = sym (append-nil c.args.bytes.items);
   room = let whole : components c.args.frame.now.kind - 0 ≡ components c.args.frame.now.kind = omega arith in rw whole c.requires.room;
-  capacity = omega arith;
+  capacity = refl;
   lines = refl;
   count = c.components-component-end.ensures ∙ ap components c.kind.ensures.value;
 }

@@ -19,10 +19,10 @@ gave c =
     (read.2 ∙ ap (λ bs. bs ++ left) (sym is), subst (λ bs. IsNext bs left) (sym is) read.3.1)
 
 of_taken : (c : goal.After-drop-codestream) → IsDecoding c.deref.result.now c.decode_frame.result
-of_taken c = record { ok = c.decode_frame.ensures.ok; first = c.decode_frame.ensures.first; whole = c.decode_frame.ensures.whole }
+of_taken c = record { ok = c.decode_frame.ensures.ok; first = c.decode_frame.ensures.first; whole = c.decode_frame.ensures.whole; memory = c.decode_frame.ensures.memory }
 
 of_all : (c : goal.After-drop-codestream) → IsDecoding c.args.bytes.now c.decode_frame-in-Some.result
-of_all c = record { ok = c.decode_frame-in-Some.ensures.ok; first = c.decode_frame-in-Some.ensures.first; whole = c.decode_frame-in-Some.ensures.whole }
+of_all c = record { ok = c.decode_frame-in-Some.ensures.ok; first = c.decode_frame-in-Some.ensures.first; whole = c.decode_frame-in-Some.ensures.whole; memory = c.decode_frame-in-Some.ensures.memory }
 
 pub returns-in-Some-clause-alike : goal.returns-in-Some-clause-alike
 returns-in-Some-clause-alike c =

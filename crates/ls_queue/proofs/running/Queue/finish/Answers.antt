@@ -11,7 +11,7 @@ returns g c =
     let puts = finished_puts _ _ _ _ _ _ c.join_ends-counts.ensures.known c.send_marks.ensures.sent in (
       each,
       record {
-        token = c.send_marks.ensures.token;
+        pass = c.send_marks.ensures.pass;
         shares = _;
         known = finished_known _ _ _ _ _ _ c.join_ends-counts.ensures.known c.send_marks.ensures.sent;
         left = (let f = c.args.self.now.channel.few_sources in let f' = c.args.self.now.channel.few_workers in omega arith);

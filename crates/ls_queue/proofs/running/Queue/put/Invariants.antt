@@ -8,8 +8,8 @@ use Rattle.ls_queue.proofs.running.Queue.put.Given as goal
 -- the job isn't sent yet, and the seat is as it was
 abbrev pub invariant-loop : goal.invariant-loop
 invariant-loop g l = record {
-  token : IsSeatAt (sends_on l.self.channel.entrance) l.seat.token;
-  known : view l.seat.token ≡ view l.fn.seat.token;
+  pass : IsSeatAt (sends_on l.self.channel.entrance) l.seat.pass;
+  known : view l.seat.pass ≡ view l.fn.seat.pass;
   source : l.seat.source ≡ l.fn.seat.source;
   message : l.message ≡ message.Job (job l.fn.seat.source l.fn.seat.count l.fn.item);
 }

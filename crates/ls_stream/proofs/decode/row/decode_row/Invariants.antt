@@ -1,17 +1,12 @@
-use Rattle.std.proofs.Common.{◌≡◌, ◌-◌, ◌≤◌, false, length, get_or}
-use Rattle.ls_stream.specs.View.LineBuffers.{ArePadded}
-use Rattle.ls_stream.specs.View.Decoding.{place, AreSamePlanes, BreaksLater}
+use Rattle.std.proofs.Common.{◌≡◌, ◌-◌, ◌≤◌, length}
+use Rattle.ls_stream.specs.View.Decoding.{place, ReadsOn}
 use Rattle.ls_stream.proofs.decode.row.decode_row.Given as goal
 
 abbrev pub invariant-columns : goal.invariant-columns
 invariant-columns l = record {
   inside : l.column ≤ l.width;
-  same : AreSamePlanes l.fn.decoder.state.parameters.maxval l.width l.above (place 0 l.fn.line l.fn.decoder.state l.fn.decoder.bits) (place l.column l.line l.decoder.state l.decoder.bits);
-  later : BreaksLater l.fn.decoder.state.parameters.maxval l.width l.above (place 0 l.fn.line l.fn.decoder.state l.fn.decoder.bits) (place l.column l.line l.decoder.state l.decoder.bits);
-  lines : ArePadded l.fn.decoder.state.parameters.maxval l.width l.above l.line;
-  halves : length l.halves ≡ l.width;
-  first : get_or l.line 0 0 ≡ get_or l.fn.line 0 0;
-  whole : l.decoder.state.broken ≡ false;
+  half_contexts : length l.half_contexts ≡ l.width;
+  on : ReadsOn l.width l.above (place 0 l.fn.line l.fn.decoder.state l.fn.decoder.bits) (place l.column l.line l.decoder.state l.decoder.bits);
   parameters : l.decoder.state.parameters ≡ l.fn.decoder.state.parameters;
 }
 

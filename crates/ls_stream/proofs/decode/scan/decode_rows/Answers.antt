@@ -21,7 +21,7 @@ returns-in_err-decode_row-clause-none c =
     (λ plane is rest m.
     no_row maxval c.args.shape.width c.args.shape.height c.args.shape.components c.args.component c.loop-row.row c.loop-row.above line c.loop-row.samples c.loop-row.decoder.state c.loop-row.decoder.bits plane rest
     c.loop-row-test.true c.requires.some is (c.loop-row.invariant.held plane is)
-    (subst (λ (p : Parameters). IsNoPlane p.maxval c.args.shape.width c.loop-row.above (place 0 line c.loop-row.decoder.state c.loop-row.decoder.bits)) c.loop-row.invariant.parameters c.in_err-decode_row.ensures.none)
+    (subst (λ (p : Parameters). IsNoPlane p.maxval c.args.shape.width c.loop-row.above (place 0 line c.loop-row.decoder.state c.loop-row.decoder.bits)) c.loop-row.invariant.parameters c.in_err-decode_row.ensures.stops.none)
     first ((c.loop-row.invariant.same plane is rest).0 m))
 
 pub loop-row-preserved : goal.loop-row-preserved
@@ -38,9 +38,9 @@ loop-row-preserved c =
     let first : get_or line 0 0 ≡ get_or c.loop-row.above 1 0 = get_or-set_same c.loop-row.line 0 (get_or c.loop-row.above 1 0) 0 (omega (arith, c.loop-row.invariant.line_length)) in
     let same : AreSamePlanes maxval width c.loop-row.above (place 0 line c.loop-row.decoder.state c.loop-row.decoder.bits) (place width read c.decode_row.new.decoder.state c.decode_row.new.decoder.bits) =
     subst (λ (p : Parameters). AreSamePlanes p.maxval width c.loop-row.above (place 0 line c.loop-row.decoder.state c.loop-row.decoder.bits) (place width read c.decode_row.new.decoder.state c.decode_row.new.decoder.bits))
-    c.loop-row.invariant.parameters c.in_ok-decode_row.ensures.row in
-    let read_small : (k : ℕ) → get_or read k 0 ≤ maxval = subst (λ (p : Parameters). (k : ℕ) → get_or read k 0 ≤ p.maxval) c.loop-row.invariant.parameters c.in_ok-decode_row.ensures.lines.line_small in
-    let read_length : length read ≡ width + 2 = c.in_ok-decode_row.ensures.lines.line_length in
+    c.loop-row.invariant.parameters c.in_ok-decode_row.ensures.on.same in
+    let read_small : (k : ℕ) → get_or read k 0 ≤ maxval = subst (λ (p : Parameters). (k : ℕ) → get_or read k 0 ≤ p.maxval) (c.in_ok-decode_row.ensures.on.parameters ∙ c.loop-row.invariant.parameters) c.in_ok-decode_row.ensures.on.lines.line_small in
+    let read_length : length read ≡ width + 2 = c.in_ok-decode_row.ensures.on.lines.line_length in
     let last = set read (width + 1) (get_or read width 0) in
     let same_places : (k : ℕ) → k ≤ width → get_or last k 0 ≡ get_or read k 0 = λ k h. get_or-set_other read (width + 1) k (get_or read width 0) 0 (λ e. absurd (omega arith)) in
     let stored : IsStored width count component row c.loop-row.samples c.store_row.new.samples read = record {
@@ -51,16 +51,16 @@ loop-row-preserved c =
     record {
       same = λ plane is rest.
           let one = row_read maxval width height count component row c.loop-row.above line read c.loop-row.samples c.store_row.new.samples c.loop-row.decoder.state c.decode_row.new.decoder.state c.loop-row.decoder.bits c.decode_row.new.decoder.bits plane rest
-          inside c.requires.some is (c.loop-row.invariant.held plane is) same first c.in_ok-decode_row.ensures.first stored in
+          inside c.requires.some is (c.loop-row.invariant.held plane is) same first c.in_ok-decode_row.ensures.on.first stored in
           (λ m. one.0 ((c.loop-row.invariant.same plane is rest).0 m), λ m. (c.loop-row.invariant.same plane is rest).1 (one.1 m));
       held = λ plane is rows.
           subst (λ xs. HoldsLine plane (row + 1) xs) (sym c.copy_from_slice.ensures.after)
           (line_held maxval width height count component row c.loop-row.above line read c.loop-row.samples c.store_row.new.samples plane
-          inside c.requires.some is (c.loop-row.invariant.held plane is) first c.in_ok-decode_row.ensures.first read_length stored rows);
+          inside c.requires.some is (c.loop-row.invariant.held plane is) first c.in_ok-decode_row.ensures.on.first read_length stored rows);
       breaks = λ plane is rows fault broken.
           let before = rows_later c.args.decoder.now.state.parameters c.loop-row.decoder.state.parameters width height count component row c.loop-row.above line read c.loop-row.samples c.store_row.new.samples
           c.loop-row.decoder.state c.decode_row.new.decoder.state c.loop-row.decoder.bits c.decode_row.new.decoder.bits plane fault c.loop-row.invariant.parameters
-          inside c.requires.some is (c.loop-row.invariant.held plane is) c.in_ok-decode_row.ensures.later first c.in_ok-decode_row.ensures.first stored rows broken in
+          inside c.requires.some is (c.loop-row.invariant.held plane is) c.in_ok-decode_row.ensures.on.later first c.in_ok-decode_row.ensures.on.first stored rows broken in
           c.loop-row.invariant.breaks plane is before.0 fault before.1;
       others = λ k other h differs.
           c.store_row.ensures.kept (k * count + other) (λ j l. other_component k other (row * width + j) count component h c.requires.component differs)
@@ -70,10 +70,10 @@ loop-row-preserved c =
       line_small = last_small;
       above_length = ap length c.copy_from_slice.ensures.after ∙ length-set read (width + 1) (get_or read width 0) ∙ read_length;
       line_length = length-set read (width + 1) (get_or read width 0) ∙ read_length;
-      halves = c.decode_row.auto.halves ∙ c.loop-row.invariant.halves;
+      half_contexts = c.decode_row.auto.half_contexts ∙ c.loop-row.invariant.half_contexts;
       len = c.store_row.ensures.len ∙ c.loop-row.invariant.len;
-      whole = c.in_ok-decode_row.ensures.whole;
-      parameters = c.in_ok-decode_row.ensures.parameters ∙ c.loop-row.invariant.parameters;
+      whole = c.in_ok-decode_row.ensures.on.whole;
+      parameters = c.in_ok-decode_row.ensures.on.parameters ∙ c.loop-row.invariant.parameters;
     }
 
 pub returns-in_err-decode_row-clause-breaks : goal.returns-in_err-decode_row-clause-breaks
@@ -88,4 +88,4 @@ returns-in_err-decode_row-clause-breaks c =
     (rows_broken p width height c.args.shape.components c.args.component c.loop-row.row c.loop-row.samples c.args.decoder.now.state c.loop-row.decoder.state c.args.decoder.now.bits c.loop-row.decoder.bits _
     c.requires.some c.loop-row.invariant.breaks
     (row_broken p c.loop-row.decoder.state.parameters width height c.args.shape.components c.args.component c.loop-row.row c.loop-row.above line c.loop-row.samples c.loop-row.decoder.state c.loop-row.decoder.bits _
-    c.loop-row.invariant.parameters c.loop-row-test.true c.requires.some c.loop-row.invariant.held c.loop-row.invariant.small first c.in_err-decode_row.ensures.breaks))
+    c.loop-row.invariant.parameters c.loop-row-test.true c.requires.some c.loop-row.invariant.held c.loop-row.invariant.small first c.in_err-decode_row.ensures.stops.breaks))

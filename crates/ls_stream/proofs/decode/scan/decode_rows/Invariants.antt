@@ -22,7 +22,7 @@ invariant-loop-row l = record {
   line_small : (k : ℕ) → get_or l.line k 0 ≤ l.fn.decoder.state.parameters.maxval;
   above_length : length l.above ≡ l.shape.width + 2;
   line_length : length l.line ≡ l.shape.width + 2;
-  halves : length l.halves ≡ l.shape.width;
+  half_contexts : length l.half_contexts ≡ l.shape.width;
   len : length l.samples ≡ length l.fn.samples;
   whole : l.decoder.state.broken ≡ false;
   parameters : l.decoder.state.parameters ≡ l.fn.decoder.state.parameters;

@@ -1,6 +1,6 @@
 use Rattle.std.proofs.Common.{◌≡◌, ◌≤◌, length}
 use Rattle.ls_stream.specs.View.Reading.{code_at}
-use Rattle.ls_stream.proofs.decode.markers.read_code.Given as goal
+use Rattle.ls_stream.proofs.segments.read.read_code.Given as goal
 
 -- what is left reads on as all bytes do
 abbrev pub invariant-loop-byte : goal.invariant-loop-byte
