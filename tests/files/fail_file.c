@@ -1,5 +1,6 @@
-/* Fails a call of the program that it is preloaded into, counted from 1, with EIO: FAIL_OPEN=N the open number N, and FAIL_RENAME=N and
-   FAIL_SYNC=N likewise. With TOLD=FILE each fsync and each write to standard output adds a line to FILE. */
+/* Fails a call of the program that it is preloaded into, counted from 1: FAIL_OPEN=N the open number N, by the system's error of the
+   number ERROR or else by EIO, and FAIL_RENAME=N and FAIL_SYNC=N by EIO. With TOLD=FILE each fsync and each write to standard output
+   adds a line to FILE. */
 #define _GNU_SOURCE
 #include <dlfcn.h>
 #include <errno.h>
@@ -33,6 +34,7 @@ static void tell(const char *line)
 int open(const char *path, int flags, ...)
 {
 	int (*next)(const char *, int, mode_t) = dlsym(RTLD_NEXT, "open");
+	const char *error = getenv("ERROR");
 	va_list more;
 	mode_t mode;
 
@@ -40,7 +42,7 @@ int open(const char *path, int flags, ...)
 	mode = flags & O_CREAT ? va_arg(more, mode_t) : 0;
 	va_end(more);
 	if (is_number("FAIL_OPEN", &opens)) {
-		errno = EIO;
+		errno = error ? atoi(error) : EIO;
 		return -1;
 	}
 	return next(path, flags, mode);

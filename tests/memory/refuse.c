@@ -2,6 +2,7 @@
  *
  * REFUSE_AT=N    refuses the program's request number N, counted from 1
  * REFUSE_FROM=N  refuses that one and each later one
+ * REFUSE_OVER=N  refuses each request for more than N bytes
  * REFUSE_TOLD=F  makes the file F, empty, when it is loaded, and writes to it when it refuses a request
  *
  * Only requests that the executable itself makes count, and not those of the C library or of what loads programs:
@@ -24,6 +25,7 @@ void *__libc_memalign(size_t alignment, size_t size);
 
 static uintptr_t begin, end;
 static unsigned long first, last;
+static size_t least;
 static const char *told;
 static atomic_ulong requests;
 
@@ -57,23 +59,24 @@ static void tell(const char *text, size_t length)
 
 __attribute__((constructor)) static void prepare(void)
 {
-	const char *at = getenv("REFUSE_AT"), *from = getenv("REFUSE_FROM");
+	const char *at = getenv("REFUSE_AT"), *from = getenv("REFUSE_FROM"), *over = getenv("REFUSE_OVER");
 
 	told = getenv("REFUSE_TOLD");
-	if (!told || !at == !from)
+	if (!told || !!at + !!from + !!over != 1)
 		_exit(99);
-	first = strtoul(at ? at : from, NULL, 10);
+	first = over ? 1 : strtoul(at ? at : from, NULL, 10);
 	last = at ? first : ~0ul;
+	least = over ? strtoul(over, NULL, 10) + 1 : 0;
 	tell("", 0);
 	dl_iterate_phdr(find_executable, NULL);
 }
 
-static int refuses(void *caller)
+static int refuses(void *caller, size_t size)
 {
 	uintptr_t place = (uintptr_t)caller;
 	unsigned long number;
 
-	if (place < begin || place >= end)
+	if (place < begin || place >= end || size < least)
 		return 0;
 	number = atomic_fetch_add(&requests, 1) + 1;
 	if (number < first || number > last)
@@ -84,36 +87,36 @@ static int refuses(void *caller)
 	return 1;
 }
 
-#define REFUSES() refuses(__builtin_return_address(0))
+#define REFUSES(size) refuses(__builtin_return_address(0), size)
 
 void *malloc(size_t size)
 {
-	return REFUSES() ? NULL : __libc_malloc(size);
+	return REFUSES(size) ? NULL : __libc_malloc(size);
 }
 
 void *calloc(size_t count, size_t size)
 {
-	return REFUSES() ? NULL : __libc_calloc(count, size);
+	return REFUSES(count * size) ? NULL : __libc_calloc(count, size);
 }
 
 void *realloc(void *block, size_t size)
 {
-	return REFUSES() ? NULL : __libc_realloc(block, size);
+	return REFUSES(size) ? NULL : __libc_realloc(block, size);
 }
 
 void *aligned_alloc(size_t alignment, size_t size)
 {
-	return REFUSES() ? NULL : __libc_memalign(alignment, size);
+	return REFUSES(size) ? NULL : __libc_memalign(alignment, size);
 }
 
 void *memalign(size_t alignment, size_t size)
 {
-	return REFUSES() ? NULL : __libc_memalign(alignment, size);
+	return REFUSES(size) ? NULL : __libc_memalign(alignment, size);
 }
 
 int posix_memalign(void **block, size_t alignment, size_t size)
 {
-	void *made = REFUSES() ? NULL : __libc_memalign(alignment, size);
+	void *made = REFUSES(size) ? NULL : __libc_memalign(alignment, size);
 
 	if (!made)
 		return ENOMEM;

@@ -3,7 +3,7 @@ ghost use Rattle.ls_queue.specs.View.Running.{IsSourceSeat, IsWorkerSeat, IsEnde
 
 use ls_pieces_tests::pixels::pixel_order;
 use ls_queue::{Ended, Queue, SourceSeat, WorkerSeat, open};
-use ls_recorder::{Gate, Inbox, Moment, Order, boxes, work};
+use ls_recorder::{Gate, Inbox, Moment, OpenGate, Order, boxes, work};
 use ls_testing::check;
 use std::alloc::Global;
 use std::sync::Wait;
@@ -106,4 +106,24 @@ fn two_pixels_are_coded<R: Wait>(rt: &R, alloc: Global) -> Option<bool> {
 fn jobs_are_coded_and_answered_with_ample_memory(rt: HostRuntime) {
     let right = two_pixels_are_coded(&rt, rt.alloc());
     check(&rt, "two pixels", right, true);
+}
+
+/// Whether a worker codes two pixels whose lane is gone, and counts that both answers came back. `None` if memory is refused.
+fn two_pixels_come_back<R: Wait>(rt: &R, alloc: Global) -> Option<bool> {
+    let (mut inboxes, mut outboxes) = boxes(rt, alloc, 1, 1, 2).ok()?;
+    let inbox = inboxes.pop()?;
+    let outbox = outboxes.pop()?;
+    let (queue, worker) = two_pixels(rt, alloc)?;
+    if outbox.sources() == 0 {
+        return Some(false);
+    }
+    drop(inbox);
+    let worked = work(rt, alloc, &queue, worker, outbox, &OpenGate);
+    Some((worked.coded, worked.undelivered) == (2, 2))
+}
+
+#[test]
+fn answers_that_come_back_are_counted_with_ample_memory(rt: HostRuntime) {
+    let right = two_pixels_come_back(&rt, rt.alloc());
+    check(&rt, "no lane", right, true);
 }
