@@ -1,8 +1,7 @@
+use crate::testing::check_text;
 use ls_film::FilmFault;
 use ls_film::engine::Stopped;
 use ls_frame::{NetpbmFault, WriteFault};
-use ls_testing::{Mishap, Sink};
-use std::io::Write;
 use std::process::Abort;
 
 /// The faults of a frame, but for memory that is refused, and their texts.
@@ -23,9 +22,7 @@ const INPUT_FAULTS: [(NetpbmFault, &str); 8] = [
 /// That a fault is this one, and has this text.
 fn check_fault(rt: &impl Abort, got: FilmFault, want: FilmFault, text: &str) {
     assert_eq!(rt; got, want, "{text}");
-    let mut sink = Sink::new(4096, Mishap::Nothing);
-    assert!(rt; write!(sink, "{got}").is_ok(), "{text}");
-    assert_eq!(rt; sink.written(), text.as_bytes(), "{text}");
+    check_text(rt, got, text);
 }
 
 #[test]

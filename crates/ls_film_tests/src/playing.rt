@@ -1,9 +1,9 @@
-use crate::testing::{ANNEX_H_IMAGE, COLOUR, TWO_VALUES};
+use crate::testing::{ANNEX_H_IMAGE, COLOUR, TWO_VALUES, check_text};
 use ls_film::{PlayFault, play, play_bytes};
 use ls_frame::{Counted, Feed, Outlet, PresetFault};
 use ls_stream::{StreamFault, What};
 use ls_testing::films::{ANNEX_H, TWO_CODESTREAMS, TWO_IMAGES};
-use ls_testing::{Mishap, Pieces, Sink, check_text};
+use ls_testing::{Mishap, Pieces, Sink};
 use std::alloc::Global;
 use std::process::Abort;
 

@@ -1,6 +1,8 @@
 //! Checks and codestreams for the tests.
 use ls_film::FilmFault;
-use ls_testing::Memory;
+use ls_testing::{Memory, Mishap, Sink};
+use std::fmt::Display;
+use std::io::Write;
 use std::process::Abort;
 
 /// What an engine answered, and the text that it wrote.
@@ -26,6 +28,17 @@ pub fn check_outcome(
         check_ended(rt, case, got.0, want.0);
         check_bytes(rt, case, got.1, want.1);
     }
+}
+
+/// That a fault has this text.
+pub fn check_text<F: Display + Drop>(rt: &impl Abort, fault: F, text: &str) {
+    let mut sink = Sink::new(4096, Mishap::Nothing);
+    let written = write!(sink, "{fault}").is_ok();
+    assert_eq!(rt;
+        (written, sink.written()),
+        (true, text.as_bytes()),
+        "{text}"
+    );
 }
 
 /// That these bytes are the wanted ones.

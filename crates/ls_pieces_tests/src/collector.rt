@@ -1,6 +1,6 @@
 use crate::pixels::{pixel_order, pixel_piece};
+use crate::testing::check;
 use ls_pieces::{Collector, CollectorFault, Misfit};
-use ls_testing::check;
 use std::alloc::Global;
 use std::process::Abort;
 

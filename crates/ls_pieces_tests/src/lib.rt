@@ -11,3 +11,5 @@ mod orders;
 #[cfg(test)]
 mod pieces;
 pub mod pixels;
+#[cfg(test)]
+mod testing;

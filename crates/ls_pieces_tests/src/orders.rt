@@ -1,5 +1,5 @@
 use crate::pixels::pixel_order;
-use ls_testing::check;
+use crate::testing::check;
 use std::alloc::Global;
 use std::process::Abort;
 

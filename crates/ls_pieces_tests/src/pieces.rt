@@ -1,7 +1,7 @@
 use crate::pixels::pixel_order;
+use crate::testing::check;
 use ls_pieces::Coded;
 use ls_queue::Job;
-use ls_testing::check;
 use std::alloc::Global;
 use std::process::Abort;
 

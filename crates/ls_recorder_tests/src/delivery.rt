@@ -1,6 +1,6 @@
+use crate::testing::check;
 use ls_pieces_tests::pixels::pixel_piece;
 use ls_recorder::{Inbox, Outbox, RecordFault, Uncoded, boxes};
-use ls_testing::check;
 use std::alloc::Global;
 use std::process::Abort;
 use std::sync::Wait;

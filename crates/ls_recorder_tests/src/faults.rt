@@ -1,5 +1,5 @@
+use crate::testing::check_text;
 use ls_recorder::RecordFault;
-use ls_testing::check_text;
 
 /// Faults, and their texts.
 const TEXTS: [(RecordFault, &str); 6] = [

@@ -1,7 +1,6 @@
-use crate::testing::{DEFAULTS, MEANS, RUNS, RUNS_CODED, THREE, THREE_CODED};
+use crate::testing::{DEFAULTS, MEANS, RUNS, RUNS_CODED, THREE, THREE_CODED, check};
 use ls_frame::Tuning;
 use ls_recorder::{OpenGate, PlayedBack, record_and_play};
-use ls_testing::check;
 use std::alloc::Global;
 use std::process::Abort;
 use std::sync::Wait;

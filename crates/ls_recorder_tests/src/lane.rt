@@ -1,11 +1,11 @@
-use crate::testing::{DEFAULTS, first_seat};
+use crate::testing::{DEFAULTS, check, check_text, first_seat};
 use ls_frame::{Counted, NetpbmFault, PresetFault, Tuning};
 use ls_pieces_tests::pixels::pixel_piece;
 use ls_queue::open;
 use ls_recorder::lane::lane;
 use ls_recorder::{Answer, LaneFault, Misfit, Order, Uncoded, boxes};
 use ls_testing::films::{BLACK, FIRST_CODESTREAM, TWO_CODESTREAMS, TWO_IMAGES};
-use ls_testing::{Mishap, Pieces, Sink, check, check_text};
+use ls_testing::{Mishap, Pieces, Sink};
 use std::alloc::Global;
 use std::sync::Wait;
 

@@ -1,10 +1,10 @@
 ghost use Rattle.std.specs.Prelude.{◌≡◌, length, IfSome};
 
-use crate::testing::{DEFAULTS, MEANS, RUNS, RUNS_CODED, THREE, THREE_CODED};
+use crate::testing::{DEFAULTS, MEANS, RUNS, RUNS_CODED, THREE, THREE_CODED, check};
 use ls_frame::{Counted, NetpbmFault, Tuning};
 use ls_recorder::{Gate, LaneFault, Moment, OpenGate, RecordFault, Recording, Track, record};
 use ls_testing::films::{ANNEX_H, BLACK, FIRST_CODESTREAM, TWO_CODESTREAMS, TWO_IMAGES};
-use ls_testing::{Mishap, Pieces, Sink, check};
+use ls_testing::{Mishap, Pieces, Sink};
 use std::alloc::Global;
 use std::hint::spin_loop;
 use std::process::Abort;

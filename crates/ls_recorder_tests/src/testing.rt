@@ -1,10 +1,14 @@
-//! Films and recordings, for the tests.
+//! Films and recordings, and checks, for the tests.
 ghost use Rattle.std.specs.Prelude.{◌≡◌, [], IfSome};
 ghost use Rattle.ls_queue.specs.View.Running.{AreAllSources, IsSourceSeat, items_put};
 
 use ls_frame::Tuning;
 use ls_queue::{Queue, SourceSeat};
 use ls_recorder::Order;
+use ls_testing::{Mishap, Sink};
+use std::fmt::Display;
+use std::io::Write;
+use std::process::Abort;
 
 /// Each parameter by default.
 pub const DEFAULTS: Tuning = Tuning {
@@ -44,6 +48,22 @@ pub const RUNS_CODED: &[u8] = b"\xff\xd8\
 
 /// How many workers there are, and the window.
 pub const MEANS: [(usize, usize); 6] = [(1, 1), (1, 8), (2, 1), (2, 8), (4, 1), (4, 8)];
+
+/// That a check of this name went right. It wasn't made if memory was refused before, which isn't right if there was ample.
+pub fn check(rt: &impl Abort, name: &str, right: Option<bool>, ample: bool) {
+    assert_eq!(rt; right.unwrap_or(!ample), true, "{name}");
+}
+
+/// That a fault has this text.
+pub fn check_text<F: Display + Drop>(rt: &impl Abort, fault: F, text: &str) {
+    let mut sink = Sink::new(4096, Mishap::Nothing);
+    let written = write!(sink, "{fault}").is_ok();
+    assert_eq!(rt;
+        (written, sink.written()),
+        (true, text.as_bytes()),
+        "{text}"
+    );
+}
 
 /// The seat of source 0, of the seats that a queue was opened with.
 pub fn first_seat(queue: &Queue<Order>, seats: Vec<SourceSeat<Order>>) -> Option<SourceSeat<Order>>

@@ -1,10 +1,10 @@
 ghost use Rattle.std.specs.Prelude.{◌≡◌, IfSome};
 ghost use Rattle.ls_queue.specs.View.Running.{IsSourceSeat, IsWorkerSeat, IsEnded, AreAllSources, AreAllWorkers, sources_of, workers_of};
 
+use crate::testing::check;
 use ls_pieces_tests::pixels::pixel_order;
 use ls_queue::{Ended, Queue, SourceSeat, WorkerSeat, open};
 use ls_recorder::{Gate, Inbox, Moment, OpenGate, Order, boxes, work};
-use ls_testing::check;
 use std::alloc::Global;
 use std::sync::Wait;
 use std::sync::atomic::{AtomicU64, Ordering};
