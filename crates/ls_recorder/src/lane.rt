@@ -1,26 +1,35 @@
-//! The lane of a source: it reads a film, puts its frames into the queue, and writes their codestreams in order.
-ghost use Rattle.std.specs.Prelude.{◌≡◌, ◌<◌, ◌≤◌, ◌+◌, ◌-◌, ◌*◌, ◌^◌, ◌++◌, ◌∷◌, [], ℕ, length, take, Ok, IfOk, IfErr, OnOk, IfSome, IfNone, MatchResult};
-ghost use Rattle.std.specs.Io.KnownBytes.{Appends};
-ghost use Rattle.ls_frame.specs.Netpbm.{IsImageOf};
-ghost use Rattle.ls_frame.specs.Picture.{IsFrame};
-ghost use Rattle.ls_frame.specs.Parameters.{explicit_parameters};
-ghost use Rattle.ls_frame.specs.Tuning.{tuned};
+//! The lane of a source: a film's way from its reader to its writer.
+//!
+//! It has two halves, each in a thread of its own, so that a piece is written when its turn comes, whatever the film's reader does. The reading half
+//! (`reading`) reads a frame once there is a place for it in the window (`places`), books its order for the writing half, and puts it into
+//! the queue. The writing half (`writing`) takes the orders that were booked, receives their pieces out of the source's box, and
+//! writes each when its turn comes, which gives its place back. The bookings are a queue of one source and one worker: so what was
+//! booked is what was taken, in order, as its account says.
+mod places;
+mod reading;
+mod writing;
+
+ghost use Rattle.std.specs.Prelude.{◌≡◌, ◌≤◌, ◌⊎◌, [], ◌∷◌, true, length, vec_capacity, IfOk, IfErr, MatchResult};
 ghost use Rattle.ls_frame.specs.View.Devices.{count_after};
-ghost use Rattle.ls_frame.specs.View.Known.{Gave, WasAtEnd};
-ghost use Rattle.ls_film.specs.Film.{most_frames};
-ghost use Rattle.ls_queue.specs.View.Running.{IsSourceSeat, IsEnded, items_put, items_ended};
-ghost use Rattle.ls_pieces.specs.Orders.{coded};
-ghost use Rattle.ls_pieces.specs.Collecting.{booked, after_book, most_window};
-ghost use Rattle.ls_recorder.specs.View.Lanes.{Records, StopsLane, ReadsSo, GoesOn, StopsSo, StopsReading, failed_reader, failed_writer};
+ghost use Rattle.ls_queue.specs.View.Running.{IsSourceSeat, IsWorkerSeat, IsEnded, IsFinished, items_put, items_ended, is_done, puts_of, parts_of, sources_of, workers_of};
+ghost use Rattle.ls_pieces.specs.Collecting.{most_window};
+ghost use Rattle.ls_recorder.specs.View.Lanes.{Records, StopsLane, ReadsSo, failed_writer};
+ghost use Rattle.ls_recorder.specs.View.Halves.{WasNotStarted, MayStart, ArePartsOf, MayRead, IsReadingEnd, MayWrite, IsWritingEnd, orders_taken};
 
 use crate::delivery::Inbox;
-use ls_film::MOST_FRAMES;
-use ls_frame::{Feed, NetpbmFault, Outlet, PresetFault, Tuning, next_frame, write_bytes};
-use ls_pieces::{Coded, Collector, Misfit, Order};
-use ls_queue::{Ended, Queue, SourceSeat};
+use crate::gate::{Gate, Notice, OpenGate};
+use ls_frame::{Feed, NetpbmFault, Outlet, PresetFault, Tuning};
+use ls_pieces::{Collector, Misfit, Order};
+use ls_queue::{Closer, Ended, Finished, Queue, SourceSeat, WorkerSeat, open, settle};
+use places::{Places, Returns, places};
+use reading::{Reading, ReadingEnd, read_booked};
 use std::alloc::Global;
-use std::sync::{Arc, Wait};
+use std::snapshot::Snapshot;
+use std::sync::Wait;
+use std::thread;
+use std::thread::{Promise, Scope, Threads};
 use thiserror::Error;
+use writing::{Writing, WritingEnd, write_film};
 
 /// Why a lane stopped.
 #[derive(Clone, Copy, Debug, Drop, PartialEq, Eq, Error)]
@@ -63,14 +72,17 @@ pub struct LaneEnd<F, W> {
 }
 
 /// Records the film of a source: reads its frames, orders each with the parameters that the tuning gives for it, puts them into
-/// the queue, and writes the codestreams that come out of the inbox, in order. At most `window` frames, 1 to 64, were put and not
-/// written. The seat has put nothing before; the inbox is of the seat's source.
+/// the queue, and writes the codestreams that come out of the inbox, each as soon as it is its turn. At most `window` frames, 1 to
+/// 64, were read and not written. The seat has put nothing before; the inbox is of the seat's source.
 ///
 /// However it ends, the source is ended, and reader and writer come back. If their bytes are known (as in memory), the clauses say
 /// which were read and written, and of which frames. What is put before the frame at fault is written before the fault is answered;
-/// a fault met meanwhile is answered in its place. After a fault nothing is said of the reader's place. It waits for the queue and for
-/// workers; nothing is proved of when an answer comes.
-pub fn lane<F: Feed, W: Outlet, R: Wait>(
+/// a fault met meanwhile is answered in its place, once the read that goes on by then has ended. After a fault nothing is said of the
+/// reader's place.
+///
+/// It writes in a thread of its own; if none can be made, it answers `NotStarted`, with nothing read or written. It waits for that
+/// thread, for the queue and for workers; nothing is proved of when an answer comes.
+pub fn lane<F: Feed + Drop, W: Outlet + Send + Drop, R: Threads + Wait + Sync>(
     rt: &R,
     alloc: Global,
     queue: &Queue<Order>,
@@ -88,249 +100,284 @@ pub fn lane<F: Feed, W: Outlet, R: Wait>(
     ensures ended { IsEnded queue.now result.ended × (result.ended.source ≡ seat.source) × (result.ended.count ≡ length (items_ended result.ended)) }
     ensures completes { IfOk result.result (Records tuning (items_ended result.ended)
         (F.remaining reader) (F.remaining result.reader) (W.contents writer) (W.contents result.writer)) }
-    ensures stops { IfErr result.result (StopsLane tuning (items_ended result.ended)
-        (F.remaining reader) (F.remaining result.reader) (W.contents writer) (W.contents result.writer)) }
+    ensures stops { IfErr result.result (λ fault. WasNotStarted (items_ended result.ended) reader result.reader writer result.writer fault
+        ⊎ StopsLane tuning (items_ended result.ended) (F.remaining reader) (F.remaining result.reader) (W.contents writer) (W.contents result.writer) fault) }
     ensures reads { MatchResult result.result (λ frames. F.failed_reads result.reader ≡ F.failed_reads reader)
         (λ fault. ReadsSo fault (F.failed_reads reader) (F.failed_reads result.reader)) }
     ensures writes { W.failed_writes result.writer ≡ count_after (failed_writer result.result) (W.failed_writes writer) }
 {
-    let mut seat = seat;
-    let mut inbox = inbox;
-    let mut reader = reader;
-    let mut writer = writer;
-    let setting = Setting {
-        rt,
-        alloc,
-        queue,
+    let start = Start {
+        seat,
+        inbox,
         window,
-        tuning,
+        film: (reader, writer, tuning),
     };
-    let result = run(&setting, &mut seat, &mut inbox, &mut reader, &mut writer);
-    let ended = queue.end(rt, seat);
-    LaneEnd {
-        ended,
-        reader,
-        writer,
-        result,
-    }
+    watched_lane(rt, alloc, queue, &OpenGate, start)
+}
+
+/// What a lane starts with: the seat and the box of its source, its window, and its film.
+#[derive(Drop)]
+pub struct Start<F, W> {
+    pub seat: SourceSeat<Order>,
+    pub inbox: Inbox,
+    pub window: usize,
+    pub film: (F, W, Tuning),
 }
 
 /// What stays the same all along a lane.
 #[derive(Drop)]
-struct Setting<'a, R> {
-    rt: &'a R,
+struct Setting<'s, R, G> {
+    rt: &'s R,
     alloc: Global,
-    queue: &'a Queue<Order>,
+    queue: &'s Queue<Order>,
+    /// What was read, for the writing half.
+    bookings: &'s Queue<Order>,
+    gate: &'s G,
+    source: u8,
     window: usize,
     tuning: Tuning,
 }
 
-/// A lane up to the end of its source.
-fn run<F: Feed, W: Outlet, R: Wait>(
-    setting: &Setting<'_, R>,
-    seat: &mut SourceSeat<Order>,
-    inbox: &mut Inbox,
-    reader: &mut F,
-    writer: &mut W,
-) -> Result<u64, LaneFault>
-    requires seat { IsSourceSeat setting.now.queue.now seat.old }
-    requires new { items_put seat.old ≡ [] }
-    requires window { 1 ≤ setting.now.window }
-    requires narrow { setting.now.window ≤ most_window }
-    ensures seat { IsSourceSeat setting.now.queue.now seat.new × (seat.new.source ≡ seat.old.source) }
-    ensures completes { IfOk result (Records setting.now.tuning (items_put seat.new)
-        (F.remaining reader.old) (F.remaining reader.new) (W.contents writer.old) (W.contents writer.new)) }
-    ensures stops { IfErr result (StopsLane setting.now.tuning (items_put seat.new)
-        (F.remaining reader.old) (F.remaining reader.new) (W.contents writer.old) (W.contents writer.new)) }
-    ensures reads { MatchResult result (λ frames. F.failed_reads reader.new ≡ F.failed_reads reader.old)
-        (λ fault. ReadsSo fault (F.failed_reads reader.old) (F.failed_reads reader.new)) }
-    ensures writes { W.failed_writes writer.new ≡ count_after (failed_writer result) (W.failed_writes writer.old) }
-{
-    let rt = setting.rt;
-    let mut collector = match Collector::new(setting.alloc, inbox.source, setting.window) {
-        Ok(collector) => collector,
-        Err(_) => return Err(LaneFault::NoMemory),
-    };
-    let mut written = 0;
-    for number in 0..MOST_FRAMES + 1 {
-        written = collect_until(
-            rt,
-            inbox,
-            &mut collector,
-            writer,
-            written,
-            setting.window - 1,
-        )?;
-        let order = match next_order(setting.alloc, reader, &setting.tuning, number) {
-            Ok(Some(order)) => order,
-            Ok(None) => {
-                let _all = collect_until(rt, inbox, &mut collector, writer, written, 0)?;
-                return Ok(number);
-            }
-            Err(LaneFault::NoMemory) => return Err(LaneFault::NoMemory),
-            Err(fault) => {
-                let _all = collect_until(rt, inbox, &mut collector, writer, written, 0)?;
-                return Err(fault);
-            }
-        };
-        put(rt, setting.queue, seat, &mut collector, order)?;
-    }
-    unreachable!()
-}
-
-/// Reads the frame of this number, and orders it with the parameters that the tuning gives for it; `None` exactly at the end.
-fn next_order<F: Feed>(
-    alloc: Global,
-    reader: &mut F,
-    tuning: &Tuning,
-    number: u64,
-) -> Result<Option<Order>, LaneFault>
-    requires { number ≤ most_frames }
-    ensures order { IfOk result (λ next. IfSome next (λ order. (number < most_frames) × (order.1 ≡ tuned tuning.now order.0.maxval)
-        × (explicit_parameters (tuned tuning.now order.0.maxval) ≡ Ok order.1) × IsFrame order.0
-        × Gave (F.remaining reader.old) (F.remaining reader.new) (λ image. IsImageOf image order.0))) }
-    ensures end { IfOk result (λ next. IfNone next (WasAtEnd (F.remaining reader.old) (F.remaining reader.new))) }
-    ensures stops { IfErr result (StopsReading tuning.now (F.remaining reader.old) (F.remaining reader.new) number) }
-    ensures failures { F.failed_reads reader.new ≡ count_after (failed_reader result) (F.failed_reads reader.old) }
-{
-    let frame = match next_frame(alloc, reader) {
-        Ok(Some(frame)) => frame,
-        Ok(None) => return Ok(None),
-        Err(NetpbmFault::NoMemory) => return Err(LaneFault::NoMemory),
-        Err(fault) => return Err(LaneFault::Input(number, fault)),
-    };
-    if number == MOST_FRAMES {
-        return Err(LaneFault::TooMany);
-    }
-    let presets = match tuning.presets(frame.maxval()) {
-        Ok(presets) => presets,
-        Err(fault) => return Err(LaneFault::Tuning(number, fault)),
-    };
-    match Arc::new(alloc, frame) {
-        Ok(frame) => Ok(Some(Order::new(frame, presets))),
-        Err(_) => Err(LaneFault::NoMemory),
+impl<R, G: Gate> Setting<'_, R, G> {
+    /// Shows what has come of the film.
+    fn notice(&self, notice: Notice) {
+        self.gate.notice(self.source, notice);
     }
 }
 
-/// Books an order in the collector, which has room for it, and puts it into the queue.
-fn put<R: Wait>(
+/// As `lane`, with a gate that is shown what comes of the film.
+pub fn watched_lane<F: Feed + Drop, W: Outlet + Send + Drop, R: Threads + Wait + Sync, G: Gate>(
     rt: &R,
+    alloc: Global,
     queue: &Queue<Order>,
-    seat: &mut SourceSeat<Order>,
-    collector: &mut Collector,
-    order: Order,
-) -> Result<(), LaneFault>
-    requires seat { IsSourceSeat queue.now seat.old }
-    requires room { length collector.old.slots < collector.old.window }
-    requires few { booked collector.old < most_frames }
-    requires short { length (items_put seat.old) < most_frames }
-    ensures seat { IsSourceSeat queue.now seat.new × (seat.new.source ≡ seat.old.source) }
-    ensures put { OnOk result ((items_put seat.new ≡ items_put seat.old ++ order ∷ []) × (collector.new ≡ after_book collector.old order)) }
-    ensures refused { IfErr result (λ fault. (fault ≡ LaneFault.NoMemory) × (items_put seat.new ≡ items_put seat.old)) }
+    gate: &G,
+    start: Start<F, W>,
+) -> LaneEnd<F, W>
+    requires { MayStart queue.now start }
+    ensures ended { IsEnded queue.now result.ended × (result.ended.source ≡ start.seat.source) × (result.ended.count ≡ length (items_ended result.ended)) }
+    ensures completes { IfOk result.result (Records start.film.2 (items_ended result.ended)
+        (F.remaining start.film.0) (F.remaining result.reader) (W.contents start.film.1) (W.contents result.writer)) }
+    ensures stops { IfErr result.result (λ fault. WasNotStarted (items_ended result.ended) start.film.0 result.reader start.film.1 result.writer fault
+        ⊎ StopsLane start.film.2 (items_ended result.ended) (F.remaining start.film.0) (F.remaining result.reader) (W.contents start.film.1) (W.contents result.writer) fault) }
+    ensures reads { MatchResult result.result (λ frames. F.failed_reads result.reader ≡ F.failed_reads start.film.0)
+        (λ fault. ReadsSo fault (F.failed_reads start.film.0) (F.failed_reads result.reader)) }
+    ensures writes { W.failed_writes result.writer ≡ count_after (failed_writer result.result) (W.failed_writes start.film.1) }
 {
-    let Ok(copy) = order.clone() else {
+    let Start {
+        seat,
+        inbox,
+        window,
+        film: (reader, writer, tuning),
+    } = start;
+    let source = inbox.source;
+    gate.notice(source, Notice::Began);
+    let Ok((bookings, parts)) = parts_for(rt, alloc, source, window) else {
+        let end = LaneEnd {
+            ended: queue.end(rt, seat),
+            reader,
+            writer,
+            result: Err(LaneFault::NoMemory),
+        };
+        gate.notice(source, Notice::Ended(end.result));
+        return end;
+    };
+    let Parts {
+        booked,
+        closer,
+        places,
+        ended,
+        taker,
+        collector,
+        returns,
+        seats,
+    } = parts;
+    let reading = Reading {
+        seat,
+        booked,
+        closer,
+        places,
+        ended,
+        reader,
+    };
+    let writing = Writing {
+        seat: taker,
+        inbox,
+        collector,
+        returns,
+        writer,
+    };
+    let setting = Setting {
+        rt,
+        alloc,
+        queue,
+        bookings: &bookings,
+        gate,
+        source,
+        window,
+        tuning,
+    };
+    let (read, wrote) = run_in_scope(&setting, reading, writing);
+    hand_over(rt, bookings, read.finished, seats, wrote.seat);
+    let result = match wrote.result {
+        Ok(()) => read.result,
+        Err(fault) => Err(fault),
+    };
+    gate.notice(source, Notice::Ended(result));
+    LaneEnd {
+        ended: queue.end(rt, read.seat),
+        reader: read.reader,
+        writer: wrote.writer,
+        result,
+    }
+}
+
+/// What the two halves of a lane need beside its film, its seat and its box.
+#[derive(Drop)]
+pub struct Parts {
+    pub booked: SourceSeat<Order>,
+    pub closer: Closer<Order>,
+    pub places: Places,
+    /// Room for the end of `booked`.
+    pub ended: Vec<Ended<Order>>,
+    pub taker: WorkerSeat<Order>,
+    pub collector: Collector,
+    pub returns: Returns,
+    /// Room for `taker`.
+    pub seats: Vec<WorkerSeat<Order>>,
+}
+
+/// A queue for the bookings of a source, with its seats, and what else the halves of its lane need. Fails only if an allocation fails.
+fn parts_for<R: Wait>(
+    rt: &R,
+    alloc: Global,
+    source: u8,
+    window: usize,
+) -> Result<(Queue<Order>, Parts), LaneFault>
+    requires some { 1 ≤ window }
+    requires few { window ≤ most_window }
+    ensures { IfOk result (λ made. ArePartsOf made.0 source window made.1) }
+{
+    let (Ok((bookings, mut sources, mut takers, closer)), Ok((places, returns)), Ok(collector)) = (
+        open(rt, alloc, 1, 1, window),
+        places(alloc, window),
+        Collector::new(alloc, source, window),
+    ) else {
         return Err(LaneFault::NoMemory);
     };
-    let Ok(_number) = collector.book(copy) else {
-        unreachable!()
+    let (Ok(ended), Ok(seats)) = (
+        Vec::with_capacity(alloc, 1),
+        Vec::with_capacity(alloc, 1),
+    ) else {
+        return Err(LaneFault::NoMemory);
     };
-    let Ok(_number) = queue.put(rt, seat, order) else {
-        unreachable!()
+    let parts = Parts {
+        booked: sources.remove(0),
+        closer,
+        places,
+        ended,
+        taker: takers.remove(0),
+        collector,
+        returns,
+        seats,
     };
-    Ok(())
+    Ok((bookings, parts))
 }
 
-/// Writes a piece after `written` bytes, and says how many there are then.
-fn write_piece<W: Outlet>(writer: &mut W, piece: &Coded, written: u64) -> Result<u64, LaneFault>
-    requires { written + 2 ^ 32 ≤ 2 ^ 64 }
-    ensures all { IfOk result (λ now. (now ≡ written + length (coded piece.now.item)) × (now < written + 2 ^ 32)
-        × Appends (W.contents writer.old) (W.contents writer.new) (coded piece.now.item)) }
-    ensures stops { IfErr result (λ fault. (here : ℕ) × (fault ≡ LaneFault.Output (written + here)) × (here < length (coded piece.now.item))
-        × Appends (W.contents writer.old) (W.contents writer.new) (take here (coded piece.now.item))) }
-    ensures failures { W.failed_writes writer.new ≡ count_after (failed_writer result) (W.failed_writes writer.old) }
-{
-    let bytes = piece.bytes();
-    match write_bytes(writer, bytes) {
-        Ok(()) => Ok(written + bytes.len() as u64),
-        Err(fault) => Err(LaneFault::Output(written + fault.written as u64)),
-    }
+/// What the thread of the writing half will answer.
+#[derive(Drop)]
+pub struct WritingOf<W: Outlet> {
+    pub bookings: Snapshot<Queue<Order>>,
+    pub writer: Snapshot<W>,
 }
 
-/// Writes the pieces that are there, in order, up to the first that isn't, after `written` bytes; and says how many there are then.
-fn write_ready<W: Outlet>(
-    collector: &mut Collector,
-    writer: &mut W,
-    written: u64,
-) -> Result<u64, LaneFault>
-    requires few { booked collector.old ≤ most_frames }
-    requires small { written ≤ 2 ^ 32 * collector.old.first }
-    ensures goes_on { IfOk result (λ now. GoesOn (W.contents writer.old) collector.old written (W.contents writer.new) collector.new now) }
-    ensures small { IfOk result (λ now. now ≤ 2 ^ 32 * collector.new.first) }
-    ensures same { OnOk result ((booked collector.new ≡ booked collector.old) × (collector.new.window ≡ collector.old.window)) }
-    ensures stops { IfErr result (StopsSo (W.contents writer.old) collector.old written (W.contents writer.new)) }
-    ensures failures { W.failed_writes writer.new ≡ count_after (failed_writer result) (W.failed_writes writer.old) }
-{
-    let mut written = written;
-    while let Some(piece) = collector.next() {
-        written = write_piece(writer, &piece, written)?;
-    }
-    Ok(written)
+impl<W: Outlet + Drop> Promise<WritingEnd<W>> for WritingOf<W> {
+    ghost use Rattle.ls_recorder.specs.View.Halves.{IsWritingEnd};
+
+    ghost kept_by = { λ p end. IsWritingEnd W.contents W.failed_writes p.bookings.value p.writer.value end };
 }
 
-/// Receives an answer, gives its piece to the collector, where some order waits, and writes what is then ready.
-fn collect<W: Outlet, R: Wait>(
-    rt: &R,
-    inbox: &mut Inbox,
-    collector: &mut Collector,
-    writer: &mut W,
-    written: u64,
-) -> Result<u64, LaneFault>
-    requires some { 0 < length collector.old.slots }
-    requires few { booked collector.old ≤ most_frames }
-    requires small { written ≤ 2 ^ 32 * collector.old.first }
-    ensures goes_on { IfOk result (λ now. GoesOn (W.contents writer.old) collector.old written (W.contents writer.new) collector.new now) }
-    ensures small { IfOk result (λ now. now ≤ 2 ^ 32 * collector.new.first) }
-    ensures same { OnOk result ((booked collector.new ≡ booked collector.old) × (collector.new.window ≡ collector.old.window)) }
-    ensures stops { IfErr result (StopsSo (W.contents writer.old) collector.old written (W.contents writer.new)) }
-    ensures failures { W.failed_writes writer.new ≡ count_after (failed_writer result) (W.failed_writes writer.old) }
+/// As `run_halves`, in a scope of its own.
+fn run_in_scope<F: Feed + Drop, W: Outlet + Send + Drop, R: Threads + Wait + Sync, G: Gate>(
+    setting: &Setting<'_, R, G>,
+    reading: Reading<F>,
+    writing: Writing<W>,
+) -> (ReadingEnd<F>, WritingEnd<W>)
+    requires reading { MayRead setting.now.queue.now setting.now.bookings.now reading }
+    requires writing { MayWrite setting.now.bookings.now setting.now.window writing }
+    ensures read { IsReadingEnd F.remaining F.failed_reads setting.now.queue.now setting.now.bookings.now setting.now.tuning reading.seat reading.reader result.0 }
+    ensures wrote { IsWritingEnd W.contents W.failed_writes setting.now.bookings.now writing.writer result.1 }
 {
-    let piece = match inbox.recv(rt) {
-        Some(Ok(piece)) => piece,
-        Some(Err(_)) => return Err(LaneFault::NoMemory),
-        None => return Err(LaneFault::Lost),
+    thread::scope(
+        thread::scope_env(),
+        setting.rt,
+        move |scope| -> (ReadingEnd<F>, WritingEnd<W>)
+            requires { MayRead setting.now.queue.now setting.now.bookings.now reading × MayWrite setting.now.bookings.now setting.now.window writing }
+            ensures { IsReadingEnd F.remaining F.failed_reads setting.entry.now.queue.now setting.entry.now.bookings.now setting.entry.now.tuning reading.seat reading.reader result.0
+                × IsWritingEnd W.contents W.failed_writes setting.entry.now.bookings.now writing.writer result.1 }
+        { run_halves(scope, setting, reading, writing) },
+    )
+}
+
+/// Runs both halves to their ends. If no thread can be made for the writing half, nothing is read, and it has nothing to write.
+fn run_halves<
+    's,
+    E,
+    F: Feed + Drop,
+    W: Outlet + Send + Drop + 's,
+    R: Threads + Wait + Sync,
+    G: Gate,
+>(
+    scope: &Scope<'s, E>,
+    setting: &'s Setting<'s, R, G>,
+    reading: Reading<F>,
+    writing: Writing<W>,
+) -> (ReadingEnd<F>, WritingEnd<W>)
+    requires reading { MayRead setting.now.queue.now setting.now.bookings.now reading }
+    requires writing { MayWrite setting.now.bookings.now setting.now.window writing }
+    ensures read { IsReadingEnd F.remaining F.failed_reads setting.now.queue.now setting.now.bookings.now setting.now.tuning reading.seat reading.reader result.0 }
+    ensures wrote { IsWritingEnd W.contents W.failed_writes setting.now.bookings.now writing.writer result.1 }
+{
+    let promise = WritingOf {
+        bookings: Snapshot::of(setting.bookings),
+        writer: Snapshot::of(&writing.writer),
     };
-    match collector.accept(piece) {
-        Ok(()) => {}
-        Err((_, misfit)) => return Err(LaneFault::Misfit(misfit)),
-    }
-    let written = write_ready(collector, writer, written)?;
-    Ok(written)
-}
-
-/// Receives answers and writes their pieces until no more than `most` orders wait.
-fn collect_until<W: Outlet, R: Wait>(
-    rt: &R,
-    inbox: &mut Inbox,
-    collector: &mut Collector,
-    writer: &mut W,
-    written: u64,
-    most: usize,
-) -> Result<u64, LaneFault>
-    requires few { booked collector.old ≤ most_frames }
-    requires small { written ≤ 2 ^ 32 * collector.old.first }
-    ensures few { OnOk result (length collector.new.slots ≤ most) }
-    ensures goes_on { IfOk result (λ now. GoesOn (W.contents writer.old) collector.old written (W.contents writer.new) collector.new now) }
-    ensures small { IfOk result (λ now. now ≤ 2 ^ 32 * collector.new.first) }
-    ensures same { OnOk result ((booked collector.new ≡ booked collector.old) × (collector.new.window ≡ collector.old.window)) }
-    ensures stops { IfErr result (StopsSo (W.contents writer.old) collector.old written (W.contents writer.new)) }
-    ensures failures { W.failed_writes writer.new ≡ count_after (failed_writer result) (W.failed_writes writer.old) }
-{
-    let mut written = written;
-    for _ in rt.forever() {
-        if collector.waiting() <= most {
-            return Ok(written);
+    let started = scope.spawn_with(
+        promise,
+        move || -> WritingEnd<W>
+            requires { MayWrite setting.now.bookings.now setting.now.window writing }
+            ensures { IsWritingEnd W.contents W.failed_writes setting.entry.now.bookings.now writing.writer result }
+        { write_film(setting, writing) },
+    );
+    match started {
+        Ok(handle) => {
+            let read = read_booked(setting, reading, true);
+            (read, handle.join(setting.rt))
         }
-        written = collect(rt, inbox, collector, writer, written)?;
+        Err(refused) => {
+            let read = read_booked(setting, reading, false);
+            (read, (refused.value)())
+        }
     }
-    unreachable!()
+}
+
+/// Ends the account of the bookings: what was taken is what was booked.
+fn hand_over<R: Wait>(
+    rt: &R,
+    bookings: Queue<Order>,
+    finished: Finished<Order>,
+    seats: Vec<WorkerSeat<Order>>,
+    taker: WorkerSeat<Order>,
+)
+    requires one { (sources_of bookings ≡ 1) × (workers_of bookings ≡ 1) }
+    requires finished { IsFinished bookings finished }
+    requires taker { IsWorkerSeat bookings taker × (is_done taker ≡ true) }
+    requires seats { (seats.items ≡ []) × (1 ≤ vec_capacity seats) }
+    ensures { (ended : Ended Ordered) → puts_of finished ≡ parts_of (ended ∷ []) → IsEnded bookings ended → orders_taken taker ≡ items_ended ended }
+{
+    let mut seats = seats;
+    seats.push_reserved(taker);
+    match settle(rt, bookings, finished, seats) {
+        Ok(_account) => {}
+        Err(_) => unreachable!(),
+    }
 }

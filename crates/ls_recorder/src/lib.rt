@@ -31,6 +31,7 @@
 
 pub mod delivery;
 pub mod faults;
+pub mod gate;
 pub mod headline;
 pub mod lane;
 pub mod laws;
@@ -40,9 +41,10 @@ pub mod working;
 
 pub use delivery::{Answer, Inbox, Outbox, boxes};
 pub use faults::RecordFault;
+pub use gate::{Gate, Moment, Notice, OpenGate};
 pub use headline::{PlayedBack, record_and_play};
 pub use lane::{LaneEnd, LaneFault};
 pub use ls_film::{PlayFault, play, play_bytes};
 pub use ls_pieces::{Coded, Collector, CollectorFault, MOST_WINDOW, Misfit, Order, Uncoded};
 pub use recording::{Recording, Track, record};
-pub use working::{Gate, Moment, OpenGate, Worked, work};
+pub use working::{Worked, work};

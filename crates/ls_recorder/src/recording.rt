@@ -13,7 +13,7 @@ use crate::delivery::boxes;
 use crate::faults::RecordFault;
 use crate::lane::LaneFault;
 use crate::sizes::Sizes;
-use crate::working::Gate;
+use crate::gate::Gate;
 use ls_frame::{Feed, Outlet, Tuning};
 use ls_pieces::Order;
 use ls_queue::{Account, Queue, open, settle};

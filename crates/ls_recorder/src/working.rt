@@ -3,32 +3,11 @@ ghost use Rattle.std.specs.Prelude.{◌≡◌, ◌+◌, ◌≤◌, true, length}
 ghost use Rattle.ls_queue.specs.View.Running.{IsWorkerSeat, jobs_taken, is_done, sources_of};
 
 use crate::delivery::Outbox;
+use crate::gate::{Gate, Moment};
 use ls_pieces::{Coded, Order};
 use ls_queue::{Queue, Taken, WorkerSeat};
 use std::alloc::Global;
 use std::sync::Wait;
-
-/// When a gate is passed.
-#[derive(Clone, Copy, Debug, PartialEq, Eq)]
-pub enum Moment {
-    /// The job is about to be coded.
-    Before,
-    /// It was coded, or couldn't be, and isn't answered yet.
-    After,
-}
-
-/// What each worker passes before and after each coding. Nothing is promised of it: it can count, and hold workers up.
-pub trait Gate: Sync {
-    /// The job of this source and this number is at this moment.
-    fn pass(&self, source: u8, number: u64, moment: Moment);
-}
-
-/// The gate that holds nobody up.
-pub struct OpenGate;
-
-impl Gate for OpenGate {
-    fn pass(&self, _source: u8, _number: u64, _moment: Moment) {}
-}
 
 /// What a worker did.
 #[derive(Drop)]

@@ -90,16 +90,12 @@ module _ (items : List Ordered) (start now : Option (List ℕ)) where
   StopsWriting (Misfit misfit) = WroteFewer items start now × IsMisfit misfit
   StopsWriting Lost = WroteFewer items start now
   StopsWriting NotStarted = ⊥
-  StopsWriting TooMany = ⊥
+  StopsWriting TooMany = most_frames < length items
   StopsWriting (BadTuning m fault) = ⊥
 
 -- whatever was put and wherever writing began, it goes on
 abbrev pub GoesOn : Option (List ℕ) → Collection → ℕ → Option (List ℕ) → Collection → ℕ → Type 0
 GoesOn now c bytes now' c' bytes' = (items : List Ordered) (start : Option (List ℕ)) → IsWriting items start now c bytes → IsWriting items start now' c' bytes'
-
--- or it stops so
-abbrev pub StopsSo : Option (List ℕ) → Collection → ℕ → Option (List ℕ) → LaneFault → Type 0
-StopsSo now c bytes now' fault = (items : List Ordered) (start : Option (List ℕ)) → IsWriting items start now c bytes → StopsWriting items start now' fault
 
 -- ---- the next frame
 

@@ -19,7 +19,6 @@ use Rattle.ls_recorder.specs.declared.recording.threads.Room.{Room}
 use Rattle.ls_recorder.specs.declared.recording.threads.Ran.{Ran}
 use Rattle.ls_recorder.specs.declared.recording.workers.WorkerOf.{WorkerOf}
 use Rattle.ls_recorder.specs.declared.recording.lanes.Lane.{Lane}
-use Rattle.ls_recorder.specs.declared.recording.lanes.Start.{Start}
 use Rattle.ls_recorder.specs.declared.recording.lanes.Lane.TheVariants as lane
 use Rattle.ls_recorder.specs.View.Boxes.{AreFrom}
 use Rattle.ls_pieces.specs.Orders.{Ordered}
@@ -132,14 +131,6 @@ pub record AreParts (queue : Queue Ordered) (parts : Parts) : Type 0 where
   pub inboxes_are : length parts.inboxes.items ≡ sources_of queue
   pub outboxes : LeadToAll (sources_of queue) parts.outboxes.items
   pub outboxes_are : length parts.outboxes.items ≡ workers_of queue
-
--- what a lane's thread is started with: a seat that has put nothing, a box of its source, and a window
-pub record MayStart {R W : Type 0} (queue : Queue Ordered) (start : Start R W) : Type 0 where
-  pub seat : IsSourceSeat queue start.seat
-  pub new : items_put start.seat ≡ []
-  pub inbox : start.inbox.source ≡ start.seat.source
-  pub some : 1 ≤ start.window
-  pub few : start.window ≤ most_window
 
 -- the films, and all that was made for their lanes and for the workers
 pub record MayRun {R W : Type 0} (queue : Queue Ordered) (refused : List AtomicBool) (window : ℕ) (films : List (R × W × Tuning)) (parts : Parts) (room : Room R W) : Type 0 where

@@ -3,10 +3,12 @@ ghost use Rattle.std.specs.Prelude.{◌≡◌, ℕ, List, ◌<◌, ◌≤◌, []
 ghost use Rattle.ls_queue.specs.View.Running.{AreAllSources, sources_of};
 ghost use Rattle.ls_pieces.specs.Collecting.{most_window};
 ghost use Rattle.ls_recorder.specs.View.Boxes.{AreFrom};
-ghost use Rattle.ls_recorder.specs.View.Recordings.{IsLaneEnd, IsStarted, AreStarted, AreDone, MayStart};
+ghost use Rattle.ls_recorder.specs.View.Recordings.{IsLaneEnd, IsStarted, AreStarted, AreDone};
+ghost use Rattle.ls_recorder.specs.View.Halves.{MayStart};
 
 use crate::delivery::Inbox;
-use crate::lane::{LaneEnd, LaneFault, lane};
+use crate::gate::{Gate, Notice};
+use crate::lane::{LaneEnd, LaneFault, Start, watched_lane};
 use crate::recording::Track;
 use crate::recording::threads::Shared;
 use ls_frame::{Feed, Outlet, Tuning};
@@ -17,15 +19,6 @@ use std::snapshot::Snapshot;
 use std::sync::Wait;
 use std::sync::atomic::{AtomicBool, Ordering};
 use std::thread::{Promise, PromisedHandle, Scope, Threads};
-
-/// What a lane's thread needs: the seat and the box of its source, its window, and its film.
-#[derive(Drop)]
-pub struct Start<R: Feed + Drop, W: Outlet + Drop> {
-    pub seat: SourceSeat<Order>,
-    pub inbox: Inbox,
-    pub window: usize,
-    pub film: (R, W, Tuning),
-}
 
 /// What a lane's thread will answer.
 #[derive(Drop)]
@@ -57,7 +50,7 @@ pub fn start_lanes<
     Rt: Threads + Wait + Sync,
     R: Feed + Send + Drop + 's,
     W: Outlet + Send + Drop + 's,
-    G,
+    G: Gate,
 >(
     scope: &Scope<'s, E>,
     shared: &Shared<'s, Rt, G>,
@@ -101,7 +94,7 @@ fn start_lane<
     Rt: Threads + Wait + Sync,
     R: Feed + Send + Drop + 's,
     W: Outlet + Send + Drop + 's,
-    G,
+    G: Gate,
 >(scope: &Scope<'s, E>, shared: &Shared<'s, Rt, G>, source: u8, start: Start<R, W>) -> Lane<R, W>
     requires may { MayStart shared.now.queue.now start }
     requires source { start.seat.source ≡ source }
@@ -111,6 +104,7 @@ fn start_lane<
     let rt = shared.rt;
     let alloc = shared.alloc;
     let queue = shared.queue;
+    let gate = shared.gate;
     let refused = &shared.refused[source as usize];
     let promise = LaneOf {
         queue: Snapshot::of(queue),
@@ -124,7 +118,7 @@ fn start_lane<
         move || -> LaneEnd<R, W>
             requires { MayStart queue.now start }
             ensures { IsLaneEnd R.remaining R.failed_reads W.contents W.failed_writes queue.entry.now start.seat.source start.film.2 start.film.0 start.film.1 result }
-        { begin_lane(rt, alloc, queue, refused, start) },
+        { begin_lane(rt, alloc, queue, gate, refused, start) },
     );
     match started {
         Ok(handle) => Lane::Running(handle),
@@ -136,35 +130,39 @@ fn start_lane<
 }
 
 /// A lane, unless its thread was refused.
-fn begin_lane<Rt: Wait, R: Feed + Drop, W: Outlet + Drop>(
+fn begin_lane<
+    Rt: Threads + Wait + Sync,
+    R: Feed + Drop,
+    W: Outlet + Send + Drop,
+    G: Gate,
+>(
     rt: &Rt,
     alloc: Global,
     queue: &Queue<Order>,
+    gate: &G,
     refused: &AtomicBool,
     start: Start<R, W>,
 ) -> LaneEnd<R, W>
     requires { MayStart queue.now start }
     ensures { IsLaneEnd R.remaining R.failed_reads W.contents W.failed_writes queue.now start.seat.source start.film.2 start.film.0 start.film.1 result }
 {
+    if !refused.load(Ordering::SeqCst) {
+        return watched_lane(rt, alloc, queue, gate, start);
+    }
     let Start {
         seat,
         inbox,
-        window,
-        film,
+        film: (reader, writer, _tuning),
+        ..
     } = start;
-    let (reader, writer, tuning) = film;
-    if refused.load(Ordering::SeqCst) {
-        let ended = queue.end(rt, seat);
-        return LaneEnd {
-            ended,
-            reader,
-            writer,
-            result: Err(LaneFault::NotStarted),
-        };
+    let result = Err(LaneFault::NotStarted);
+    gate.notice(inbox.source, Notice::Ended(result));
+    LaneEnd {
+        ended: queue.end(rt, seat),
+        reader,
+        writer,
+        result,
     }
-    lane(
-        rt, alloc, queue, seat, inbox, window, tuning, reader, writer,
-    )
 }
 
 /// Joins the lanes: their ends, and their tracks.

@@ -5,7 +5,8 @@ ghost use Rattle.ls_recorder.specs.View.Recordings.{IsWorked, AreWorking, LeadTo
 
 use crate::delivery::Outbox;
 use crate::recording::threads::Shared;
-use crate::working::{Gate, Worked, work};
+use crate::gate::Gate;
+use crate::working::{Worked, work};
 use ls_pieces::Order;
 use ls_queue::{Queue, WorkerSeat};
 use std::snapshot::Snapshot;

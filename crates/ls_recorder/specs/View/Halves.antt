@@ -1,0 +1,180 @@
+-- The two halves of a lane: what the reading half read, booked and put; what the writing half took of the bookings, and wrote.
+use Rattle.std.specs.Prelude.{◌≡◌, ◌≢◌, ◌⊎◌, ℕ, ◌+◌, ◌-◌, ◌<◌, ◌≤◌, Bool, true, false, List, [], ◌∷◌, length, map, Option, Some, Result, Ok, Err, MatchResult, vec_capacity}
+use Rattle.std.specs.Io.KnownBytes.{Appends}
+use Rattle.ls_frame.specs.declared.tuning.Tuning.{Tuning}
+use Rattle.ls_frame.specs.Picture.{Picture}
+use Rattle.ls_frame.specs.Netpbm.{IsImageOf}
+use Rattle.ls_frame.specs.View.Devices.{count_after}
+use Rattle.ls_frame.specs.View.Known.{WasAtEnd}
+use Rattle.ls_film.specs.Film.{most_frames}
+use Rattle.ls_film.specs.Coding.{file}
+use Rattle.ls_film.specs.View.Given.{GaveFrames}
+use Rattle.ls_queue.specs.declared.replies.Job.{Job}
+use Rattle.ls_queue.specs.declared.running.Queue.{Queue}
+use Rattle.ls_queue.specs.declared.running.SourceSeat.{SourceSeat}
+use Rattle.ls_queue.specs.declared.running.WorkerSeat.{WorkerSeat}
+use Rattle.ls_queue.specs.declared.running.Ended.{Ended}
+use Rattle.ls_queue.specs.View.Running.{IsSourceSeat, IsWorkerSeat, IsCloser, IsEnded, IsFinished, items_put, items_ended, jobs_taken, is_done, puts_of, parts_of, sources_of, workers_of}
+use Rattle.ls_pieces.specs.Orders.{Ordered}
+use Rattle.ls_pieces.specs.Collecting.{Collection, booked, misfit_of, new_collection, most_window}
+use Rattle.ls_pieces.specs.declared.collector.Misfit.TheVariants.{NotBooked as WasNotBooked}
+use Rattle.ls_recorder.specs.declared.lane.LaneFault.{LaneFault}
+use Rattle.ls_recorder.specs.declared.lane.LaneFault.TheVariants.{NoMemory, Misfit, NotStarted}
+use Rattle.ls_recorder.specs.declared.lane.Start.{Start}
+use Rattle.ls_recorder.specs.declared.lane.Parts.{Parts}
+use Rattle.ls_recorder.specs.declared.lane.reading.Reading.{Reading}
+use Rattle.ls_recorder.specs.declared.lane.reading.ReadingEnd.{ReadingEnd}
+use Rattle.ls_recorder.specs.declared.lane.writing.Writing.{Writing}
+use Rattle.ls_recorder.specs.declared.lane.writing.WritingEnd.{WritingEnd}
+use Rattle.ls_recorder.specs.declared.lane.writing.Halt.{Halt}
+use Rattle.ls_recorder.specs.declared.lane.writing.Halt.TheVariants as halt
+use Rattle.ls_recorder.specs.View.Lanes.{AreOrdersOf, StopsReading, IsWriting, StopsWriting, blames_writer, failed_reader, failed_writer}
+
+-- ---- the beginning
+
+-- what a lane is started with: a seat that has put nothing, a box of its source, and a window
+pub record MayStart {R W : Type 0} (queue : Queue Ordered) (start : Start R W) : Type 0 where
+  pub seat : IsSourceSeat queue start.seat
+  pub new : items_put start.seat ≡ []
+  pub inbox : start.inbox.source ≡ start.seat.source
+  pub some : 1 ≤ start.window
+  pub few : start.window ≤ most_window
+
+-- what the halves of a lane need: the seats of a queue of one source and one worker, of which nothing was put and taken, a collector
+-- with nothing booked, and room for what `finish` and `settle` are given
+pub record ArePartsOf (bookings : Queue Ordered) (source window : ℕ) (parts : Parts) : Type 0 where
+  pub one_source : sources_of bookings ≡ 1
+  pub one_worker : workers_of bookings ≡ 1
+  pub booked : IsSourceSeat bookings parts.booked
+  pub unbooked : items_put parts.booked ≡ []
+  pub closer : IsCloser bookings parts.closer
+  pub ended : (parts.ended.items ≡ []) × (1 ≤ vec_capacity parts.ended)
+  pub taker : IsWorkerSeat bookings parts.taker
+  pub untaken : jobs_taken parts.taker ≡ []
+  pub collector : parts.collector ≡ new_collection source window
+  pub returns : parts.returns.returned ≡ 0
+  pub seats : (parts.seats.items ≡ []) × (1 ≤ vec_capacity parts.seats)
+
+-- ---- the reading half
+
+pub record MayRead {R : Type 0} (queue bookings : Queue Ordered) (reading : Reading R) : Type 0 where
+  pub seat : IsSourceSeat queue reading.seat
+  pub new : items_put reading.seat ≡ []
+  pub one : sources_of bookings ≡ 1
+  pub booked : IsSourceSeat bookings reading.booked
+  pub unbooked : items_put reading.booked ≡ []
+  pub closer : IsCloser bookings reading.closer
+  pub ended : (reading.ended.items ≡ []) × (1 ≤ vec_capacity reading.ended)
+
+module _ (tuning : Tuning) (items : List Ordered) (read : Option (List ℕ)) where
+  -- what was read so far, all of which was put
+  pub record HasRead (now : Option (List ℕ)) (n : ℕ) : Type 0 where
+    pub frames : List Picture
+    pub count : length frames ≡ n
+    pub gave : GaveFrames IsImageOf read now frames
+    pub put : AreOrdersOf tuning frames items
+
+  -- so many frames were read and put, and then the reader was at its end
+  pub record HasReadAll (read' : Option (List ℕ)) (n : ℕ) : Type 0 where
+    pub before : Option (List ℕ)
+    pub run : HasRead before n
+    pub few : n ≤ most_frames
+    pub end : WasAtEnd before read'
+
+  -- some frames were read and put, and the next one couldn't be; or memory was refused
+  pub record HasReadSome (read' : Option (List ℕ)) (fault : LaneFault) : Type 0 where
+    pub n : ℕ
+    pub before : Option (List ℕ)
+    pub run : HasRead before n
+    pub few : n ≤ most_frames
+    pub why : StopsReading tuning before read' n fault ⊎ (fault ≡ NoMemory)
+
+-- nothing was read or written
+abbrev pub WasNotStarted : {R W : Type 0} → List Ordered → R → R → W → W → LaneFault → Type 0
+WasNotStarted items reader reader' writer writer' fault = (fault ≡ NotStarted) × (items ≡ []) × (reader' ≡ reader) × (writer' ≡ writer)
+
+module _ {R : Type 0} (remaining : R → Option (List ℕ)) (failed_reads : R → ℕ) where
+  -- what came of the reading half: what was put was booked, and the bookings are finished
+  pub record IsReadingEnd (queue bookings : Queue Ordered) (tuning : Tuning) (seat : SourceSeat Ordered) (reader : R) (end : ReadingEnd R) : Type 0 where
+    pub seat_is : IsSourceSeat queue end.seat
+    pub source : end.seat.source ≡ seat.source
+    pub finished : IsFinished bookings end.finished
+    pub ended : Ended Ordered
+    pub ended_is : IsEnded bookings ended
+    pub booked : items_ended ended ≡ items_put end.seat
+    pub puts : puts_of end.finished ≡ parts_of (ended ∷ [])
+    pub read : MatchResult end.result
+        (HasReadAll tuning (items_put end.seat) (remaining reader) (remaining end.reader))
+        (λ fault. ((fault ≡ NotStarted) × (items_put end.seat ≡ []) × (end.reader ≡ reader)) ⊎ HasReadSome tuning (items_put end.seat) (remaining reader) (remaining end.reader) fault)
+    pub reads : failed_reads end.reader ≡ count_after (failed_reader end.result) (failed_reads reader)
+
+-- ---- the writing half
+
+-- the orders that a seat took of the bookings
+abbrev pub orders_taken : WorkerSeat Ordered → List Ordered
+orders_taken seat = map (λ (j : Job Ordered). j.item) (jobs_taken seat)
+
+-- all orders that were taken were booked in the collector
+pub record HasTaken (bookings : Queue Ordered) (window : ℕ) (seat : WorkerSeat Ordered) (c : Collection) : Type 0 where
+  pub seat_is : IsWorkerSeat bookings seat
+  pub counted : booked c ≡ length (jobs_taken seat)
+  pub few : booked c ≤ most_frames
+  pub window_is : c.window ≡ window
+
+-- more orders were taken and booked; whatever was written, they wait
+pub record Books (seat : WorkerSeat Ordered) (c : Collection) (seat' : WorkerSeat Ordered) (c' : Collection) : Type 0 where
+  pub waits : (start now : Option (List ℕ)) (bytes : ℕ) → IsWriting (orders_taken seat) start now c bytes → IsWriting (orders_taken seat') start now c' bytes
+  pub first : c'.first ≡ c.first
+  pub more : length c.slots ≤ length c'.slots
+
+module _ (items : List Ordered) (start now : Option (List ℕ)) where
+  -- a piece came whose number is that of the order that would be booked after so many more
+  pub record IsAhead (ahead : ℕ) : Type 0 where
+    pub collection : Collection
+    pub bytes : ℕ
+    pub piece : Job Ordered
+    pub writing : IsWriting items start now collection bytes
+    pub some : 0 < length collection.slots
+    pub counted : booked collection ≡ length items
+    pub refused : misfit_of collection piece ≡ Some WasNotBooked
+    pub number : piece.number ≡ length items + ahead
+
+  -- why the writing stops
+  abbrev pub HaltsWriting : Halt → Type 0
+  HaltsWriting (halt.Fault fault) = StopsWriting items start now fault × (fault ≢ Misfit WasNotBooked)
+  HaltsWriting (halt.NotBooked ahead) = IsAhead ahead
+
+-- or it stops so, whatever was taken and wherever writing began
+abbrev pub HaltsSo : Option (List ℕ) → Collection → ℕ → Option (List ℕ) → Halt → Type 0
+HaltsSo now c bytes now' h = (items : List Ordered) (start : Option (List ℕ)) → IsWriting items start now c bytes → HaltsWriting items start now' h
+
+-- a collector refuses a piece so
+abbrev pub RefusesPiece : Collection → Job Ordered → Halt → Type 0
+RefusesPiece c piece (halt.Fault (Misfit misfit)) = (misfit_of c piece ≡ Some misfit) × (misfit ≢ WasNotBooked)
+RefusesPiece c piece (halt.Fault fault) = ⊥
+RefusesPiece c piece (halt.NotBooked ahead) = (misfit_of c piece ≡ Some WasNotBooked) × (piece.number ≡ booked c + ahead)
+
+-- whether it stops for the writer's device
+abbrev pub halted_writer : {X : Type 0} → Result X Halt → Bool
+halted_writer (Ok x) = false
+halted_writer (Err (halt.Fault fault)) = blames_writer fault
+halted_writer (Err (halt.NotBooked ahead)) = false
+
+module _ {W : Type 0} where
+  pub record MayWrite (bookings : Queue Ordered) (window : ℕ) (writing : Writing W) : Type 0 where
+    pub seat : IsWorkerSeat bookings writing.seat
+    pub untaken : jobs_taken writing.seat ≡ []
+    pub some : 1 ≤ window
+    pub collector : writing.collector ≡ new_collection writing.inbox.source window
+    pub returns : writing.returns.returned ≡ 0
+
+module _ {W : Type 0} (contents : W → Option (List ℕ)) (failed_writes : W → ℕ) where
+  -- what came of the writing half: the bookings are done, and what was taken of them was written, or it says why not
+  pub record IsWritingEnd (bookings : Queue Ordered) (writer : W) (end : WritingEnd W) : Type 0 where
+    pub seat : IsWorkerSeat bookings end.seat
+    pub done : is_done end.seat ≡ true
+    pub wrote : MatchResult end.result
+        (λ _. Appends (contents writer) (contents end.writer) (file (orders_taken end.seat)))
+        (StopsWriting (orders_taken end.seat) (contents writer) (contents end.writer))
+    pub writes : failed_writes end.writer ≡ count_after (failed_writer end.result) (failed_writes writer)
+    pub untouched : length (jobs_taken end.seat) ≡ 0 → end.writer ≡ writer

@@ -1,0 +1,268 @@
+//! The writing half of a lane: it takes the orders that were booked, receives their pieces, and writes each when its turn comes.
+ghost use Rattle.std.specs.Prelude.{◌≡◌, ◌<◌, ◌≤◌, ◌+◌, ◌*◌, ◌^◌, ◌++◌, ◌⊎◌, [], ℕ, None, List, true, false, length, take, IfOk, IfErr, OnOk};
+ghost use Rattle.std.specs.Io.KnownBytes.{Appends};
+ghost use Rattle.ls_frame.specs.View.Devices.{count_after};
+ghost use Rattle.ls_film.specs.Film.{most_frames};
+ghost use Rattle.ls_film.specs.Coding.{file};
+ghost use Rattle.ls_queue.specs.View.Running.{IsWorkerSeat, is_done, jobs_taken};
+ghost use Rattle.ls_pieces.specs.Orders.{Ordered, coded};
+ghost use Rattle.ls_pieces.specs.Collecting.{booked, new_collection, misfit_of, after_accept};
+ghost use Rattle.ls_recorder.specs.View.Lanes.{GoesOn};
+ghost use Rattle.ls_recorder.specs.View.Halves.{orders_taken, MayWrite, IsWritingEnd, HasTaken, Books, RefusesPiece, HaltsSo, HaltsWriting, halted_writer};
+
+use crate::delivery::Inbox;
+use crate::gate::{Gate, Notice};
+use crate::lane::places::Returns;
+use crate::lane::{LaneFault, Setting};
+use ls_film::MOST_FRAMES;
+use ls_frame::{Outlet, write_bytes};
+use ls_pieces::{Coded, Collector, Misfit, Order};
+use ls_queue::{Queue, Taken, WorkerSeat};
+use std::sync::Wait;
+
+/// What the writing half begins with: its seat at the bookings, its source's box, a collector with nothing booked, where places are
+/// given back, and the writer.
+#[derive(Drop)]
+pub struct Writing<W> {
+    pub seat: WorkerSeat<Order>,
+    pub inbox: Inbox,
+    pub collector: Collector,
+    pub returns: Returns,
+    pub writer: W,
+}
+
+/// What the writing half answers: its seat, which was answered Done, the writer, and why it stopped, if it did.
+#[derive(Drop)]
+pub struct WritingEnd<W> {
+    pub seat: WorkerSeat<Order>,
+    pub writer: W,
+    pub result: Result<(), LaneFault>,
+}
+
+/// Why the writing stops.
+#[derive(Drop)]
+pub enum Halt {
+    Fault(LaneFault),
+    /// A piece came of which no order is booked: so many more could be booked before it would be.
+    NotBooked(u64),
+}
+
+/// Writes the codestreams of the orders that are booked, in order, until the bookings are done. After a fault it takes the bookings that are
+/// left, and writes nothing of them.
+pub fn write_film<W: Outlet, R: Wait, G: Gate>(
+    setting: &Setting<'_, R, G>,
+    start: Writing<W>,
+) -> WritingEnd<W>
+    requires { MayWrite setting.now.bookings.now setting.now.window start }
+    ensures { IsWritingEnd W.contents W.failed_writes setting.now.bookings.now start.writer result }
+{
+    let Writing {
+        mut seat,
+        inbox,
+        collector,
+        returns,
+        mut writer,
+    } = start;
+    let rt = setting.rt;
+    let bookings = setting.bookings;
+    let result = match write_booked(setting, &mut seat, inbox, collector, returns, &mut writer) {
+        Ok(()) => Ok(()),
+        Err(Halt::Fault(fault)) => {
+            let _more = drain(rt, bookings, &mut seat, 0);
+            Err(fault)
+        }
+        Err(Halt::NotBooked(ahead)) => {
+            if drain(rt, bookings, &mut seat, ahead) {
+                // Its order was booked after all, further ahead than there is room for.
+                Err(LaneFault::NoMemory)
+            } else {
+                Err(LaneFault::Misfit(Misfit::NotBooked))
+            }
+        }
+    };
+    WritingEnd {
+        seat,
+        writer,
+        result,
+    }
+}
+
+/// Writes until the bookings are done, or until it has to stop. Then the box and the places are given up, and nobody waits for them.
+fn write_booked<W: Outlet, R: Wait, G: Gate>(
+    setting: &Setting<'_, R, G>,
+    seat: &mut WorkerSeat<Order>,
+    inbox: Inbox,
+    collector: Collector,
+    returns: Returns,
+    writer: &mut W,
+) -> Result<(), Halt>
+    requires taken { HasTaken setting.now.bookings.now setting.now.window seat.old collector }
+    requires none { jobs_taken seat.old ≡ [] }
+    requires new { collector ≡ new_collection collector.source setting.now.window }
+    requires returned { returns.returned ≡ 0 }
+    ensures seat { IsWorkerSeat setting.now.bookings.now seat.new }
+    ensures done { OnOk result (is_done seat.new ≡ true) }
+    ensures wrote { OnOk result (Appends (W.contents writer.old) (W.contents writer.new) (file (orders_taken seat.new))) }
+    ensures halts { IfErr result (HaltsWriting (orders_taken seat.new) (W.contents writer.old) (W.contents writer.new)) }
+    ensures failures { W.failed_writes writer.new ≡ count_after (halted_writer result) (W.failed_writes writer.old) }
+    ensures untouched { length (jobs_taken seat.new) ≡ 0 → writer.new ≡ writer.old }
+{
+    let mut inbox = inbox;
+    let mut collector = collector;
+    let mut returns = returns;
+    let mut written = 0;
+    for _ in setting.rt.forever() {
+        if collector.waiting() == 0 && !book_next(setting, seat, &mut collector)? {
+            return Ok(());
+        }
+        let piece = receive(setting.rt, &mut inbox)?;
+        book_until(setting, seat, &mut collector, piece.number())?;
+        accept(&mut collector, piece)?;
+        written = write_ready(setting, &mut collector, &mut returns, writer, written)?;
+    }
+    unreachable!()
+}
+
+/// Takes the next order, if the bookings aren't done, and books it in the collector, which has room for it; whether there was one.
+fn book_next<R: Wait, G: Gate>(
+    setting: &Setting<'_, R, G>,
+    seat: &mut WorkerSeat<Order>,
+    collector: &mut Collector,
+) -> Result<bool, Halt>
+    requires taken { HasTaken setting.now.bookings.now setting.now.window seat.old collector.old }
+    requires room { length collector.old.slots < collector.old.window }
+    ensures seat { IsWorkerSeat setting.now.bookings.now seat.new }
+    ensures taken { OnOk result (HasTaken setting.now.bookings.now setting.now.window seat.new collector.new) }
+    ensures books { OnOk result (Books seat.old collector.old seat.new collector.new) }
+    ensures more { IfOk result (λ more. more ≡ true → 0 < length collector.new.slots) }
+    ensures done { IfOk result (λ more. more ≡ false → (is_done seat.new ≡ true) × (collector.new ≡ collector.old)) }
+    ensures halts { IfErr result (λ halt. (halt ≡ Halt.Fault LaneFault.TooMany) × (most_frames < length (orders_taken seat.new))) }
+{
+    let job = match setting.bookings.take(setting.rt, seat) {
+        Taken::Job(job) => job,
+        Taken::Done => return Ok(false),
+    };
+    if collector.booked() == MOST_FRAMES {
+        return Err(Halt::Fault(LaneFault::TooMany));
+    }
+    let Ok(_number) = collector.book(job.item) else {
+        unreachable!()
+    };
+    Ok(true)
+}
+
+/// Books orders up to the one of this number, if there are so many and the collector has room for them.
+///
+/// The order of a piece is booked before it can be coded, so this doesn't wait.
+fn book_until<R: Wait, G: Gate>(
+    setting: &Setting<'_, R, G>,
+    seat: &mut WorkerSeat<Order>,
+    collector: &mut Collector,
+    number: u64,
+) -> Result<(), Halt>
+    requires taken { HasTaken setting.now.bookings.now setting.now.window seat.old collector.old }
+    ensures seat { IsWorkerSeat setting.now.bookings.now seat.new }
+    ensures taken { OnOk result (HasTaken setting.now.bookings.now setting.now.window seat.new collector.new) }
+    ensures books { OnOk result (Books seat.old collector.old seat.new collector.new) }
+    ensures halts { IfErr result (λ halt. (halt ≡ Halt.Fault LaneFault.TooMany) × (most_frames < length (orders_taken seat.new))) }
+{
+    for _ in setting.rt.forever() {
+        if number < collector.booked() || collector.waiting() == setting.window {
+            return Ok(());
+        }
+        if !book_next(setting, seat, collector)? {
+            return Ok(());
+        }
+    }
+    unreachable!()
+}
+
+/// Receives the next piece that a worker answers.
+fn receive<R: Wait>(rt: &R, inbox: &mut Inbox) -> Result<Coded, Halt>
+    ensures halts { IfErr result (λ halt. (halt ≡ Halt.Fault LaneFault.NoMemory) ⊎ (halt ≡ Halt.Fault LaneFault.Lost)) }
+{
+    match inbox.recv(rt) {
+        Some(Ok(piece)) => Ok(piece),
+        Some(Err(_)) => Err(Halt::Fault(LaneFault::NoMemory)),
+        None => Err(Halt::Fault(LaneFault::Lost)),
+    }
+}
+
+/// Gives a piece to the collector.
+fn accept(collector: &mut Collector, piece: Coded) -> Result<(), Halt>
+    ensures accepted { OnOk result ((misfit_of collector.old piece ≡ None) × (collector.new ≡ after_accept collector.old piece)) }
+    ensures halts { IfErr result (λ halt. (collector.new ≡ collector.old) × RefusesPiece collector.old piece halt) }
+{
+    let number = piece.number();
+    match collector.accept(piece) {
+        Ok(()) => Ok(()),
+        Err((_, Misfit::NotBooked)) => Err(Halt::NotBooked(number - collector.booked())),
+        Err((_, misfit)) => Err(Halt::Fault(LaneFault::Misfit(misfit))),
+    }
+}
+
+/// Writes the pieces that are there, in order, up to the first that isn't, after `written` bytes; and says how many there are then. Each gives
+/// its place back.
+fn write_ready<W: Outlet, R: Wait, G: Gate>(
+    setting: &Setting<'_, R, G>,
+    collector: &mut Collector,
+    returns: &mut Returns,
+    writer: &mut W,
+    written: u64,
+) -> Result<u64, Halt>
+    requires few { booked collector.old ≤ most_frames }
+    requires small { written ≤ 2 ^ 32 * collector.old.first }
+    requires returned { returns.old.returned ≡ collector.old.first }
+    ensures goes_on { IfOk result (λ now. GoesOn (W.contents writer.old) collector.old written (W.contents writer.new) collector.new now) }
+    ensures small { IfOk result (λ now. now ≤ 2 ^ 32 * collector.new.first) }
+    ensures returned { OnOk result (returns.new.returned ≡ collector.new.first) }
+    ensures same { OnOk result ((booked collector.new ≡ booked collector.old) × (collector.new.window ≡ collector.old.window)) }
+    ensures halts { IfErr result (HaltsSo (W.contents writer.old) collector.old written (W.contents writer.new)) }
+    ensures failures { W.failed_writes writer.new ≡ count_after (halted_writer result) (W.failed_writes writer.old) }
+{
+    let mut written = written;
+    while let Some(piece) = collector.next() {
+        written = write_piece(writer, &piece, written)?;
+        setting.notice(Notice::Written {
+            number: piece.number(),
+            bytes: piece.bytes().len() as u64,
+        });
+        returns.give(setting.rt);
+    }
+    Ok(written)
+}
+
+/// Writes a piece after `written` bytes, and says how many there are then.
+fn write_piece<W: Outlet>(writer: &mut W, piece: &Coded, written: u64) -> Result<u64, Halt>
+    requires { written + 2 ^ 32 ≤ 2 ^ 64 }
+    ensures all { IfOk result (λ now. (now ≡ written + length (coded piece.now.item)) × (now < written + 2 ^ 32)
+        × Appends (W.contents writer.old) (W.contents writer.new) (coded piece.now.item)) }
+    ensures stops { IfErr result (λ halt. (here : ℕ) × (halt ≡ Halt.Fault (LaneFault.Output (written + here))) × (here < length (coded piece.now.item))
+        × Appends (W.contents writer.old) (W.contents writer.new) (take here (coded piece.now.item))) }
+    ensures failures { W.failed_writes writer.new ≡ count_after (halted_writer result) (W.failed_writes writer.old) }
+{
+    let bytes = piece.bytes();
+    match write_bytes(writer, bytes) {
+        Ok(()) => Ok(written + bytes.len() as u64),
+        Err(fault) => Err(Halt::Fault(LaneFault::Output(written + fault.written as u64))),
+    }
+}
+
+/// Takes the orders that are left, until the bookings are done; whether there were more than so many.
+fn drain<R: Wait>(rt: &R, bookings: &Queue<Order>, seat: &mut WorkerSeat<Order>, most: u64) -> bool
+    requires seat { IsWorkerSeat bookings.now seat.old }
+    ensures seat { IsWorkerSeat bookings.now seat.new }
+    ensures done { is_done seat.new ≡ true }
+    ensures more { (more : List Ordered) × (orders_taken seat.new ≡ orders_taken seat.old ++ more) × (result ≡ false → length more ≤ most) }
+{
+    let mut left = most;
+    let mut beyond = false;
+    for _ in rt.forever() {
+        match bookings.take(rt, seat) {
+            Taken::Done => return beyond,
+            Taken::Job(_) if left == 0 => beyond = true,
+            Taken::Job(_) => left -= 1,
+        }
+    }
+    unreachable!()
+}
