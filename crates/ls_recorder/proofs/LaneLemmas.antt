@@ -20,11 +20,11 @@ pub file-push : (done : List Ordered) (order : Ordered) → file (done ++ order 
 file-push [] order = append-nil (coded order)
 file-push (o ∷ done) order = ap (λ s. coded o ++ s) (file-push done order) ∙ sym (append_assoc (coded o) (file done) (coded order))
 
-file-append : (xs ys : List Ordered) → file (xs ++ ys) ≡ file xs ++ file ys
+pub file-append : (xs ys : List Ordered) → file (xs ++ ys) ≡ file xs ++ file ys
 file-append [] ys = refl
 file-append (x ∷ xs) ys = ap (λ s. coded x ++ s) (file-append xs ys) ∙ sym (append_assoc (coded x) (file xs) (file ys))
 
-take-front : (k : ℕ) (xs ys : List ℕ) → k < length xs → take k (xs ++ ys) ≡ take k xs
+pub take-front : (k : ℕ) (xs ys : List ℕ) → k < length xs → take k (xs ++ ys) ≡ take k xs
 take-front k xs ys inside = take-append-le k xs ys (omega arith)
 
 length-orders : (slots : List Slot) → length (map (λ (slot : Slot). slot.order) slots) ≡ length slots

@@ -1,6 +1,9 @@
 pub mod BoxLemmas
+pub mod HandedOverLemmas
 pub mod HeadlineLemmas
+pub mod LaneEndLemmas
 pub mod LaneLemmas
 pub mod ListLemmas
+pub mod ReadingLemmas
 pub mod RecordingLemmas
-pub mod RunLemmas
+pub mod WritingLemmas

@@ -6,6 +6,7 @@ use Rattle.ls_queue.specs.declared.running.WorkerSeat.{WorkerSeat}
 use Rattle.std.specs.Prelude.{slice_index_or, Option, Result, Ok, Err, IfOk, IfErr, MatchResult, map}
 use Rattle.ls_frame.specs.Picture.{Picture}
 use Rattle.ls_recorder.specs.declared.lane.LaneFault.{LaneFault}
+use Rattle.ls_recorder.specs.declared.lane.LaneFault.TheVariants.{NotStarted}
 use Rattle.ls_recorder.specs.View.Lanes.{Records, with_tuning}
 use Rattle.std.proofs.lemmas.Bool.Decides.{eqb_tells}
 use Rattle.std.proofs.Math.Nat.{eq-or-lt_of_le}
@@ -230,9 +231,12 @@ new-workers channel (s ∷ ss) all = (all.0.0, new-workers channel ss all.1)
 
 -- ---- what a lane answers
 
-pub match-both : {A E : Type 0} (P : A → Type 0) (Q : E → Type 0) (r : Result A E) → IfOk r P → IfErr r Q → MatchResult r P Q
-match-both P Q (Ok x) ok err = ok
-match-both P Q (Err e) ok err = err
+-- it wasn't started, or it ended in one of two ways
+pub did-lane : {A N : Type 0} (P : A → Type 0) (Q : LaneFault → Type 0) (r : Result A LaneFault) → IfOk r P → IfErr r (λ fault. ((fault ≡ NotStarted) × N) ⊎ Q fault)
+    → ((r ≡ Err NotStarted) × N) ⊎ MatchResult r P Q
+did-lane P Q (Ok x) ok err = inr ok
+did-lane P Q (Err fault) ok (inl none) = inl (ap Err none.0, none.1)
+did-lane P Q (Err fault) ok (inr some) = inr some
 
 length-with_tuning : (tuning : Tuning) (frames : List Picture) → length (with_tuning tuning frames) ≡ length frames
 length-with_tuning tuning [] = refl

@@ -5,9 +5,9 @@ ghost use Rattle.ls_recorder.specs.View.Headline.{IsUnrecorded, IsPlayed, ComeBa
 ghost use Rattle.ls_recorder.specs.Sizes.{record_fault};
 
 use crate::faults::RecordFault;
+use crate::gate::Gate;
 use crate::lane::LaneFault;
 use crate::recording::{Track, record};
-use crate::gate::Gate;
 use ls_film::{PlayFault, play_bytes};
 use ls_frame::laws::{
     default_parameters_are_legal, images_have_one_frame, no_image_begins_another,

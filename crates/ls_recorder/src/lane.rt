@@ -21,7 +21,7 @@ use crate::gate::{Gate, Notice, OpenGate};
 use ls_frame::{Feed, NetpbmFault, Outlet, PresetFault, Tuning};
 use ls_pieces::{Collector, Misfit, Order};
 use ls_queue::{Closer, Ended, Finished, Queue, SourceSeat, WorkerSeat, open, settle};
-use places::{Places, Returns, places};
+use places::{Places, Returns};
 use reading::{Reading, ReadingEnd, read_booked};
 use std::alloc::Global;
 use std::snapshot::Snapshot;
@@ -259,15 +259,12 @@ fn parts_for<R: Wait>(
 {
     let (Ok((bookings, mut sources, mut takers, closer)), Ok((places, returns)), Ok(collector)) = (
         open(rt, alloc, 1, 1, window),
-        places(alloc, window),
+        Places::new(alloc, window),
         Collector::new(alloc, source, window),
     ) else {
         return Err(LaneFault::NoMemory);
     };
-    let (Ok(ended), Ok(seats)) = (
-        Vec::with_capacity(alloc, 1),
-        Vec::with_capacity(alloc, 1),
-    ) else {
+    let (Ok(ended), Ok(seats)) = (Vec::with_capacity(alloc, 1), Vec::with_capacity(alloc, 1)) else {
         return Err(LaneFault::NoMemory);
     };
     let parts = Parts {

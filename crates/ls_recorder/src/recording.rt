@@ -11,9 +11,9 @@ ghost use Rattle.ls_recorder.specs.View.Recordings.{AreTracks, AreCounted, ArePa
 
 use crate::delivery::boxes;
 use crate::faults::RecordFault;
+use crate::gate::Gate;
 use crate::lane::LaneFault;
 use crate::sizes::Sizes;
-use crate::gate::Gate;
 use ls_frame::{Feed, Outlet, Tuning};
 use ls_pieces::Order;
 use ls_queue::{Account, Queue, open, settle};

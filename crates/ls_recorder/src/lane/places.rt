@@ -29,27 +29,27 @@ pub struct Returns {
     ghost own: { IsSeatAt (sends_on entrance) pass },
 }
 
-/// So many free places, and where they are given back.
-pub fn places(alloc: Global, window: usize) -> Result<(Places, Returns), AllocError>
-    requires { 0 < window }
-    ensures none { IfOk result (λ made. made.1.returned ≡ 0) }
-{
-    let (entrance, exit, mut pass) = bounded_with::<(), (), Free, Global>(alloc, window)?;
-    let other = entrance.another::<Another>(&mut pass);
-    let places = Places {
-        free: window,
-        exit,
-        pass,
-    };
-    let returns = Returns {
-        entrance,
-        pass: other,
-        returned: 0,
-    };
-    Ok((places, returns))
-}
-
 impl Places {
+    /// So many free places, and where they are given back. Fails only if an allocation fails.
+    pub fn new(alloc: Global, window: usize) -> Result<(Places, Returns), AllocError>
+        requires { 0 < window }
+        ensures none { IfOk result (λ made. made.1.returned ≡ 0) }
+    {
+        let (entrance, exit, mut pass) = bounded_with::<(), (), Free, Global>(alloc, window)?;
+        let other = entrance.another::<Another>(&mut pass);
+        let places = Places {
+            free: window,
+            exit,
+            pass,
+        };
+        let returns = Returns {
+            entrance,
+            pass: other,
+            returned: 0,
+        };
+        Ok((places, returns))
+    }
+
     /// Takes a place, and waits for one; whether there is one. There is none any more if nobody is left to give any back, even if some
     /// are free.
     pub fn take<R: Wait>(&mut self, rt: &R) -> bool {
@@ -75,8 +75,6 @@ impl Returns {
         ensures { self.new.returned ≡ self.old.returned + 1 }
     {
         self.returned += 1;
-        let _sent = self
-            .entrance
-            .send_as::<Free, R>(rt, &mut self.pass, ());
+        let _sent = self.entrance.send_as::<Free, R>(rt, &mut self.pass, ());
     }
 }

@@ -110,7 +110,14 @@ fn read_film<F: Feed, R: Wait, G: Gate>(
         };
         let bytes = sample_bytes(order.frame());
         setting.notice(Notice::Read { number, bytes });
-        put(setting.rt, setting.queue, setting.bookings, seat, booked, order)?;
+        put(
+            setting.rt,
+            setting.queue,
+            setting.bookings,
+            seat,
+            booked,
+            order,
+        )?;
         setting.notice(Notice::Put(number));
     }
     unreachable!()
@@ -119,7 +126,11 @@ fn read_film<F: Feed, R: Wait, G: Gate>(
 /// How many bytes of samples an image of the frame has.
 fn sample_bytes(frame: &Frame) -> u64 {
     let count = frame.samples().len() as u64;
-    if frame.maxval() < 256 { count } else { count.saturating_mul(2) }
+    if frame.maxval() < 256 {
+        count
+    } else {
+        count.saturating_mul(2)
+    }
 }
 
 /// Reads the frame of this number, and orders it with the parameters that the tuning gives for it; `None` exactly at the end.

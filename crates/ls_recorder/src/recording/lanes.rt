@@ -130,12 +130,7 @@ fn start_lane<
 }
 
 /// A lane, unless its thread was refused.
-fn begin_lane<
-    Rt: Threads + Wait + Sync,
-    R: Feed + Drop,
-    W: Outlet + Send + Drop,
-    G: Gate,
->(
+fn begin_lane<Rt: Threads + Wait + Sync, R: Feed + Drop, W: Outlet + Send + Drop, G: Gate>(
     rt: &Rt,
     alloc: Global,
     queue: &Queue<Order>,

@@ -4,10 +4,10 @@ ghost use Rattle.ls_queue.specs.View.Running.{AreAllSources, EachHasEnd, IsFinis
 ghost use Rattle.ls_recorder.specs.View.Recordings.{HasRun, MayRun, IsRoom};
 
 use crate::delivery::{Inbox, Outbox};
+use crate::gate::Gate;
 use crate::recording::Track;
 use crate::recording::lanes::{Lane, join_lanes, start_lanes};
 use crate::recording::workers::{WorkerOf, join_workers, start_workers};
-use crate::gate::Gate;
 use crate::working::Worked;
 use ls_frame::{Feed, Outlet, Tuning};
 use ls_pieces::Order;

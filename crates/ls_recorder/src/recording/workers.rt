@@ -4,8 +4,8 @@ ghost use Rattle.ls_queue.specs.View.Running.{sources_of, IsWorkerSeat, AreWorke
 ghost use Rattle.ls_recorder.specs.View.Recordings.{IsWorked, AreWorking, LeadToAll};
 
 use crate::delivery::Outbox;
-use crate::recording::threads::Shared;
 use crate::gate::Gate;
+use crate::recording::threads::Shared;
 use crate::working::{Worked, work};
 use ls_pieces::Order;
 use ls_queue::{Queue, WorkerSeat};

@@ -1,14 +1,18 @@
-use Rattle.std.proofs.Common.{◌≡◌, ◌*◌, ◌^◌, ◌≤◌}
+use Rattle.std.proofs.Common.{◌≡◌, ◌*◌, ◌^◌, ◌≤◌, length}
 use Rattle.ls_pieces.specs.Collecting.{booked}
 use Rattle.ls_recorder.specs.View.Lanes.{GoesOn}
-use Rattle.ls_recorder.proofs.lane.collect_until.Given as goal
+use Rattle.ls_recorder.proofs.lane.writing.write_ready.Given as goal
 
--- the answers so far were received, and the pieces that were ready written
-abbrev pub invariant-loop : goal.invariant-loop
-invariant-loop g l = record {
+-- the pieces so far were written
+abbrev pub invariant-loop-piece : goal.invariant-loop-piece
+invariant-loop-piece g l = record {
   goes_on : GoesOn (g.W.Write.contents l.fn.writer) l.fn.collector l.fn.written (g.W.Write.contents l.writer) l.collector l.written;
   small : l.written ≤ 2 ^ 32 * l.collector.first;
+  returned : l.returns.returned ≡ l.collector.first;
   booked : booked l.collector ≡ booked l.fn.collector;
   window : l.collector.window ≡ l.fn.collector.window;
   writes : g.W.Outlet.failed_writes l.writer ≡ g.W.Outlet.failed_writes l.fn.writer;
 }
+
+abbrev pub decreases-loop-piece : goal.decreases-loop-piece
+decreases-loop-piece g l = length l.collector.slots

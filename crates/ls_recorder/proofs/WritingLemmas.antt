@@ -1,0 +1,151 @@
+-- What a writing half says, step by step: orders are taken and booked, a piece is accepted or isn't, and more orders come after it stopped.
+use Rattle.std.proofs.Common.{◌≡◌, ℕ, zero, suc, ◌+◌, ◌-◌, ◌<◌, ◌≤◌, ◌==◌, ◌||◌, not, nat_lt, nat_le, Bool, true, false, cond, List, [], ◌∷◌, ◌++◌, length, map, take, Option, Some, None, refl, sym, ap, subst, ◌∙◌, arith, append_assoc, append-nil}
+use Rattle.std.specs.List.{slice_get}
+use Rattle.std.specs.Io.KnownBytes.{Appends}
+use Rattle.std.proofs.KnownBytes.{Appends-nil}
+use Rattle.std.proofs.lemmas.Bool.{leb-false, lt-leb, le-leb, ltb-false}
+use Rattle.std.proofs.lemmas.List.{length-append, length-map, length_push, map-append, take-append-le}
+use Rattle.ls_film.specs.Coding.{file}
+use Rattle.ls_queue.specs.declared.replies.Job.{Job}
+use Rattle.ls_queue.specs.declared.running.WorkerSeat.{WorkerSeat}
+use Rattle.ls_queue.specs.View.Running.{jobs_taken}
+use Rattle.ls_pieces.specs.declared.collector.Slot.{Slot}
+use Rattle.ls_pieces.specs.declared.collector.Misfit.{Misfit as Cause}
+use Rattle.ls_pieces.specs.declared.collector.Misfit.TheVariants.{Stranger, NotBooked, Twice, OtherFrame}
+use Rattle.ls_pieces.specs.Orders.{Ordered}
+use Rattle.ls_pieces.specs.Collecting.{Collection, booked, has_piece, is_of, slot_of, was_accepted, misfit_of, new_collection}
+use Rattle.ls_recorder.specs.declared.lane.LaneFault.{LaneFault}
+use Rattle.ls_recorder.specs.declared.lane.LaneFault.TheVariants as fault
+use Rattle.ls_recorder.specs.declared.lane.writing.Halt.{Halt}
+use Rattle.ls_recorder.specs.declared.lane.writing.Halt.TheVariants as halt
+use Rattle.ls_recorder.specs.View.Lanes.{WroteFront, WroteFewer, WrotePart, orders_in, IsWriting, IsMisfit, StopsWriting}
+use Rattle.ls_recorder.specs.View.Halves.{orders_taken, HasTaken, Books, IsAhead, HaltsWriting}
+use Rattle.ls_recorder.proofs.LaneLemmas.{file-append, take-front, writes-fewer, writes-front, Books as BooksOne}
+
+-- ---- more orders after it stopped
+
+later-front : (items more : List Ordered) (start now : Option (List ℕ)) → WroteFront items start now → WroteFront (items ++ more) start now
+later-front items more start now wrote = record {
+  count = wrote.count;
+  front = omega (arith, length-append items more, wrote.front);
+  wrote = subst (λ l. Appends start now (file l)) (sym (take-append-le wrote.count items more wrote.front)) wrote.wrote;
+}
+
+later-fewer : (items more : List Ordered) (start now : Option (List ℕ)) → WroteFewer items start now → WroteFewer (items ++ more) start now
+later-fewer items more start now wrote = record {
+  count = wrote.count;
+  fewer = omega (arith, length-append items more, wrote.fewer);
+  wrote = subst (λ l. Appends start now (file l)) (sym (take-append-le wrote.count items more (omega (arith, wrote.fewer)))) wrote.wrote;
+}
+
+later-part : (items more : List Ordered) (start now : Option (List ℕ)) (bytes : ℕ) → WrotePart items start now bytes → WrotePart (items ++ more) start now bytes
+later-part items more start now bytes wrote =
+    let all : file (items ++ more) ≡ file items ++ file more = file-append items more in record {
+      part = omega (arith, ap length all, length-append (file items) (file more), wrote.part);
+      wrote = subst (Appends start now) (sym (ap (take bytes) all ∙ take-front bytes (file items) (file more) wrote.part)) wrote.wrote;
+    }
+
+-- the collector, if it had room for more orders
+grown : Collection → List Ordered → Collection
+grown c more = record { source = c.source; window = c.window; first = c.first; slots = c.slots ++ map (λ (o : Ordered). record { order = o; piece = None }) more }
+
+orders-of-slots : (more : List Ordered) → map (λ (slot : Slot). slot.order) (map (λ (o : Ordered). record { order = o; piece = None }) more) ≡ more
+orders-of-slots [] = refl
+orders-of-slots (o ∷ more) = ap (λ l. o ∷ l) (orders-of-slots more)
+
+later-writing : (items more : List Ordered) (start now : Option (List ℕ)) (c : Collection) (bytes : ℕ) → IsWriting items start now c bytes → IsWriting (items ++ more) start now (grown c more) bytes
+later-writing items more start now c bytes writing = record {
+  done = writing.done;
+  items_are = ap (λ l. l ++ more) writing.items_are ∙ append_assoc writing.done (orders_in c) more
+      ∙ ap (λ l. writing.done ++ l) (sym (map-append (λ (slot : Slot). slot.order) c.slots (map (λ (o : Ordered). record { order = o; piece = None }) more) ∙ ap (λ l. orders_in c ++ l) (orders-of-slots more)));
+  wrote = writing.wrote;
+  bytes_are = writing.bytes_are;
+}
+
+-- the first of four that is so
+first_of : (a b c d : Bool) → Option Cause
+first_of a b c d = cond a (Some Stranger) (cond b (Some NotBooked) (cond c (Some Twice) (cond d (Some OtherFrame) None)))
+
+same_first : (a b c d b' c' d' : Bool) (m : Cause) → first_of a b c d ≡ Some m → (m ≡ NotBooked → ⊥) → (b ≡ false → (b' ≡ false) × (c' ≡ c) × (c ≡ false → d' ≡ d)) → first_of a b' c' d' ≡ Some m
+same_first true b c d b' c' d' m is other same = is
+same_first false true c d b' c' d' m is other same = absurd (other cc)
+same_first false false true d b' c' d' m is other same = let s = same refl in rw (s.0, s.1) is
+same_first false false false d b' c' d' m is other same = let s = same refl in rw (s.0, s.1, s.2 refl) is
+
+get-front : (xs ys : List Slot) (n : ℕ) → n < length xs → slice_get (xs ++ ys) n ≡ slice_get xs n
+get-front [] ys n less = absurd (omega arith)
+get-front (x ∷ xs) ys zero less = refl
+get-front (x ∷ xs) ys (suc n) less = get-front xs ys n (omega (arith, less))
+
+first_false : (a b : Bool) → (a || b) ≡ false → a ≡ false
+first_false false b h = refl
+first_false true b h = let clash : ⊥ = cc in absurd clash
+
+later-misfit : (c : Collection) (more : List Ordered) (piece : Job Ordered) (m : Cause) → misfit_of c piece ≡ Some m → (m ≡ NotBooked → ⊥) → misfit_of (grown c more) piece ≡ Some m
+later-misfit c more piece m is other =
+    let c' = grown c more in
+    let size : booked c' ≡ booked c + length more = omega (arith, length-append c.slots (map (λ (o : Ordered). record { order = o; piece = None }) more), length-map more (λ (o : Ordered). record { order = o; piece = None })) in
+    let slot : piece.number < booked c → c.first ≤ piece.number → slot_of c' piece.number ≡ slot_of c piece.number =
+    (λ less from. get-front c.slots (map (λ (o : Ordered). record { order = o; piece = None }) more) (piece.number - c.first) (omega (arith, less, from))) in
+    let accepted : (late : Bool) → nat_lt piece.number c.first ≡ late → piece.number < booked c → was_accepted c' piece.number ≡ was_accepted c piece.number =
+    (λ late. elim late [
+      | true ↦ (λ early less. rw early refl)
+      | false ↦ (λ early less. ap (λ s. nat_lt piece.number c.first || has_piece s) (slot less (ltb-false piece.number c.first early)))
+    ]) in
+    same_first (not (piece.source == c.source)) (nat_le (booked c) piece.number) (was_accepted c piece.number) (not (is_of (slot_of c piece.number) piece.item))
+    (nat_le (booked c') piece.number) (was_accepted c' piece.number) (not (is_of (slot_of c' piece.number) piece.item)) m is other
+    (λ below.
+    let less : piece.number < booked c = leb-false (booked c) piece.number below in (
+      lt-leb (booked c') piece.number (omega (arith, size, less)),
+      accepted _ refl less,
+      (λ new. ap (λ s. not (is_of s piece.item)) (slot less (ltb-false piece.number c.first (first_false (nat_lt piece.number c.first) (has_piece (slot_of c piece.number)) new)))),
+    ))
+
+-- ---- what the half answers, once it has taken the orders that were left
+
+-- a stop that isn't for a piece of an order that isn't booked
+pub later-stops : (items more : List Ordered) (start now : Option (List ℕ)) (f : LaneFault) → StopsWriting items start now f → (f ≡ fault.Misfit NotBooked → ⊥) → StopsWriting (items ++ more) start now f
+later-stops items more start now (fault.Input m f) why other = absurd why
+later-stops items more start now (fault.Output bytes) why other = later-part items more start now bytes why
+later-stops items more start now fault.NoMemory why other = later-front items more start now why
+later-stops items more start now (fault.Misfit m) why other = (
+  later-fewer items more start now why.0,
+  record {
+    collection = grown why.1.collection more;
+    bytes = why.1.bytes;
+    piece = why.1.piece;
+    writing = later-writing items more start now why.1.collection why.1.bytes why.1.writing;
+    refused = later-misfit why.1.collection more why.1.piece m why.1.refused (λ is. other (ap fault.Misfit is));
+  },
+)
+later-stops items more start now fault.Lost why other = later-fewer items more start now why
+later-stops items more start now fault.NotStarted why other = absurd why
+later-stops items more start now fault.TooMany why other = omega (arith, length-append items more, why)
+later-stops items more start now (fault.Tuning m f) why other = absurd why
+
+not_first : (a b c d : Bool) → first_of a b c d ≡ Some NotBooked → a ≡ false
+not_first false b c d is = refl
+not_first true b c d is = let clash : ⊥ = cc in absurd clash
+
+-- the order of the piece isn't booked at the end either
+pub later-ahead : (items more : List Ordered) (start now : Option (List ℕ)) (ahead : ℕ) → IsAhead items start now ahead → length more ≤ ahead
+    → StopsWriting (items ++ more) start now (fault.Misfit NotBooked)
+later-ahead items more start now ahead is few =
+    let c = is.collection in
+    let c' = grown c more in
+    let size : booked c' ≡ booked c + length more = omega (arith, length-append c.slots (map (λ (o : Ordered). record { order = o; piece = None }) more), length-map more (λ (o : Ordered). record { order = o; piece = None })) in
+    let known = not_first (not (is.piece.source == c.source)) (nat_le (booked c) is.piece.number) (was_accepted c is.piece.number) (not (is_of (slot_of c is.piece.number) is.piece.item)) is.refused in
+    let beyond : nat_le (booked c') is.piece.number ≡ true = le-leb (booked c') is.piece.number (omega (arith, size, few, is.number, is.counted)) in (
+      later-fewer items more start now (writes-fewer items start now c is.bytes is.some is.writing),
+      record {
+        collection = c';
+        bytes = is.bytes;
+        piece = is.piece;
+        writing = later-writing items more start now c is.bytes is.writing;
+        refused = rw (known, beyond) refl;
+      },
+    )
+
+-- it is booked by then, further ahead than there is room
+pub later-beyond : (items more : List Ordered) (start now : Option (List ℕ)) (ahead : ℕ) → IsAhead items start now ahead → StopsWriting (items ++ more) start now fault.NoMemory
+later-beyond items more start now ahead is = later-front items more start now (writes-front items start now is.collection is.bytes is.writing)
