@@ -2,6 +2,7 @@
 use Rattle.std.proofs.Common.{◌≡◌, ℕ, suc, ◌+◌, ◌<◌, ◌≤◌, ◌==◌, inl, inr, true, List, [], ◌∷◌, length, map, filter, refl, sym, ap, subst, ◌∙◌, arith}
 use Rattle.std.specs.List.{sum_by, AllByRecursion}
 use Rattle.std.proofs.lemmas.Bool.{eq-eqb}
+use Rattle.std.proofs.lemmas.List.Sums.{sum_by-cons}
 use Rattle.ls_queue.specs.declared.replies.Job.{Job}
 use Rattle.ls_queue.specs.declared.views.Puts.{Puts}
 use Rattle.ls_queue.specs.declared.running.Queue.{Queue}
@@ -39,7 +40,7 @@ module _ {X : Type 0} where
 
   count-ones : (jobs : List (Job X)) → sum_by (λ (j : Job X). 1) jobs ≡ length jobs
   count-ones [] = refl
-  count-ones (j ∷ jobs) = ap suc (count-ones jobs)
+  count-ones (j ∷ jobs) = omega (arith, sum_by-cons (λ (k : Job X). 1) j jobs, count-ones jobs)
 
   pub handed-over : (queue : Queue X) (finished : Finished X) (seat : WorkerSeat X) (counts : List ℕ) (ended : Ended X) → sources_of queue ≡ 1 → Balances queue finished (seat ∷ []) counts
       → puts_of finished ≡ parts_of (ended ∷ []) → ended.source < sources_of queue → map (λ (j : Job X). j.item) (jobs_taken seat) ≡ items_ended ended

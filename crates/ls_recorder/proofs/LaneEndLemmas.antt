@@ -2,6 +2,7 @@
 use Rattle.std.proofs.Common.{◌≡◌, ℕ, ◌+◌, ◌≤◌, inl, inr, Bool, true, false, List, [], ◌∷◌, ◌++◌, length, ◌⊎◌, Option, refl, sym, ap, subst, ◌∙◌, arith, IsTrue}
 use Rattle.std.specs.Prelude.{Result, Ok, Err, MatchResult, IfOk, IfErr}
 use Rattle.std.specs.Io.KnownBytes.{Appends}
+use Rattle.std.proofs.KnownBytes.{Appends-nil}
 use Rattle.ls_frame.specs.declared.tuning.Tuning.{Tuning}
 use Rattle.ls_frame.specs.Picture.{IsFrame}
 use Rattle.ls_frame.specs.Netpbm.{IsImageOf}
@@ -228,3 +229,18 @@ module _ {R W : Type 0} (remaining : R → Option (List ℕ)) (failed_reads : R 
         reads = reads-writing items (contents writer) (contents writer') fault (failed_reader read) (failed_reads reader) (failed_reads reader') why (omega (arith, size, all.3)) reads;
         writes = writes;
       }
+
+  -- both halves have ended
+  pub ends-both : {U : Type 0} (read : Result ℕ LaneFault) (wrote : Result U LaneFault) (result : Result ℕ LaneFault) → MatchResult wrote (λ _. result ≡ read) (λ fault. result ≡ Err fault)
+      → ReadSo read → failed_reads reader' ≡ count_after (failed_reader read) (failed_reads reader)
+      → MatchResult wrote (λ _. Appends (contents writer) (contents writer') (file items)) (StopsWriting items (contents writer) (contents writer'))
+      → failed_writes writer' ≡ count_after (failed_writer wrote) (failed_writes writer) → (length items ≡ 0 → writer' ≡ writer) → Ends result
+  ends-both read (Ok u) result is so reads why writes same = subst Ends (sym is) (ends-read read so reads why writes same)
+  ends-both read (Err fault) result is so reads why writes same = subst Ends (sym is) (ends-stopped read fault so reads why writes)
+
+-- nothing was read, put or written, since memory was refused
+pub begins-without-memory : (tuning : Tuning) (items : List Ordered) (read written : Option (List ℕ)) → items ≡ [] → StopsLane tuning items read read written written NoMemory
+begins-without-memory tuning items read written none = (
+  HasPut-read tuning items read read 0 read written written (HasRead-none tuning items read none) (omega arith),
+  record { count = 0; front = omega arith; wrote = Appends-nil written },
+)

@@ -232,10 +232,10 @@ new-workers channel (s ∷ ss) all = (all.0.0, new-workers channel ss all.1)
 -- ---- what a lane answers
 
 -- it wasn't started, or it ended in one of two ways
-pub did-lane : {A N : Type 0} (P : A → Type 0) (Q : LaneFault → Type 0) (r : Result A LaneFault) → IfOk r P → IfErr r (λ fault. ((fault ≡ NotStarted) × N) ⊎ Q fault)
-    → ((r ≡ Err NotStarted) × N) ⊎ MatchResult r P Q
+pub did-lane : {A B C D : Type 0} (P : A → Type 0) (Q : LaneFault → Type 0) (r : Result A LaneFault) → IfOk r P → IfErr r (λ fault. ((fault ≡ NotStarted) × B × C × D) ⊎ Q fault)
+    → ((r ≡ Err NotStarted) × B × C × D) ⊎ MatchResult r P Q
 did-lane P Q (Ok x) ok err = inr ok
-did-lane P Q (Err fault) ok (inl none) = inl (ap Err none.0, none.1)
+did-lane P Q (Err fault) ok (inl none) = inl (ap Err none.0, none.1, none.2, none.3)
 did-lane P Q (Err fault) ok (inr some) = inr some
 
 length-with_tuning : (tuning : Tuning) (frames : List Picture) → length (with_tuning tuning frames) ≡ length frames

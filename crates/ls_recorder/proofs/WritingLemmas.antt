@@ -19,8 +19,57 @@ use Rattle.ls_recorder.specs.declared.lane.LaneFault.TheVariants as fault
 use Rattle.ls_recorder.specs.declared.lane.writing.Halt.{Halt}
 use Rattle.ls_recorder.specs.declared.lane.writing.Halt.TheVariants as halt
 use Rattle.ls_recorder.specs.View.Lanes.{WroteFront, WroteFewer, WrotePart, orders_in, IsWriting, IsMisfit, StopsWriting}
-use Rattle.ls_recorder.specs.View.Halves.{orders_taken, HasTaken, Books, IsAhead, HaltsWriting}
+use Rattle.ls_recorder.specs.View.Halves.{orders_taken, Books, IsAhead, RefusesPiece, HaltsWriting}
 use Rattle.ls_recorder.proofs.LaneLemmas.{file-append, take-front, writes-fewer, writes-front, Books as BooksOne}
+
+-- ---- orders that are taken
+
+pub orders-more : (seat seat' : WorkerSeat Ordered) (j : Job Ordered) → jobs_taken seat' ≡ jobs_taken seat ++ j ∷ [] → orders_taken seat' ≡ orders_taken seat ++ j.item ∷ []
+orders-more seat seat' j more = ap (map (λ (k : Job Ordered). k.item)) more ∙ map-append (λ (k : Job Ordered). k.item) (jobs_taken seat) (j ∷ [])
+
+pub orders-many : (seat : WorkerSeat Ordered) → length (orders_taken seat) ≡ length (jobs_taken seat)
+orders-many seat = length-map (jobs_taken seat) (λ (k : Job Ordered). k.item)
+
+-- nothing is written yet
+pub IsWriting-none : (items : List Ordered) (start : Option (List ℕ)) (c : Collection) → items ≡ [] → orders_in c ≡ [] → IsWriting items start start c 0
+IsWriting-none items start c none empty = record { done = []; items_are = none ∙ sym empty; wrote = Appends-nil start; bytes_are = refl }
+
+-- all is written
+none-left : (slots : List Slot) → length slots ≤ 0 → map (λ (slot : Slot). slot.order) slots ≡ []
+none-left [] none = refl
+none-left (slot ∷ slots) none = absurd (omega (arith, none))
+
+pub wrote-all : (items : List Ordered) (start now : Option (List ℕ)) (c : Collection) (bytes : ℕ) → IsWriting items start now c bytes → length c.slots ≤ 0 → Appends start now (file items)
+wrote-all items start now c bytes writing none =
+    let all : items ≡ writing.done = writing.items_are ∙ ap (λ l. writing.done ++ l) (none-left c.slots none) ∙ append-nil writing.done in
+    rw all writing.wrote
+
+-- an order is booked behind those that wait
+pub books-order : (seat seat' : WorkerSeat Ordered) (c c' : Collection) (j : Job Ordered) → jobs_taken seat' ≡ jobs_taken seat ++ j ∷ [] → BooksOne c c' j.item → length c.slots < length c'.slots → Books seat c seat' c'
+books-order seat seat' c c' j more one larger = record {
+  waits = λ start now bytes writing. record {
+    done = writing.done;
+    items_are = orders-more seat seat' j more ∙ ap (λ l. l ++ j.item ∷ []) writing.items_are ∙ append_assoc writing.done (orders_in c) (j.item ∷ []) ∙ ap (λ l. writing.done ++ l) (sym one.orders);
+    wrote = writing.wrote;
+    bytes_are = writing.bytes_are;
+  };
+  first = one.first;
+  more = omega (arith, larger);
+}
+
+pub books-none : (seat seat' : WorkerSeat Ordered) (c : Collection) → jobs_taken seat' ≡ jobs_taken seat → Books seat c seat' c
+books-none seat seat' c same = record {
+  waits = λ start now bytes writing. rw (ap (map (λ (k : Job Ordered). k.item)) same) writing;
+  first = refl;
+  more = omega arith;
+}
+
+pub books-both : (s s' s'' : WorkerSeat Ordered) (c c' c'' : Collection) → Books s c s' c' → Books s' c' s'' c'' → Books s c s'' c''
+books-both s s' s'' c c' c'' one two = record {
+  waits = λ start now bytes writing. two.waits start now bytes (one.waits start now bytes writing);
+  first = two.first ∙ one.first;
+  more = omega (arith, one.more, two.more);
+}
 
 -- ---- more orders after it stopped
 
@@ -46,10 +95,17 @@ later-part items more start now bytes wrote =
     }
 
 -- the collector, if it had room for more orders
-grown : Collection → List Ordered → Collection
-grown c more = record { source = c.source; window = c.window; first = c.first; slots = c.slots ++ map (λ (o : Ordered). record { order = o; piece = None }) more }
+abbrev slots-of : List Ordered → List Slot
+slots-of more = map (λ (o : Ordered). record { order = o; piece = None }) more
 
-orders-of-slots : (more : List Ordered) → map (λ (slot : Slot). slot.order) (map (λ (o : Ordered). record { order = o; piece = None }) more) ≡ more
+abbrev grown : Collection → List Ordered → Collection
+grown c more = record { source = c.source; window = c.window; first = c.first; slots = c.slots ++ slots-of more }
+
+length-slots : (more : List Ordered) → length (slots-of more) ≡ length more
+length-slots [] = refl
+length-slots (o ∷ more) = ap suc (length-slots more)
+
+orders-of-slots : (more : List Ordered) → map (λ (slot : Slot). slot.order) (slots-of more) ≡ more
 orders-of-slots [] = refl
 orders-of-slots (o ∷ more) = ap (λ l. o ∷ l) (orders-of-slots more)
 
@@ -57,13 +113,13 @@ later-writing : (items more : List Ordered) (start now : Option (List ℕ)) (c :
 later-writing items more start now c bytes writing = record {
   done = writing.done;
   items_are = ap (λ l. l ++ more) writing.items_are ∙ append_assoc writing.done (orders_in c) more
-      ∙ ap (λ l. writing.done ++ l) (sym (map-append (λ (slot : Slot). slot.order) c.slots (map (λ (o : Ordered). record { order = o; piece = None }) more) ∙ ap (λ l. orders_in c ++ l) (orders-of-slots more)));
+      ∙ ap (λ l. writing.done ++ l) (sym (map-append (λ (slot : Slot). slot.order) c.slots (slots-of more) ∙ ap (λ l. orders_in c ++ l) (orders-of-slots more)));
   wrote = writing.wrote;
   bytes_are = writing.bytes_are;
 }
 
 -- the first of four that is so
-first_of : (a b c d : Bool) → Option Cause
+abbrev first_of : (a b c d : Bool) → Option Cause
 first_of a b c d = cond a (Some Stranger) (cond b (Some NotBooked) (cond c (Some Twice) (cond d (Some OtherFrame) None)))
 
 same_first : (a b c d b' c' d' : Bool) (m : Cause) → first_of a b c d ≡ Some m → (m ≡ NotBooked → ⊥) → (b ≡ false → (b' ≡ false) × (c' ≡ c) × (c ≡ false → d' ≡ d)) → first_of a b' c' d' ≡ Some m
@@ -71,6 +127,10 @@ same_first true b c d b' c' d' m is other same = is
 same_first false true c d b' c' d' m is other same = absurd (other cc)
 same_first false false true d b' c' d' m is other same = let s = same refl in rw (s.0, s.1) is
 same_first false false false d b' c' d' m is other same = let s = same refl in rw (s.0, s.1, s.2 refl) is
+
+same_or : (a b c : Bool) → (a ≡ false → c ≡ b) → (a || c) ≡ (a || b)
+same_or true b c same = refl
+same_or false b c same = same refl
 
 get-front : (xs ys : List Slot) (n : ℕ) → n < length xs → slice_get (xs ++ ys) n ≡ slice_get xs n
 get-front [] ys n less = absurd (omega arith)
@@ -84,20 +144,17 @@ first_false true b h = let clash : ⊥ = cc in absurd clash
 later-misfit : (c : Collection) (more : List Ordered) (piece : Job Ordered) (m : Cause) → misfit_of c piece ≡ Some m → (m ≡ NotBooked → ⊥) → misfit_of (grown c more) piece ≡ Some m
 later-misfit c more piece m is other =
     let c' = grown c more in
-    let size : booked c' ≡ booked c + length more = omega (arith, length-append c.slots (map (λ (o : Ordered). record { order = o; piece = None }) more), length-map more (λ (o : Ordered). record { order = o; piece = None })) in
+    let size : booked c' ≡ booked c + length more = omega (arith, length-append c.slots (slots-of more), length-slots more) in
     let slot : piece.number < booked c → c.first ≤ piece.number → slot_of c' piece.number ≡ slot_of c piece.number =
-    (λ less from. get-front c.slots (map (λ (o : Ordered). record { order = o; piece = None }) more) (piece.number - c.first) (omega (arith, less, from))) in
-    let accepted : (late : Bool) → nat_lt piece.number c.first ≡ late → piece.number < booked c → was_accepted c' piece.number ≡ was_accepted c piece.number =
-    (λ late. elim late [
-      | true ↦ (λ early less. rw early refl)
-      | false ↦ (λ early less. ap (λ s. nat_lt piece.number c.first || has_piece s) (slot less (ltb-false piece.number c.first early)))
-    ]) in
+    (λ less from. get-front c.slots (slots-of more) (piece.number - c.first) (omega (arith, less, from))) in
+    let accepted : piece.number < booked c → was_accepted c' piece.number ≡ was_accepted c piece.number =
+    (λ less. same_or (nat_lt piece.number c.first) (has_piece (slot_of c piece.number)) (has_piece (slot_of c' piece.number)) (λ early. ap has_piece (slot less (ltb-false piece.number c.first early)))) in
     same_first (not (piece.source == c.source)) (nat_le (booked c) piece.number) (was_accepted c piece.number) (not (is_of (slot_of c piece.number) piece.item))
     (nat_le (booked c') piece.number) (was_accepted c' piece.number) (not (is_of (slot_of c' piece.number) piece.item)) m is other
     (λ below.
     let less : piece.number < booked c = leb-false (booked c) piece.number below in (
       lt-leb (booked c') piece.number (omega (arith, size, less)),
-      accepted _ refl less,
+      accepted less,
       (λ new. ap (λ s. not (is_of s piece.item)) (slot less (ltb-false piece.number c.first (first_false (nat_lt piece.number c.first) (has_piece (slot_of c piece.number)) new)))),
     ))
 
@@ -133,7 +190,7 @@ pub later-ahead : (items more : List Ordered) (start now : Option (List ℕ)) (a
 later-ahead items more start now ahead is few =
     let c = is.collection in
     let c' = grown c more in
-    let size : booked c' ≡ booked c + length more = omega (arith, length-append c.slots (map (λ (o : Ordered). record { order = o; piece = None }) more), length-map more (λ (o : Ordered). record { order = o; piece = None })) in
+    let size : booked c' ≡ booked c + length more = omega (arith, length-append c.slots (slots-of more), length-slots more) in
     let known = not_first (not (is.piece.source == c.source)) (nat_le (booked c) is.piece.number) (was_accepted c is.piece.number) (not (is_of (slot_of c is.piece.number) is.piece.item)) is.refused in
     let beyond : nat_le (booked c') is.piece.number ≡ true = le-leb (booked c') is.piece.number (omega (arith, size, few, is.number, is.counted)) in (
       later-fewer items more start now (writes-fewer items start now c is.bytes is.some is.writing),
@@ -149,3 +206,48 @@ later-ahead items more start now ahead is few =
 -- it is booked by then, further ahead than there is room
 pub later-beyond : (items more : List Ordered) (start now : Option (List ℕ)) (ahead : ℕ) → IsAhead items start now ahead → StopsWriting (items ++ more) start now fault.NoMemory
 later-beyond items more start now ahead is = later-front items more start now (writes-front items start now is.collection is.bytes is.writing)
+
+-- ---- why it stops
+
+pub output-is-no-misfit : (bytes : ℕ) (m : Cause) → fault.Output bytes ≡ fault.Misfit m → ⊥
+output-is-no-misfit bytes m is = let clash : ⊥ = cc in clash
+
+pub memory-is-no-misfit : (m : Cause) → fault.NoMemory ≡ fault.Misfit m → ⊥
+memory-is-no-misfit m is = let clash : ⊥ = cc in clash
+
+pub lost-is-no-misfit : (m : Cause) → fault.Lost ≡ fault.Misfit m → ⊥
+lost-is-no-misfit m is = let clash : ⊥ = cc in clash
+
+pub many-is-no-misfit : (m : Cause) → fault.TooMany ≡ fault.Misfit m → ⊥
+many-is-no-misfit m is = let clash : ⊥ = cc in clash
+
+same-misfit : (a b : Cause) → fault.Misfit a ≡ fault.Misfit b → a ≡ b
+same-misfit a b is = cc
+
+-- a piece was refused
+pub halts-refused : (items : List Ordered) (start now : Option (List ℕ)) (c : Collection) (bytes : ℕ) (piece : Job Ordered) (h : Halt) → IsWriting items start now c bytes → 0 < length c.slots
+    → booked c ≡ length items → RefusesPiece c piece h → HaltsWriting items start now h
+halts-refused items start now c bytes piece (halt.Fault (fault.Input m f)) writing some counted why = absurd why
+halts-refused items start now c bytes piece (halt.Fault (fault.Output k)) writing some counted why = absurd why
+halts-refused items start now c bytes piece (halt.Fault fault.NoMemory) writing some counted why = absurd why
+halts-refused items start now c bytes piece (halt.Fault (fault.Misfit m)) writing some counted why = (
+  (
+    writes-fewer items start now c bytes some writing,
+    record { collection = c; bytes = bytes; piece = piece; writing = writing; refused = why.0 },
+  ),
+  (λ is. why.1 (same-misfit m NotBooked is)),
+)
+halts-refused items start now c bytes piece (halt.Fault fault.Lost) writing some counted why = absurd why
+halts-refused items start now c bytes piece (halt.Fault fault.NotStarted) writing some counted why = absurd why
+halts-refused items start now c bytes piece (halt.Fault fault.TooMany) writing some counted why = absurd why
+halts-refused items start now c bytes piece (halt.Fault (fault.Tuning m f)) writing some counted why = absurd why
+halts-refused items start now c bytes piece (halt.NotBooked ahead) writing some counted why = record {
+  collection = c;
+  bytes = bytes;
+  piece = piece;
+  writing = writing;
+  some = some;
+  counted = counted;
+  refused = why.0;
+  number = why.1 ∙ ap (λ n. n + ahead) counted;
+}

@@ -9,12 +9,13 @@ mod places;
 mod reading;
 mod writing;
 
-ghost use Rattle.std.specs.Prelude.{◌≡◌, ◌≤◌, ◌⊎◌, [], ◌∷◌, true, length, vec_capacity, IfOk, IfErr, MatchResult};
+ghost use Rattle.std.specs.Prelude.{◌≡◌, ◌≤◌, ◌⊎◌, [], ◌∷◌, true, length, vec_capacity, Err, IfOk, IfErr, MatchResult};
 ghost use Rattle.ls_frame.specs.View.Devices.{count_after};
 ghost use Rattle.ls_queue.specs.View.Running.{IsSourceSeat, IsWorkerSeat, IsEnded, IsFinished, items_put, items_ended, is_done, puts_of, parts_of, sources_of, workers_of};
+ghost use Rattle.ls_pieces.specs.Orders.{Ordered};
 ghost use Rattle.ls_pieces.specs.Collecting.{most_window};
 ghost use Rattle.ls_recorder.specs.View.Lanes.{Records, StopsLane, ReadsSo, failed_writer};
-ghost use Rattle.ls_recorder.specs.View.Halves.{WasNotStarted, MayStart, ArePartsOf, MayRead, IsReadingEnd, MayWrite, IsWritingEnd, orders_taken};
+ghost use Rattle.ls_recorder.specs.View.Halves.{WasNotStarted, ArePartsOf, MayRead, IsReadingEnd, MayWrite, IsWritingEnd, orders_taken};
 
 use crate::delivery::Inbox;
 use crate::gate::{Gate, Notice, OpenGate};
@@ -153,7 +154,10 @@ pub fn watched_lane<F: Feed + Drop, W: Outlet + Send + Drop, R: Threads + Wait +
     gate: &G,
     start: Start<F, W>,
 ) -> LaneEnd<F, W>
-    requires { MayStart queue.now start }
+    requires seat { IsSourceSeat queue.now start.seat }
+    requires new { items_put start.seat ≡ [] }
+    requires window { 1 ≤ start.window }
+    requires narrow { start.window ≤ most_window }
     ensures ended { IsEnded queue.now result.ended × (result.ended.source ≡ start.seat.source) × (result.ended.count ≡ length (items_ended result.ended)) }
     ensures completes { IfOk result.result (Records start.film.2 (items_ended result.ended)
         (F.remaining start.film.0) (F.remaining result.reader) (W.contents start.film.1) (W.contents result.writer)) }
@@ -218,16 +222,23 @@ pub fn watched_lane<F: Feed + Drop, W: Outlet + Send + Drop, R: Threads + Wait +
     };
     let (read, wrote) = run_in_scope(&setting, reading, writing);
     hand_over(rt, bookings, read.finished, seats, wrote.seat);
-    let result = match wrote.result {
-        Ok(()) => read.result,
-        Err(fault) => Err(fault),
-    };
+    let result = outcome(read.result, wrote.result);
     gate.notice(source, Notice::Ended(result));
     LaneEnd {
         ended: queue.end(rt, read.seat),
         reader: read.reader,
         writer: wrote.writer,
         result,
+    }
+}
+
+/// What comes of a lane whose halves ended so.
+fn outcome(read: Result<u64, LaneFault>, wrote: Result<(), LaneFault>) -> Result<u64, LaneFault>
+    ensures { MatchResult wrote (λ _. result ≡ read) (λ fault. result ≡ Err fault) }
+{
+    match wrote {
+        Ok(()) => read,
+        Err(fault) => Err(fault),
     }
 }
 

@@ -155,10 +155,13 @@ RefusesPiece c piece (halt.Fault fault) = ⊥
 RefusesPiece c piece (halt.NotBooked ahead) = (misfit_of c piece ≡ Some WasNotBooked) × (piece.number ≡ booked c + ahead)
 
 -- whether it stops for the writer's device
+abbrev pub halts_for_writer : Halt → Bool
+halts_for_writer (halt.Fault fault) = blames_writer fault
+halts_for_writer (halt.NotBooked ahead) = false
+
 abbrev pub halted_writer : {X : Type 0} → Result X Halt → Bool
 halted_writer (Ok x) = false
-halted_writer (Err (halt.Fault fault)) = blames_writer fault
-halted_writer (Err (halt.NotBooked ahead)) = false
+halted_writer (Err h) = halts_for_writer h
 
 module _ {W : Type 0} where
   pub record MayWrite (bookings : Queue Ordered) (window : ℕ) (writing : Writing W) : Type 0 where

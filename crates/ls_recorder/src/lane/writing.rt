@@ -1,5 +1,5 @@
 //! The writing half of a lane: it takes the orders that were booked, receives their pieces, and writes each when its turn comes.
-ghost use Rattle.std.specs.Prelude.{◌≡◌, ◌<◌, ◌≤◌, ◌+◌, ◌*◌, ◌^◌, ◌++◌, ◌⊎◌, [], ℕ, None, List, true, false, length, take, IfOk, IfErr, OnOk};
+ghost use Rattle.std.specs.Prelude.{◌≡◌, ◌<◌, ◌≤◌, ◌+◌, ◌*◌, ◌^◌, ◌++◌, ◌⊎◌, [], ℕ, None, List, Option, true, false, length, take, IfOk, IfErr, OnOk};
 ghost use Rattle.std.specs.Io.KnownBytes.{Appends};
 ghost use Rattle.ls_frame.specs.View.Devices.{count_after};
 ghost use Rattle.ls_film.specs.Film.{most_frames};
@@ -7,8 +7,8 @@ ghost use Rattle.ls_film.specs.Coding.{file};
 ghost use Rattle.ls_queue.specs.View.Running.{IsWorkerSeat, is_done, jobs_taken};
 ghost use Rattle.ls_pieces.specs.Orders.{Ordered, coded};
 ghost use Rattle.ls_pieces.specs.Collecting.{booked, new_collection, misfit_of, after_accept};
-ghost use Rattle.ls_recorder.specs.View.Lanes.{GoesOn};
-ghost use Rattle.ls_recorder.specs.View.Halves.{orders_taken, MayWrite, IsWritingEnd, HasTaken, Books, RefusesPiece, HaltsSo, HaltsWriting, halted_writer};
+ghost use Rattle.ls_recorder.specs.View.Lanes.{GoesOn, StopsWriting, blames_writer};
+ghost use Rattle.ls_recorder.specs.View.Halves.{orders_taken, MayWrite, IsWritingEnd, HasTaken, Books, RefusesPiece, HaltsSo, HaltsWriting, halts_for_writer, halted_writer};
 
 use crate::delivery::Inbox;
 use crate::gate::{Gate, Notice};
@@ -63,27 +63,51 @@ pub fn write_film<W: Outlet, R: Wait, G: Gate>(
         returns,
         mut writer,
     } = start;
-    let rt = setting.rt;
-    let bookings = setting.bookings;
-    let result = match write_booked(setting, &mut seat, inbox, collector, returns, &mut writer) {
-        Ok(()) => Ok(()),
-        Err(Halt::Fault(fault)) => {
-            let _more = drain(rt, bookings, &mut seat, 0);
-            Err(fault)
-        }
-        Err(Halt::NotBooked(ahead)) => {
-            if drain(rt, bookings, &mut seat, ahead) {
-                // Its order was booked after all, further ahead than there is room for.
-                Err(LaneFault::NoMemory)
-            } else {
-                Err(LaneFault::Misfit(Misfit::NotBooked))
+    match write_booked(setting, &mut seat, inbox, collector, returns, &mut writer) {
+        Ok(()) => WritingEnd {
+            seat,
+            writer,
+            result: Ok(()),
+        },
+        Err(halt) => {
+            let fault = take_the_rest(setting, &mut seat, halt);
+            WritingEnd {
+                seat,
+                writer,
+                result: Err(fault),
             }
         }
-    };
-    WritingEnd {
-        seat,
-        writer,
-        result,
+    }
+}
+
+/// Takes the orders that are left after the writing stopped, and says for which fault it did.
+fn take_the_rest<R: Wait, G: Gate>(
+    setting: &Setting<'_, R, G>,
+    seat: &mut WorkerSeat<Order>,
+    halt: Halt,
+) -> LaneFault
+    requires seat { IsWorkerSeat setting.now.bookings.now seat.old }
+    ensures seat { IsWorkerSeat setting.now.bookings.now seat.new }
+    ensures done { is_done seat.new ≡ true }
+    ensures more { length (jobs_taken seat.old) ≤ length (jobs_taken seat.new) }
+    ensures stops { (start now : Option (List ℕ)) → HaltsWriting (orders_taken seat.old) start now halt → StopsWriting (orders_taken seat.new) start now result }
+    ensures device { blames_writer result ≡ halts_for_writer halt }
+{
+    let rt = setting.rt;
+    let bookings = setting.bookings;
+    match halt {
+        Halt::Fault(fault) => {
+            let _more = drain(rt, bookings, seat, 0);
+            fault
+        }
+        Halt::NotBooked(ahead) => {
+            if drain(rt, bookings, seat, ahead) {
+                // Its order was booked after all, further ahead than there is room for.
+                LaneFault::NoMemory
+            } else {
+                LaneFault::Misfit(Misfit::NotBooked)
+            }
+        }
     }
 }
 
@@ -97,6 +121,7 @@ fn write_booked<W: Outlet, R: Wait, G: Gate>(
     writer: &mut W,
 ) -> Result<(), Halt>
     requires taken { HasTaken setting.now.bookings.now setting.now.window seat.old collector }
+    requires some { 1 ≤ setting.now.window }
     requires none { jobs_taken seat.old ≡ [] }
     requires new { collector ≡ new_collection collector.source setting.now.window }
     requires returned { returns.returned ≡ 0 }
@@ -112,7 +137,7 @@ fn write_booked<W: Outlet, R: Wait, G: Gate>(
     let mut returns = returns;
     let mut written = 0;
     for _ in setting.rt.forever() {
-        if collector.waiting() == 0 && !book_next(setting, seat, &mut collector)? {
+        if !some_waits(setting, seat, &mut collector)? {
             return Ok(());
         }
         let piece = receive(setting.rt, &mut inbox)?;
@@ -121,6 +146,27 @@ fn write_booked<W: Outlet, R: Wait, G: Gate>(
         written = write_ready(setting, &mut collector, &mut returns, writer, written)?;
     }
     unreachable!()
+}
+
+/// Whether some order waits for its piece; if none does, the next one is booked, unless the bookings are done.
+fn some_waits<R: Wait, G: Gate>(
+    setting: &Setting<'_, R, G>,
+    seat: &mut WorkerSeat<Order>,
+    collector: &mut Collector,
+) -> Result<bool, Halt>
+    requires taken { HasTaken setting.now.bookings.now setting.now.window seat.old collector.old }
+    requires some { 1 ≤ setting.now.window }
+    ensures seat { IsWorkerSeat setting.now.bookings.now seat.new }
+    ensures taken { OnOk result (HasTaken setting.now.bookings.now setting.now.window seat.new collector.new) }
+    ensures books { OnOk result (Books seat.old collector.old seat.new collector.new) }
+    ensures some { IfOk result (λ some. some ≡ true → 0 < length collector.new.slots) }
+    ensures done { IfOk result (λ some. some ≡ false → (is_done seat.new ≡ true) × (length collector.new.slots ≡ 0)) }
+    ensures halts { IfErr result (λ halt. (halt ≡ Halt.Fault LaneFault.TooMany) × (most_frames < length (orders_taken seat.new))) }
+{
+    if collector.waiting() > 0 {
+        return Ok(true);
+    }
+    book_next(setting, seat, collector)
 }
 
 /// Takes the next order, if the bookings aren't done, and books it in the collector, which has room for it; whether there was one.

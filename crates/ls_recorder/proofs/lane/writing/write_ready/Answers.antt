@@ -2,6 +2,7 @@ use Rattle.std.proofs.Common.{◌≡◌, Some, ◌∙◌, arith, rules}
 use Rattle.std.proofs.lemmas.Result.{err_from_is_err_and}
 use Rattle.ls_pieces.specs.Collecting.{next_reply}
 use Rattle.ls_recorder.proofs.LaneLemmas.{hands_out, writes-piece, writes-part}
+use Rattle.ls_recorder.proofs.WritingLemmas.{output-is-no-misfit}
 use Rattle.ls_recorder.proofs.lane.writing.write_ready.Goals as goal
 
 pub loop-piece-preserved : goal.loop-piece-preserved
@@ -18,3 +19,14 @@ loop-piece-preserved g c =
       window = out.window ∙ before.window;
       writes = search rules;
     }
+
+pub returns-in_err-written-clause-halts : goal.returns-in_err-written-clause-halts
+returns-in_err-written-clause-halts g c =
+    let reply : next_reply c.loop-piece.collector ≡ Some c.in-Some.piece = search rules in
+    let out = hands_out c.loop-piece.collector c.next.new.self c.in-Some.piece c.next.ensures.lawful reply c.next.ensures.state in
+    let p = err_from_is_err_and c.from_residual.result c.from_residual.ensures.1 in
+    let why = c.in_err-written.ensures.stops in
+    rw (p.1, p.2, why.1) (λ items start writing. (
+      writes-part items start _ _ _ _ c.loop-piece.written why.0 c.in-Some.piece out why.2 why.3 (c.loop-piece.invariant.goes_on items start writing),
+      output-is-no-misfit _ _,
+    ))
