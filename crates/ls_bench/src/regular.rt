@@ -24,7 +24,7 @@ const MOST_VALUE: u32 = 256;
 struct Coder {
     state: State,
     ghost samples: { state.parameters.maxval ≡ 255 },
-    ghost whole: { state.broken ≡ false },
+    ghost uninterrupted: { state.interrupted ≡ false },
 }
 
 impl Coder {

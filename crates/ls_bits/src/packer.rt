@@ -36,7 +36,7 @@ impl Model for Packer {
       front = take p.start p.bytes.items;
       bits = packed_bits p.start p.bytes.items p.word p.held;
       held = p.held;
-      room = vec_capacity p.bytes - vec_len p.bytes;
+      capacity_left = vec_capacity p.bytes - vec_len p.bytes;
       capacity = vec_capacity p.bytes;
     } };
 
@@ -49,7 +49,7 @@ impl Packer {
         ensures front { result.front ≡ bytes.items }
         ensures bits { result.bits ≡ [] }
         ensures held { result.held ≡ 0 }
-        ensures room { result.room ≡ vec_capacity bytes - vec_len bytes }
+        ensures room { result.capacity_left ≡ vec_capacity bytes - vec_len bytes }
         ensures capacity { result.capacity ≡ vec_capacity bytes }
     {
         let start = bytes.len();
@@ -203,7 +203,7 @@ impl Packer {
 
     /// Puts out one whole byte.
     fn put_out_byte(&mut self)
-        requires room { 0 < self.old.room }
+        requires room { 0 < self.old.capacity_left }
         requires held { 8 ≤ self.old.held }
         ensures bits { self.new.bits ≡ self.old.bits }
         ensures held { self.new.held < self.old.held }

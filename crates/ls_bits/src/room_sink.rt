@@ -23,13 +23,13 @@ impl Model for RoomSink {
 
     ghost view = { λ s. record {
       front = s.packer.front;
-      room = s.packer.capacity - length s.packer.front;
+      capacity_left = s.packer.capacity - length s.packer.front;
       bits = s.packer.bits;
     } };
 
     ghost invariant = { λ s.
         (length s.packer.front ≤ s.packer.capacity)
-        × (7 * (s.packer.capacity - length s.packer.front) + s.packer.held ≤ 7 * s.packer.room + length s.packer.bits)
+        × (7 * (s.packer.capacity - length s.packer.front) + s.packer.held ≤ 7 * s.packer.capacity_left + length s.packer.bits)
         × (0 < length s.packer.bits → Fits (length s.packer.bits) (s.packer.capacity - length s.packer.front)) };
 }
 
@@ -37,7 +37,7 @@ impl RoomSink {
     /// No bits yet, after the bytes of the vector. Its room is the capacity that the vector has beyond these bytes.
     pub fn new(bytes: Vec<u8>) -> RoomSink
         ensures front { result.front ≡ bytes.items }
-        ensures room { result.room ≡ vec_capacity bytes - vec_len bytes }
+        ensures room { result.capacity_left ≡ vec_capacity bytes - vec_len bytes }
         ensures bits { result.bits ≡ [] }
     {
         RoomSink {
@@ -52,10 +52,10 @@ impl RoomSink {
     pub fn put(&mut self, value: u32, count: u32)
         requires count { count ≤ 32 }
         requires value { value < 2 ^ count }
-        requires room { Fits (length self.old.bits + count) self.old.room }
+        requires room { Fits (length self.old.bits + count) self.old.capacity_left }
         ensures bits { self.new.bits ≡ self.old.bits ++ bits_of count value }
         ensures front { self.new.front ≡ self.old.front }
-        ensures room { self.new.room ≡ self.old.room }
+        ensures room { self.new.capacity_left ≡ self.old.capacity_left }
     {
         self.packer.put(value, count);
     }
@@ -68,10 +68,10 @@ impl RoomSink {
     pub fn put_golomb(&mut self, k: u32, glimit: u32, qbpp: u32, v: u32)
         requires code { IsGolomb k glimit qbpp }
         requires value { v ≤ most_value qbpp }
-        requires room { Fits (length self.old.bits + length (code_word k glimit qbpp v)) self.old.room }
+        requires room { Fits (length self.old.bits + length (code_word k glimit qbpp v)) self.old.capacity_left }
         ensures bits { self.new.bits ≡ self.old.bits ++ code_word k glimit qbpp v }
         ensures front { self.new.front ≡ self.old.front }
-        ensures room { self.new.room ≡ self.old.room }
+        ensures room { self.new.capacity_left ≡ self.old.capacity_left }
     {
         self.packer.put_golomb(k, glimit, qbpp, v);
     }
@@ -80,7 +80,7 @@ impl RoomSink {
     /// Allocates nothing and cannot fail; the vector's capacity is what it was.
     pub fn finish(self) -> Vec<u8>
         ensures bytes { result.items ≡ self.front ++ stuff self.bits }
-        ensures capacity { vec_capacity result ≡ length self.front + self.room }
+        ensures capacity { vec_capacity result ≡ length self.front + self.capacity_left }
     {
         self.packer.finish()
     }

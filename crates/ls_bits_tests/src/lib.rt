@@ -6,6 +6,8 @@
 #[cfg(test)]
 mod data;
 #[cfg(test)]
+mod page;
+#[cfg(test)]
 mod room_sink;
 #[cfg(test)]
 mod sink;

@@ -138,7 +138,7 @@ pub struct Filling {
     total: usize,
     ghost bits: { length sink.bits ≤ used },
     ghost within: { used ≤ total },
-    ghost room: { Fits total sink.room },
+    ghost room: { Fits total sink.capacity_left },
 }
 
 impl Filling {

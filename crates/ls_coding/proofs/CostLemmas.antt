@@ -19,7 +19,7 @@ use Rattle.ls_coding.proofs.ErrorLemmas.{error_of-reduced, interruption_predicti
 use Rattle.ls_coding.proofs.EventLemmas.{stats_after_events-own, stats_after_events-other, stats_after_events-interruption, counts_after_events-own, counts_after_events-regular, ri_type_1_kept, ri_type_0_kept}
 use Rattle.ls_coding.proofs.FieldLemmas.{same_or_not, first_stats_sound, first_counts_sound}
 use Rattle.ls_coding.proofs.InterruptionLemmas.{sound_counts, counts_step_is}
-use Rattle.ls_coding.proofs.RunLemmas.{full_cost, broken_cost}
+use Rattle.ls_coding.proofs.RunLemmas.{full_cost, interrupted_cost}
 use Rattle.ls_coding.proofs.StateLemmas.{stats_after_events-run, counts_after_events-run}
 use Rattle.ls_coding.proofs.StatsLemmas.{choose, lt_true, lt_false, error_size, sound_is, step_is}
 use Rattle.ls_coding.proofs.WordLemmas.{regular_code, interruption_code, limit_large}
@@ -112,7 +112,7 @@ counts_step_sound ri_type reset maxval s e least sound error =
 stats_kept : (p : Parameters) (events : List Event) (event : Event) (number : ℕ) → IsLegal p → MayComeNext p events event
     → ((other : ℕ) → AreSound p.reset (error_bound p.maxval) (stats_after_events p other events))
     → AreSound p.reset (error_bound p.maxval) (stats_after_events p number (events ++ event ∷ []))
-stats_kept p events event number legal (by_sample n sample samples within mode whole same) sound =
+stats_kept p events event number legal (by_sample n sample samples within mode uninterrupted same) sound =
     let other : ℕ = (context_of p n).number in
     let e : ℤ = regular_error_of p (context_of p n) (stats_after_events p other events) n sample in
     subst (λ (v : Event). AreSound p.reset (error_bound p.maxval) (stats_after_events p number (events ++ v ∷ []))) (sym same)
@@ -123,10 +123,10 @@ stats_kept p events event number legal (by_sample n sample samples within mode w
           (stats_step_sound p.reset p.maxval (stats_after_events p other events) e legal.some_reset (sound other) (regular_error_of-reduced p n (stats_after_events p other events) sample within)))
       | inr apart ↦ subst (AreSound p.reset (error_bound p.maxval)) (sym (stats_after_events-other p events number other e apart)) (sound number)
     ])
-stats_kept p events event number legal (by_run count broken some whole same) sound =
+stats_kept p events event number legal (by_run count interrupted some uninterrupted same) sound =
     subst (λ (v : Event). AreSound p.reset (error_bound p.maxval) (stats_after_events p number (events ++ v ∷ []))) (sym same)
-    (subst (AreSound p.reset (error_bound p.maxval)) (stats_after_events-run p events (run_of count broken) number) (sound number))
-stats_kept p events event number legal (by_interruption n sample samples other broken same) sound =
+    (subst (AreSound p.reset (error_bound p.maxval)) (stats_after_events-run p events (run_of count interrupted) number) (sound number))
+stats_kept p events event number legal (by_interruption n sample samples other interrupted same) sound =
     subst (λ (v : Event). AreSound p.reset (error_bound p.maxval) (stats_after_events p number (events ++ v ∷ []))) (sym same)
     (subst (AreSound p.reset (error_bound p.maxval)) (stats_after_events-interruption p events (ri_type_of n) (interruption_error p n sample) number) (sound number))
 
@@ -149,14 +149,14 @@ counts_kept-interruption p events false false e legal error sound =
 counts_kept : (p : Parameters) (events : List Event) (event : Event) (ri_type : Bool) → IsLegal p → MayComeNext p events event
     → AreSoundCounts p.reset (error_bound p.maxval) (counts_after_events p ri_type events)
     → AreSoundCounts p.reset (error_bound p.maxval) (counts_after_events p ri_type (events ++ event ∷ []))
-counts_kept p events event ri_type legal (by_sample n sample samples within mode whole same) sound =
+counts_kept p events event ri_type legal (by_sample n sample samples within mode uninterrupted same) sound =
     subst (λ (v : Event). AreSoundCounts p.reset (error_bound p.maxval) (counts_after_events p ri_type (events ++ v ∷ []))) (sym same)
     (subst (AreSoundCounts p.reset (error_bound p.maxval))
     (counts_after_events-regular p events (context_of p n).number (regular_error_of p (context_of p n) (stats_after_events p (context_of p n).number events) n sample) ri_type) sound)
-counts_kept p events event ri_type legal (by_run count broken some whole same) sound =
+counts_kept p events event ri_type legal (by_run count interrupted some uninterrupted same) sound =
     subst (λ (v : Event). AreSoundCounts p.reset (error_bound p.maxval) (counts_after_events p ri_type (events ++ v ∷ []))) (sym same)
-    (subst (AreSoundCounts p.reset (error_bound p.maxval)) (counts_after_events-run p events (run_of count broken) ri_type) sound)
-counts_kept p events event ri_type legal (by_interruption n sample samples other broken same) sound =
+    (subst (AreSoundCounts p.reset (error_bound p.maxval)) (counts_after_events-run p events (run_of count interrupted) ri_type) sound)
+counts_kept p events event ri_type legal (by_interruption n sample samples other interrupted same) sound =
     subst (λ (v : Event). AreSoundCounts p.reset (error_bound p.maxval) (counts_after_events p ri_type (events ++ v ∷ []))) (sym same)
     (counts_kept-interruption p events ri_type (ri_type_of n) (interruption_error p n sample) legal (interruption_error-reduced p n sample samples other.within) sound)
 
@@ -181,16 +181,16 @@ pub full_run_cost : (p : Parameters) (events : List Event) → IsLegal p → IsL
     → length (run_bits (run_index_after_events events) (run_of count false)) ≤ limit_of p.maxval * count
 full_run_cost p events legal lawful count some = full_cost (run_index_after_events events) count (limit_of p.maxval) (omega (arith, some_limit p.maxval))
 
-pub broken_run_cost : (p : Parameters) (events : List Event) → IsLegal p → IsLawful p events → (count : ℕ) (n : Neighbours) (sample : ℕ)
+pub interrupted_run_cost : (p : Parameters) (events : List Event) → IsLegal p → IsLawful p events → (count : ℕ) (n : Neighbours) (sample : ℕ)
     → AreSamples p.maxval n → Interrupts p.maxval n.a sample
     → length (run_bits (run_index_after_events events) (run_of count true)
     ++ golomb_bits p (interruption_word p (index_at (run_index_after_events events) (run_of count true)) (ri_type_of n) (counts_after_events p (ri_type_of n) events) (interruption_error p n sample)))
     ≤ limit_of p.maxval * (count + 1)
-broken_run_cost p events legal lawful count n sample samples other =
+interrupted_run_cost p events legal lawful count n sample samples other =
     let index : ℕ = index_at (run_index_after_events events) (run_of count true) in
     let s : Counts = counts_after_events p (ri_type_of n) events in
     let word = interruption_word p index (ri_type_of n) s (interruption_error p n sample) in
     let short : length (golomb_bits p word) ≤ limit_of p.maxval - order index - 1 =
     length-code_word _ _ _ word.value (interruption_code (ri_type_of n) p.reset p.maxval index s legal.some_maxval legal.maxval (counts_after_events-sound p events (ri_type_of n) legal lawful)) in
-    let before = broken_cost (run_index_after_events events) count (limit_of p.maxval) (some_limit p.maxval) in
+    let before = interrupted_cost (run_index_after_events events) count (limit_of p.maxval) (some_limit p.maxval) in
     omega (arith, length-append (run_bits (run_index_after_events events) (run_of count true)) (golomb_bits p word))

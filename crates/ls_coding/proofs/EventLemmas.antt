@@ -11,7 +11,7 @@ use Rattle.ls_coding.specs.declared.neighbours.Neighbours.{Neighbours}
 use Rattle.ls_coding.specs.Contexts.{context_of}
 use Rattle.ls_coding.specs.Stats.{Stats, stats, stats_step, stats_after, first_stats}
 use Rattle.ls_coding.specs.Interruptions.{Counts, counts_step, counts_after, first_counts, ri_type_of, interruption_error}
-use Rattle.ls_coding.specs.Events.{Event, regular, interruption, error_of_regular_event, error_of_interruption_event, stats_after_events, counts_after_events, run_index_after_events, broken_after_events, index_step, is_broken, regular_error_of, regular_word, interruption_word}
+use Rattle.ls_coding.specs.Events.{Event, regular, interruption, error_of_regular_event, error_of_interruption_event, stats_after_events, counts_after_events, run_index_after_events, interrupted_after_events, index_step, is_interrupted, regular_error_of, regular_word, interruption_word}
 use Rattle.ls_coding.specs.View.States.{Coding, state_of, stats_in, counts_in, context_in, regular_error_in, regular_word_in, regular_after, interruption_word_in, interruption_after}
 use Rattle.ls_coding.proofs.FieldLemmas.{map_set}
 use Rattle.ls_coding.proofs.RegularLemmas.{context_small}
@@ -69,10 +69,10 @@ pub stats_in-state : (p : Parameters) (events : List Event) (number : ℕ) → n
 unfolding state_of
 stats_in-state p events number h = get_or-map-range_with_len (λ number. stats_after_events p number events) 0 365 number number (stats 0 (pos 0) (pos 0) 0) h (omega arith)
 
-pub state_of-regular : (p : Parameters) (events : List Event) (number : ℕ) (e : ℤ) → number < 365 → broken_after_events events ≡ false
+pub state_of-regular : (p : Parameters) (events : List Event) (number : ℕ) (e : ℤ) → number < 365 → interrupted_after_events events ≡ false
     → regular_after (state_of p events) number e ≡ state_of p (events ++ regular number e ∷ [])
 unfolding state_of
-state_of-regular p events number e h whole =
+state_of-regular p events number e h uninterrupted =
     alike p _ _ _ _ _ _ _ _ _ _
     (sym (map_set (λ j. stats_after_events p j events) (λ j. stats_after_events p j (events ++ regular number e ∷ [])) 365 number _ h
     (stats_after_events-own p events number e ∙ ap (λ (t : Stats). stats_step p.reset t e) (sym (stats_in-state p events number h)))
@@ -80,26 +80,26 @@ state_of-regular p events number e h whole =
     (counts_after_events-regular p events number e false)
     (counts_after_events-regular p events number e true)
     (sym (fold-push index_step 0 events (regular number e)))
-    (whole ∙ sym (fold-push (λ (broken : Bool) (event : Event). is_broken event) false events (regular number e)))
+    (uninterrupted ∙ sym (fold-push (λ (interrupted : Bool) (event : Event). is_interrupted event) false events (regular number e)))
 
-broken_of-state : (p : Parameters) (events : List Event) → (state_of p events).broken ≡ broken_after_events events
+interrupted_of-state : (p : Parameters) (events : List Event) → (state_of p events).interrupted ≡ interrupted_after_events events
 unfolding state_of
-broken_of-state p events = refl
+interrupted_of-state p events = refl
 
-pub state_after_regular : (before after : Coding) (x : Neighbours) (sample : ℕ) → before.broken ≡ false
+pub state_after_regular : (before after : Coding) (x : Neighbours) (sample : ℕ) → before.interrupted ≡ false
     → after ≡ regular_after before (context_in before x).number (regular_error_in before x sample)
     → (events : List Event) → before ≡ state_of before.parameters events
     → after ≡ state_of before.parameters (events ++ regular (context_in before x).number
     (regular_error_of before.parameters (context_in before x) (stats_after_events before.parameters (context_in before x).number events) x sample) ∷ [])
 unfolding regular_error_in
-state_after_regular before after x sample whole step events e =
+state_after_regular before after x sample uninterrupted step events e =
     let p : Parameters = before.parameters in
     let number : ℕ = (context_of p x).number in
     let known : stats_in before number ≡ stats_after_events p number events = ap (λ (s : Coding). stats_in s number) e ∙ stats_in-state p events number (context_small p x) in
     step
     ∙ ap (λ (t : Stats). regular_after before number (regular_error_of p (context_of p x) t x sample)) known
     ∙ ap (λ (s : Coding). regular_after s number (regular_error_of p (context_of p x) (stats_after_events p number events) x sample)) e
-    ∙ state_of-regular p events number (regular_error_of p (context_of p x) (stats_after_events p number events) x sample) (context_small p x) (sym (broken_of-state p events) ∙ sym (ap (λ (s : Coding). s.broken) e) ∙ whole)
+    ∙ state_of-regular p events number (regular_error_of p (context_of p x) (stats_after_events p number events) x sample) (context_small p x) (sym (interrupted_of-state p events) ∙ sym (ap (λ (s : Coding). s.interrupted) e) ∙ uninterrupted)
 
 pub word_of_regular : (before : Coding) (x : Neighbours) (sample : ℕ) (events : List Event) → before ≡ state_of before.parameters events
     → regular_word_in before x sample ≡ regular_word before.parameters (stats_after_events before.parameters (context_in before x).number events)
@@ -119,12 +119,12 @@ state_of-interruption p events true e =
     alike p _ _ _ _ _ _ _ _ _ _ (map_same _ _ (range_with_len 0 365) (stats_after_events-interruption p events true e))
     (ri_type_0_kept p events e) (sym (counts_after_events-own p events true e))
     (sym (fold-push index_step 0 events (interruption true e)))
-    (sym (fold-push (λ (broken : Bool) (event : Event). is_broken event) false events (interruption true e)))
+    (sym (fold-push (λ (interrupted : Bool) (event : Event). is_interrupted event) false events (interruption true e)))
 state_of-interruption p events false e =
     alike p _ _ _ _ _ _ _ _ _ _ (map_same _ _ (range_with_len 0 365) (stats_after_events-interruption p events false e))
     (sym (counts_after_events-own p events false e)) (ri_type_1_kept p events e)
     (sym (fold-push index_step 0 events (interruption false e)))
-    (sym (fold-push (λ (broken : Bool) (event : Event). is_broken event) false events (interruption false e)))
+    (sym (fold-push (λ (interrupted : Bool) (event : Event). is_interrupted event) false events (interruption false e)))
 
 pub state_after_interruption : (before after : Coding) (ri_type : Bool) (e : ℤ) → after ≡ interruption_after before ri_type e
     → (events : List Event) → before ≡ state_of before.parameters events → after ≡ state_of before.parameters (events ++ interruption ri_type e ∷ [])

@@ -81,12 +81,12 @@ image_small : (most x : ℕ) (negative : Bool) → x ≤ most → mirror_image m
 image_small most x true h = omega arith
 image_small most x false h = h
 
-pub may_code : (s : Coding) (n : Neighbours) (sample : ℕ) (one : Mirrored) → s.broken ≡ false → IsMirrored s.parameters n sample one → MayCodeMirrored s one
-may_code s n sample one whole h = record {
+pub may_code : (s : Coding) (n : Neighbours) (sample : ℕ) (one : Mirrored) → s.interrupted ≡ false → IsMirrored s.parameters n sample one → MayCodeMirrored s one
+may_code s n sample one uninterrupted h = record {
   context = omega (arith, h.context_is, context_small s.parameters n);
   prediction = omega (arith, h.prediction_is, image_small s.parameters.maxval (median n) (context_of s.parameters n).negative (omega (arith, median_small n, h.samples.left, h.samples.above)));
   within = omega (arith, h.sample_is, image_small s.parameters.maxval sample (context_of s.parameters n).negative h.within);
-  whole = whole;
+  uninterrupted = uninterrupted;
 }
 
 pub zero_size : (z : ℤ) → (unsigned_abs z == 0) ≡ is_zero z

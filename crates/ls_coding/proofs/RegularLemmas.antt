@@ -36,24 +36,24 @@ pub stats_in_view : (a n : List ℕ) (b c : List ℤ) (number : ℕ) → number 
 unfolding contexts_of
 stats_in_view a n b c number h = get_or-map-range_with_len (stats_at a b c n) 0 365 number number (stats 0 (pos 0) (pos 0) 0) h (omega arith)
 
-pub word_in_view : (p : Parameters) (a n : List ℕ) (b c : List ℤ) (ri_type_0 ri_type_1 : Counts) (index : ℕ) (broken : Bool) (x : Neighbours) (sample : ℕ)
+pub word_in_view : (p : Parameters) (a n : List ℕ) (b c : List ℤ) (ri_type_0 ri_type_1 : Counts) (index : ℕ) (interrupted : Bool) (x : Neighbours) (sample : ℕ)
     → regular_word p (stats_at a b c n (context_of p x).number) (regular_error_of p (context_of p x) (stats_at a b c n (context_of p x).number) x sample)
-    ≡ regular_word_in (made p (contexts_of a b c n) ri_type_0 ri_type_1 index broken) x sample
+    ≡ regular_word_in (made p (contexts_of a b c n) ri_type_0 ri_type_1 index interrupted) x sample
 unfolding regular_word_in regular_error_in
-word_in_view p a n b c ri_type_0 ri_type_1 index broken x sample =
+word_in_view p a n b c ri_type_0 ri_type_1 index interrupted x sample =
     ap (λ (t : Stats). regular_word p t (regular_error_of p (context_of p x) t x sample)) (sym (stats_in_view a n b c (context_of p x).number (context_small p x)))
 
-pub step_in_view : (p : Parameters) (a n : List ℕ) (b c : List ℤ) (ri_type_0 ri_type_1 : Counts) (index : ℕ) (broken : Bool) (x : Neighbours) (sample : ℕ)
+pub step_in_view : (p : Parameters) (a n : List ℕ) (b c : List ℤ) (ri_type_0 ri_type_1 : Counts) (index : ℕ) (interrupted : Bool) (x : Neighbours) (sample : ℕ)
     → stats_step p.reset (stats_at a b c n (context_of p x).number) (regular_error_of p (context_of p x) (stats_at a b c n (context_of p x).number) x sample)
-    ≡ stats_step p.reset (stats_in (made p (contexts_of a b c n) ri_type_0 ri_type_1 index broken) (context_of p x).number)
-    (regular_error_in (made p (contexts_of a b c n) ri_type_0 ri_type_1 index broken) x sample)
+    ≡ stats_step p.reset (stats_in (made p (contexts_of a b c n) ri_type_0 ri_type_1 index interrupted) (context_of p x).number)
+    (regular_error_in (made p (contexts_of a b c n) ri_type_0 ri_type_1 index interrupted) x sample)
 unfolding regular_error_in
-step_in_view p a n b c ri_type_0 ri_type_1 index broken x sample =
+step_in_view p a n b c ri_type_0 ri_type_1 index interrupted x sample =
     ap (λ (t : Stats). stats_step p.reset t (regular_error_of p (context_of p x) t x sample)) (sym (stats_in_view a n b c (context_of p x).number (context_small p x)))
 
-pub plan_in_view : (p : Parameters) (a n : List ℕ) (b c : List ℤ) (ri_type_0 ri_type_1 : Counts) (index : ℕ) (broken : Bool) (x : Neighbours)
-    → regular_plan_by p (context_of p x) (stats_at a b c n (context_of p x).number) x ≡ regular_plan (made p (contexts_of a b c n) ri_type_0 ri_type_1 index broken) x
-plan_in_view p a n b c ri_type_0 ri_type_1 index broken x =
+pub plan_in_view : (p : Parameters) (a n : List ℕ) (b c : List ℤ) (ri_type_0 ri_type_1 : Counts) (index : ℕ) (interrupted : Bool) (x : Neighbours)
+    → regular_plan_by p (context_of p x) (stats_at a b c n (context_of p x).number) x ≡ regular_plan (made p (contexts_of a b c n) ri_type_0 ri_type_1 index interrupted) x
+plan_in_view p a n b c ri_type_0 ri_type_1 index interrupted x =
     ap (λ (t : Stats). regular_plan_by p (context_of p x) t x) (sym (stats_in_view a n b c (context_of p x).number (context_small p x)))
 
 pub neighbours_of_regular : (s : Coding) (x : Neighbours) → (regular_plan s x).neighbours ≡ x
@@ -70,14 +70,14 @@ read_regular s x sample = record { same_k = refl; same_limit = refl }
 abbrev value_by : Parameters → Planned → Stats → ℕ → ℕ
 value_by p plan t sample = mapped_error (is_inverted plan.k t.b t.n) (error_of p plan.negative plan.prediction sample)
 
-pub value_same : (p : Parameters) (a n : List ℕ) (b c : List ℤ) (ri_type_0 ri_type_1 : Counts) (index : ℕ) (broken : Bool) (x : Neighbours) (plan : Planned)
-    → plan ≡ regular_plan (made p (contexts_of a b c n) ri_type_0 ri_type_1 index broken) x → (sample : ℕ)
+pub value_same : (p : Parameters) (a n : List ℕ) (b c : List ℤ) (ri_type_0 ri_type_1 : Counts) (index : ℕ) (interrupted : Bool) (x : Neighbours) (plan : Planned)
+    → plan ≡ regular_plan (made p (contexts_of a b c n) ri_type_0 ri_type_1 index interrupted) x → (sample : ℕ)
     → mapped_error (is_inverted plan.k (stats_at a b c n plan.number).b (stats_at a b c n plan.number).n) (error_of p plan.negative plan.prediction sample)
-    ≡ (regular_word_in (made p (contexts_of a b c n) ri_type_0 ri_type_1 index broken) x sample).value
+    ≡ (regular_word_in (made p (contexts_of a b c n) ri_type_0 ri_type_1 index interrupted) x sample).value
 unfolding regular_plan_by regular_word_in regular_error_in
-value_same p a n b c ri_type_0 ri_type_1 index broken x plan e sample =
+value_same p a n b c ri_type_0 ri_type_1 index interrupted x plan e sample =
     ap (λ (q : Planned). value_by p q (stats_at a b c n q.number) sample) e
-    ∙ ap (λ (t : Stats). value_by p (regular_plan (made p (contexts_of a b c n) ri_type_0 ri_type_1 index broken) x) t sample) (sym (stats_in_view a n b c (context_of p x).number (context_small p x)))
+    ∙ ap (λ (t : Stats). value_by p (regular_plan (made p (contexts_of a b c n) ri_type_0 ri_type_1 index interrupted) x) t sample) (sym (stats_in_view a n b c (context_of p x).number (context_small p x)))
 
 pub error_same : (s : Coding) (x : Neighbours) (plan : Planned) → plan ≡ regular_plan s x → (sample : ℕ) → error_of s.parameters plan.negative plan.prediction sample ≡ regular_error_in s x sample
 unfolding regular_plan_by regular_error_in
@@ -87,12 +87,12 @@ pub number_same : (s : Coding) (x : Neighbours) (plan : Planned) → plan ≡ re
 unfolding regular_plan_by
 number_same s x plan e = ap (λ (q : Planned). q.number) e
 
-pub stepped_same : (p : Parameters) (a n : List ℕ) (b c : List ℤ) (ri_type_0 ri_type_1 : Counts) (index : ℕ) (broken : Bool) (x : Neighbours) (plan : Planned)
-    → plan ≡ regular_plan (made p (contexts_of a b c n) ri_type_0 ri_type_1 index broken) x → (sample : ℕ)
+pub stepped_same : (p : Parameters) (a n : List ℕ) (b c : List ℤ) (ri_type_0 ri_type_1 : Counts) (index : ℕ) (interrupted : Bool) (x : Neighbours) (plan : Planned)
+    → plan ≡ regular_plan (made p (contexts_of a b c n) ri_type_0 ri_type_1 index interrupted) x → (sample : ℕ)
     → set (contexts_of a b c n) plan.number (stats_step p.reset (stats_at a b c n plan.number) (error_of p plan.negative plan.prediction sample))
-    ≡ (regular_after (made p (contexts_of a b c n) ri_type_0 ri_type_1 index broken) (context_of p x).number (regular_error_in (made p (contexts_of a b c n) ri_type_0 ri_type_1 index broken) x sample)).contexts
-stepped_same p a n b c ri_type_0 ri_type_1 index broken x plan e sample =
-    let s : Coding = made p (contexts_of a b c n) ri_type_0 ri_type_1 index broken in
+    ≡ (regular_after (made p (contexts_of a b c n) ri_type_0 ri_type_1 index interrupted) (context_of p x).number (regular_error_in (made p (contexts_of a b c n) ri_type_0 ri_type_1 index interrupted) x sample)).contexts
+stepped_same p a n b c ri_type_0 ri_type_1 index interrupted x plan e sample =
+    let s : Coding = made p (contexts_of a b c n) ri_type_0 ri_type_1 index interrupted in
     ap (λ number. set (contexts_of a b c n) number (stats_step p.reset (stats_at a b c n number) (error_of p plan.negative plan.prediction sample))) (number_same s x plan e)
     ∙ ap (λ (t : Stats). set (contexts_of a b c n) (context_of p x).number (stats_step p.reset t (error_of p plan.negative plan.prediction sample))) (sym (stats_in_view a n b c (context_of p x).number (context_small p x)))
     ∙ ap (λ (z : ℤ). set (contexts_of a b c n) (context_of p x).number (stats_step p.reset (stats_in s (context_of p x).number) z)) (error_same s x plan e sample)

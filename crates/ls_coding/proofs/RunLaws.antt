@@ -11,11 +11,11 @@ use Rattle.ls_coding.proofs.RunLemmas.{at, further, some_samples, walk-more, wal
 use Rattle.ls_coding.proofs.StateLemmas.{made, state_of-run}
 
 abbrev bits_after : Bool → Walk → List Bool
-bits_after broken w = replicate w.ones true ++ tail_bits (tail_of broken w)
+bits_after interrupted w = replicate w.ones true ++ tail_bits (tail_of interrupted w)
 
-run_bits-is : (index count : ℕ) (broken : Bool) → run_bits index (run_of count broken) ≡ bits_after broken (walked index count)
+run_bits-is : (index count : ℕ) (interrupted : Bool) → run_bits index (run_of count interrupted) ≡ bits_after interrupted (walked index count)
 unfolding run_word
-run_bits-is index count broken = refl
+run_bits-is index count interrupted = refl
 
 -- a walk that begins with a bit more has a bit more
 abbrev one_more : Walk → Walk
@@ -36,15 +36,15 @@ walked_on index count h = walk-on 0 index count h ∙ walk-one_more (count - 2 ^
 add_one : (n : ℕ) → n + 1 ≡ suc n
 add_one n = omega arith
 
-bits_more : (broken : Bool) (w : Walk) → bits_after broken (one_more w) ≡ true ∷ bits_after broken w
+bits_more : (interrupted : Bool) (w : Walk) → bits_after interrupted (one_more w) ≡ true ∷ bits_after interrupted w
 bits_more true w = ap (λ n. replicate n true ++ tail_bits (tail_of true w)) (add_one w.ones)
 bits_more false w = ap (λ n. replicate n true ++ tail_bits (tail_of false w)) (add_one w.ones)
 
-pub one_bit_more : (index count : ℕ) (broken : Bool) → 2 ^ order index ≤ count
-    → run_bits index (run_of count broken) ≡ true ∷ run_bits (min (index + 1) 31) (run_of (count - 2 ^ order index) broken)
-one_bit_more index count broken h =
-    run_bits-is index count broken ∙ ap (bits_after broken) (walked_on index count h) ∙ bits_more broken (walked (min (index + 1) 31) (count - 2 ^ order index))
-    ∙ ap (λ bits. true ∷ bits) (sym (run_bits-is (min (index + 1) 31) (count - 2 ^ order index) broken))
+pub one_bit_more : (index count : ℕ) (interrupted : Bool) → 2 ^ order index ≤ count
+    → run_bits index (run_of count interrupted) ≡ true ∷ run_bits (min (index + 1) 31) (run_of (count - 2 ^ order index) interrupted)
+one_bit_more index count interrupted h =
+    run_bits-is index count interrupted ∙ ap (bits_after interrupted) (walked_on index count h) ∙ bits_more interrupted (walked (min (index + 1) 31) (count - 2 ^ order index))
+    ∙ ap (λ bits. true ∷ bits) (sym (run_bits-is (min (index + 1) 31) (count - 2 ^ order index) interrupted))
 
 pub one_bit_left : (index count : ℕ) → 0 < count → count < 2 ^ order index → run_bits index (run_of count false) ≡ true ∷ []
 one_bit_left index count some few =
@@ -59,8 +59,8 @@ bits_of_break index count few = run_bits-is index count true ∙ ap (bits_after 
 
 -- ---- joined
 
-index_joined : (index rest : ℕ) (broken : Bool) → index_at (index_at index (run_of (2 ^ order index) false)) (run_of rest broken) ≡ index_at index (run_of (2 ^ order index + rest) broken)
-index_joined index rest broken =
+index_joined : (index rest : ℕ) (interrupted : Bool) → index_at (index_at index (run_of (2 ^ order index) false)) (run_of rest interrupted) ≡ index_at index (run_of (2 ^ order index + rest) interrupted)
+index_joined index rest interrupted =
     let samples : ℕ = 2 ^ order index in
     let back : samples + rest - samples ≡ rest = omega arith in
     let enough : samples ≤ samples + rest = omega arith in
@@ -68,22 +68,22 @@ index_joined index rest broken =
     ∙ ap (λ n. (walked (min (index + 1) 31) n).index) (sym back)
     ∙ sym (ap (λ (w : Walk). w.index) (walked_on index (samples + rest) enough))
 
-pub after_joined : (s : Coding) (rest : ℕ) (broken : Bool) → run_after (run_after s (run_of (2 ^ order s.run_index) false)) (run_of rest broken) ≡ run_after s (run_of (2 ^ order s.run_index + rest) broken)
-after_joined s rest broken = ap (λ i. made s.parameters s.contexts s.ri_type_0 s.ri_type_1 i broken) (index_joined s.run_index rest broken)
+pub after_joined : (s : Coding) (rest : ℕ) (interrupted : Bool) → run_after (run_after s (run_of (2 ^ order s.run_index) false)) (run_of rest interrupted) ≡ run_after s (run_of (2 ^ order s.run_index + rest) interrupted)
+after_joined s rest interrupted = ap (λ i. made s.parameters s.contexts s.ri_type_0 s.ri_type_1 i interrupted) (index_joined s.run_index rest interrupted)
 
 index_of-state : (p : Parameters) (events : List Event) → (state_of p events).run_index ≡ run_index_after_events events
 unfolding state_of
 index_of-state p events = refl
 
-pub joined : (p : Parameters) (events : List Event) (rest : ℕ) (broken : Bool)
-    → state_of p ((events ++ run (run_of (2 ^ order (run_index_after_events events)) false) ∷ []) ++ run (run_of rest broken) ∷ [])
-    ≡ state_of p (events ++ run (run_of (2 ^ order (run_index_after_events events) + rest) broken) ∷ [])
-joined p events rest broken =
+pub joined : (p : Parameters) (events : List Event) (rest : ℕ) (interrupted : Bool)
+    → state_of p ((events ++ run (run_of (2 ^ order (run_index_after_events events)) false) ∷ []) ++ run (run_of rest interrupted) ∷ [])
+    ≡ state_of p (events ++ run (run_of (2 ^ order (run_index_after_events events) + rest) interrupted) ∷ [])
+joined p events rest interrupted =
     let samples : ℕ = 2 ^ order (run_index_after_events events) in
     let known : 2 ^ order (state_of p events).run_index ≡ samples = ap (λ i. 2 ^ order i) (index_of-state p events) in
-    sym (state_of-run p (events ++ run (run_of samples false) ∷ []) (run_of rest broken))
-    ∙ ap (λ (s : Coding). run_after s (run_of rest broken)) (sym (state_of-run p events (run_of samples false)))
-    ∙ ap (λ n. run_after (run_after (state_of p events) (run_of n false)) (run_of rest broken)) (sym known)
-    ∙ after_joined (state_of p events) rest broken
-    ∙ ap (λ n. run_after (state_of p events) (run_of (n + rest) broken)) known
-    ∙ state_of-run p events (run_of (samples + rest) broken)
+    sym (state_of-run p (events ++ run (run_of samples false) ∷ []) (run_of rest interrupted))
+    ∙ ap (λ (s : Coding). run_after s (run_of rest interrupted)) (sym (state_of-run p events (run_of samples false)))
+    ∙ ap (λ n. run_after (run_after (state_of p events) (run_of n false)) (run_of rest interrupted)) (sym known)
+    ∙ after_joined (state_of p events) rest interrupted
+    ∙ ap (λ n. run_after (state_of p events) (run_of (n + rest) interrupted)) known
+    ∙ state_of-run p events (run_of (samples + rest) interrupted)

@@ -5,7 +5,7 @@ use Rattle.std.proofs.lemmas.Nat.{pow_pos, mul-le}
 use Rattle.std.proofs.lemmas.List.{length-replicate}
 use Rattle.ls_bits.proofs.BitLemmas.{length-bits_of}
 use Rattle.ls_coding.specs.declared.run.Tail.{Tail}
-use Rattle.ls_coding.specs.declared.run.Tail.TheVariants.{LineFull, LinePart, Broken}
+use Rattle.ls_coding.specs.declared.run.Tail.TheVariants.{LineFull, LinePart, Interrupted}
 use Rattle.ls_coding.specs.declared.run.RunWord.{RunWord}
 use Rattle.ls_coding.specs.Runs.{run_orders, order, run_of, Walk, walk, walked, tail_of, tail_bits, TailFits, run_word, word_bits, index_at}
 
@@ -106,13 +106,13 @@ walked_counts index count = omega (arith, walk_counts count (at 0 index count))
 tail_length : Tail → ℕ
 tail_length LineFull = 0
 tail_length LinePart = 1
-tail_length (Broken width rest) = width + 1
+tail_length (Interrupted width rest) = width + 1
 
 length-tail_bits : (tail : Tail) → length (tail_bits tail) ≡ tail_length tail
 unfolding tail_length
 length-tail_bits LineFull = refl
 length-tail_bits LinePart = refl
-length-tail_bits (Broken width rest) = omega (arith, length-bits_of width rest)
+length-tail_bits (Interrupted width rest) = omega (arith, length-bits_of width rest)
 
 length-word : (word : RunWord) → length (word_bits word) ≡ word.ones + tail_length word.tail
 length-word word =
@@ -138,10 +138,10 @@ full_cost index count limit some =
     omega (arith, length-word (run_word index (run_of count false)), full_tail w, walked_counts index count)
 
 -- before a sample that interrupts it, with the most that its word takes
-pub broken_cost : (index count limit : ℕ) → 17 ≤ limit
+pub interrupted_cost : (index count limit : ℕ) → 17 ≤ limit
     → length (word_bits (run_word index (run_of count true))) + (limit - order (index_at index (run_of count true)) - 1) ≤ limit * (count + 1)
 unfolding run_word tail_length
-broken_cost index count limit some =
+interrupted_cost index count limit some =
     let w : Walk = walked index count in
     let scaled : 1 * count ≤ limit * count = mul-le 1 count limit count (omega arith) (omega arith) in
     omega (arith, length-word (run_word index (run_of count true)), order_small w.index, walked_counts index count)
@@ -166,7 +166,7 @@ full_fits : (test : Bool) → TailFits (cond test LineFull LinePart)
 full_fits true = tt
 full_fits false = tt
 
-pub tail_fits : (index count : ℕ) (broken : Bool) → TailFits (run_word index (run_of count broken)).tail
+pub tail_fits : (index count : ℕ) (interrupted : Bool) → TailFits (run_word index (run_of count interrupted)).tail
 unfolding run_word
 tail_fits index count true = (order_small (walked index count).index, walked_ends index count)
 tail_fits index count false = full_fits (eqb (walked index count).left 0)

@@ -9,7 +9,7 @@ use Rattle.ls_coding.specs.declared.run.RunWord.{RunWord}
 use Rattle.ls_coding.specs.Runs.{Run, Walk, order, run_of, run_word, tail_of, walked}
 use Rattle.ls_coding.specs.Stats.{Stats, stats_after}
 use Rattle.ls_coding.specs.Interruptions.{Counts, counts_after}
-use Rattle.ls_coding.specs.Events.{Event, run, error_of_regular_event, error_of_interruption_event, stats_after_events, counts_after_events, index_step, is_broken}
+use Rattle.ls_coding.specs.Events.{Event, run, error_of_regular_event, error_of_interruption_event, stats_after_events, counts_after_events, index_step, is_interrupted}
 use Rattle.ls_coding.specs.View.States.{Coding, state_of, run_after}
 use Rattle.ls_coding.proofs.RunLemmas.{walked_one, walked_part}
 
@@ -28,20 +28,20 @@ walk_is w ones index left a b c =
     ∙ ap (λ n. let walk : Walk = record { ones = w.ones; index = w.index; left = n } in walk) c
 
 abbrev pub made : Parameters → List Stats → Counts → Counts → ℕ → Bool → Coding
-made p contexts ri_type_0 ri_type_1 run_index broken = record { parameters = p; contexts = contexts; ri_type_0 = ri_type_0; ri_type_1 = ri_type_1; run_index = run_index; broken = broken }
+made p contexts ri_type_0 ri_type_1 run_index interrupted = record { parameters = p; contexts = contexts; ri_type_0 = ri_type_0; ri_type_1 = ri_type_1; run_index = run_index; interrupted = interrupted }
 
 -- the same, by other parameters that are equal to these
-pub alike_parameters : (p q : Parameters) (contexts : List Stats) (ri_type_0 ri_type_1 : Counts) (index : ℕ) (broken : Bool) → p ≡ q
-    → made p contexts ri_type_0 ri_type_1 index broken ≡ made q contexts ri_type_0 ri_type_1 index broken
-alike_parameters p q contexts ri_type_0 ri_type_1 index broken same = ap (λ (r : Parameters). made r contexts ri_type_0 ri_type_1 index broken) same
+pub alike_parameters : (p q : Parameters) (contexts : List Stats) (ri_type_0 ri_type_1 : Counts) (index : ℕ) (interrupted : Bool) → p ≡ q
+    → made p contexts ri_type_0 ri_type_1 index interrupted ≡ made q contexts ri_type_0 ri_type_1 index interrupted
+alike_parameters p q contexts ri_type_0 ri_type_1 index interrupted same = ap (λ (r : Parameters). made r contexts ri_type_0 ri_type_1 index interrupted) same
 
 -- the same, part by part
-pub alike : (p : Parameters) (contexts others : List Stats) (ri_type_0 ri_type_0' ri_type_1 ri_type_1' : Counts) (index index' : ℕ) (broken broken' : Bool)
-    → contexts ≡ others → ri_type_0 ≡ ri_type_0' → ri_type_1 ≡ ri_type_1' → index ≡ index' → broken ≡ broken'
-    → made p contexts ri_type_0 ri_type_1 index broken ≡ made p others ri_type_0' ri_type_1' index' broken'
-alike p contexts others ri_type_0 ri_type_0' ri_type_1 ri_type_1' index index' broken broken' a b c d e =
-    ap (λ x. made p x ri_type_0 ri_type_1 index broken) a ∙ ap (λ x. made p others x ri_type_1 index broken) b ∙ ap (λ x. made p others ri_type_0' x index broken) c
-    ∙ ap (λ x. made p others ri_type_0' ri_type_1' x broken) d ∙ ap (λ x. made p others ri_type_0' ri_type_1' index' x) e
+pub alike : (p : Parameters) (contexts others : List Stats) (ri_type_0 ri_type_0' ri_type_1 ri_type_1' : Counts) (index index' : ℕ) (interrupted interrupted' : Bool)
+    → contexts ≡ others → ri_type_0 ≡ ri_type_0' → ri_type_1 ≡ ri_type_1' → index ≡ index' → interrupted ≡ interrupted'
+    → made p contexts ri_type_0 ri_type_1 index interrupted ≡ made p others ri_type_0' ri_type_1' index' interrupted'
+alike p contexts others ri_type_0 ri_type_0' ri_type_1 ri_type_1' index index' interrupted interrupted' a b c d e =
+    ap (λ x. made p x ri_type_0 ri_type_1 index interrupted) a ∙ ap (λ x. made p others x ri_type_1 index interrupted) b ∙ ap (λ x. made p others ri_type_0' x index interrupted) c
+    ∙ ap (λ x. made p others ri_type_0' ri_type_1' x interrupted) d ∙ ap (λ x. made p others ri_type_0' ri_type_1' index' x) e
 
 pub stats_after_events-run : (p : Parameters) (events : List Event) (r : Run) (number : ℕ) → stats_after_events p number events ≡ stats_after_events p number (events ++ run r ∷ [])
 stats_after_events-run p events r number =
@@ -60,7 +60,7 @@ state_of-run p events r =
     (counts_after_events-run p events r false)
     (counts_after_events-run p events r true)
     (sym (fold-push index_step 0 events (run r)))
-    (sym (fold-push (λ (broken : Bool) (event : Event). is_broken event) false events (run r)))
+    (sym (fold-push (λ (interrupted : Bool) (event : Event). is_interrupted event) false events (run r)))
 
 pub state_after_run : (before after : Coding) (r : Run) → after ≡ run_after before r → (events : List Event) → before ≡ state_of before.parameters events
     → after ≡ state_of before.parameters (events ++ run r ∷ [])
@@ -70,15 +70,15 @@ state_after_run before after r step events e = step ∙ ap (λ s. run_after s r)
 abbrev word : ℕ → Tail → RunWord
 word ones tail = record { ones = ones; tail = tail }
 
-pub word_is : (index inside count ones at left : ℕ) (broken : Bool) (tail : Tail) → inside ≡ index
+pub word_is : (index inside count ones at left : ℕ) (interrupted : Bool) (tail : Tail) → inside ≡ index
     → ones ≡ (walked inside count).ones → at ≡ (walked inside count).index → left ≡ (walked inside count).left
-    → tail ≡ tail_of broken (record { ones = ones; index = at; left = left })
-    → word ones tail ≡ run_word index (run_of count broken)
+    → tail ≡ tail_of interrupted (record { ones = ones; index = at; left = left })
+    → word ones tail ≡ run_word index (run_of count interrupted)
 unfolding run_word
-word_is index inside count ones at left broken tail same a b c e =
+word_is index inside count ones at left interrupted tail same a b c e =
     let walk : Walk = record { ones = ones; index = at; left = left } in
     let come : walk ≡ walked index count = walk_is (walked inside count) ones at left a b c ∙ ap (λ n. walked n count) same in
-    ap (word ones) e ∙ ap (λ (w : Walk). word w.ones (tail_of broken w)) come
+    ap (word ones) e ∙ ap (λ (w : Walk). word w.ones (tail_of interrupted w)) come
 
 -- ---- a run as it is read
 
@@ -87,14 +87,14 @@ pub break_after : (s : Coding) (rest : ℕ) → rest < 2 ^ order s.run_index →
 break_after s rest h = ap (λ i. made s.parameters s.contexts s.ri_type_0 s.ri_type_1 i true) (sym (ap (λ (w : Walk). w.index) (walked_part s.run_index rest h)))
 
 -- a bit 1 for the samples that are left in the line
-pub part_after : (s : Coding) (left : ℕ) → left < 2 ^ order s.run_index → s.broken ≡ false → s ≡ run_after s (run_of left false)
-part_after s left h whole =
-    ap (λ b. made s.parameters s.contexts s.ri_type_0 s.ri_type_1 s.run_index b) whole
+pub part_after : (s : Coding) (left : ℕ) → left < 2 ^ order s.run_index → s.interrupted ≡ false → s ≡ run_after s (run_of left false)
+part_after s left h uninterrupted =
+    ap (λ b. made s.parameters s.contexts s.ri_type_0 s.ri_type_1 s.run_index b) uninterrupted
     ∙ ap (λ i. made s.parameters s.contexts s.ri_type_0 s.ri_type_1 i false) (sym (ap (λ (w : Walk). w.index) (walked_part s.run_index left h)))
 
 -- a bit 1 for 2^J samples
-pub one_after : (s : Coding) (index samples : ℕ) → index ≡ min (s.run_index + 1) 31 → samples ≡ 2 ^ order s.run_index → s.broken ≡ false
-    → made s.parameters s.contexts s.ri_type_0 s.ri_type_1 index s.broken ≡ run_after s (run_of samples false)
-one_after s index samples e f whole =
-    ap (λ b. made s.parameters s.contexts s.ri_type_0 s.ri_type_1 index b) whole
+pub one_after : (s : Coding) (index samples : ℕ) → index ≡ min (s.run_index + 1) 31 → samples ≡ 2 ^ order s.run_index → s.interrupted ≡ false
+    → made s.parameters s.contexts s.ri_type_0 s.ri_type_1 index s.interrupted ≡ run_after s (run_of samples false)
+one_after s index samples e f uninterrupted =
+    ap (λ b. made s.parameters s.contexts s.ri_type_0 s.ri_type_1 index b) uninterrupted
     ∙ ap (λ i. made s.parameters s.contexts s.ri_type_0 s.ri_type_1 i false) (e ∙ sym (ap (λ (w : Walk). w.index) (ap (walked s.run_index) f ∙ walked_one s.run_index)))

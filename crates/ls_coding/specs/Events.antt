@@ -52,13 +52,13 @@ abbrev pub run_index_after_events : List Event → ℕ
 run_index_after_events events = fold index_step 0 events
 
 -- whether the sample that interrupts a run is to come next
-abbrev pub is_broken : Event → Bool
-is_broken (regular number e) = false
-is_broken (run r) = r.broken
-is_broken (interruption ri_type e) = false
+abbrev pub is_interrupted : Event → Bool
+is_interrupted (regular number e) = false
+is_interrupted (run r) = r.interrupted
+is_interrupted (interruption ri_type e) = false
 
-abbrev pub broken_after_events : List Event → Bool
-broken_after_events events = fold (λ broken event. is_broken event) false events
+abbrev pub interrupted_after_events : List Event → Bool
+interrupted_after_events events = fold (λ interrupted event. is_interrupted event) false events
 
 -- ---- the word and the event of a sample
 

@@ -6,17 +6,17 @@ use Rattle.ls_coding.specs.Samples.{AreSamples, Interrupts}
 use Rattle.ls_coding.specs.Contexts.{is_run, context_of}
 use Rattle.ls_coding.specs.Interruptions.{ri_type_of, interruption_error}
 use Rattle.ls_coding.specs.Runs.{run_of}
-use Rattle.ls_coding.specs.Events.{Event, regular, run, interruption, stats_after_events, broken_after_events, regular_error_of}
+use Rattle.ls_coding.specs.Events.{Event, regular, run, interruption, stats_after_events, interrupted_after_events, regular_error_of}
 
--- an event that may come after these: a sample of regular mode or a run, unless a run was broken last; then, a sample that
+-- an event that may come after these: a sample of regular mode or a run, unless a run was interrupted last; then, a sample that
 -- isn't the run's
 pub data MayComeNext (p : Parameters) (events : List Event) (event : Event) : Type 0 where
-  by_sample : (neighbours : Neighbours) (sample : ℕ) → AreSamples p.maxval neighbours → sample ≤ p.maxval → is_run neighbours ≡ false → broken_after_events events ≡ false
+  by_sample : (neighbours : Neighbours) (sample : ℕ) → AreSamples p.maxval neighbours → sample ≤ p.maxval → is_run neighbours ≡ false → interrupted_after_events events ≡ false
       → event ≡ regular (context_of p neighbours).number (regular_error_of p (context_of p neighbours) (stats_after_events p (context_of p neighbours).number events) neighbours sample)
       → MayComeNext p events event
-  by_run : (count : ℕ) (broken : Bool) → (broken ≡ false → 0 < count) → broken_after_events events ≡ false
-      → event ≡ run (run_of count broken) → MayComeNext p events event
-  by_interruption : (neighbours : Neighbours) (sample : ℕ) → AreSamples p.maxval neighbours → Interrupts p.maxval neighbours.a sample → broken_after_events events ≡ true
+  by_run : (count : ℕ) (interrupted : Bool) → (interrupted ≡ false → 0 < count) → interrupted_after_events events ≡ false
+      → event ≡ run (run_of count interrupted) → MayComeNext p events event
+  by_interruption : (neighbours : Neighbours) (sample : ℕ) → AreSamples p.maxval neighbours → Interrupts p.maxval neighbours.a sample → interrupted_after_events events ≡ true
       → event ≡ interruption (ri_type_of neighbours) (interruption_error p neighbours sample) → MayComeNext p events event
 
 -- a list of events, each of which may follow those before it

@@ -2,7 +2,7 @@
 use Rattle.std.specs.Prelude.{ℕ, zero, suc, ◌+◌, ◌-◌, ◌^◌, ◌<◌, ◌≤◌, ◌==◌, min, nat_le, Bool, true, false, if◌then◌else◌, List, [], ◌∷◌, ◌++◌, replicate, slice_index}
 use Rattle.ls_bits.specs.Bits.{bits_of}
 use Rattle.ls_coding.specs.declared.run.Tail.{Tail}
-use Rattle.ls_coding.specs.declared.run.Tail.TheVariants.{LineFull, LinePart, Broken}
+use Rattle.ls_coding.specs.declared.run.Tail.TheVariants.{LineFull, LinePart, Interrupted}
 use Rattle.ls_coding.specs.declared.run.RunWord.{RunWord}
 
 -- J (A.2.1): a bit 1 stands for 2^J samples at each RUNindex
@@ -19,10 +19,10 @@ last_index = 31
 -- a run: how many samples equal the one before them, and whether a sample interrupts it before the line's end
 pub record Run : Type 0 where
   pub count : ℕ
-  pub broken : Bool
+  pub interrupted : Bool
 
 abbrev pub run_of : ℕ → Bool → Run
-run_of count broken = record { count = count; broken = broken }
+run_of count interrupted = record { count = count; interrupted = interrupted }
 
 -- how far a run came: bits 1 so far, RUNindex, and the samples that are left
 pub record Walk : Type 0 where
@@ -41,26 +41,26 @@ walk (suc most) so_far =
 unfoldable pub walked : ℕ → ℕ → Walk
 walked index count = walk count (record { ones = 0; index = index; left = count })
 
--- how a run ends after its bits 1: broken, with the samples left in J bits; at the line's end with samples left, or none
+-- how a run ends after its bits 1: interrupted, with the samples left in J bits; at the line's end with samples left, or none
 abbrev pub tail_of : Bool → Walk → Tail
-tail_of true so_far = Broken (order so_far.index) so_far.left
+tail_of true so_far = Interrupted (order so_far.index) so_far.left
 tail_of false so_far = if so_far.left == 0 then LineFull else LinePart
 
 -- its bits: a 0 and those J bits; a further 1; nothing
 abbrev pub tail_bits : Tail → List Bool
 tail_bits LineFull = []
 tail_bits LinePart = true ∷ []
-tail_bits (Broken width rest) = false ∷ bits_of width rest
+tail_bits (Interrupted width rest) = false ∷ bits_of width rest
 
 -- what stands after the 0 fits into its bits
 abbrev pub TailFits : Tail → Type 0
 TailFits LineFull = Unit {0}
 TailFits LinePart = Unit {0}
-TailFits (Broken width rest) = (width ≤ 15) × (rest < 2 ^ width)
+TailFits (Interrupted width rest) = (width ≤ 15) × (rest < 2 ^ width)
 
 -- the word of a run that begins at this RUNindex, and its bits
 unfoldable pub run_word : ℕ → Run → RunWord
-run_word index run = record { ones = (walked index run.count).ones; tail = tail_of run.broken (walked index run.count) }
+run_word index run = record { ones = (walked index run.count).ones; tail = tail_of run.interrupted (walked index run.count) }
 
 abbrev pub word_bits : RunWord → List Bool
 word_bits word = replicate word.ones true ++ tail_bits word.tail

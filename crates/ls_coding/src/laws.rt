@@ -27,7 +27,7 @@ pub fn lawful_events_are_short()
         (regular_error_of p (context_of p neighbours) (stats_after_events p (context_of p neighbours).number events) neighbours sample))) ≤ limit_of p.maxval }
     ensures full_run { (p : Parameters) (events : List Event) → IsLegal p → IsLawful p events → (count : ℕ) → 0 < count
         → length (run_bits (run_index_after_events events) (run_of count false)) ≤ limit_of p.maxval * count }
-    ensures broken_run { (p : Parameters) (events : List Event) → IsLegal p → IsLawful p events
+    ensures interrupted_run { (p : Parameters) (events : List Event) → IsLegal p → IsLawful p events
         → (count : ℕ) (neighbours : Neighbours) (sample : ℕ) → AreSamples p.maxval neighbours → Interrupts p.maxval neighbours.a sample
         → length (run_bits (run_index_after_events events) (run_of count true)
         ++ golomb_bits p (interruption_word p (index_at (run_index_after_events events) (run_of count true)) (ri_type_of neighbours)
@@ -43,19 +43,19 @@ pub fn golomb_parameter_is_least()
 /// A run's bits, one by one: a 1 for 2^J samples, after which the rest of the run stands at the next RUNindex; a 1 for
 /// what is left in the line; a 0, and the samples that are left in J bits, before the sample that interrupts it.
 pub fn runs_are_read_bit_by_bit()
-    ensures one { (index count : ℕ) (broken : Bool) → 2 ^ order index ≤ count
-        → run_bits index (run_of count broken)
-        ≡ true ∷ run_bits (min (index + 1) 31) (run_of (count - 2 ^ order index) broken) }
+    ensures one { (index count : ℕ) (interrupted : Bool) → 2 ^ order index ≤ count
+        → run_bits index (run_of count interrupted)
+        ≡ true ∷ run_bits (min (index + 1) 31) (run_of (count - 2 ^ order index) interrupted) }
     ensures part { (index count : ℕ) → 0 < count → count < 2 ^ order index
         → run_bits index (run_of count false) ≡ true ∷ [] }
     ensures none { (index : ℕ) → run_bits index (run_of 0 false) ≡ [] }
-    ensures broken { (index count : ℕ) → count < 2 ^ order index
+    ensures interrupted { (index count : ℕ) → count < 2 ^ order index
         → run_bits index (run_of count true) ≡ false ∷ bits_of (order index) count }
 {}
 
 /// 2^J samples of a run, and then the rest of it, leave the state that the run leaves.
 pub fn runs_join()
-    ensures { (p : Parameters) (events : List Event) (rest : ℕ) (broken : Bool) → let samples = 2 ^ order (run_index_after_events events) in
-        state_of p ((events ++ run (run_of samples false) ∷ []) ++ run (run_of rest broken) ∷ [])
-        ≡ state_of p (events ++ run (run_of (samples + rest) broken) ∷ []) }
+    ensures { (p : Parameters) (events : List Event) (rest : ℕ) (interrupted : Bool) → let samples = 2 ^ order (run_index_after_events events) in
+        state_of p ((events ++ run (run_of samples false) ∷ []) ++ run (run_of rest interrupted) ∷ [])
+        ≡ state_of p (events ++ run (run_of (samples + rest) interrupted) ∷ []) }
 {}

@@ -20,7 +20,7 @@ pub enum Tail {
     LinePart,
     /// Before a sample that interrupts it: a bit 0, and the samples that are left, `rest`, in `width` bits, the most
     /// significant first; `width` is J, at most 15, and `rest` is below 2^J.
-    Broken { width: u32, rest: u32 },
+    Interrupted { width: u32, rest: u32 },
 }
 
 /// J at a RUNindex.

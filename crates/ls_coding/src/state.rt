@@ -28,7 +28,7 @@ use std::marker::Model;
 /// What one scan's samples are coded or read by: the counters of each context, and RUNindex (T.87 A.2.1).
 ///
 /// A state is for one scan, from its first sample to its last, and codes it or reads it. Each call is one event: a sample of
-/// regular mode, a run, or the sample that interrupts a run; `broken` says whether that last one comes next. Samples and
+/// regular mode, a run, or the sample that interrupts a run; `interrupted` says whether that last one comes next. Samples and
 /// neighbours are at most MAXVAL, the presets' `maxval`. No call allocates.
 #[derive(Drop)]
 pub struct State {
@@ -36,7 +36,7 @@ pub struct State {
     /// RUNindex, 0 to 31.
     run_index: u32,
     /// Whether the sample that interrupts a run is to come next.
-    broken: bool,
+    interrupted: bool,
 }
 
 impl Model for State {
@@ -52,7 +52,7 @@ impl Model for State {
       ri_type_0 = interrupting_at state.counters 0;
       ri_type_1 = interrupting_at state.counters 1;
       run_index = state.run_index;
-      broken = state.broken;
+      interrupted = state.interrupted;
     } };
 
     ghost invariant = { λ state. IsSoundState state.run_index state.counters };
@@ -67,14 +67,14 @@ impl State {
         State {
             counters: Counters::new(*presets),
             run_index: 0,
-            broken: false,
+            interrupted: false,
         }
     }
 
     /// Codes a sample of regular mode (A.3 to A.6): its word is LG(k, LIMIT) of its mapped error, MErrval, in at most LIMIT
     /// bits, and its error is then counted in its context.
     ///
-    /// Requires neighbours that call for regular mode (`mode_of`), these and the sample at most MAXVAL, and that `broken` is
+    /// Requires neighbours that call for regular mode (`mode_of`), these and the sample at most MAXVAL, and that `interrupted` is
     /// false, which it is afterwards too. Cannot fail.
     ///
     /// The plain form, of one sample by itself. The coder itself looks ahead and uses `code_regular_at`.
@@ -107,7 +107,7 @@ impl State {
         ensures events { (neighbours : Neighbours) (sample : ℕ) → IsMirrored self.old.parameters neighbours sample mirrored
             → (events : List Event) → self.old ≡ state_of self.old.parameters events
             → IsRegularEvent self.old.parameters events neighbours sample result self.new }
-        ensures whole { self.new.broken ≡ false }
+        ensures uninterrupted { self.new.interrupted ≡ false }
         ensures parameters { self.new.parameters ≡ self.old.parameters }
     {
         self.counters.code(mirrored)
@@ -115,13 +115,13 @@ impl State {
 
     /// By which code the word of the next sample of regular mode is read, and what its value then stands for (A.3 to A.5).
     ///
-    /// Requires what `code_regular` does of the neighbours and of `broken`. Changes nothing and cannot fail.
+    /// Requires what `code_regular` does of the neighbours and of `interrupted`. Changes nothing and cannot fail.
     ///
     /// The plain form, of one sample by itself. The decoder itself finds the context in two parts and uses `plan_regular_at`.
     pub fn plan_regular(&self, neighbours: &Neighbours) -> Plan
         requires samples { AreSamples self.now.parameters.maxval neighbours.now }
         requires regular { is_run neighbours.now ≡ false }
-        requires whole { self.now.broken ≡ false }
+        requires uninterrupted { self.now.interrupted ≡ false }
         ensures plan { result ≡ regular_plan self.now neighbours.now }
         ensures neighbours { result.neighbours ≡ neighbours.now }
         ensures own { result ≡ regular_plan self.now result.neighbours }
@@ -138,7 +138,7 @@ impl State {
         requires context { context ≡ signed_context self.now.parameters neighbours.now }
         requires samples { AreSamples self.now.parameters.maxval neighbours.now }
         requires regular { is_run neighbours.now ≡ false }
-        requires whole { self.now.broken ≡ false }
+        requires uninterrupted { self.now.interrupted ≡ false }
         ensures plan { result ≡ regular_plan self.now neighbours.now }
         ensures neighbours { result.neighbours ≡ neighbours.now }
         ensures own { result ≡ regular_plan self.now result.neighbours }
@@ -151,13 +151,13 @@ impl State {
     /// The one sample of regular mode whose word has this value, MErrval; the state is then as if it had been coded.
     ///
     /// Requires the plan that `plan_regular` made of this state, which hasn't changed since; a value of at most 2^qbpp, as
-    /// `take_golomb` answers; and that `broken` is false. NotCanonical exactly if no sample of at most MAXVAL has the value:
+    /// `take_golomb` answers; and that `interrupted` is false. NotCanonical exactly if no sample of at most MAXVAL has the value:
     /// its error isn't one that A.4.5 leaves. The state is then unchanged.
     pub fn accept_regular(&mut self, plan: Plan, value: u32) -> Result<u16, CodeFault>
         requires plan { plan ≡ regular_plan self.old plan.neighbours }
         requires samples { AreSamples self.old.parameters.maxval plan.neighbours }
         requires value { value ≤ most_value (qbpp_of self.old.parameters.maxval) }
-        requires whole { self.old.broken ≡ false }
+        requires uninterrupted { self.old.interrupted ≡ false }
         ensures ok { IfOk result (λ sample. IsTheSample (λ one. one ≤ self.old.parameters.maxval)
             (λ one. (regular_word_in self.old plan.neighbours one).value) value sample) }
         ensures state { IfOk result (λ sample. self.new ≡ regular_after self.old (context_in self.old plan.neighbours).number
@@ -175,9 +175,9 @@ impl State {
     }
 
     /// Codes a run of `count` samples that are equal to Ra (A.7.1): to the line's end (`eol`), or to a sample that interrupts
-    /// it, which then comes next (`broken` is true).
+    /// it, which then comes next (`interrupted` is true).
     ///
-    /// Requires at least one sample if it ends with the line (a run that is interrupted may have none), and that `broken`
+    /// Requires at least one sample if it ends with the line (a run that is interrupted may have none), and that `interrupted`
     /// is false. RUNindex rises by 1 for each bit 1 that stands for 2^J samples, to at most 31. The run's bits, with those
     /// of the sample that interrupts it, are at most LIMIT for each of these samples. Cannot fail.
     pub fn code_run(&mut self, count: u32, eol: bool) -> RunWord
@@ -185,7 +185,7 @@ impl State {
         ensures word { result ≡ run_word self.old.run_index (run_of count (not eol)) }
         ensures tail { TailFits result.tail }
         ensures full_cost { IsTrue eol → length (word_bits result) ≤ limit_of self.old.parameters.maxval * count }
-        ensures broken_cost { IsTrue (not eol)
+        ensures interrupted_cost { IsTrue (not eol)
             → length (word_bits result) + (limit_of self.old.parameters.maxval - order self.new.run_index - 1)
             ≤ limit_of self.old.parameters.maxval * (count + 1) }
         ensures state { self.new ≡ run_after self.old (run_of count (not eol)) }
@@ -194,7 +194,7 @@ impl State {
     {
         let walked = walk(self.run_index, count);
         self.run_index = walked.index;
-        self.broken = !eol;
+        self.interrupted = !eol;
         RunWord {
             ones: walked.ones,
             tail: tail(walked, eol),
@@ -205,7 +205,7 @@ impl State {
     /// EMErrval, in at most so many bits, with J at the RUNindex that the run left.
     ///
     /// Requires the neighbours of this very sample, these and the sample at most MAXVAL, the sample other than Ra, and that
-    /// `broken` is true. Afterwards RUNindex is 1 lower unless it was 0, and `broken` is false. Cannot fail.
+    /// `interrupted` is true. Afterwards RUNindex is 1 lower unless it was 0, and `interrupted` is false. Cannot fail.
     pub fn code_interruption(&mut self, neighbours: &Neighbours, sample: u16) -> Word
         requires may { MayCodeInterruption self.old neighbours.now sample }
         ensures word { result ≡ interruption_word_in self.old neighbours.now sample }
@@ -222,17 +222,17 @@ impl State {
             .counters
             .code_interruption(self.run_index, neighbours, sample);
         self.run_index = self.run_index.saturating_sub(1);
-        self.broken = false;
+        self.interrupted = false;
         word
     }
 
     /// How many samples a bit 1 of a run stands for, with `left` samples left in the line (A.7.1.2): 2^J, or `left` if these
     /// are fewer, which ends the run with the line.
     ///
-    /// Requires at least one sample left, and that `broken` is false. RUNindex rises by 1, to at most 31, if the bit stands
+    /// Requires at least one sample left, and that `interrupted` is false. RUNindex rises by 1, to at most 31, if the bit stands
     /// for 2^J samples, and else stays. Cannot fail.
     pub fn accept_one(&mut self, left: u32) -> u32
-        requires whole { self.old.broken ≡ false }
+        requires uninterrupted { self.old.interrupted ≡ false }
         requires some { 0 < left }
         ensures count { result ≡ min (2 ^ order self.old.run_index) left }
         ensures state { self.new ≡ run_after self.old (run_of result false) }
@@ -257,12 +257,12 @@ impl State {
     }
 
     /// Takes the end of a run that a sample interrupts (A.7.1.2): the `rest` samples that the bits after its bit 0 say, with
-    /// `left` samples left in the line. The sample that interrupts it comes next (`broken` is true).
+    /// `left` samples left in the line. The sample that interrupts it comes next (`interrupted` is true).
     ///
-    /// Requires `rest` below 2^J, so a number of `break_width` bits, and that `broken` is false. NotCanonical exactly if
+    /// Requires `rest` below 2^J, so a number of `break_width` bits, and that `interrupted` is false. NotCanonical exactly if
     /// `rest` is `left` or more, which leaves no sample to interrupt the run; the state is then unchanged.
     pub fn accept_break(&mut self, rest: u32, left: u32) -> Result<(), CodeFault>
-        requires whole { self.old.broken ≡ false }
+        requires uninterrupted { self.old.interrupted ≡ false }
         requires rest { rest < 2 ^ order self.old.run_index }
         ensures ok { IfOk result (λ _. rest < left) }
         ensures state { IfOk result (λ _. self.new ≡ run_after self.old (run_of rest true)) }
@@ -274,17 +274,17 @@ impl State {
         if rest >= left {
             return Err(CodeFault::NotCanonical);
         }
-        self.broken = true;
+        self.interrupted = true;
         Ok(())
     }
 
     /// By which code the word of the sample that interrupts a run is read, and what its value then stands for (A.7.2).
     ///
-    /// Requires the neighbours of that sample, each at most MAXVAL, and that `broken` is true. Changes nothing and cannot
+    /// Requires the neighbours of that sample, each at most MAXVAL, and that `interrupted` is true. Changes nothing and cannot
     /// fail.
     pub fn plan_interruption(&self, neighbours: &Neighbours) -> Plan
         requires samples { AreSamples self.now.parameters.maxval neighbours.now }
-        requires broken { self.now.broken ≡ true }
+        requires interrupted { self.now.interrupted ≡ true }
         ensures plan { result ≡ interruption_plan self.now neighbours.now }
         ensures neighbours { result.neighbours ≡ neighbours.now }
         ensures own { result ≡ interruption_plan self.now result.neighbours }
@@ -295,16 +295,16 @@ impl State {
     }
 
     /// The one sample that interrupts a run and whose word has this value, EMErrval; the state is then as if it had been
-    /// coded: RUNindex is 1 lower unless it was 0, and `broken` is false.
+    /// coded: RUNindex is 1 lower unless it was 0, and `interrupted` is false.
     ///
     /// Requires the plan that `plan_interruption` made of this state, which hasn't changed since; a value of at most 2^qbpp,
-    /// as `take_golomb` answers; and that `broken` is true. NotCanonical exactly if no sample of at most MAXVAL, other than
+    /// as `take_golomb` answers; and that `interrupted` is true. NotCanonical exactly if no sample of at most MAXVAL, other than
     /// Ra, has the value. The state is then unchanged.
     pub fn accept_interruption(&mut self, plan: Plan, value: u32) -> Result<u16, CodeFault>
         requires plan { plan ≡ interruption_plan self.old plan.neighbours }
         requires samples { AreSamples self.old.parameters.maxval plan.neighbours }
         requires value { value ≤ most_value (qbpp_of self.old.parameters.maxval) }
-        requires broken { self.old.broken ≡ true }
+        requires interrupted { self.old.interrupted ≡ true }
         ensures ok { IfOk result (λ sample. IsTheSample (Interrupts self.old.parameters.maxval plan.neighbours.a)
             (λ one. (interruption_word_in self.old plan.neighbours one).value) value sample) }
         ensures state { IfOk result (λ sample. self.new ≡ interruption_after self.old (ri_type_of plan.neighbours)
@@ -321,7 +321,7 @@ impl State {
             .counters
             .accept_interruption(&plan.neighbours, plan.k, value)?;
         self.run_index = self.run_index.saturating_sub(1);
-        self.broken = false;
+        self.interrupted = false;
         Ok(sample)
     }
 
@@ -343,10 +343,10 @@ impl State {
 
     /// Whether the sample that interrupts a run comes next: after `code_run` of a run that doesn't end with its line, and
     /// after `accept_break`.
-    pub fn broken(&self) -> bool
-        ensures { result ≡ self.now.broken }
+    pub fn interrupted(&self) -> bool
+        ensures { result ≡ self.now.interrupted }
     {
-        self.broken
+        self.interrupted
     }
 }
 
@@ -356,7 +356,7 @@ fn tail(walked: Walked, eol: bool) -> Tail
     ensures { result ≡ tail_of (not eol) (record { ones = walked.ones; index = walked.index; left = walked.left }) }
 {
     if !eol {
-        Tail::Broken {
+        Tail::Interrupted {
             width: order(walked.index),
             rest: walked.left,
         }

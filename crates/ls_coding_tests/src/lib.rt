@@ -8,6 +8,8 @@ mod context;
 #[cfg(test)]
 mod neighbours;
 #[cfg(test)]
+mod page;
+#[cfg(test)]
 mod regions;
 #[cfg(test)]
 mod state;

@@ -1,4 +1,4 @@
-mod calls;
+pub mod calls;
 mod steps;
 
 use calls::*;
@@ -9,10 +9,10 @@ use std::process::Abort;
 
 /// A run's samples, whether it ends with the line, and its word on a new state.
 const RUNS: [(u32, bool, u32, Tail); 7] = [
-    (0, false, 0, Tail::Broken { width: 0, rest: 0 }),
-    (2, false, 2, Tail::Broken { width: 0, rest: 0 }),
-    (4, false, 4, Tail::Broken { width: 1, rest: 0 }),
-    (5, false, 4, Tail::Broken { width: 1, rest: 1 }),
+    (0, false, 0, Tail::Interrupted { width: 0, rest: 0 }),
+    (2, false, 2, Tail::Interrupted { width: 0, rest: 0 }),
+    (4, false, 4, Tail::Interrupted { width: 1, rest: 0 }),
+    (5, false, 4, Tail::Interrupted { width: 1, rest: 1 }),
     (12, true, 8, Tail::LineFull),
     (13, true, 8, Tail::LinePart),
     (16, true, 9, Tail::LineFull),
@@ -23,7 +23,7 @@ fn runs_are_coded_on_a_new_state(rt: HostRuntime) {
     for (count, eol, ones, tail) in RUNS {
         let mut state = fresh();
         check_run(&rt, code_run(&rt, &mut state, count, eol), ones, tail);
-        check(&rt, state.broken() != eol);
+        check(&rt, state.interrupted() != eol);
     }
 }
 
@@ -44,7 +44,7 @@ fn samples_that_interrupt_runs_are_coded(rt: HostRuntime) {
             code_interruption(&rt, &mut state, around, sample),
             want,
         );
-        check(&rt, !state.broken());
+        check(&rt, !state.interrupted());
     }
 }
 
@@ -78,7 +78,7 @@ fn run_index_rises_where_a_bit_1_stands_for_all_its_samples(rt: HostRuntime) {
         }
         check_number(&rt, state.run_index(), run_index);
         check_number(&rt, state.break_width(), width);
-        check(&rt, !state.broken());
+        check(&rt, !state.interrupted());
     }
 }
 
@@ -90,7 +90,7 @@ fn the_end_of_a_run_leaves_a_sample_to_interrupt_it(rt: HostRuntime) {
     }
     for (rest, want) in [(1, Err(CodeFault::NotCanonical)), (0, Ok(()))] {
         check_break(&rt, accept_break(&rt, &mut state, rest, 1), want);
-        check(&rt, state.broken() == (rest == 0));
+        check(&rt, state.interrupted() == (rest == 0));
     }
 }
 
@@ -115,6 +115,6 @@ fn a_value_of_no_sample_that_may_interrupt_the_run_is_refused(rt: HostRuntime) {
     ] {
         let got = accept_interruption(&rt, &mut state, (0, 9, 0, 9), (2, 31, value));
         check_sample(&rt, got, want);
-        check(&rt, state.broken() == (value != 0));
+        check(&rt, state.interrupted() == (value != 0));
     }
 }

@@ -1,28 +1,40 @@
-//! Films: images of frames, one after the other, and what is written of one: a line for each frame, or a codestream; and of a film of
-//! codestreams, a recording, an image for each.
+//! Films: images of frames, one after the other, and what is written of one: a line for each frame, or a codestream;
+//! and of a film of codestreams, a recording, an image for each.
 //!
-//! What it hands on: a film is images and nothing between them (`specs/Film.antt`); what is written of it is the lines, the codestreams or
-//! the canonical Netpbm images of its frames (`specs/Listing.antt`, `specs/Coding.antt`, `specs/Showing.antt`); an engine that stops says
-//! which frames it read and which bytes it wrote (`specs/View/Engine.antt`, and of recordings `specs/View/Playing.antt`). The relations
-//! on films take what an image is as a parameter, so a film of codestreams is read by the same ones.
+//! What it hands on: a film is images and nothing between them (`specs/Film.antt`); what is written of it is the lines,
+//! the codestreams or the canonical Netpbm images of its frames (`specs/Listing.antt`, `specs/Coding.antt`,
+//! `specs/Showing.antt`); an engine that stops says which frames it read and which bytes it wrote
+//! (`specs/View/Engine.antt`, and of recordings `specs/View/Playing.antt`). The relations on films take what an image
+//! is as a parameter, so a film of codestreams is read by the same ones.
 //!
 //! ```
-//! use ls_film::{code_film, play};
-//! use ls_frame::{Buffered, Counted};
+//! use ls_film::{FilmFault, PlayFault, code_film, play};
+//! use ls_frame::Counted;
+//! use std::alloc::Global;
 //!
-//! let mut reader = Buffered::new(alloc, Counted::new(film))?;
-//! let mut writer = Counted::new(Vec::new(alloc));
-//! let frames = code_film(alloc, &mut reader, &mut writer)?;
-//! let recording = writer.into_inner();
-//! match play(alloc, recording.as_slice(), Counted::new(Vec::new(alloc))) {
-//!     Ok((frames, _rest, shown)) => Ok(shown.into_inner()),
-//!     Err((fault, _rest, shown)) => Err(fault),
+//! /// The recording of a film: the codestreams of its frames.
+//! fn record(alloc: Global, film: &[u8]) -> Result<Vec<u8>, FilmFault> {
+//!     let mut reader = film;
+//!     let mut writer = Counted::new(Vec::new(alloc));
+//!     code_film(alloc, &mut reader, &mut writer)?;
+//!     Ok(writer.into_inner())
+//! }
+//!
+//! /// The film of a recording: the images of its frames.
+//! fn show(alloc: Global, recording: &[u8]) -> Result<Vec<u8>, PlayFault> {
+//!     match play(alloc, recording, Counted::new(Vec::new(alloc))) {
+//!         Ok((_frames, _rest, shown)) => Ok(shown.into_inner()),
+//!         Err((fault, _rest, _shown)) => Err(fault),
+//!     }
 //! }
 //! ```
 //!
-//! In reading order: `faults` (why a film stopped), `listing` (the line of a frame), `coding` (its codestream), `film` (under both: Netpbm
-//! images are read and a chunk written for each frame), `playing` (codestreams are read and images written), `engine` (under all of them:
-//! any images, and any text of their frames), `laws`.
+//! Over files the reader is a `Buffered::new(alloc, Counted::new(file))?` and the writer a `Counted::new(file)`, of
+//! `ls_frame`.
+//!
+//! In reading order: `faults` (why a film stopped), `listing` (the line of a frame), `coding` (its codestream), `film`
+//! (under both: Netpbm images are read and a chunk written for each frame), `playing` (codestreams are read and images
+//! written), `engine` (under all of them: any images, and any text of their frames), `laws`.
 #![tactic(auto)]
 
 pub mod coding;

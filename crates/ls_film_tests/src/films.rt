@@ -10,7 +10,7 @@ use ls_testing::{Memory, Mishap, Pieces, Sink};
 use std::alloc::Global;
 use std::process::Abort;
 
-/// What writes a piece for each frame of a film: a line, or a codestream.
+/// What writes a chunk for each frame of a film: a line, or a codestream.
 #[derive(Clone, Copy)]
 enum Engine {
     List,
@@ -32,7 +32,7 @@ fn run<R: Feed, W: Outlet>(
     }
 }
 
-/// What each of its pieces ends in, and what stands nowhere else in one.
+/// What each of its chunks ends in, and what stands nowhere else in one.
 fn mark_of(engine: Engine) -> &'static [u8] {
     match engine {
         Engine::List => b"\n",
@@ -43,7 +43,7 @@ fn mark_of(engine: Engine) -> &'static [u8] {
 /// What the two engines write.
 type Texts = [&'static [u8]; 2];
 
-/// That an engine does this with a film in memory, and with one that comes by pieces of three bytes and goes to a writer that takes
+/// That an engine does this with a film in memory, and with one that comes by chunks of three bytes and goes to a writer that takes
 /// two.
 fn check_film(
     rt: &impl Abort,
@@ -115,17 +115,17 @@ fn check_whole_films(rt: &impl Abort, alloc: Global, memory: Memory) {
 }
 
 #[test]
-fn each_frame_has_its_piece_with_ample_memory(rt: HostRuntime) {
+fn each_frame_has_its_chunk_with_ample_memory(rt: HostRuntime) {
     check_whole_films(&rt, rt.alloc(), Memory::Ample);
 }
 
 #[test]
-fn each_frame_has_its_piece_or_memory_is_wanting(rt: HostRuntime) {
+fn each_frame_has_its_chunk_or_memory_is_refused(rt: HostRuntime) {
     check_whole_films(&rt, rt.alloc(), Memory::Refusable);
 }
 
 #[test]
-fn a_film_in_memory_has_its_pieces_with_ample_memory(rt: HostRuntime) {
+fn a_film_in_memory_has_its_chunks_with_ample_memory(rt: HostRuntime) {
     for (case, film, frames, [lines, codestreams]) in WHOLE_FILMS {
         let (written, ended) = list_bytes(rt.alloc(), film);
         let got = (ended, written.as_slice());
@@ -138,29 +138,29 @@ fn a_film_in_memory_has_its_pieces_with_ample_memory(rt: HostRuntime) {
 }
 
 /// What is written of the first image of `TWO_IMAGES`.
-const FIRST_PIECES: Texts = [FIRST_LINE, FIRST_CODESTREAM];
+const FIRST_CHUNKS: Texts = [FIRST_LINE, FIRST_CODESTREAM];
 
-const NO_PIECES: Texts = [b"", b""];
+const NO_CHUNKS: Texts = [b"", b""];
 
 /// Films that are bad, at which frame, why, and what is written before.
 const BAD_FILMS: [(&[u8], u64, NetpbmFault, Texts); 8] = [
-    (b"P4 1 1\n", 0, NetpbmFault::BadMagic, NO_PIECES),
-    (b"P5 1 1 255#", 0, NetpbmFault::BadHeader, NO_PIECES),
-    (b"P5 0 1 255\n", 0, NetpbmFault::SizeOutOfRange, NO_PIECES),
-    (b"P5 1 1 0\n", 0, NetpbmFault::MaxvalOutOfRange, NO_PIECES),
-    (b"P5 1 1 7\n\x08", 0, NetpbmFault::SampleTooLarge, NO_PIECES),
-    (b"P5 2 1 255\n\x00", 0, NetpbmFault::Truncated, NO_PIECES),
+    (b"P4 1 1\n", 0, NetpbmFault::BadMagic, NO_CHUNKS),
+    (b"P5 1 1 255#", 0, NetpbmFault::BadHeader, NO_CHUNKS),
+    (b"P5 0 1 255\n", 0, NetpbmFault::SizeOutOfRange, NO_CHUNKS),
+    (b"P5 1 1 0\n", 0, NetpbmFault::MaxvalOutOfRange, NO_CHUNKS),
+    (b"P5 1 1 7\n\x08", 0, NetpbmFault::SampleTooLarge, NO_CHUNKS),
+    (b"P5 2 1 255\n\x00", 0, NetpbmFault::Truncated, NO_CHUNKS),
     (
         b"P5 1 1 255\n\x00P5 1 1 7\n\x08",
         1,
         NetpbmFault::SampleTooLarge,
-        FIRST_PIECES,
+        FIRST_CHUNKS,
     ),
     (
         b"P5 1 1 255\n\x00P5 2 1 255\n\x00",
         1,
         NetpbmFault::Truncated,
-        FIRST_PIECES,
+        FIRST_CHUNKS,
     ),
 ];
 
@@ -171,16 +171,16 @@ fn check_bad_films(rt: &impl Abort, alloc: Global, memory: Memory) {
     }
     let ended = Err(FilmFault::Input(0, NetpbmFault::HeaderTooLong));
     let film = endless_header();
-    check_films(rt, alloc, memory, &film, ended, NO_PIECES, "a long header");
+    check_films(rt, alloc, memory, &film, ended, NO_CHUNKS, "a long header");
 }
 
 #[test]
-fn a_bad_frame_is_named_after_the_pieces_before_it_with_ample_memory(rt: HostRuntime) {
+fn a_bad_frame_is_named_after_the_chunks_before_it_with_ample_memory(rt: HostRuntime) {
     check_bad_films(&rt, rt.alloc(), Memory::Ample);
 }
 
 #[test]
-fn a_bad_frame_is_named_after_the_pieces_before_it_or_memory_is_wanting(rt: HostRuntime) {
+fn a_bad_frame_is_named_after_the_chunks_before_it_or_memory_is_refused(rt: HostRuntime) {
     check_bad_films(&rt, rt.alloc(), Memory::Refusable);
 }
 
@@ -223,7 +223,7 @@ fn a_failed_write_ends_the_film_with_ample_memory(rt: HostRuntime) {
 }
 
 #[test]
-fn a_failed_write_ends_the_film_or_memory_is_wanting(rt: HostRuntime) {
+fn a_failed_write_ends_the_film_or_memory_is_refused(rt: HostRuntime) {
     check_failed_writes(&rt, rt.alloc(), Memory::Refusable);
 }
 
@@ -252,7 +252,7 @@ fn check_failed_read(
 }
 
 fn check_failed_reads(rt: &impl Abort, alloc: Global, memory: Memory) {
-    for (engine, first) in ENGINES.into_iter().zip(FIRST_PIECES) {
+    for (engine, first) in ENGINES.into_iter().zip(FIRST_CHUNKS) {
         for i in 0..TWO_IMAGES.len() {
             check_failed_read(rt, alloc, memory, engine, first, i);
         }
@@ -265,6 +265,6 @@ fn a_failed_read_ends_the_film_with_ample_memory(rt: HostRuntime) {
 }
 
 #[test]
-fn a_failed_read_ends_the_film_or_memory_is_wanting(rt: HostRuntime) {
+fn a_failed_read_ends_the_film_or_memory_is_refused(rt: HostRuntime) {
     check_failed_reads(&rt, rt.alloc(), Memory::Refusable);
 }

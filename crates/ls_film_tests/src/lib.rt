@@ -8,6 +8,8 @@ mod faults;
 #[cfg(test)]
 mod films;
 #[cfg(test)]
+mod page;
+#[cfg(test)]
 mod playing;
 #[cfg(test)]
 mod testing;

@@ -8,7 +8,7 @@ use std::process::Abort;
 /// What an engine answered, and the text that it wrote.
 pub type Outcome<'a> = (Result<u64, FilmFault>, &'a [u8]);
 
-/// That an engine ended so. Or, if memory may be refused, that it says so and wrote the first pieces of the
+/// That an engine ended so. Or, if memory may be refused, that it says so and wrote the first chunks of the
 /// text, each of which ends in `mark`.
 pub fn check_outcome(
     rt: &impl Abort,
@@ -22,7 +22,7 @@ pub fn check_outcome(
         assert!(rt; want.1.starts_with(got.1), "{case}: another text");
         assert!(rt;
             got.1.is_empty() || got.1.ends_with(mark),
-            "{case}: a part of a piece"
+            "{case}: a part of a chunk"
         );
     } else {
         check_ended(rt, case, got.0, want.0);

@@ -19,24 +19,24 @@ use Rattle.ls_frame.proofs.SpellingLaws.{digit_found, field_number_at, field_res
 -- ---- gaps and digits
 
 -- a byte that is no part of a gap and no digit
-gap_fails : (room : ℕ) (bytes : List ℕ) (fault : NetpbmFault) → StopsHere room bytes blank_or_digit fault → gap_at false room bytes ≡ Err fault
-gap_fails room bytes fault (no_byte none) = gap_at-fault false room bytes fault none
-gap_fails room bytes fault (refused c left rest found not_allowed is) =
+gap_fails : (allowed : ℕ) (bytes : List ℕ) (fault : NetpbmFault) → StopsHere allowed bytes blank_or_digit fault → gap_at false allowed bytes ≡ Err fault
+gap_fails allowed bytes fault (no_byte none) = gap_at-fault false allowed bytes fault none
+gap_fails allowed bytes fault (refused c left rest found not_allowed is) =
     let no_digit = or_parts (is_white c || is_hash c) (is_digit c) not_allowed in
     let neither = or_parts (is_white c) (is_hash c) no_digit.0 in
-    gap_at-other room c left bytes rest found neither.0 (λ hash. both_ways (is_hash c) neither.1 (rw hash refl)) no_digit.1 ∙ ap Err (sym is)
+    gap_at-other allowed c left bytes rest found neither.0 (λ hash. both_ways (is_hash c) neither.1 (rw hash refl)) no_digit.1 ∙ ap Err (sym is)
 
 -- the end within a comment
-comment_fails : (room : ℕ) (bytes : List ℕ) (fault : NetpbmFault) → StopsHere room bytes comment_text fault → gap_at true room bytes ≡ Err fault
-comment_fails room bytes fault (no_byte none) = gap_at-fault true room bytes fault none
-comment_fails room bytes fault (refused c left rest found not_allowed is) = absurd (let bad : ⊥ = cc in bad)
+comment_fails : (allowed : ℕ) (bytes : List ℕ) (fault : NetpbmFault) → StopsHere allowed bytes comment_text fault → gap_at true allowed bytes ≡ Err fault
+comment_fails allowed bytes fault (no_byte none) = gap_at-fault true allowed bytes fault none
+comment_fails allowed bytes fault (refused c left rest found not_allowed is) = absurd (let bad : ⊥ = cc in bad)
 
 -- a byte after digits that is neither one nor white space
-digits_fail : (n room : ℕ) (bytes : List ℕ) (fault : NetpbmFault) → StopsHere room bytes digit_or_white fault → digits_at n room bytes ≡ Err fault
-digits_fail n room bytes fault (no_byte none) = digits_at-fault n room bytes fault none
-digits_fail n room bytes fault (refused c left rest found not_allowed is) =
+digits_fail : (n allowed : ℕ) (bytes : List ℕ) (fault : NetpbmFault) → StopsHere allowed bytes digit_or_white fault → digits_at n allowed bytes ≡ Err fault
+digits_fail n allowed bytes fault (no_byte none) = digits_at-fault n allowed bytes fault none
+digits_fail n allowed bytes fault (refused c left rest found not_allowed is) =
     let neither = or_parts (is_digit c) (is_white c) not_allowed in
-    digits_at-other n room c left bytes rest found neither.0 neither.1 ∙ ap Err (sym is)
+    digits_at-other n allowed c left bytes rest found neither.0 neither.1 ∙ ap Err (sym is)
 
 -- ---- the beginning of a field
 
@@ -64,39 +64,39 @@ start_white (open_comment g text) lawful = lawful.0.first
 start_white (digits g ds) lawful = lawful.0.first
 
 -- number_at's steps fail where the gap's do
-gap_failed : (room : ℕ) (bytes : List ℕ) (fault : NetpbmFault) → gap_at false room bytes ≡ Err fault → number_at room bytes ≡ Err fault
-gap_failed room bytes fault failed = rw failed refl
+gap_failed : (allowed : ℕ) (bytes : List ℕ) (fault : NetpbmFault) → gap_at false allowed bytes ≡ Err fault → number_at allowed bytes ≡ Err fault
+gap_failed allowed bytes fault failed = rw failed refl
 
 -- `#` opens a comment
-hash_passes : (room : ℕ) (bytes : List ℕ) → gap_at false (suc room) (35 ∷ bytes) ≡ gap_at true room bytes
-hash_passes room bytes = gap_at-hash (suc room) 35 room (35 ∷ bytes) bytes refl refl
+hash_passes : (allowed : ℕ) (bytes : List ℕ) → gap_at false (suc allowed) (35 ∷ bytes) ≡ gap_at true allowed bytes
+hash_passes allowed bytes = gap_at-hash (suc allowed) 35 allowed (35 ∷ bytes) bytes refl refl
 
 -- a number fails where its start stops
-start_fails : (s : Start) (room left : ℕ) (bytes rest : List ℕ) (fault : NetpbmFault) → IsStart s → Takes room bytes (start_rest s) left rest → StopsHere left rest (start_due s) fault
-    → number_at room bytes ≡ Err fault
-start_fails (gap g) room left bytes rest fault lawful taken here =
-    gap_failed room bytes fault (ap (λ bs. gap_at false room bs) taken.whole ∙ gap_passes g.blanks rest room left lawful.blanks taken.room_is ∙ gap_fails left rest fault here)
-start_fails (open_comment g text) room left bytes rest fault lawful taken here =
+start_fails : (s : Start) (allowed left : ℕ) (bytes rest : List ℕ) (fault : NetpbmFault) → IsStart s → Takes allowed bytes (start_rest s) left rest → StopsHere left rest (start_due s) fault
+    → number_at allowed bytes ≡ Err fault
+start_fails (gap g) allowed left bytes rest fault lawful taken here =
+    gap_failed allowed bytes fault (ap (λ bs. gap_at false allowed bs) taken.whole ∙ gap_passes g.blanks rest allowed left lawful.blanks taken.room_is ∙ gap_fails left rest fault here)
+start_fails (open_comment g text) allowed left bytes rest fault lawful taken here =
     let regrouped : (blanks_bytes g.blanks ++ 35 ∷ text) ++ rest ≡ blanks_bytes g.blanks ++ 35 ∷ (text ++ rest) = simp append_assoc in
     let size = simp length-append at taken.room_is in
-    gap_failed room bytes fault (ap (λ bs. gap_at false room bs) (taken.whole ∙ regrouped)
-    ∙ gap_passes g.blanks (35 ∷ (text ++ rest)) room (suc (length text + left)) lawful.0.blanks (omega arith)
+    gap_failed allowed bytes fault (ap (λ bs. gap_at false allowed bs) (taken.whole ∙ regrouped)
+    ∙ gap_passes g.blanks (35 ∷ (text ++ rest)) allowed (suc (length text + left)) lawful.0.blanks (omega arith)
     ∙ hash_passes (length text + left) (text ++ rest)
     ∙ comment_passes text rest (length text + left) left lawful.1 refl
     ∙ comment_fails left rest fault here)
-start_fails (digits g []) room left bytes rest fault lawful taken here = absurd (let some = lawful.1.some in omega arith)
-start_fails (digits g (d ∷ ds)) room left bytes rest fault lawful taken here =
+start_fails (digits g []) allowed left bytes rest fault lawful taken here = absurd (let some = lawful.1.some in omega arith)
+start_fails (digits g (d ∷ ds)) allowed left bytes rest fault lawful taken here =
     let regrouped : (blanks_bytes g.blanks ++ d ∷ ds) ++ rest ≡ blanks_bytes g.blanks ++ d ∷ (ds ++ rest) = simp append_assoc in
     let size = simp length-append at taken.room_is in
-    ap (λ bs. number_at room bs) (taken.whole ∙ regrouped)
-    ∙ digit_found g.blanks (ds ++ rest) d room (length ds + left) lawful.0.blanks lawful.1.each.0 (omega arith)
+    ap (λ bs. number_at allowed bs) (taken.whole ∙ regrouped)
+    ∙ digit_found g.blanks (ds ++ rest) d allowed (length ds + left) lawful.0.blanks lawful.1.each.0 (omega arith)
     ∙ digits_pass ds rest (d - 48) (length ds + left) left lawful.1.each.1 refl
     ∙ digits_fail (followed_capped (d - 48) ds) left rest fault here
 
 -- and with it the field
-in_range_start_fails : (range_fault : NetpbmFault) (s : Start) (room left : ℕ) (bytes rest : List ℕ) (fault : NetpbmFault) → IsStart s → Takes room bytes (start_rest s) left rest → StopsHere left rest (start_due s) fault
-    → in_range_at range_fault room bytes ≡ Err fault
-in_range_start_fails range_fault s room left bytes rest fault lawful taken here = rw (start_fails s room left bytes rest fault lawful taken here) refl
+in_range_start_fails : (range_fault : NetpbmFault) (s : Start) (allowed left : ℕ) (bytes rest : List ℕ) (fault : NetpbmFault) → IsStart s → Takes allowed bytes (start_rest s) left rest → StopsHere left rest (start_due s) fault
+    → in_range_at range_fault allowed bytes ≡ Err fault
+in_range_start_fails range_fault s allowed left bytes rest fault lawful taken here = rw (start_fails s allowed left bytes rest fault lawful taken here) refl
 
 -- ---- fields
 
@@ -106,10 +106,10 @@ in_range_fails fault n out =
     cond-false (ltb 0 (capped n) && leb (capped n) greatest) _ _ (false_from_ne_true _ (λ test. out (in_range_if (capped n) n refl test)))
 
 -- and with it the field
-field_out : (fault : NetpbmFault) (f : Field) (white room left : ℕ) (bytes rest : List ℕ) → IsField f → ¬ InRange (field_number f) → IsTrue (is_white white) → Takes room bytes (field_rest f white) left rest
-    → in_range_at fault room bytes ≡ Err fault
-field_out fault f white room left bytes rest lawful out after taken =
-    rw (field_number_at f white room left bytes rest lawful after taken, in_range_fails fault (field_number f) out) refl
+field_out : (fault : NetpbmFault) (f : Field) (white allowed left : ℕ) (bytes rest : List ℕ) → IsField f → ¬ InRange (field_number f) → IsTrue (is_white white) → Takes allowed bytes (field_rest f white) left rest
+    → in_range_at fault allowed bytes ≡ Err fault
+field_out fault f white allowed left bytes rest lawful out after taken =
+    rw (field_number_at f white allowed left bytes rest lawful after taken, in_range_fails fault (field_number f) out) refl
 
 -- a start after others, from its first white space on
 start_as : (before : List ℕ) (s : Start) → before ++ start_bytes s ≡ (before ++ start_first s ∷ []) ++ start_rest s
@@ -127,12 +127,12 @@ start_first_taken before s taken = takes_first (before ++ start_first s ∷ []) 
 -- ---- a header that stops
 
 -- no magic
-magic_stops : (first room : ℕ) (bytes : List ℕ) (fault : NetpbmFault) → suc room ≡ most_heading → BreaksOff most_heading (first ∷ bytes) [] letter fault → heading_at first room bytes ≡ Err fault
-magic_stops first room bytes fault all (too_long rest whole none is) = absurd (omega arith)
-magic_stops first room bytes fault all (ends whole some is) = absurd (let bad : ⊥ = cc in bad)
-magic_stops first room bytes fault all (refuses c rest whole some not_allowed is) =
+magic_stops : (first allowed : ℕ) (bytes : List ℕ) (fault : NetpbmFault) → suc allowed ≡ most_heading → BreaksOff most_heading (first ∷ bytes) [] letter fault → heading_at first allowed bytes ≡ Err fault
+magic_stops first allowed bytes fault all (too_long rest whole none is) = absurd (omega arith)
+magic_stops first allowed bytes fault all (ends whole some is) = absurd (let bad : ⊥ = cc in bad)
+magic_stops first allowed bytes fault all (refuses c rest whole some not_allowed is) =
     let same : first ≡ c = cc in
-    rw (heading_at-steps first room bytes, same, not_allowed, is) refl
+    rw (heading_at-steps first allowed bytes, same, not_allowed, is) refl
 
 -- a byte that tells no kind
 kind_refused : (c : ℕ) → allows kind_digit c ≡ false → kind_of c ≡ Err BadMagic
@@ -144,12 +144,12 @@ kind_stops left rest fault (no_byte none) = rw none refl
 kind_stops left rest fault (refused c after back found not_allowed is) = rw (found, kind_refused c not_allowed, is) refl
 
 -- the same after the first byte
-second_stops : (first room : ℕ) (bytes : List ℕ) (fault : NetpbmFault) → suc room ≡ most_heading → StopsAfter most_heading (first ∷ bytes) (80 ∷ []) kind_digit fault → heading_at first room bytes ≡ Err fault
-second_stops first room bytes fault all stop =
+second_stops : (first allowed : ℕ) (bytes : List ℕ) (fault : NetpbmFault) → suc allowed ≡ most_heading → StopsAfter most_heading (first ∷ bytes) (80 ∷ []) kind_digit fault → heading_at first allowed bytes ≡ Err fault
+second_stops first allowed bytes fault all stop =
     let p : first ≡ 80 = cc (stop.takes.whole) in
     let after : bytes ≡ stop.rest = cc (stop.takes.whole) in
-    let size : room ≡ stop.left = (let e = stop.takes.room_is in omega arith) in
-    rw (heading_at-steps first room bytes, p, after, size, kind_stops stop.left stop.rest fault stop.here) refl
+    let size : allowed ≡ stop.left = (let e = stop.takes.room_is in omega arith) in
+    rw (heading_at-steps first allowed bytes, p, after, size, kind_stops stop.left stop.rest fault stop.here) refl
 
 -- no white space after the magic
 white_stops : (left : ℕ) (rest : List ℕ) (fault : NetpbmFault) → StopsHere left rest gap_start fault → white_at left rest ≡ Err fault
@@ -157,28 +157,28 @@ white_stops left rest fault (no_byte none) = rw none refl
 white_stops left rest fault (refused c after back found not_allowed is) = rw (found, not_allowed, is) refl
 
 -- a header fails where its beginning stops
-beginning_fails : (b : Beginning) (first room : ℕ) (bytes : List ℕ) (fault : NetpbmFault) → suc room ≡ most_heading → IsBeginning b → BreaksOff most_heading (first ∷ bytes) (beginning_bytes b) (due b) fault
-    → heading_at first room bytes ≡ Err fault
-beginning_fails empty first room bytes fault all lawful stops = magic_stops first room bytes fault all stops
-beginning_fails one_letter first room bytes fault all lawful stops = second_stops first room bytes fault all (stops_seen stops)
-beginning_fails (only_magic kind) first room bytes fault all lawful stops =
+beginning_fails : (b : Beginning) (first allowed : ℕ) (bytes : List ℕ) (fault : NetpbmFault) → suc allowed ≡ most_heading → IsBeginning b → BreaksOff most_heading (first ∷ bytes) (beginning_bytes b) (due b) fault
+    → heading_at first allowed bytes ≡ Err fault
+beginning_fails empty first allowed bytes fault all lawful stops = magic_stops first allowed bytes fault all stops
+beginning_fails one_letter first allowed bytes fault all lawful stops = second_stops first allowed bytes fault all (stops_seen stops)
+beginning_fails (only_magic kind) first allowed bytes fault all lawful stops =
     let stop = stops_seen stops in
-    after_magic kind first room stop.left bytes stop.rest all stop.takes
+    after_magic kind first allowed stop.left bytes stop.rest all stop.takes
     ∙ ap (λ r. r >>= λ found. width_at kind found.1 found.2) (white_stops stop.left stop.rest fault stop.here)
-beginning_fails (in_width kind s) first room bytes fault all lawful stops =
+beginning_fails (in_width kind s) first allowed bytes fault all lawful stops =
     let stop = stops_seen stops in
-    at_width kind (start_first s) first room (length (start_rest s) + stop.left) bytes (start_rest s ++ stop.rest) all (start_white s lawful) (start_first_taken (magic kind) s stop.takes)
+    at_width kind (start_first s) first allowed (length (start_rest s) + stop.left) bytes (start_rest s ++ stop.rest) all (start_white s lawful) (start_first_taken (magic kind) s stop.takes)
     ∙ ap (λ r. r >>= λ found. height_at kind found.0 found.1 found.2)
     (in_range_start_fails SizeOutOfRange s (length (start_rest s) + stop.left) stop.left (start_rest s ++ stop.rest) stop.rest fault lawful (takes_second (start_rest s) stop.left stop.rest) stop.here)
-beginning_fails (in_height kind w s) first room bytes fault all lawful stops =
+beginning_fails (in_height kind w s) first allowed bytes fault all lawful stops =
     let stop = stops_seen stops in
-    at_height kind w (start_first s) first room (length (start_rest s) + stop.left) bytes (start_rest s ++ stop.rest) all lawful.0 (start_white s lawful.1)
+    at_height kind w (start_first s) first allowed (length (start_rest s) + stop.left) bytes (start_rest s ++ stop.rest) all lawful.0 (start_white s lawful.1)
     (start_first_taken (magic kind ++ field_bytes w) s stop.takes)
     ∙ ap (λ r. r >>= λ found. (wanted (leb (sample_count kind (field_number w) found.0) most_samples) SizeOutOfRange >>= λ few. maxval_at kind (field_number w) found.0 found.1 found.2))
     (in_range_start_fails SizeOutOfRange s (length (start_rest s) + stop.left) stop.left (start_rest s ++ stop.rest) stop.rest fault lawful.1 (takes_second (start_rest s) stop.left stop.rest) stop.here)
-beginning_fails (in_maxval kind w h s) first room bytes fault all lawful stops =
+beginning_fails (in_maxval kind w h s) first allowed bytes fault all lawful stops =
     let stop = stops_seen stops in
-    at_maxval kind w h (start_first s) first room (length (start_rest s) + stop.left) bytes (start_rest s ++ stop.rest) all lawful.0 (start_white s lawful.1)
+    at_maxval kind w h (start_first s) first allowed (length (start_rest s) + stop.left) bytes (start_rest s ++ stop.rest) all lawful.0 (start_white s lawful.1)
     (start_first_taken (magic kind ++ field_bytes w ++ field_bytes h) s stop.takes)
     ∙ ap (λ r. r >>= λ found. Ok (record { kind = kind; width = field_number w; height = field_number h; maxval = found.0 }, found.1, found.2))
     (in_range_start_fails MaxvalOutOfRange s (length (start_rest s) + stop.left) stop.left (start_rest s ++ stop.rest) stop.rest fault lawful.1 (takes_second (start_rest s) stop.left stop.rest) stop.here)
@@ -212,19 +212,19 @@ width_fails (first ∷ bytes) b =
     (field_out SizeOutOfRange b.width b.white _ left _ b.rest b.width_field b.out b.after (takes_second (field_rest b.width b.white) left b.rest)))
 
 -- a height out of its range
-height_out : (bytes rest : List ℕ) (kind : Kind) (w h : Field) (white first room left : ℕ) → suc room ≡ most_heading → IsWidth w → IsField h → IsTrue (is_white white)
-    → Takes most_heading (first ∷ bytes) (magic kind ++ field_bytes w ++ field_bytes h ++ white ∷ []) left rest → ¬ InRange (field_number h) → heading_at first room bytes ≡ Err SizeOutOfRange
-height_out bytes rest kind w h white first room left all width lawful is taken out =
-    in_height_at kind w h white first room left bytes rest all width lawful taken
+height_out : (bytes rest : List ℕ) (kind : Kind) (w h : Field) (white first allowed left : ℕ) → suc allowed ≡ most_heading → IsWidth w → IsField h → IsTrue (is_white white)
+    → Takes most_heading (first ∷ bytes) (magic kind ++ field_bytes w ++ field_bytes h ++ white ∷ []) left rest → ¬ InRange (field_number h) → heading_at first allowed bytes ≡ Err SizeOutOfRange
+height_out bytes rest kind w h white first allowed left all width lawful is taken out =
+    in_height_at kind w h white first allowed left bytes rest all width lawful taken
     ∙ ap (λ r. r >>= λ found. (wanted (leb (sample_count kind (field_number w) found.0) most_samples) SizeOutOfRange >>= λ few. maxval_at kind (field_number w) found.0 found.1 found.2))
     (field_out SizeOutOfRange h white _ left _ rest lawful out is (takes_second (field_rest h white) left rest))
 
 -- a height with too many samples
-height_many : (bytes rest : List ℕ) (kind : Kind) (w h : Field) (white first room left : ℕ) → suc room ≡ most_heading → IsWidth w → IsField h → IsTrue (is_white white)
+height_many : (bytes rest : List ℕ) (kind : Kind) (w h : Field) (white first allowed left : ℕ) → suc allowed ≡ most_heading → IsWidth w → IsField h → IsTrue (is_white white)
     → Takes most_heading (first ∷ bytes) (magic kind ++ field_bytes w ++ field_bytes h ++ white ∷ []) left rest → InRange (field_number h)
-    → most_samples < sample_count kind (field_number w) (field_number h) → heading_at first room bytes ≡ Err SizeOutOfRange
-height_many bytes rest kind w h white first room left all width lawful is taken range many =
-    at_count kind w h white first room left bytes rest all width lawful range is taken
+    → most_samples < sample_count kind (field_number w) (field_number h) → heading_at first allowed bytes ≡ Err SizeOutOfRange
+height_many bytes rest kind w h white first allowed left all width lawful is taken range many =
+    at_count kind w h white first allowed left bytes rest all width lawful range is taken
     ∙ test_fails _ SizeOutOfRange (maxval_at kind (field_number w) (field_number h) left rest) (lt-leb _ most_samples many)
 
 -- a size out of its range

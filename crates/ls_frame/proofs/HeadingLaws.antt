@@ -17,27 +17,27 @@ use Rattle.ls_frame.proofs.NumberLaws.{InRangeRead, FieldFault, field_stops, out
 
 -- the maxval, and the header
 abbrev pub maxval_at : Kind → ℕ → ℕ → ℕ → List ℕ → Step Header
-maxval_at kind width height room bytes =
-    in_range_at MaxvalOutOfRange room bytes >>= λ maxval. Ok (record { kind = kind; width = width; height = height; maxval = maxval.0 }, maxval.1, maxval.2)
+maxval_at kind width height allowed bytes =
+    in_range_at MaxvalOutOfRange allowed bytes >>= λ maxval. Ok (record { kind = kind; width = width; height = height; maxval = maxval.0 }, maxval.1, maxval.2)
 
 -- the height and what follows
 abbrev pub height_at : Kind → ℕ → ℕ → List ℕ → Step Header
-height_at kind width room bytes =
-    in_range_at SizeOutOfRange room bytes >>= λ height.
+height_at kind width allowed bytes =
+    in_range_at SizeOutOfRange allowed bytes >>= λ height.
     wanted (leb (sample_count kind width height.0) most_samples) SizeOutOfRange >>= λ few. maxval_at kind width height.0 height.1 height.2
 
 -- the width and what follows
 abbrev pub width_at : Kind → ℕ → List ℕ → Step Header
-width_at kind room bytes = in_range_at SizeOutOfRange room bytes >>= λ width. height_at kind width.0 width.1 width.2
+width_at kind allowed bytes = in_range_at SizeOutOfRange allowed bytes >>= λ width. height_at kind width.0 width.1 width.2
 
 -- the white space after the magic, and what follows
 abbrev pub fields_at : Kind → ℕ → List ℕ → Step Header
-fields_at kind room bytes = white_at room bytes >>= λ first. width_at kind first.1 first.2
+fields_at kind allowed bytes = white_at allowed bytes >>= λ first. width_at kind first.1 first.2
 
 -- a header is the magic and then these
-pub heading_at-steps : (first room : ℕ) (bytes : List ℕ) → heading_at first room bytes ≡ (magic_at first room bytes >>= λ kind. fields_at kind.0 kind.1 kind.2)
+pub heading_at-steps : (first allowed : ℕ) (bytes : List ℕ) → heading_at first allowed bytes ≡ (magic_at first allowed bytes >>= λ kind. fields_at kind.0 kind.1 kind.2)
 unfolding heading_at
-heading_at-steps first room bytes = refl
+heading_at-steps first allowed bytes = refl
 
 -- ---- what is taken, and how reading fails
 
@@ -61,7 +61,7 @@ pub data HeadingFault (bytes : List ℕ) (fault : NetpbmFault) : Type 0 where
 stops_at : {bytes : List ℕ} {fault : NetpbmFault} (b : Beginning) → 0 < length bytes → IsBeginning b → BreaksOff most_heading bytes (beginning_bytes b) (due b) fault → HeadingFault bytes fault
 stops_at b some lawful stops = in_heading (record { some = some; beginning = b; lawful = lawful; stops = stops })
 
--- the bytes that were taken with the last in one piece, and that they are few enough
+-- the bytes that were taken with the last in one list, and that they are few enough
 whole_with_last : {bytes rest : List ℕ} {left : ℕ} (front : List ℕ) (last : ℕ) → Takes most_heading bytes (front ++ last ∷ []) left rest → bytes ≡ front ++ last ∷ rest
 whole_with_last {rest = rest} front last taken = taken.whole ∙ append_assoc front (last ∷ []) rest
 
@@ -115,13 +115,13 @@ maxval_fault kind w h some size (out_of_range read is) = of_maxval (record {
 }) is
 
 -- after the height
-maxval_outcome : (bytes rest : List ℕ) (room : ℕ) (kind : Kind) (w h : Field) (white width height : ℕ) → 0 < length bytes → IsSize kind w h → width ≡ field_number w → height ≡ field_number h
-    → IsTrue (is_white white) → Takes most_heading bytes (magic kind ++ field_bytes w ++ field_bytes h ++ white ∷ []) room rest
-    → MatchResult (maxval_at kind width height room rest) (HeadingRead bytes) (HeadingFault bytes)
-maxval_outcome bytes rest room kind w h white width height some size width_is height_is is taken =
+maxval_outcome : (bytes rest : List ℕ) (allowed : ℕ) (kind : Kind) (w h : Field) (white width height : ℕ) → 0 < length bytes → IsSize kind w h → width ≡ field_number w → height ≡ field_number h
+    → IsTrue (is_white white) → Takes most_heading bytes (magic kind ++ field_bytes w ++ field_bytes h ++ white ∷ []) allowed rest
+    → MatchResult (maxval_at kind width height allowed rest) (HeadingRead bytes) (HeadingFault bytes)
+maxval_outcome bytes rest allowed kind w h white width height some size width_is height_is is taken =
     let before : List ℕ = magic kind ++ field_bytes w ++ field_bytes h in
-    outcome_of_both (InRangeRead most_heading bytes before) (FieldFault most_heading bytes before MaxvalOutOfRange) (HeadingRead bytes) (HeadingFault bytes) (in_range_at MaxvalOutOfRange room rest) _
-    (field_outcome MaxvalOutOfRange most_heading room bytes before rest white is taken)
+    outcome_of_both (InRangeRead most_heading bytes before) (FieldFault most_heading bytes before MaxvalOutOfRange) (HeadingRead bytes) (HeadingFault bytes) (in_range_at MaxvalOutOfRange allowed rest) _
+    (field_outcome MaxvalOutOfRange most_heading allowed bytes before rest white is taken)
     (λ found read. maxval_read kind w h width height found size width_is height_is read)
     (λ fault failed. maxval_fault kind w h some size failed)
 
@@ -173,13 +173,13 @@ size_read {found = found} kind w width lawful width_is read test =
     record { width = lawful; field = read.lawful; range = read.range; few = rw (← width_is, ← read.is) few }
 
 -- after the width
-height_outcome : (bytes rest : List ℕ) (room : ℕ) (kind : Kind) (w : Field) (white width : ℕ) → 0 < length bytes → IsWidth w → width ≡ field_number w
-    → IsTrue (is_white white) → Takes most_heading bytes (magic kind ++ field_bytes w ++ white ∷ []) room rest
-    → MatchResult (height_at kind width room rest) (HeadingRead bytes) (HeadingFault bytes)
-height_outcome bytes rest room kind w white width some lawful width_is is taken =
+height_outcome : (bytes rest : List ℕ) (allowed : ℕ) (kind : Kind) (w : Field) (white width : ℕ) → 0 < length bytes → IsWidth w → width ≡ field_number w
+    → IsTrue (is_white white) → Takes most_heading bytes (magic kind ++ field_bytes w ++ white ∷ []) allowed rest
+    → MatchResult (height_at kind width allowed rest) (HeadingRead bytes) (HeadingFault bytes)
+height_outcome bytes rest allowed kind w white width some lawful width_is is taken =
     let before : List ℕ = magic kind ++ field_bytes w in
-    outcome_of_both (InRangeRead most_heading bytes before) (FieldFault most_heading bytes before SizeOutOfRange) (HeadingRead bytes) (HeadingFault bytes) (in_range_at SizeOutOfRange room rest) _
-    (field_outcome SizeOutOfRange most_heading room bytes before rest white is taken)
+    outcome_of_both (InRangeRead most_heading bytes before) (FieldFault most_heading bytes before SizeOutOfRange) (HeadingRead bytes) (HeadingFault bytes) (in_range_at SizeOutOfRange allowed rest) _
+    (field_outcome SizeOutOfRange most_heading allowed bytes before rest white is taken)
     (λ found read. wanted_outcome (HeadingRead bytes) (HeadingFault bytes) (leb (sample_count kind width found.0) most_samples) SizeOutOfRange (maxval_at kind width found.0 found.1 found.2)
     (λ test. maxval_outcome bytes found.2 found.1 kind w read.field read.white width found.0 some (size_read kind w width lawful width_is read test) width_is read.is read.after read.takes)
     (λ test. too_many kind w width lawful width_is read test))
@@ -203,25 +203,25 @@ width_fault kind some (out_of_range read is) = of_size (inl (record {
 })) is
 
 -- after the white space
-width_outcome : (bytes rest : List ℕ) (room : ℕ) (kind : Kind) (white : ℕ) → 0 < length bytes → IsTrue (is_white white) → Takes most_heading bytes (magic kind ++ white ∷ []) room rest
-    → MatchResult (width_at kind room rest) (HeadingRead bytes) (HeadingFault bytes)
-width_outcome bytes rest room kind white some is taken =
-    outcome_of_both (InRangeRead most_heading bytes (magic kind)) (FieldFault most_heading bytes (magic kind) SizeOutOfRange) (HeadingRead bytes) (HeadingFault bytes) (in_range_at SizeOutOfRange room rest) _
-    (field_outcome SizeOutOfRange most_heading room bytes (magic kind) rest white is taken)
+width_outcome : (bytes rest : List ℕ) (allowed : ℕ) (kind : Kind) (white : ℕ) → 0 < length bytes → IsTrue (is_white white) → Takes most_heading bytes (magic kind ++ white ∷ []) allowed rest
+    → MatchResult (width_at kind allowed rest) (HeadingRead bytes) (HeadingFault bytes)
+width_outcome bytes rest allowed kind white some is taken =
+    outcome_of_both (InRangeRead most_heading bytes (magic kind)) (FieldFault most_heading bytes (magic kind) SizeOutOfRange) (HeadingRead bytes) (HeadingFault bytes) (in_range_at SizeOutOfRange allowed rest) _
+    (field_outcome SizeOutOfRange most_heading allowed bytes (magic kind) rest white is taken)
     (λ found read. height_outcome bytes found.2 found.1 kind read.field read.white found.0 some (record { field = read.lawful; range = read.range }) read.is read.after read.takes)
     (λ fault failed. width_fault kind some failed)
 
 -- ---- the magic, and the white space after it
 
 -- after the magic
-white_outcome : (bytes rest : List ℕ) (room : ℕ) (kind : Kind) → 0 < length bytes → Takes most_heading bytes (magic kind) room rest
-    → MatchResult (fields_at kind room rest) (HeadingRead bytes) (HeadingFault bytes)
+white_outcome : (bytes rest : List ℕ) (allowed : ℕ) (kind : Kind) → 0 < length bytes → Takes most_heading bytes (magic kind) allowed rest
+    → MatchResult (fields_at kind allowed rest) (HeadingRead bytes) (HeadingFault bytes)
 white_outcome bytes rest zero kind some taken = let e = taken.room_is in stops_at (only_magic kind) some tt (too_long rest taken.whole (omega arith) refl)
-white_outcome bytes [] (suc room) kind some taken = let e = taken.room_is in stops_at (only_magic kind) some tt (ends (taken.whole ∙ append-nil (magic kind)) (omega arith) refl)
-white_outcome bytes (c ∷ rest) (suc room) kind some taken =
+white_outcome bytes [] (suc allowed) kind some taken = let e = taken.room_is in stops_at (only_magic kind) some tt (ends (taken.whole ∙ append-nil (magic kind)) (omega arith) refl)
+white_outcome bytes (c ∷ rest) (suc allowed) kind some taken =
     let e = taken.room_is in
-    wanted_next_outcome (HeadingRead bytes) (HeadingFault bytes) (is_white c) BadHeader (tt, room, rest) (λ first. width_at kind first.1 first.2)
-    (λ is. width_outcome bytes rest room kind c some is (takes_more taken (takes_one c room rest)))
+    wanted_next_outcome (HeadingRead bytes) (HeadingFault bytes) (is_white c) BadHeader (tt, allowed, rest) (λ first. width_at kind first.1 first.2)
+    (λ is. width_outcome bytes rest allowed kind c some is (takes_more taken (takes_one c allowed rest)))
     (λ other. stops_at (only_magic kind) some tt (refuses c rest taken.whole (omega arith) other refl))
 
 -- the magic was taken
@@ -229,42 +229,42 @@ abbrev MagicRead : List ℕ → Kind × ℕ × List ℕ → Type 0
 MagicRead bytes found = Takes most_heading bytes (magic found.0) found.1 found.2
 
 -- its two bytes
-magic_taken : (kind : Kind) (first second room : ℕ) (bytes : List ℕ) → suc (suc room) ≡ most_heading → first ∷ second ∷ bytes ≡ magic kind ++ bytes → length (magic kind) ≡ 2
-    → Takes most_heading (first ∷ second ∷ bytes) (magic kind) room bytes
-magic_taken kind first second room bytes whole same two = record { whole = same; room_is = omega arith }
+magic_taken : (kind : Kind) (first second allowed : ℕ) (bytes : List ℕ) → suc (suc allowed) ≡ most_heading → first ∷ second ∷ bytes ≡ magic kind ++ bytes → length (magic kind) ≡ 2
+    → Takes most_heading (first ∷ second ∷ bytes) (magic kind) allowed bytes
+magic_taken kind first second allowed bytes whole same two = record { whole = same; room_is = omega arith }
 
 -- the second byte tells the kind
-kind_outcome : (first second room : ℕ) (bytes : List ℕ) → suc (suc room) ≡ most_heading → first ≡ 80
-    → MatchResult (kind_of second >>= λ kind. Ok (kind, room, bytes)) (MagicRead (first ∷ second ∷ bytes)) (HeadingFault (first ∷ second ∷ bytes))
-kind_outcome first second room bytes whole p =
+kind_outcome : (first second allowed : ℕ) (bytes : List ℕ) → suc (suc allowed) ≡ most_heading → first ≡ 80
+    → MatchResult (kind_of second >>= λ kind. Ok (kind, allowed, bytes)) (MagicRead (first ∷ second ∷ bytes)) (HeadingFault (first ∷ second ∷ bytes))
+kind_outcome first second allowed bytes whole p =
     let all : List ℕ = first ∷ second ∷ bytes in
-    let P : Result Kind NetpbmFault → Type 0 = λ r. MatchResult (r >>= λ kind. Ok (kind, room, bytes)) (MagicRead all) (HeadingFault all) in
+    let P : Result Kind NetpbmFault → Type 0 = λ r. MatchResult (r >>= λ kind. Ok (kind, allowed, bytes)) (MagicRead all) (HeadingFault all) in
     cond_both (second == 53) (Ok Gray) _ P
-    (λ gray. magic_taken Gray first second room bytes whole (rw (p, eqb-true second 53 gray) refl) refl)
+    (λ gray. magic_taken Gray first second allowed bytes whole (rw (p, eqb-true second 53 gray) refl) refl)
     (λ not_gray. cond_both (second == 54) (Ok Color) (Err BadMagic) P
-    (λ color. magic_taken Color first second room bytes whole (rw (p, eqb-true second 54 color) refl) refl)
+    (λ color. magic_taken Color first second allowed bytes whole (rw (p, eqb-true second 54 color) refl) refl)
     (λ not_color. stops_at one_letter (omega arith) tt (refuses second bytes (rw p refl) (omega arith) (or_from _ _ not_gray not_color) refl)))
 
 -- after the first
-second_outcome : (first room : ℕ) (bytes : List ℕ) → suc room ≡ most_heading → first ≡ 80
-    → MatchResult (byte_at room bytes >>= λ second. (kind_of second.0 >>= λ kind. Ok (kind, second.1, second.2))) (MagicRead (first ∷ bytes)) (HeadingFault (first ∷ bytes))
+second_outcome : (first allowed : ℕ) (bytes : List ℕ) → suc allowed ≡ most_heading → first ≡ 80
+    → MatchResult (byte_at allowed bytes >>= λ second. (kind_of second.0 >>= λ kind. Ok (kind, second.1, second.2))) (MagicRead (first ∷ bytes)) (HeadingFault (first ∷ bytes))
 second_outcome first zero bytes whole p = absurd (omega arith)
-second_outcome first (suc room) [] whole p = stops_at one_letter (omega arith) tt (ends (rw p refl) (omega arith) refl)
-second_outcome first (suc room) (second ∷ bytes) whole p = kind_outcome first second room bytes whole p
+second_outcome first (suc allowed) [] whole p = stops_at one_letter (omega arith) tt (ends (rw p refl) (omega arith) refl)
+second_outcome first (suc allowed) (second ∷ bytes) whole p = kind_outcome first second allowed bytes whole p
 
 -- from the start
-magic_outcome : (first room : ℕ) (bytes : List ℕ) → suc room ≡ most_heading → MatchResult (magic_at first room bytes) (MagicRead (first ∷ bytes)) (HeadingFault (first ∷ bytes))
-magic_outcome first room bytes whole =
-    wanted_outcome (MagicRead (first ∷ bytes)) (HeadingFault (first ∷ bytes)) (first == 80) BadMagic (byte_at room bytes >>= λ second. (kind_of second.0 >>= λ kind. Ok (kind, second.1, second.2)))
-    (λ p. second_outcome first room bytes whole (eqb-true first 80 p))
+magic_outcome : (first allowed : ℕ) (bytes : List ℕ) → suc allowed ≡ most_heading → MatchResult (magic_at first allowed bytes) (MagicRead (first ∷ bytes)) (HeadingFault (first ∷ bytes))
+magic_outcome first allowed bytes whole =
+    wanted_outcome (MagicRead (first ∷ bytes)) (HeadingFault (first ∷ bytes)) (first == 80) BadMagic (byte_at allowed bytes >>= λ second. (kind_of second.0 >>= λ kind. Ok (kind, second.1, second.2)))
+    (λ p. second_outcome first allowed bytes whole (eqb-true first 80 p))
     (λ other. stops_at empty (omega arith) tt (refuses first bytes refl (omega arith) other refl))
 
 -- ---- the header
 
 -- what is read is a header; else it fails in one of these ways
-pub heading_outcome : (first room : ℕ) (bytes : List ℕ) → suc room ≡ most_heading → MatchResult (heading_at first room bytes) (HeadingRead (first ∷ bytes)) (HeadingFault (first ∷ bytes))
-heading_outcome first room bytes whole = rw (heading_at-steps first room bytes)
-    (outcome_of_both (MagicRead (first ∷ bytes)) (HeadingFault (first ∷ bytes)) (HeadingRead (first ∷ bytes)) (HeadingFault (first ∷ bytes)) (magic_at first room bytes) (λ kind. fields_at kind.0 kind.1 kind.2)
-    (magic_outcome first room bytes whole)
+pub heading_outcome : (first allowed : ℕ) (bytes : List ℕ) → suc allowed ≡ most_heading → MatchResult (heading_at first allowed bytes) (HeadingRead (first ∷ bytes)) (HeadingFault (first ∷ bytes))
+heading_outcome first allowed bytes whole = rw (heading_at-steps first allowed bytes)
+    (outcome_of_both (MagicRead (first ∷ bytes)) (HeadingFault (first ∷ bytes)) (HeadingRead (first ∷ bytes)) (HeadingFault (first ∷ bytes)) (magic_at first allowed bytes) (λ kind. fields_at kind.0 kind.1 kind.2)
+    (magic_outcome first allowed bytes whole)
     (λ found taken. white_outcome (first ∷ bytes) found.2 found.1 found.0 (omega arith) taken)
     (λ fault failed. failed))

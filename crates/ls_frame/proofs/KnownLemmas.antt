@@ -10,14 +10,14 @@ known-consumed None new bytes told h = let never : ⊥ = cc in absurd never
 known-consumed (Some xs) None bytes told h = absurd h
 known-consumed (Some xs) (Some ys) bytes told h = (refl, h)
 
--- a read that wrote `given` bytes of `read` after the first `held` of `piece`
-pub piece-read : (piece read post : List ℕ) (held given : ℕ) → held ≤ length piece → given ≤ length read
-    → take (held + given) (take held piece ++ (read ++ post)) ≡ take held piece ++ take given read
-piece-read piece read post held given within some =
-    let front : length (take held piece) ≡ held = length-take-le held piece within in
-    ap (λ n. take (n + given) (take held piece ++ (read ++ post))) (sym front)
-    ∙ take-append-add (take held piece) (read ++ post) given
-    ∙ ap (λ s. take held piece ++ s) (take-append-le given read post some)
+-- a read that wrote `given` bytes of `read` after the first `held` of `chunk`
+pub chunk-read : (chunk read post : List ℕ) (held given : ℕ) → held ≤ length chunk → given ≤ length read
+    → take (held + given) (take held chunk ++ (read ++ post)) ≡ take held chunk ++ take given read
+chunk-read chunk read post held given within some =
+    let front : length (take held chunk) ≡ held = length-take-le held chunk within in
+    ap (λ n. take (n + given) (take held chunk ++ (read ++ post))) (sym front)
+    ∙ take-append-add (take held chunk) (read ++ post) given
+    ∙ ap (λ s. take held chunk ++ s) (take-append-le given read post some)
 
 -- a read into room for one byte
 pub one_byte : (buf : List ℕ) (given : ℕ) → length buf ≡ 1 → 0 < given → take given buf ≡ get_or buf 0 0 ∷ []

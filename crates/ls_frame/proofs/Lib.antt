@@ -1,5 +1,6 @@
 pub mod BreakLaws
 pub mod CanonicalLaws
+pub mod ChunkLemmas
 pub mod ExponentLemmas
 pub mod GapLaws
 pub mod HeadingLaws
@@ -9,7 +10,6 @@ pub mod MarkLemmas
 pub mod NextLemmas
 pub mod NumberLaws
 pub mod ParameterLemmas
-pub mod PieceLemmas
 pub mod RasterLaws
 pub mod RasterLemmas
 pub mod SampleLemmas

@@ -23,30 +23,30 @@ unmarked-front mark most place bytes within none =
     sym (take-append-le place (take most bytes) (drop most bytes) within) ∙ ap (take place) (take-append-drop most bytes) in
     subst (AllByRecursion (λ byte. byte ≢ mark)) same (unmarked-before mark place (take most bytes) (λ k less. none k (omega arith) less))
 
--- a piece is its front and what is left of it
-piece-parts : (bytes : List ℕ) (start count end : ℕ) → start + count ≤ end → slice_range bytes start end ≡ take count (slice_range bytes start end) ++ slice_range bytes (start + count) end
-piece-parts bytes start count end within =
-    let piece = slice_range bytes start end in
+-- a chunk is its front and what is left of it
+chunk-parts : (bytes : List ℕ) (start count end : ℕ) → start + count ≤ end → slice_range bytes start end ≡ take count (slice_range bytes start end) ++ slice_range bytes (start + count) end
+chunk-parts bytes start count end within =
+    let chunk = slice_range bytes start end in
     let size : end - start ≡ count + (end - (start + count)) = omega arith in
-    let rest : drop count piece ≡ slice_range bytes (start + count) end =
+    let rest : drop count chunk ≡ slice_range bytes (start + count) end =
     ap (λ n. drop count (take n (drop start bytes))) size ∙ drop-take count (end - (start + count)) (drop start bytes)
     ∙ ap (take (end - (start + count))) (drop-drop count start bytes) in
-    sym (take-append-drop count piece) ∙ ap (λ bs. take count piece ++ bs) rest
+    sym (take-append-drop count chunk) ∙ ap (λ bs. take count chunk ++ bs) rest
 
--- a front of a piece was appended, and its last byte is this one
-pub piece-until : (mark most : ℕ) (bytes : List ℕ) (start count end : ℕ) (before after : List ℕ) → start + count ≤ end → 0 < count → count ≤ most → count ≤ length (slice_range bytes start end)
+-- a front of a chunk was appended, and its last byte is this one
+pub chunk-until : (mark most : ℕ) (bytes : List ℕ) (start count end : ℕ) (before after : List ℕ) → start + count ≤ end → 0 < count → count ≤ most → count ≤ length (slice_range bytes start end)
     → AllByRecursion (λ byte. byte ≢ mark) (take (count - 1) (slice_range bytes start end)) → after ≡ before ++ take count (slice_range bytes start end)
     → TakesUntil mark most (Some (slice_range bytes start end)) (Some (slice_range bytes (start + count) end)) before after (get_or (slice_range bytes start end) (count - 1) 0)
-piece-until mark most bytes start count end before after within some few enough unmarked is =
-    let piece = slice_range bytes start end in
+chunk-until mark most bytes start count end before after within some few enough unmarked is =
+    let chunk = slice_range bytes start end in
     let again : count ≡ (count - 1) + 1 = omega arith in
-    let front : take count piece ≡ take (count - 1) piece ++ get_or piece (count - 1) 0 ∷ [] =
-    ap (λ n. take n piece) again ∙ take_more piece (count - 1) 0 (omega arith) in
-    let size = length-take (count - 1) piece in
+    let front : take count chunk ≡ take (count - 1) chunk ++ get_or chunk (count - 1) 0 ∷ [] =
+    ap (λ n. take n chunk) again ∙ take_more chunk (count - 1) 0 (omega arith) in
+    let size = length-take (count - 1) chunk in
     record {
-      run = take (count - 1) piece;
+      run = take (count - 1) chunk;
       appended = is ∙ ap (λ bs. before ++ bs) front;
-      given = piece-parts bytes start count end within ∙ ap (λ bs. bs ++ slice_range bytes (start + count) end) front;
+      given = chunk-parts bytes start count end within ∙ ap (λ bs. bs ++ slice_range bytes (start + count) end) front;
       unmarked = unmarked;
       few = omega arith;
     }

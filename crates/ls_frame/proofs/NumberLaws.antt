@@ -45,30 +45,30 @@ capped_number d ds is = let small = digit_most d is in capped_at_end ds (d - 48)
 -- ---- digits
 
 -- digits after those that made n, and the white space after them
-pub record DigitsRead (n room : ℕ) (bytes : List ℕ) (found : ℕ × ℕ × List ℕ) : Type 0 where
+pub record DigitsRead (n allowed : ℕ) (bytes : List ℕ) (found : ℕ × ℕ × List ℕ) : Type 0 where
   pub ds : List ℕ
   pub white : ℕ
   pub each : AreDigits ds
   pub after : IsTrue (is_white white)
-  pub takes : Takes room bytes (ds ++ white ∷ []) found.1 found.2
+  pub takes : Takes allowed bytes (ds ++ white ∷ []) found.1 found.2
   pub is : found.0 ≡ followed_capped n ds
 
 -- digits, and then reading stops
-pub record DigitsStop (room : ℕ) (bytes : List ℕ) (fault : NetpbmFault) : Type 0 where
+pub record DigitsStop (allowed : ℕ) (bytes : List ℕ) (fault : NetpbmFault) : Type 0 where
   pub ds : List ℕ
   pub each : AreDigits ds
-  pub stops : BreaksOff room bytes ds digit_or_white fault
+  pub stops : BreaksOff allowed bytes ds digit_or_white fault
 
 -- one digit more in front
-digits_more : {n room : ℕ} {bytes : List ℕ} {found : ℕ × ℕ × List ℕ} (c : ℕ) → IsTrue (is_digit c) → DigitsRead (with_digit n c) room bytes found → DigitsRead n (suc room) (c ∷ bytes) found
+digits_more : {n allowed : ℕ} {bytes : List ℕ} {found : ℕ × ℕ × List ℕ} (c : ℕ) → IsTrue (is_digit c) → DigitsRead (with_digit n c) allowed bytes found → DigitsRead n (suc allowed) (c ∷ bytes) found
 digits_more c is read = record { ds = c ∷ read.ds; white = read.white; each = (is, read.each); after = read.after; takes = takes_cons c read.takes; is = read.is }
 
-digits_stop_more : {room : ℕ} {bytes : List ℕ} {fault : NetpbmFault} (c : ℕ) → IsTrue (is_digit c) → DigitsStop room bytes fault → DigitsStop (suc room) (c ∷ bytes) fault
+digits_stop_more : {allowed : ℕ} {bytes : List ℕ} {fault : NetpbmFault} (c : ℕ) → IsTrue (is_digit c) → DigitsStop allowed bytes fault → DigitsStop (suc allowed) (c ∷ bytes) fault
 digits_stop_more c is stop = record { ds = c ∷ stop.ds; each = (is, stop.each); stops = stops_cons c stop.stops }
 
 -- no digits
-white_here : (n room c : ℕ) (bytes : List ℕ) → IsTrue (is_white c) → DigitsRead n (suc room) (c ∷ bytes) (n, room, bytes)
-white_here n room c bytes is = record { ds = []; white = c; each = tt; after = is; takes = takes_one c room bytes; is = refl }
+white_here : (n allowed c : ℕ) (bytes : List ℕ) → IsTrue (is_white c) → DigitsRead n (suc allowed) (c ∷ bytes) (n, allowed, bytes)
+white_here n allowed c bytes is = record { ds = []; white = c; each = tt; after = is; takes = takes_one c allowed bytes; is = refl }
 
 -- a byte that neither test takes is refused
 neither : (c : ℕ) → is_digit c ≡ false → is_white c ≡ false → (is_digit c || is_white c) ≡ false
@@ -76,57 +76,57 @@ neither c a b = rw (a, b) refl
 
 -- what a step of a number gives
 abbrev pub DigitsGive : ℕ → ℕ → List ℕ → Step ℕ → Type 0
-DigitsGive n room bytes step = MatchResult step (DigitsRead n room bytes) (DigitsStop room bytes)
+DigitsGive n allowed bytes step = MatchResult step (DigitsRead n allowed bytes) (DigitsStop allowed bytes)
 
 -- a digit is one of the number
-digit_gives : (n room c : ℕ) (bytes : List ℕ) (step : Step ℕ) → IsTrue (is_digit c) → DigitsGive (with_digit n c) room bytes step → DigitsGive n (suc room) (c ∷ bytes) step
-digit_gives n room c bytes (Ok found) is read = digits_more c is read
-digit_gives n room c bytes (Err fault) is stop = digits_stop_more c is stop
+digit_gives : (n allowed c : ℕ) (bytes : List ℕ) (step : Step ℕ) → IsTrue (is_digit c) → DigitsGive (with_digit n c) allowed bytes step → DigitsGive n (suc allowed) (c ∷ bytes) step
+digit_gives n allowed c bytes (Ok found) is read = digits_more c is read
+digit_gives n allowed c bytes (Err fault) is stop = digits_stop_more c is stop
 
 -- what isn't a digit ends the number
-white_gives : (n room c : ℕ) (bytes : List ℕ) → is_digit c ≡ false → DigitsGive n (suc room) (c ∷ bytes) (cond (is_white c) (Ok (n, room, bytes)) (Err BadHeader))
-white_gives n room c bytes no_digit =
-    cond_both (is_white c) _ _ (DigitsGive n (suc room) (c ∷ bytes))
-    (λ is. white_here n room c bytes is)
+white_gives : (n allowed c : ℕ) (bytes : List ℕ) → is_digit c ≡ false → DigitsGive n (suc allowed) (c ∷ bytes) (cond (is_white c) (Ok (n, allowed, bytes)) (Err BadHeader))
+white_gives n allowed c bytes no_digit =
+    cond_both (is_white c) _ _ (DigitsGive n (suc allowed) (c ∷ bytes))
+    (λ is. white_here n allowed c bytes is)
     (λ no_white. record { ds = []; each = tt; stops = refuses c bytes refl (omega arith) (neither c no_digit no_white) refl })
 
 -- what is read is digits, and where it fails it stops
-pub digits_outcome : (n room : ℕ) (bytes : List ℕ) → DigitsGive n room bytes (digits_at n room bytes)
+pub digits_outcome : (n allowed : ℕ) (bytes : List ℕ) → DigitsGive n allowed bytes (digits_at n allowed bytes)
 unfolding digits_at
 digits_outcome n zero bytes = record { ds = []; each = tt; stops = too_long bytes refl refl refl }
-digits_outcome n (suc room) [] = record { ds = []; each = tt; stops = ends refl (omega arith) refl }
-digits_outcome n (suc room) (c ∷ bytes) =
-    cond_both (is_digit c) (digits_at (with_digit n c) room bytes) _ (DigitsGive n (suc room) (c ∷ bytes))
-    (λ is. digit_gives n room c bytes (digits_at (with_digit n c) room bytes) is (digits_outcome (with_digit n c) room bytes))
-    (λ no_digit. white_gives n room c bytes no_digit)
+digits_outcome n (suc allowed) [] = record { ds = []; each = tt; stops = ends refl (omega arith) refl }
+digits_outcome n (suc allowed) (c ∷ bytes) =
+    cond_both (is_digit c) (digits_at (with_digit n c) allowed bytes) _ (DigitsGive n (suc allowed) (c ∷ bytes))
+    (λ is. digit_gives n allowed c bytes (digits_at (with_digit n c) allowed bytes) is (digits_outcome (with_digit n c) allowed bytes))
+    (λ no_digit. white_gives n allowed c bytes no_digit)
 
 -- reading goes on after digits
-pub digits_pass : (ds bytes : List ℕ) (n room left : ℕ) → AreDigits ds → room ≡ length ds + left → digits_at n room (ds ++ bytes) ≡ digits_at (followed_capped n ds) left bytes
+pub digits_pass : (ds bytes : List ℕ) (n allowed left : ℕ) → AreDigits ds → allowed ≡ length ds + left → digits_at n allowed (ds ++ bytes) ≡ digits_at (followed_capped n ds) left bytes
 unfolding digits_at
-digits_pass [] bytes n room left each is = let e : room ≡ left = omega arith in ap (λ r. digits_at n r bytes) e
+digits_pass [] bytes n allowed left each is = let e : allowed ≡ left = omega arith in ap (λ r. digits_at n r bytes) e
 digits_pass (c ∷ ds) bytes n zero left each is = absurd (omega arith)
-digits_pass (c ∷ ds) bytes n (suc room) left each is = cond-true (is_digit c) _ _ each.0 ∙ digits_pass ds bytes (with_digit n c) room left each.1 (omega arith)
+digits_pass (c ∷ ds) bytes n (suc allowed) left each is = cond-true (is_digit c) _ _ each.0 ∙ digits_pass ds bytes (with_digit n c) allowed left each.1 (omega arith)
 
 -- ---- a field, after the white space that begins its gap
 
 -- `before` and a field were taken, and the white space after
-pub record FieldRead (room : ℕ) (bytes before : List ℕ) (found : ℕ × ℕ × List ℕ) : Type 0 where
+pub record FieldRead (allowed : ℕ) (bytes before : List ℕ) (found : ℕ × ℕ × List ℕ) : Type 0 where
   pub field : Field
   pub white : ℕ
   pub lawful : IsField field
   pub after : IsTrue (is_white white)
-  pub takes : Takes room bytes (before ++ field_bytes field ++ white ∷ []) found.1 found.2
+  pub takes : Takes allowed bytes (before ++ field_bytes field ++ white ∷ []) found.1 found.2
   pub is : found.0 ≡ capped (field_number field)
 
 -- `before` and the start of a field were taken, and then reading stops
-pub record FieldStops (room : ℕ) (bytes before : List ℕ) (fault : NetpbmFault) : Type 0 where
+pub record FieldStops (allowed : ℕ) (bytes before : List ℕ) (fault : NetpbmFault) : Type 0 where
   pub start : Start
   pub lawful : IsStart start
-  pub stops : BreaksOff room bytes (before ++ start_bytes start) (start_due start) fault
+  pub stops : BreaksOff allowed bytes (before ++ start_bytes start) (start_due start) fault
 
 -- a gap and digits are a field
-field_read : {room between : ℕ} {bytes before middle : List ℕ} (w : ℕ) (found second : ℕ × ℕ × List ℕ) → IsTrue (is_white w) → Takes room bytes (before ++ w ∷ []) between middle
-    → GapRead between middle found → DigitsRead (found.0 - 48) found.1 found.2 second → FieldRead room bytes before second
+field_read : {allowed between : ℕ} {bytes before middle : List ℕ} (w : ℕ) (found second : ℕ × ℕ × List ℕ) → IsTrue (is_white w) → Takes allowed bytes (before ++ w ∷ []) between middle
+    → GapRead between middle found → DigitsRead (found.0 - 48) found.1 found.2 second → FieldRead allowed bytes before second
 field_read {before = before} w found second white taken read number =
     let g : Gap = record { first = w; blanks = read.blanks } in
     let f : Field = record { gap = g; digits = found.0 ∷ number.ds } in
@@ -141,8 +141,8 @@ field_read {before = before} w found second white taken read number =
     }
 
 -- where reading stops in the gap
-gap_stops : {room between : ℕ} {bytes before middle : List ℕ} {fault : NetpbmFault} (w : ℕ) → IsTrue (is_white w) → Takes room bytes (before ++ w ∷ []) between middle → GapStops between middle fault
-    → FieldStops room bytes before fault
+gap_stops : {allowed between : ℕ} {bytes before middle : List ℕ} {fault : NetpbmFault} (w : ℕ) → IsTrue (is_white w) → Takes allowed bytes (before ++ w ∷ []) between middle → GapStops between middle fault
+    → FieldStops allowed bytes before fault
 gap_stops {before = before} w is taken (among_blanks blanks each stops) =
     let g : Gap = record { first = w; blanks = blanks } in
     let same : (before ++ w ∷ []) ++ blanks_bytes blanks ≡ before ++ gap_bytes g = simp append_assoc in
@@ -153,8 +153,8 @@ gap_stops {before = before} w is taken (within_comment blanks text each those st
     record { start = open_comment g text; lawful = (record { first = is; blanks = each }, those); stops = stops_as (stops_after taken stops) same }
 
 -- and where it stops in the digits
-digits_stop : {room between : ℕ} {bytes before middle : List ℕ} {fault : NetpbmFault} (w : ℕ) (found : ℕ × ℕ × List ℕ) → IsTrue (is_white w) → Takes room bytes (before ++ w ∷ []) between middle
-    → GapRead between middle found → DigitsStop found.1 found.2 fault → FieldStops room bytes before fault
+digits_stop : {allowed between : ℕ} {bytes before middle : List ℕ} {fault : NetpbmFault} (w : ℕ) (found : ℕ × ℕ × List ℕ) → IsTrue (is_white w) → Takes allowed bytes (before ++ w ∷ []) between middle
+    → GapRead between middle found → DigitsStop found.1 found.2 fault → FieldStops allowed bytes before fault
 digits_stop {before = before} w found white taken read stop =
     let g : Gap = record { first = w; blanks = read.blanks } in
     let same : (before ++ w ∷ []) ++ blanks_bytes read.blanks ++ (found.0 ∷ stop.ds) ≡ before ++ (gap_bytes g ++ found.0 ∷ stop.ds) = simp append_assoc in
@@ -165,12 +165,12 @@ digits_stop {before = before} w found white taken read stop =
     }
 
 -- what is read is a field, and where it fails it stops
-pub number_outcome : (room between : ℕ) (bytes before middle : List ℕ) (w : ℕ) → IsTrue (is_white w) → Takes room bytes (before ++ w ∷ []) between middle
-    → MatchResult (number_at between middle) (FieldRead room bytes before) (FieldStops room bytes before)
-number_outcome room between bytes before middle w white taken =
-    outcome_of_both (GapRead between middle) (GapStops between middle) (FieldRead room bytes before) (FieldStops room bytes before) (gap_at false between middle) (λ found. digits_at (found.0 - 48) found.1 found.2)
+pub number_outcome : (allowed between : ℕ) (bytes before middle : List ℕ) (w : ℕ) → IsTrue (is_white w) → Takes allowed bytes (before ++ w ∷ []) between middle
+    → MatchResult (number_at between middle) (FieldRead allowed bytes before) (FieldStops allowed bytes before)
+number_outcome allowed between bytes before middle w white taken =
+    outcome_of_both (GapRead between middle) (GapStops between middle) (FieldRead allowed bytes before) (FieldStops allowed bytes before) (gap_at false between middle) (λ found. digits_at (found.0 - 48) found.1 found.2)
     (gap_outcome false between middle)
-    (λ found read. outcome_weaker (DigitsRead (found.0 - 48) found.1 found.2) (DigitsStop found.1 found.2) (FieldRead room bytes before) (FieldStops room bytes before) (digits_at (found.0 - 48) found.1 found.2)
+    (λ found read. outcome_weaker (DigitsRead (found.0 - 48) found.1 found.2) (DigitsStop found.1 found.2) (FieldRead allowed bytes before) (FieldStops allowed bytes before) (digits_at (found.0 - 48) found.1 found.2)
     (digits_outcome (found.0 - 48) found.1 found.2)
     (λ second number. field_read w found second white taken read number)
     (λ fault stop. digits_stop w found white taken read stop))
@@ -198,17 +198,17 @@ out_of_range_if n m is test range = elim (and_cases (ltb 0 n) (leb n greatest) t
 ]
 
 -- `before` and a field with its number from 1 to 65535 were taken, and the white space after
-pub record InRangeRead (room : ℕ) (bytes before : List ℕ) (found : ℕ × ℕ × List ℕ) : Type 0 where
+pub record InRangeRead (allowed : ℕ) (bytes before : List ℕ) (found : ℕ × ℕ × List ℕ) : Type 0 where
   pub field : Field
   pub white : ℕ
   pub lawful : IsField field
   pub range : InRange (field_number field)
   pub after : IsTrue (is_white white)
-  pub takes : Takes room bytes (before ++ field_bytes field ++ white ∷ []) found.1 found.2
+  pub takes : Takes allowed bytes (before ++ field_bytes field ++ white ∷ []) found.1 found.2
   pub is : found.0 ≡ field_number field
 
 -- the same of a field whose number is something else
-pub record OutOfRange (room : ℕ) (bytes before : List ℕ) : Type 0 where
+pub record OutOfRange (allowed : ℕ) (bytes before : List ℕ) : Type 0 where
   pub field : Field
   pub white : ℕ
   pub left : ℕ
@@ -216,15 +216,15 @@ pub record OutOfRange (room : ℕ) (bytes before : List ℕ) : Type 0 where
   pub lawful : IsField field
   pub out : ¬ InRange (field_number field)
   pub after : IsTrue (is_white white)
-  pub takes : Takes room bytes (before ++ field_bytes field ++ white ∷ []) left rest
+  pub takes : Takes allowed bytes (before ++ field_bytes field ++ white ∷ []) left rest
 
 -- how a field fails
-pub data FieldFault (room : ℕ) (bytes before : List ℕ) (range_fault fault : NetpbmFault) : Type 0 where
-  field_stops : FieldStops room bytes before fault → FieldFault room bytes before range_fault fault
-  out_of_range : OutOfRange room bytes before → fault ≡ range_fault → FieldFault room bytes before range_fault fault
+pub data FieldFault (allowed : ℕ) (bytes before : List ℕ) (range_fault fault : NetpbmFault) : Type 0 where
+  field_stops : FieldStops allowed bytes before fault → FieldFault allowed bytes before range_fault fault
+  out_of_range : OutOfRange allowed bytes before → fault ≡ range_fault → FieldFault allowed bytes before range_fault fault
 
 -- a field that was read, with its number in range, or out of it
-in_range_read : {room : ℕ} {bytes before : List ℕ} {found : ℕ × ℕ × List ℕ} (read : FieldRead room bytes before found) → InRange (field_number read.field) → InRangeRead room bytes before found
+in_range_read : {allowed : ℕ} {bytes before : List ℕ} {found : ℕ × ℕ × List ℕ} (read : FieldRead allowed bytes before found) → InRange (field_number read.field) → InRangeRead allowed bytes before found
 in_range_read {found = found} read range = record {
   field = read.field;
   white = read.white;
@@ -235,7 +235,7 @@ in_range_read {found = found} read range = record {
   is = same_in_range found.0 (field_number read.field) read.is range;
 }
 
-out_of_range_read : {room : ℕ} {bytes before : List ℕ} {found : ℕ × ℕ × List ℕ} (read : FieldRead room bytes before found) → ¬ InRange (field_number read.field) → OutOfRange room bytes before
+out_of_range_read : {allowed : ℕ} {bytes before : List ℕ} {found : ℕ × ℕ × List ℕ} (read : FieldRead allowed bytes before found) → ¬ InRange (field_number read.field) → OutOfRange allowed bytes before
 out_of_range_read {found = found} read out = record {
   field = read.field;
   white = read.white;
@@ -248,20 +248,20 @@ out_of_range_read {found = found} read out = record {
 }
 
 -- the test after the number
-ranged : (range_fault : NetpbmFault) (room : ℕ) (bytes before : List ℕ) (found : ℕ × ℕ × List ℕ) → FieldRead room bytes before found
-    → MatchResult (in_range range_fault found.0 >>= λ n. Ok (n, found.1, found.2)) (InRangeRead room bytes before) (FieldFault room bytes before range_fault)
-ranged range_fault room bytes before found read =
+ranged : (range_fault : NetpbmFault) (allowed : ℕ) (bytes before : List ℕ) (found : ℕ × ℕ × List ℕ) → FieldRead allowed bytes before found
+    → MatchResult (in_range range_fault found.0 >>= λ n. Ok (n, found.1, found.2)) (InRangeRead allowed bytes before) (FieldFault allowed bytes before range_fault)
+ranged range_fault allowed bytes before found read =
     cond_both (ltb 0 found.0 && leb found.0 greatest) (Ok found.0) (Err range_fault)
-    (λ r. MatchResult (r >>= λ n. Ok (n, found.1, found.2)) (InRangeRead room bytes before) (FieldFault room bytes before range_fault))
+    (λ r. MatchResult (r >>= λ n. Ok (n, found.1, found.2)) (InRangeRead allowed bytes before) (FieldFault allowed bytes before range_fault))
     (λ test. in_range_read read (in_range_if found.0 (field_number read.field) read.is test))
     (λ test. out_of_range (out_of_range_read read (out_of_range_if found.0 (field_number read.field) read.is test)) refl)
 
 -- what is read is a field with its number in range; else it stops, or the number is out of range
-pub field_outcome : (range_fault : NetpbmFault) (room between : ℕ) (bytes before middle : List ℕ) (w : ℕ) → IsTrue (is_white w) → Takes room bytes (before ++ w ∷ []) between middle
-    → MatchResult (in_range_at range_fault between middle) (InRangeRead room bytes before) (FieldFault room bytes before range_fault)
-field_outcome range_fault room between bytes before middle w white taken =
-    outcome_of_both (FieldRead room bytes before) (FieldStops room bytes before) (InRangeRead room bytes before) (FieldFault room bytes before range_fault) (number_at between middle)
+pub field_outcome : (range_fault : NetpbmFault) (allowed between : ℕ) (bytes before middle : List ℕ) (w : ℕ) → IsTrue (is_white w) → Takes allowed bytes (before ++ w ∷ []) between middle
+    → MatchResult (in_range_at range_fault between middle) (InRangeRead allowed bytes before) (FieldFault allowed bytes before range_fault)
+field_outcome range_fault allowed between bytes before middle w white taken =
+    outcome_of_both (FieldRead allowed bytes before) (FieldStops allowed bytes before) (InRangeRead allowed bytes before) (FieldFault allowed bytes before range_fault) (number_at between middle)
     (λ number. in_range range_fault number.0 >>= λ n. Ok (n, number.1, number.2))
-    (number_outcome room between bytes before middle w white taken)
-    (λ found read. ranged range_fault room bytes before found read)
+    (number_outcome allowed between bytes before middle w white taken)
+    (λ found read. ranged range_fault allowed bytes before found read)
     (λ fault stops. field_stops stops)

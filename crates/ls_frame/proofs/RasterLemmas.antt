@@ -63,25 +63,25 @@ begun_of-odd (a ∷ b ∷ bytes) h =
     let place : suc (suc (length bytes)) - 1 ≡ suc (suc (length bytes - 1)) = omega arith in
     begun_of-odd bytes odd ∙ ap (λ i. get_or (a ∷ b ∷ bytes) i 0 ∷ []) (sym place)
 
--- The byte of a sample begun is the last of an odd number, brought to the front of the piece.
-pub begun_of-none : (wide : Bool) (piece : List ℕ) (filled : ℕ) → filled ≤ length piece → (wide ≡ false) ⊎ (filled % 2 ≡ 0) → begun_of wide (take filled piece) ≡ []
+-- The byte of a sample begun is the last of an odd number, brought to the front of the chunk.
+pub begun_of-none : (wide : Bool) (chunk : List ℕ) (filled : ℕ) → filled ≤ length chunk → (wide ≡ false) ⊎ (filled % 2 ≡ 0) → begun_of wide (take filled chunk) ≡ []
 unfolding begun_of
-begun_of-none wide piece filled within (inl narrow) = rw narrow refl
-begun_of-none false piece filled within (inr even) = refl
-begun_of-none true piece filled within (inr even) =
-    begun_of-even (take filled piece) (let all : length (take filled piece) ≡ filled = length-take-le filled piece within in rw all even)
+begun_of-none wide chunk filled within (inl narrow) = rw narrow refl
+begun_of-none false chunk filled within (inr even) = refl
+begun_of-none true chunk filled within (inr even) =
+    begun_of-even (take filled chunk) (let all : length (take filled chunk) ≡ filled = length-take-le filled chunk within in rw all even)
 
-pub begun_of-one : (piece : List ℕ) (filled : ℕ) → 0 < filled → filled ≤ length piece → filled % 2 ≡ 1
-    → take 1 (set piece 0 (get_or piece (filled - 1) 0)) ≡ begun_of true (take filled piece)
-begun_of-one piece filled some within odd =
-    let all : length (take filled piece) ≡ filled = length-take-le filled piece within in
-    let last : get_or (take filled piece) (filled - 1) 0 ≡ get_or piece (filled - 1) 0 = get_or-take filled piece (filled - 1) 0 (omega arith) in
-    take_more_set piece 0 _ (omega arith)
+pub begun_of-one : (chunk : List ℕ) (filled : ℕ) → 0 < filled → filled ≤ length chunk → filled % 2 ≡ 1
+    → take 1 (set chunk 0 (get_or chunk (filled - 1) 0)) ≡ begun_of true (take filled chunk)
+begun_of-one chunk filled some within odd =
+    let all : length (take filled chunk) ≡ filled = length-take-le filled chunk within in
+    let last : get_or (take filled chunk) (filled - 1) 0 ≡ get_or chunk (filled - 1) 0 = get_or-take filled chunk (filled - 1) 0 (omega arith) in
+    take_more_set chunk 0 _ (omega arith)
     ∙ ap (λ s. s ∷ []) (sym last)
-    ∙ ap (λ n. get_or (take filled piece) (n - 1) 0 ∷ []) (sym all)
-    ∙ sym (begun_of-odd (take filled piece) (rw all odd))
+    ∙ ap (λ n. get_or (take filled chunk) (n - 1) 0 ∷ []) (sym all)
+    ∙ sym (begun_of-odd (take filled chunk) (rw all odd))
 
--- ---- the samples of a piece
+-- ---- the samples of a chunk
 
 pub with_front-all : (front back : List ℕ) (read : Take (List ℕ)) → with_front front (with_front back read) ≡ with_front (front ++ back) read
 with_front-all front back (Ok found) = ap (λ s. Ok (s, found.1)) (sym (append_assoc front back found.0))
@@ -91,92 +91,92 @@ pub with_front-nil : (read : Take (List ℕ)) → with_front [] read ≡ read
 with_front-nil (Ok found) = refl
 with_front-nil (Err fault) = refl
 
--- what a piece's samples are read as: over maxval, or in front of what is read after them
-pub piece_read : Bool → List ℕ → Take (List ℕ) → Take (List ℕ)
-piece_read true front read = with_front front read
-piece_read false front read = Err SampleTooLarge
+-- what a chunk's samples are read as: over maxval, or in front of what is read after them
+pub chunk_read : Bool → List ℕ → Take (List ℕ) → Take (List ℕ)
+chunk_read true front read = with_front front read
+chunk_read false front read = Err SampleTooLarge
 
 one_more : (here rest : Bool) (s : ℕ) (front : List ℕ) (read : Take (List ℕ))
-    → ((cond here (Ok s) (Err SampleTooLarge)) >>= λ s. with_front (s ∷ []) (piece_read rest front read)) ≡ piece_read (here && rest) (s ∷ front) read
-unfolding piece_read
+    → ((cond here (Ok s) (Err SampleTooLarge)) >>= λ s. with_front (s ∷ []) (chunk_read rest front read)) ≡ chunk_read (here && rest) (s ∷ front) read
+unfolding chunk_read
 one_more true true s front read = with_front-all (s ∷ []) front read
 one_more true false s front read = refl
 one_more false true s front read = refl
 one_more false false s front read = refl
 
-pub samples_at-piece : (wide : Bool) (maxval : ℕ) (bytes rest : List ℕ) (n : ℕ)
+pub samples_at-chunk : (wide : Bool) (maxval : ℕ) (bytes rest : List ℕ) (n : ℕ)
     → samples_at wide maxval (length (samples_of wide bytes) + n) (bytes ++ rest)
-    ≡ piece_read (are_within maxval (samples_of wide bytes)) (samples_of wide bytes) (samples_at wide maxval n (begun_of wide bytes ++ rest))
-unfolding samples_at samples_of begun_of piece_read
-samples_at-piece false maxval [] rest n = (let e : 0 + n ≡ n = omega arith in ap (λ k. samples_at false maxval k rest) e) ∙ sym (with_front-nil _)
-samples_at-piece false maxval (a ∷ bytes) rest n =
+    ≡ chunk_read (are_within maxval (samples_of wide bytes)) (samples_of wide bytes) (samples_at wide maxval n (begun_of wide bytes ++ rest))
+unfolding samples_at samples_of begun_of chunk_read
+samples_at-chunk false maxval [] rest n = (let e : 0 + n ≡ n = omega arith in ap (λ k. samples_at false maxval k rest) e) ∙ sym (with_front-nil _)
+samples_at-chunk false maxval (a ∷ bytes) rest n =
     (let e : suc (length bytes) + n ≡ suc (length bytes + n) = omega arith in ap (λ k. samples_at false maxval k (a ∷ bytes ++ rest)) e)
-    ∙ ap (λ read. within maxval a >>= λ s. with_front (s ∷ []) read) (samples_at-piece false maxval bytes rest n)
+    ∙ ap (λ read. within maxval a >>= λ s. with_front (s ∷ []) read) (samples_at-chunk false maxval bytes rest n)
     ∙ one_more (leb a maxval) (are_within maxval bytes) a bytes (samples_at false maxval n rest)
-samples_at-piece true maxval [] rest n = (let e : 0 + n ≡ n = omega arith in ap (λ k. samples_at true maxval k rest) e) ∙ sym (with_front-nil _)
-samples_at-piece true maxval (a ∷ []) rest n = (let e : 0 + n ≡ n = omega arith in ap (λ k. samples_at true maxval k (a ∷ rest)) e) ∙ sym (with_front-nil _)
-samples_at-piece true maxval (a ∷ b ∷ bytes) rest n =
+samples_at-chunk true maxval [] rest n = (let e : 0 + n ≡ n = omega arith in ap (λ k. samples_at true maxval k rest) e) ∙ sym (with_front-nil _)
+samples_at-chunk true maxval (a ∷ []) rest n = (let e : 0 + n ≡ n = omega arith in ap (λ k. samples_at true maxval k (a ∷ rest)) e) ∙ sym (with_front-nil _)
+samples_at-chunk true maxval (a ∷ b ∷ bytes) rest n =
     (let e : suc (length (samples_of true bytes)) + n ≡ suc (length (samples_of true bytes) + n) = omega arith in ap (λ k. samples_at true maxval k (a ∷ b ∷ bytes ++ rest)) e)
-    ∙ ap (λ read. within maxval (256 * a + b) >>= λ s. with_front (s ∷ []) read) (samples_at-piece true maxval bytes rest n)
+    ∙ ap (λ read. within maxval (256 * a + b) >>= λ s. with_front (s ∷ []) read) (samples_at-chunk true maxval bytes rest n)
     ∙ one_more (leb (256 * a + b) maxval) (are_within maxval (samples_of true bytes)) (256 * a + b) (samples_of true bytes) (samples_at true maxval n (begun_of true bytes ++ rest))
 
--- ---- how far a piece brings the loop
+-- ---- how far a chunk brings the loop
 
-pub piece-size : (wide : Bool) (bytes : List ℕ) → byte_count wide (length (samples_of wide bytes)) + length (begun_of wide bytes) ≡ length bytes
+pub chunk-size : (wide : Bool) (bytes : List ℕ) → byte_count wide (length (samples_of wide bytes)) + length (begun_of wide bytes) ≡ length bytes
 unfolding samples_of begun_of
-piece-size false bytes = omega arith
-piece-size true [] = refl
-piece-size true (a ∷ []) = refl
-piece-size true (a ∷ b ∷ bytes) = let more = piece-size true bytes in omega arith
+chunk-size false bytes = omega arith
+chunk-size true [] = refl
+chunk-size true (a ∷ []) = refl
+chunk-size true (a ∷ b ∷ bytes) = let more = chunk-size true bytes in omega arith
 
-pub piece-order : (wide : Bool) (left piece held : ℕ) → 0 < left → sample_size wide ≤ piece → held ≤ 1 → (wide ≡ false → held ≡ 0) → held < min (byte_count wide left) piece
-piece-order false left piece held more some few narrow = let none = narrow refl in omega arith
-piece-order true left piece held more some few narrow = omega arith
+pub chunk-order : (wide : Bool) (left chunk held : ℕ) → 0 < left → sample_size wide ≤ chunk → held ≤ 1 → (wide ≡ false → held ≡ 0) → held < min (byte_count wide left) chunk
+chunk-order false left chunk held more some few narrow = let none = narrow refl in omega arith
+chunk-order true left chunk held more some few narrow = omega arith
 
-pub piece-few : (wide : Bool) (left here begun filled : ℕ) → byte_count wide here + begun ≡ filled → filled ≤ byte_count wide left → here ≤ left
-piece-few false left here begun filled all within = omega arith
-piece-few true left here begun filled all within = omega arith
+pub chunk-few : (wide : Bool) (left here begun filled : ℕ) → byte_count wide here + begun ≡ filled → filled ≤ byte_count wide left → here ≤ left
+chunk-few false left here begun filled all within = omega arith
+chunk-few true left here begun filled all within = omega arith
 
-pub piece-less : (wide : Bool) (left here begun filled held : ℕ) → byte_count wide here + begun ≡ filled → filled ≤ byte_count wide left → held < filled
+pub chunk-less : (wide : Bool) (left here begun filled held : ℕ) → byte_count wide here + begun ≡ filled → filled ≤ byte_count wide left → held < filled
     → byte_count wide (left - here) - begun < byte_count wide left - held
-piece-less false left here begun filled held all within more = omega arith
-piece-less true left here begun filled held all within more = omega arith
+chunk-less false left here begun filled held all within more = omega arith
+chunk-less true left here begun filled held all within more = omega arith
 
--- ---- what the loop over pieces knows
+-- ---- what the loop over chunks knows
 
--- the count that is left, split at the samples of a piece
+-- the count that is left, split at the samples of a chunk
 left-split : (count : ℕ) (samples more : List ℕ) → length more ≤ count - length samples → count - length samples ≡ length more + (count - length (samples ++ more))
 left-split count samples more few = let all = length-append samples more in omega arith
 
--- a piece was read
-pieces-read : (wide : Bool) (maxval count : ℕ) (samples part before rest : List ℕ) (within : Bool) (whole : Take (List ℕ))
+-- a chunk was read
+chunks-read : (wide : Bool) (maxval count : ℕ) (samples part before rest : List ℕ) (within : Bool) (whole : Take (List ℕ))
     → whole ≡ with_front samples (samples_at wide maxval (count - length samples) before) → before ≡ part ++ rest
     → are_within maxval (samples_of wide part) ≡ within → length (samples_of wide part) ≤ count - length samples
-    → whole ≡ with_front samples (piece_read within (samples_of wide part) (samples_at wide maxval (count - length (samples ++ samples_of wide part)) (begun_of wide part ++ rest)))
-pieces-read wide maxval count samples part before rest within whole said read passes few =
+    → whole ≡ with_front samples (chunk_read within (samples_of wide part) (samples_at wide maxval (count - length (samples ++ samples_of wide part)) (begun_of wide part ++ rest)))
+chunks-read wide maxval count samples part before rest within whole said read passes few =
     said
     ∙ ap (λ bytes. with_front samples (samples_at wide maxval (count - length samples) bytes)) read
     ∙ ap (λ n. with_front samples (samples_at wide maxval n (part ++ rest))) (left-split count samples (samples_of wide part) few)
-    ∙ ap (with_front samples) (samples_at-piece wide maxval part rest (count - length (samples ++ samples_of wide part)))
-    ∙ ap (λ w. with_front samples (piece_read w (samples_of wide part) (samples_at wide maxval (count - length (samples ++ samples_of wide part)) (begun_of wide part ++ rest)))) passes
+    ∙ ap (with_front samples) (samples_at-chunk wide maxval part rest (count - length (samples ++ samples_of wide part)))
+    ∙ ap (λ w. with_front samples (chunk_read w (samples_of wide part) (samples_at wide maxval (count - length (samples ++ samples_of wide part)) (begun_of wide part ++ rest)))) passes
 
 -- .. all of its samples within maxval
-pub pieces-more : (wide : Bool) (maxval count : ℕ) (samples part before rest : List ℕ) (whole : Take (List ℕ))
+pub chunks-more : (wide : Bool) (maxval count : ℕ) (samples part before rest : List ℕ) (whole : Take (List ℕ))
     → whole ≡ with_front samples (samples_at wide maxval (count - length samples) before) → before ≡ part ++ rest
     → are_within maxval (samples_of wide part) ≡ true → length (samples_of wide part) ≤ count - length samples
     → whole ≡ with_front (samples ++ samples_of wide part) (samples_at wide maxval (count - length (samples ++ samples_of wide part)) (begun_of wide part ++ rest))
-unfolding piece_read
-pieces-more wide maxval count samples part before rest whole said read passes few =
-    pieces-read wide maxval count samples part before rest true whole said read passes few
+unfolding chunk_read
+chunks-more wide maxval count samples part before rest whole said read passes few =
+    chunks-read wide maxval count samples part before rest true whole said read passes few
     ∙ with_front-all samples (samples_of wide part) _
 
 -- .. or one over it
-pub pieces-over : (wide : Bool) (maxval count : ℕ) (samples part before rest : List ℕ) (whole : Take (List ℕ))
+pub chunks-over : (wide : Bool) (maxval count : ℕ) (samples part before rest : List ℕ) (whole : Take (List ℕ))
     → whole ≡ with_front samples (samples_at wide maxval (count - length samples) before) → before ≡ part ++ rest
     → are_within maxval (samples_of wide part) ≡ false → length (samples_of wide part) ≤ count - length samples → whole ≡ Err SampleTooLarge
-unfolding piece_read
-pieces-over wide maxval count samples part before rest whole said read passes few =
-    pieces-read wide maxval count samples part before rest false whole said read passes few
+unfolding chunk_read
+chunks-over wide maxval count samples part before rest whole said read passes few =
+    chunks-read wide maxval count samples part before rest false whole said read passes few
 
 samples_at-short : (wide : Bool) (maxval left : ℕ) (bytes : List ℕ) → 0 < left → length bytes < sample_size wide → samples_at wide maxval left bytes ≡ Err Truncated
 unfolding samples_at
@@ -187,25 +187,25 @@ samples_at-short true maxval (suc left) [] more short = refl
 samples_at-short true maxval (suc left) (a ∷ []) more short = refl
 samples_at-short true maxval (suc left) (a ∷ b ∷ bytes) more short = absurd (omega arith)
 
-held-short : (wide : Bool) (piece : List ℕ) (held : ℕ) → held ≤ 1 → (wide ≡ false → held ≡ 0) → length (take held piece) < sample_size wide
-held-short false piece held few narrow = let none = narrow refl in omega (arith, length-take held piece)
-held-short true piece held few narrow = omega (arith, length-take held piece)
+held-short : (wide : Bool) (chunk : List ℕ) (held : ℕ) → held ≤ 1 → (wide ≡ false → held ≡ 0) → length (take held chunk) < sample_size wide
+held-short false chunk held few narrow = let none = narrow refl in omega (arith, length-take held chunk)
+held-short true chunk held few narrow = omega (arith, length-take held chunk)
 
 -- the input ended
-pub pieces-end : (wide : Bool) (maxval count held : ℕ) (samples piece rest : List ℕ) (whole : Take (List ℕ))
-    → whole ≡ with_front samples (samples_at wide maxval (count - length samples) (take held piece ++ rest)) → rest ≡ []
+pub chunks-end : (wide : Bool) (maxval count held : ℕ) (samples chunk rest : List ℕ) (whole : Take (List ℕ))
+    → whole ≡ with_front samples (samples_at wide maxval (count - length samples) (take held chunk ++ rest)) → rest ≡ []
     → length samples < count → held ≤ 1 → (wide ≡ false → held ≡ 0) → whole ≡ Err Truncated
-pieces-end wide maxval count held samples piece rest whole said none more few narrow =
+chunks-end wide maxval count held samples chunk rest whole said none more few narrow =
     said
-    ∙ ap (λ bytes. with_front samples (samples_at wide maxval (count - length samples) (take held piece ++ bytes))) none
-    ∙ ap (λ bytes. with_front samples (samples_at wide maxval (count - length samples) bytes)) (append-nil (take held piece))
-    ∙ ap (with_front samples) (samples_at-short wide maxval (count - length samples) (take held piece) (omega arith) (held-short wide piece held few narrow))
+    ∙ ap (λ bytes. with_front samples (samples_at wide maxval (count - length samples) (take held chunk ++ bytes))) none
+    ∙ ap (λ bytes. with_front samples (samples_at wide maxval (count - length samples) bytes)) (append-nil (take held chunk))
+    ∙ ap (with_front samples) (samples_at-short wide maxval (count - length samples) (take held chunk) (omega arith) (held-short wide chunk held few narrow))
 
 -- all samples are there
-pub pieces-all : (wide : Bool) (maxval count : ℕ) (samples before : List ℕ) (whole : Take (List ℕ))
+pub chunks-all : (wide : Bool) (maxval count : ℕ) (samples before : List ℕ) (whole : Take (List ℕ))
     → whole ≡ with_front samples (samples_at wide maxval (count - length samples) before) → count ≤ length samples → whole ≡ Ok (samples, before)
 unfolding samples_at
-pieces-all wide maxval count samples before whole said all =
+chunks-all wide maxval count samples before whole said all =
     said
     ∙ (let none : count - length samples ≡ 0 = omega arith in ap (λ n. with_front samples (samples_at wide maxval n before)) none)
     ∙ ap (λ s. Ok (s, before)) (append-nil samples)
@@ -216,32 +216,32 @@ are_within-append maxval (s ∷ front) back all more =
     let here = and_parts (leb s maxval) (are_within maxval front) all in
     and_from (leb s maxval) (are_within maxval (front ++ back)) here.0 (are_within-append maxval front back here.1 more)
 
--- a piece has no more samples than are left, and brings the loop nearer its end
-pub part-few : (wide : Bool) (piece : List ℕ) (filled left : ℕ) → filled ≤ length piece → filled ≤ byte_count wide left → length (samples_of wide (take filled piece)) ≤ left
-part-few wide piece filled left within few =
-    piece-few wide left _ _ filled (piece-size wide (take filled piece) ∙ length-take-le filled piece within) few
+-- a chunk has no more samples than are left, and brings the loop nearer its end
+pub part-few : (wide : Bool) (chunk : List ℕ) (filled left : ℕ) → filled ≤ length chunk → filled ≤ byte_count wide left → length (samples_of wide (take filled chunk)) ≤ left
+part-few wide chunk filled left within few =
+    chunk-few wide left _ _ filled (chunk-size wide (take filled chunk) ∙ length-take-le filled chunk within) few
 
-pub part-less : (wide : Bool) (piece kept : List ℕ) (filled left held begun : ℕ) → filled ≤ length piece → filled ≤ byte_count wide left → held < filled
-    → begun ≤ length kept → take begun kept ≡ begun_of wide (take filled piece)
-    → byte_count wide (left - length (samples_of wide (take filled piece))) - begun < byte_count wide left - held
-part-less wide piece kept filled left held begun within few more room same =
-    let count : begun ≡ length (begun_of wide (take filled piece)) = sym (length-take-le begun kept room) ∙ ap length same in
-    rw count (piece-less wide left _ _ filled held (piece-size wide (take filled piece) ∙ length-take-le filled piece within) few more)
+pub part-less : (wide : Bool) (chunk kept : List ℕ) (filled left held begun : ℕ) → filled ≤ length chunk → filled ≤ byte_count wide left → held < filled
+    → begun ≤ length kept → take begun kept ≡ begun_of wide (take filled chunk)
+    → byte_count wide (left - length (samples_of wide (take filled chunk))) - begun < byte_count wide left - held
+part-less wide chunk kept filled left held begun within few more room same =
+    let count : begun ≡ length (begun_of wide (take filled chunk)) = sym (length-take-le begun kept room) ∙ ap length same in
+    rw count (chunk-less wide left _ _ filled held (chunk-size wide (take filled chunk) ∙ length-take-le filled chunk within) few more)
 
 -- the bytes that are left, by the vector's length
 pub left-by_len : (wide : Bool) (count len : ℕ) (samples : List ℕ) → len ≡ length samples → byte_count wide (count - len) ≡ byte_count wide (count - length samples)
 left-by_len wide count len samples same = ap (λ n. byte_count wide (count - n)) same
 
 -- no byte is held after the last sample
-piece-last : (wide : Bool) (left here begun filled : ℕ) → byte_count wide here + begun ≡ filled → filled ≤ byte_count wide left → left ≤ here → begun ≡ 0
-piece-last false left here begun filled all within last = omega arith
-piece-last true left here begun filled all within last = omega arith
+chunk-last : (wide : Bool) (left here begun filled : ℕ) → byte_count wide here + begun ≡ filled → filled ≤ byte_count wide left → left ≤ here → begun ≡ 0
+chunk-last false left here begun filled all within last = omega arith
+chunk-last true left here begun filled all within last = omega arith
 
-pub part-last : (wide : Bool) (piece kept : List ℕ) (filled left begun : ℕ) → filled ≤ length piece → filled ≤ byte_count wide left
-    → begun ≤ length kept → take begun kept ≡ begun_of wide (take filled piece) → left ≤ length (samples_of wide (take filled piece)) → begun ≡ 0
-part-last wide piece kept filled left begun within few room same last =
-    let count : begun ≡ length (begun_of wide (take filled piece)) = sym (length-take-le begun kept room) ∙ ap length same in
-    count ∙ piece-last wide left _ _ filled (piece-size wide (take filled piece) ∙ length-take-le filled piece within) few last
+pub part-last : (wide : Bool) (chunk kept : List ℕ) (filled left begun : ℕ) → filled ≤ length chunk → filled ≤ byte_count wide left
+    → begun ≤ length kept → take begun kept ≡ begun_of wide (take filled chunk) → left ≤ length (samples_of wide (take filled chunk)) → begun ≡ 0
+part-last wide chunk kept filled left begun within few room same last =
+    let count : begun ≡ length (begun_of wide (take filled chunk)) = sym (length-take-le begun kept room) ∙ ap length same in
+    count ∙ chunk-last wide left _ _ filled (chunk-size wide (take filled chunk) ∙ length-take-le filled chunk within) few last
 
 -- what is within maxval all together is so one by one
 pub within-each : (maxval : ℕ) (samples : List ℕ) → are_within maxval samples ≡ true → AllByRecursion (λ sample. sample ≤ maxval) samples

@@ -12,29 +12,29 @@ digit_step : ℕ → ℕ × ℕ × List ℕ → Step ℕ
 digit_step n found =
     cond (is_digit found.0) (digits_at (with_digit n found.0) found.1 found.2) (cond (is_white found.0) (Ok (n, found.1, found.2)) (Err BadHeader))
 
-digits_at-byte : (n room : ℕ) (bytes : List ℕ) → digits_at n room bytes ≡ (byte_at room bytes >>= digit_step n)
+digits_at-byte : (n allowed : ℕ) (bytes : List ℕ) → digits_at n allowed bytes ≡ (byte_at allowed bytes >>= digit_step n)
 unfolding digits_at digit_step
 digits_at-byte n zero bytes = refl
-digits_at-byte n (suc room) [] = refl
-digits_at-byte n (suc room) (c ∷ bytes) = refl
+digits_at-byte n (suc allowed) [] = refl
+digits_at-byte n (suc allowed) (c ∷ bytes) = refl
 
-pub digits_at-digit : (n room c room' : ℕ) (bytes bytes' : List ℕ) → byte_at room bytes ≡ Ok (c, room', bytes') → is_digit c ≡ true
-    → digits_at n room bytes ≡ digits_at (with_digit n c) room' bytes'
+pub digits_at-digit : (n allowed c allowed' : ℕ) (bytes bytes' : List ℕ) → byte_at allowed bytes ≡ Ok (c, allowed', bytes') → is_digit c ≡ true
+    → digits_at n allowed bytes ≡ digits_at (with_digit n c) allowed' bytes'
 unfolding digit_step
-digits_at-digit n room c room' bytes bytes' found digit = rw (digits_at-byte n room bytes, found, digit) refl
+digits_at-digit n allowed c allowed' bytes bytes' found digit = rw (digits_at-byte n allowed bytes, found, digit) refl
 
-pub digits_at-white : (n room c room' : ℕ) (bytes bytes' : List ℕ) → byte_at room bytes ≡ Ok (c, room', bytes') → is_digit c ≡ false → is_white c ≡ true
-    → digits_at n room bytes ≡ Ok (n, room', bytes')
+pub digits_at-white : (n allowed c allowed' : ℕ) (bytes bytes' : List ℕ) → byte_at allowed bytes ≡ Ok (c, allowed', bytes') → is_digit c ≡ false → is_white c ≡ true
+    → digits_at n allowed bytes ≡ Ok (n, allowed', bytes')
 unfolding digit_step
-digits_at-white n room c room' bytes bytes' found digit white = rw (digits_at-byte n room bytes, found, digit, white) refl
+digits_at-white n allowed c allowed' bytes bytes' found digit white = rw (digits_at-byte n allowed bytes, found, digit, white) refl
 
-pub digits_at-other : (n room c room' : ℕ) (bytes bytes' : List ℕ) → byte_at room bytes ≡ Ok (c, room', bytes') → is_digit c ≡ false → is_white c ≡ false
-    → digits_at n room bytes ≡ Err BadHeader
+pub digits_at-other : (n allowed c allowed' : ℕ) (bytes bytes' : List ℕ) → byte_at allowed bytes ≡ Ok (c, allowed', bytes') → is_digit c ≡ false → is_white c ≡ false
+    → digits_at n allowed bytes ≡ Err BadHeader
 unfolding digit_step
-digits_at-other n room c room' bytes bytes' found digit white = rw (digits_at-byte n room bytes, found, digit, white) refl
+digits_at-other n allowed c allowed' bytes bytes' found digit white = rw (digits_at-byte n allowed bytes, found, digit, white) refl
 
-pub digits_at-fault : (n room : ℕ) (bytes : List ℕ) (fault : NetpbmFault) → byte_at room bytes ≡ Err fault → digits_at n room bytes ≡ Err fault
-digits_at-fault n room bytes fault found = rw (digits_at-byte n room bytes, found) refl
+pub digits_at-fault : (n allowed : ℕ) (bytes : List ℕ) (fault : NetpbmFault) → byte_at allowed bytes ≡ Err fault → digits_at n allowed bytes ≡ Err fault
+digits_at-fault n allowed bytes fault found = rw (digits_at-byte n allowed bytes, found) refl
 
 pub ruleset digit_lemmas = (digits_at-digit, digits_at-white, digits_at-other, digits_at-fault)
 
@@ -47,24 +47,24 @@ gap_step false found =
     (cond (is_hash found.0) (gap_at true found.1 found.2)
     (cond (is_digit found.0) (Ok (found.0, found.1, found.2)) (Err BadHeader)))
 
-gap_at-byte : (in_comment : Bool) (room : ℕ) (bytes : List ℕ) → gap_at in_comment room bytes ≡ (byte_at room bytes >>= gap_step in_comment)
+gap_at-byte : (in_comment : Bool) (allowed : ℕ) (bytes : List ℕ) → gap_at in_comment allowed bytes ≡ (byte_at allowed bytes >>= gap_step in_comment)
 unfolding gap_at gap_step
 gap_at-byte true zero bytes = refl
-gap_at-byte true (suc room) [] = refl
-gap_at-byte true (suc room) (c ∷ bytes) = refl
+gap_at-byte true (suc allowed) [] = refl
+gap_at-byte true (suc allowed) (c ∷ bytes) = refl
 gap_at-byte false zero bytes = refl
-gap_at-byte false (suc room) [] = refl
-gap_at-byte false (suc room) (c ∷ bytes) = refl
+gap_at-byte false (suc allowed) [] = refl
+gap_at-byte false (suc allowed) (c ∷ bytes) = refl
 
 -- a comment goes on to its line end
-comment_step : (end : Bool) (room : ℕ) (bytes : List ℕ) → cond end (gap_at false room bytes) (gap_at true room bytes) ≡ gap_at (not end) room bytes
-comment_step true room bytes = refl
-comment_step false room bytes = refl
+comment_step : (end : Bool) (allowed : ℕ) (bytes : List ℕ) → cond end (gap_at false allowed bytes) (gap_at true allowed bytes) ≡ gap_at (not end) allowed bytes
+comment_step true allowed bytes = refl
+comment_step false allowed bytes = refl
 
-pub gap_at-comment : (room c room' : ℕ) (bytes bytes' : List ℕ) → byte_at room bytes ≡ Ok (c, room', bytes')
-    → gap_at true room bytes ≡ gap_at (not (is_line_end c)) room' bytes'
+pub gap_at-comment : (allowed c allowed' : ℕ) (bytes bytes' : List ℕ) → byte_at allowed bytes ≡ Ok (c, allowed', bytes')
+    → gap_at true allowed bytes ≡ gap_at (not (is_line_end c)) allowed' bytes'
 unfolding gap_step
-gap_at-comment room c room' bytes bytes' found = rw (gap_at-byte true room bytes, found) (comment_step (is_line_end c) room' bytes')
+gap_at-comment allowed c allowed' bytes bytes' found = rw (gap_at-byte true allowed bytes, found) (comment_step (is_line_end c) allowed' bytes')
 
 -- of white space, `#` and digits no two have a character in common
 white_no_hash : (c : ℕ) → c ≡ 35 → is_white c ≡ false
@@ -81,27 +81,27 @@ white_no_digit c h =
 hash_no_digit : (c : ℕ) → is_digit c ≡ true → is_hash c ≡ false
 hash_no_digit c h = let low = digit_least c h in ne_eqb c 35 (λ e. omega arith)
 
-pub gap_at-hash : (room c room' : ℕ) (bytes bytes' : List ℕ) → byte_at room bytes ≡ Ok (c, room', bytes') → c ≡ 35
-    → gap_at false room bytes ≡ gap_at true room' bytes'
+pub gap_at-hash : (allowed c allowed' : ℕ) (bytes bytes' : List ℕ) → byte_at allowed bytes ≡ Ok (c, allowed', bytes') → c ≡ 35
+    → gap_at false allowed bytes ≡ gap_at true allowed' bytes'
 unfolding gap_step
-gap_at-hash room c room' bytes bytes' found hash = rw (gap_at-byte false room bytes, found, white_no_hash c hash, eq-eqb c 35 hash) refl
+gap_at-hash allowed c allowed' bytes bytes' found hash = rw (gap_at-byte false allowed bytes, found, white_no_hash c hash, eq-eqb c 35 hash) refl
 
-pub gap_at-digit : (room c room' : ℕ) (bytes bytes' : List ℕ) → byte_at room bytes ≡ Ok (c, room', bytes') → is_digit c ≡ true
-    → gap_at false room bytes ≡ Ok (c, room', bytes')
+pub gap_at-digit : (allowed c allowed' : ℕ) (bytes bytes' : List ℕ) → byte_at allowed bytes ≡ Ok (c, allowed', bytes') → is_digit c ≡ true
+    → gap_at false allowed bytes ≡ Ok (c, allowed', bytes')
 unfolding gap_step
-gap_at-digit room c room' bytes bytes' found digit = rw (gap_at-byte false room bytes, found, white_no_digit c digit, hash_no_digit c digit, digit) refl
+gap_at-digit allowed c allowed' bytes bytes' found digit = rw (gap_at-byte false allowed bytes, found, white_no_digit c digit, hash_no_digit c digit, digit) refl
 
-pub gap_at-white : (room c room' : ℕ) (bytes bytes' : List ℕ) → byte_at room bytes ≡ Ok (c, room', bytes') → is_white c ≡ true
-    → gap_at false room bytes ≡ gap_at false room' bytes'
+pub gap_at-white : (allowed c allowed' : ℕ) (bytes bytes' : List ℕ) → byte_at allowed bytes ≡ Ok (c, allowed', bytes') → is_white c ≡ true
+    → gap_at false allowed bytes ≡ gap_at false allowed' bytes'
 unfolding gap_step
-gap_at-white room c room' bytes bytes' found white = rw (gap_at-byte false room bytes, found, white) refl
+gap_at-white allowed c allowed' bytes bytes' found white = rw (gap_at-byte false allowed bytes, found, white) refl
 
-pub gap_at-other : (room c room' : ℕ) (bytes bytes' : List ℕ) → byte_at room bytes ≡ Ok (c, room', bytes') → is_white c ≡ false → (c ≡ 35 → ⊥) → is_digit c ≡ false
-    → gap_at false room bytes ≡ Err BadHeader
+pub gap_at-other : (allowed c allowed' : ℕ) (bytes bytes' : List ℕ) → byte_at allowed bytes ≡ Ok (c, allowed', bytes') → is_white c ≡ false → (c ≡ 35 → ⊥) → is_digit c ≡ false
+    → gap_at false allowed bytes ≡ Err BadHeader
 unfolding gap_step
-gap_at-other room c room' bytes bytes' found white hash digit = rw (gap_at-byte false room bytes, found, white, ne_eqb c 35 hash, digit) refl
+gap_at-other allowed c allowed' bytes bytes' found white hash digit = rw (gap_at-byte false allowed bytes, found, white, ne_eqb c 35 hash, digit) refl
 
-pub gap_at-fault : (in_comment : Bool) (room : ℕ) (bytes : List ℕ) (fault : NetpbmFault) → byte_at room bytes ≡ Err fault → gap_at in_comment room bytes ≡ Err fault
-gap_at-fault in_comment room bytes fault found = rw (gap_at-byte in_comment room bytes, found) refl
+pub gap_at-fault : (in_comment : Bool) (allowed : ℕ) (bytes : List ℕ) (fault : NetpbmFault) → byte_at allowed bytes ≡ Err fault → gap_at in_comment allowed bytes ≡ Err fault
+gap_at-fault in_comment allowed bytes fault found = rw (gap_at-byte in_comment allowed bytes, found) refl
 
 pub ruleset gap_lemmas = (gap_at-comment, gap_at-hash, gap_at-digit, gap_at-white, gap_at-other, gap_at-fault)

@@ -6,58 +6,58 @@ use Rattle.ls_frame.specs.View.Reading.{◌>>=◌, wanted, byte_at}
 
 -- ---- bytes taken
 
--- of these bytes and this room, `front` is taken, and `rest` and `left` are left
-pub record Takes (room : ℕ) (bytes front : List ℕ) (left : ℕ) (rest : List ℕ) : Type 0 where
+-- of these bytes, with so many allowed, `front` is taken, and `rest` and `left` are left
+pub record Takes (allowed : ℕ) (bytes front : List ℕ) (left : ℕ) (rest : List ℕ) : Type 0 where
   pub whole : bytes ≡ front ++ rest
-  pub room_is : room ≡ length front + left
+  pub room_is : allowed ≡ length front + left
 
 -- nothing
-pub takes_none : (room : ℕ) (bytes : List ℕ) → Takes room bytes [] room bytes
-takes_none room bytes = record { whole = refl; room_is = omega arith }
+pub takes_none : (allowed : ℕ) (bytes : List ℕ) → Takes allowed bytes [] allowed bytes
+takes_none allowed bytes = record { whole = refl; room_is = omega arith }
 
 -- one byte more in front
-pub takes_cons : {room left : ℕ} {bytes front rest : List ℕ} (c : ℕ) → Takes room bytes front left rest → Takes (suc room) (c ∷ bytes) (c ∷ front) left rest
+pub takes_cons : {allowed left : ℕ} {bytes front rest : List ℕ} (c : ℕ) → Takes allowed bytes front left rest → Takes (suc allowed) (c ∷ bytes) (c ∷ front) left rest
 takes_cons c taken = record { whole = ap (λ bs. c ∷ bs) taken.whole; room_is = omega arith }
 
 -- one byte
-pub takes_one : (c room : ℕ) (rest : List ℕ) → Takes (suc room) (c ∷ rest) (c ∷ []) room rest
-takes_one c room rest = takes_cons c (takes_none room rest)
+pub takes_one : (c allowed : ℕ) (rest : List ℕ) → Takes (suc allowed) (c ∷ rest) (c ∷ []) allowed rest
+takes_one c allowed rest = takes_cons c (takes_none allowed rest)
 
 -- one after the other
-pub takes_more : {room between left : ℕ} {bytes front middle back rest : List ℕ} → Takes room bytes front between middle → Takes between middle back left rest
-    → Takes room bytes (front ++ back) left rest
+pub takes_more : {allowed between left : ℕ} {bytes front middle back rest : List ℕ} → Takes allowed bytes front between middle → Takes between middle back left rest
+    → Takes allowed bytes (front ++ back) left rest
 takes_more {front = front} {back = back} {rest = rest} first second = record {
   whole = first.whole ∙ ap (λ bs. front ++ bs) second.whole ∙ sym (append_assoc front back rest);
   room_is = simp length-append (let e = first.room_is in let f = second.room_is in omega arith);
 }
 
 -- the same bytes by another name
-pub takes_as : {room left : ℕ} {bytes front front' rest : List ℕ} → Takes room bytes front left rest → front ≡ front' → Takes room bytes front' left rest
+pub takes_as : {allowed left : ℕ} {bytes front front' rest : List ℕ} → Takes allowed bytes front left rest → front ≡ front' → Takes allowed bytes front' left rest
 takes_as taken same = rw (← same) taken
 
 -- ---- bytes taken, in two parts
 
 -- the first part of what is taken, the second, and all but the last byte
-pub takes_first : (front back : List ℕ) {room left : ℕ} {bytes rest : List ℕ} → Takes room bytes (front ++ back) left rest → Takes room bytes front (length back + left) (back ++ rest)
+pub takes_first : (front back : List ℕ) {allowed left : ℕ} {bytes rest : List ℕ} → Takes allowed bytes (front ++ back) left rest → Takes allowed bytes front (length back + left) (back ++ rest)
 takes_first front back {rest = rest} taken = record { whole = taken.whole ∙ append_assoc front back rest; room_is = let e = simp length-append at taken.room_is in omega arith }
 
 pub takes_second : (back : List ℕ) (left : ℕ) (rest : List ℕ) → Takes (length back + left) (back ++ rest) back left rest
 takes_second back left rest = record { whole = refl; room_is = refl }
 
-pub takes_last : (front : List ℕ) (c : ℕ) {room left : ℕ} {bytes rest : List ℕ} → Takes room bytes (front ++ c ∷ []) left rest → Takes room bytes front (suc left) (c ∷ rest)
+pub takes_last : (front : List ℕ) (c : ℕ) {allowed left : ℕ} {bytes rest : List ℕ} → Takes allowed bytes (front ++ c ∷ []) left rest → Takes allowed bytes front (suc left) (c ∷ rest)
 takes_last front c {rest = rest} taken = record { whole = taken.whole ∙ append_assoc front (c ∷ []) rest; room_is = let e = simp length-append at taken.room_is in omega arith }
 
 -- ---- where reading stops
 
 -- it stops at the same place with one byte more in front
-pub stops_cons : {room : ℕ} {bytes front : List ℕ} {d : Due} {fault : NetpbmFault} (c : ℕ) → BreaksOff room bytes front d fault → BreaksOff (suc room) (c ∷ bytes) (c ∷ front) d fault
+pub stops_cons : {allowed : ℕ} {bytes front : List ℕ} {d : Due} {fault : NetpbmFault} (c : ℕ) → BreaksOff allowed bytes front d fault → BreaksOff (suc allowed) (c ∷ bytes) (c ∷ front) d fault
 stops_cons c (too_long rest whole all is) = too_long rest (ap (λ bs. c ∷ bs) whole) (omega arith) is
 stops_cons c (ends whole some is) = ends (ap (λ bs. c ∷ bs) whole) (omega arith) is
 stops_cons c (refuses b rest whole some not_allowed is) = refuses b rest (ap (λ bs. c ∷ bs) whole) (omega arith) not_allowed is
 
 -- it stops after what is taken
-pub stops_after : {room left : ℕ} {bytes front rest back : List ℕ} {d : Due} {fault : NetpbmFault} → Takes room bytes front left rest → BreaksOff left rest back d fault
-    → BreaksOff room bytes (front ++ back) d fault
+pub stops_after : {allowed left : ℕ} {bytes front rest back : List ℕ} {d : Due} {fault : NetpbmFault} → Takes allowed bytes front left rest → BreaksOff left rest back d fault
+    → BreaksOff allowed bytes (front ++ back) d fault
 stops_after {front = front} {back = back} taken (too_long rest whole all is) =
     too_long rest (taken.whole ∙ ap (λ bs. front ++ bs) whole ∙ sym (append_assoc front back rest)) (simp length-append (let e = taken.room_is in omega arith)) is
 stops_after {front = front} {back = back} taken (ends whole some is) =
@@ -66,37 +66,37 @@ stops_after {front = front} {back = back} taken (refuses c rest whole some not_a
     refuses c rest (taken.whole ∙ ap (λ bs. front ++ bs) whole ∙ sym (append_assoc front back (c ∷ rest))) (simp length-append (let e = taken.room_is in omega arith)) not_allowed is
 
 -- the same bytes by another name
-pub stops_as : {room : ℕ} {bytes front front' : List ℕ} {d : Due} {fault : NetpbmFault} → BreaksOff room bytes front d fault → front ≡ front' → BreaksOff room bytes front' d fault
+pub stops_as : {allowed : ℕ} {bytes front front' : List ℕ} {d : Due} {fault : NetpbmFault} → BreaksOff allowed bytes front d fault → front ≡ front' → BreaksOff allowed bytes front' d fault
 stops_as stops same = rw (← same) stops
 
 -- ---- where reading stops, seen from there
 
 -- reading has no byte here, or one that is refused
-pub data StopsHere (room : ℕ) (bytes : List ℕ) (d : Due) (fault : NetpbmFault) : Type 0 where
-  no_byte : byte_at room bytes ≡ Err fault → StopsHere room bytes d fault
-  refused : (c left : ℕ) (rest : List ℕ) → byte_at room bytes ≡ Ok (c, left, rest) → allows d c ≡ false → fault ≡ fault_at d → StopsHere room bytes d fault
+pub data StopsHere (allowed : ℕ) (bytes : List ℕ) (d : Due) (fault : NetpbmFault) : Type 0 where
+  no_byte : byte_at allowed bytes ≡ Err fault → StopsHere allowed bytes d fault
+  refused : (c left : ℕ) (rest : List ℕ) → byte_at allowed bytes ≡ Ok (c, left, rest) → allows d c ≡ false → fault ≡ fault_at d → StopsHere allowed bytes d fault
 
 -- `front` is taken, and then reading stops
-pub record StopsAfter (room : ℕ) (bytes front : List ℕ) (d : Due) (fault : NetpbmFault) : Type 0 where
+pub record StopsAfter (allowed : ℕ) (bytes front : List ℕ) (d : Due) (fault : NetpbmFault) : Type 0 where
   pub left : ℕ
   pub rest : List ℕ
-  pub takes : Takes room bytes front left rest
+  pub takes : Takes allowed bytes front left rest
   pub here : StopsHere left rest d fault
 
 -- where it stops, `front` was taken
-pub stops_seen : {room : ℕ} {bytes front : List ℕ} {d : Due} {fault : NetpbmFault} → BreaksOff room bytes front d fault → StopsAfter room bytes front d fault
+pub stops_seen : {allowed : ℕ} {bytes front : List ℕ} {d : Due} {fault : NetpbmFault} → BreaksOff allowed bytes front d fault → StopsAfter allowed bytes front d fault
 stops_seen (too_long rest whole all is) = record { left = 0; rest = rest; takes = record { whole = whole; room_is = omega arith }; here = no_byte (rw is refl) }
-stops_seen {room = room} {front = front} (ends whole some is) = record {
-  left = suc (room - suc (length front));
+stops_seen {allowed = allowed} {front = front} (ends whole some is) = record {
+  left = suc (allowed - suc (length front));
   rest = [];
   takes = record { whole = whole ∙ sym (append-nil front); room_is = omega arith };
   here = no_byte (rw is refl);
 }
-stops_seen {room = room} {front = front} (refuses c rest whole some not_allowed is) = record {
-  left = suc (room - suc (length front));
+stops_seen {allowed = allowed} {front = front} (refuses c rest whole some not_allowed is) = record {
+  left = suc (allowed - suc (length front));
   rest = c ∷ rest;
   takes = record { whole = whole; room_is = omega arith };
-  here = refused c (room - suc (length front)) rest refl not_allowed is;
+  here = refused c (allowed - suc (length front)) rest refl not_allowed is;
 }
 
 -- ---- steps in a row

@@ -1,4 +1,4 @@
--- How bytes break the grammar of an image: its legal pieces, and then what breaks the next one.
+-- How bytes break the grammar of an image: its legal parts, and then what breaks the next one.
 use Rattle.std.specs.Prelude.{◌≡◌, ℕ, ◌<◌, ◌≤◌, ◌||◌, ◌==◌, not, Bool, true, false, IsTrue, List, [], ◌∷◌, ◌++◌, length, ◌⊎◌, Result, Ok, Err}
 use Rattle.std.specs.List.{AllByRecursion}
 use Rattle.ls_frame.specs.declared.frame.Kind.{Kind}
@@ -149,12 +149,12 @@ due (in_maxval kind w h s) = start_due s
 
 -- ---- where reading stops
 
--- Reading stops after `front`, of the `room` bytes that a header may have: the room is used up, or the
--- input ends, or a byte follows that isn't allowed.
-pub data BreaksOff (room : ℕ) (bytes front : List ℕ) (d : Due) (fault : NetpbmFault) : Type 0 where
-  too_long : (rest : List ℕ) → bytes ≡ front ++ rest → length front ≡ room → fault ≡ HeaderTooLong → BreaksOff room bytes front d fault
-  ends : bytes ≡ front → length front < room → fault ≡ Truncated → BreaksOff room bytes front d fault
-  refuses : (c : ℕ) (rest : List ℕ) → bytes ≡ front ++ c ∷ rest → length front < room → allows d c ≡ false → fault ≡ fault_at d → BreaksOff room bytes front d fault
+-- Reading stops after `front`, where the header may have `allowed` more bytes: these are used up, or the input ends,
+-- or a byte follows that may not stand there.
+pub data BreaksOff (allowed : ℕ) (bytes front : List ℕ) (d : Due) (fault : NetpbmFault) : Type 0 where
+  too_long : (rest : List ℕ) → bytes ≡ front ++ rest → length front ≡ allowed → fault ≡ HeaderTooLong → BreaksOff allowed bytes front d fault
+  ends : bytes ≡ front → length front < allowed → fault ≡ Truncated → BreaksOff allowed bytes front d fault
+  refuses : (c : ℕ) (rest : List ℕ) → bytes ≡ front ++ c ∷ rest → length front < allowed → allows d c ≡ false → fault ≡ fault_at d → BreaksOff allowed bytes front d fault
 
 -- It stops in a header, and some byte was there.
 pub record StopsInHeading (bytes : List ℕ) (fault : NetpbmFault) : Type 0 where

@@ -1,4 +1,4 @@
-//! A reader that takes the bytes of another in pieces and hands them out.
+//! A reader that takes the bytes of another in chunks and hands them out.
 ghost use Rattle.std.specs.Prelude.{◌≡◌, ◌≢◌, ◌-◌, ◌<◌, ◌≤◌, [], ◌∷◌, ◌++◌, IfOk, OnOk, OnErr, Some, IfSome, IfNone, is_err, length, take};
 ghost use Rattle.std.specs.List.{AllByRecursion};
 ghost use Rattle.std.specs.Io.KnownBytes.{Keeps, IsAtEnd};
@@ -11,28 +11,28 @@ use std::alloc::{AllocError, Global};
 use std::io;
 use std::io::Read;
 
-/// The bytes of a piece.
-const PIECE: usize = 65_536;
+/// The bytes of a chunk.
+const CHUNK: usize = 65_536;
 
-/// A reader that takes the bytes of another in pieces of 64 KiB and hands them out, for those who read byte by byte. Its errors are
+/// A reader that takes the bytes of another in chunks of 64 KiB and hands them out, for callers that read byte by byte. Its errors are
 /// those of the other.
 ///
-/// It takes a piece only once the one before was handed out, and hands a call on where the caller has room for a whole one. So bytes
-/// that came before a failure go out before it shows, and what is left is what is left of the piece, and then of the other reader.
+/// It takes a chunk only once the one before was handed out, and hands a call on where the caller has room for a whole one. So bytes
+/// that came before a failure go out before it shows, and what is left is what is left of the chunk, and then of the other reader.
 #[derive(Drop)]
 pub struct Buffered<R> {
     inner: R,
     /// Its bytes from `start` to `end` were taken and not yet handed out.
-    piece: Vec<u8>,
+    chunk: Vec<u8>,
     start: usize,
     end: usize,
     ghost ordered: { start ≤ end },
-    ghost inside: { end ≤ length piece.items },
-    ghost some: { 0 < length piece.items },
+    ghost inside: { end ≤ length chunk.items },
+    ghost some: { 0 < length chunk.items },
 }
 
 impl<R: Read> Buffered<R> {
-    ghost use Rattle.ls_frame.specs.View.Pieces.{in_piece, inner_reader, left_in};
+    ghost use Rattle.ls_frame.specs.View.Chunks.{in_chunk, inner_reader, left_in};
 
     /// A reader of the bytes of another, of which none is taken yet. If an allocation fails, the other is dropped; later calls allocate
     /// nothing.
@@ -41,49 +41,49 @@ impl<R: Read> Buffered<R> {
         R: Drop,
         ensures { IfOk result (λ made. left_in R.remaining made ≡ R.remaining inner) }
     {
-        let piece = vec![in alloc; 0u8; PIECE]?;
+        let chunk = vec![in alloc; 0u8; CHUNK]?;
         Ok(Buffered {
             inner,
-            piece,
+            chunk,
             start: 0,
             end: 0,
         })
     }
 
-    /// Takes a piece, if the one before was handed out.
+    /// Takes a chunk, if the one before was handed out.
     fn fill(&mut self) -> io::Result<()>
         ensures known { Keeps (left_in R.remaining self.old) (left_in R.remaining self.new) }
-        ensures end { OnOk result (in_piece self.new ≡ [] → IsAtEnd (R.remaining (inner_reader self.new))) }
+        ensures end { OnOk result (in_chunk self.new ≡ [] → IsAtEnd (R.remaining (inner_reader self.new))) }
     {
         if self.start == self.end {
             self.start = 0;
             self.end = 0;
-            self.end = self.inner.read(&mut self.piece)?;
+            self.end = self.inner.read(&mut self.chunk)?;
         }
         Ok(())
     }
 }
 
 impl<R: Feed> Buffered<R> {
-    ghost use Rattle.ls_frame.specs.View.Pieces.{in_piece, inner_reader, left_in};
+    ghost use Rattle.ls_frame.specs.View.Chunks.{in_chunk, inner_reader, left_in};
 
     /// The same, by a read whose failure is counted.
     fn fill_counted(&mut self) -> Result<(), Failed>
         ensures known { Keeps (left_in R.remaining self.old) (left_in R.remaining self.new) }
-        ensures end { OnOk result (in_piece self.new ≡ [] → IsAtEnd (R.remaining (inner_reader self.new))) }
+        ensures end { OnOk result (in_chunk self.new ≡ [] → IsAtEnd (R.remaining (inner_reader self.new))) }
         ensures failures { R.failed_reads (inner_reader self.new) ≡ count_after (is_err result) (R.failed_reads (inner_reader self.old)) }
     {
         if self.start == self.end {
             self.start = 0;
             self.end = 0;
-            self.end = self.inner.feed(&mut self.piece)?;
+            self.end = self.inner.feed(&mut self.chunk)?;
         }
         Ok(())
     }
 }
 
 impl<R> Buffered<R> {
-    ghost use Rattle.ls_frame.specs.View.Pieces.{in_piece, inner_reader};
+    ghost use Rattle.ls_frame.specs.View.Chunks.{in_chunk, inner_reader};
 
     /// The other reader, to look at.
     pub fn get_ref(&self) -> &R
@@ -95,20 +95,20 @@ impl<R> Buffered<R> {
     /// Hands out as many bytes as there are and as `buf` has room for.
     fn hand_out(&mut self, buf: &mut [u8]) -> usize
         ensures bound { result ≤ length buf.new }
-        ensures room { length buf.new ≡ length buf.old }
-        ensures bytes { in_piece self.old ≡ take result buf.new ++ in_piece self.new }
-        ensures none { result ≡ 0 → 0 < length buf.new → in_piece self.old ≡ [] }
+        ensures size { length buf.new ≡ length buf.old }
+        ensures bytes { in_chunk self.old ≡ take result buf.new ++ in_chunk self.new }
+        ensures none { result ≡ 0 → 0 < length buf.new → in_chunk self.old ≡ [] }
         ensures inner { inner_reader self.new ≡ inner_reader self.old }
     {
         let count = buf.len().min(self.end - self.start);
         let end = self.start + count;
-        buf[..count].copy_from_slice(&self.piece[self.start..end]);
+        buf[..count].copy_from_slice(&self.chunk[self.start..end]);
         self.start = end;
         count
     }
 
-    /// Appends the front of the piece, up to and with the first `mark` and `most` bytes at most, to `bytes`. Answers the last of them;
-    /// there is none only if the piece was handed out.
+    /// Appends the front of the chunk, up to and with the first `mark` and `most` bytes at most, to `bytes`. Answers the last of them;
+    /// there is none only if the chunk was handed out.
     fn append_until(
         &mut self,
         mark: u8,
@@ -117,18 +117,19 @@ impl<R> Buffered<R> {
     ) -> Result<Option<u8>, AllocError>
         requires some { 0 < most }
         ensures taken { IfOk result (λ next. IfSome next
-            (TakesUntil mark most (Some (in_piece self.old)) (Some (in_piece self.new)) bytes.old.items bytes.new.items)) }
-        ensures end { IfOk result (λ next. IfNone next ((bytes.new.items ≡ bytes.old.items) × (in_piece self.old ≡ []) × (in_piece self.new ≡ []))) }
+            (TakesUntil mark most (Some (in_chunk self.old)) (Some (in_chunk self.new)) bytes.old.items bytes.new.items)) }
+        ensures end { IfOk result (λ next. IfNone next ((bytes.new.items ≡ bytes.old.items) × (in_chunk self.old ≡ []) × (in_chunk self.new ≡ []))) }
         ensures nothing { OnErr result (bytes.new.items ≡ bytes.old.items) }
+        ensures memory { OnErr result (0 < length (in_chunk self.old)) }
         ensures inner { inner_reader self.new ≡ inner_reader self.old }
     {
         if self.start == self.end {
             return Ok(None);
         }
-        let piece = &self.piece[self.start..self.end];
-        let count = count_until(mark, most, piece);
-        bytes.extend_from_slice(&piece[..count])?;
-        let last = piece[count - 1];
+        let chunk = &self.chunk[self.start..self.end];
+        let count = count_until(mark, most, chunk);
+        bytes.extend_from_slice(&chunk[..count])?;
+        let last = chunk[count - 1];
         self.start += count;
         Ok(Some(last))
     }
@@ -151,12 +152,12 @@ fn count_until(mark: u8, most: usize, bytes: &[u8]) -> usize
 }
 
 impl<R: Read> Read for Buffered<R> {
-    ghost use Rattle.ls_frame.specs.View.Pieces.{left_in};
+    ghost use Rattle.ls_frame.specs.View.Chunks.{left_in};
 
     ghost remaining = { left_in R.remaining };
 
     fn read(&mut self, buf: &mut [u8]) -> io::Result<usize> {
-        if self.start == self.end && buf.len() >= PIECE {
+        if self.start == self.end && buf.len() >= CHUNK {
             return self.inner.read(buf);
         }
         self.fill()?;
@@ -165,12 +166,12 @@ impl<R: Read> Read for Buffered<R> {
 }
 
 impl<R: Feed> Feed for Buffered<R> {
-    ghost use Rattle.ls_frame.specs.View.Pieces.{inner_reader};
+    ghost use Rattle.ls_frame.specs.View.Chunks.{inner_reader};
 
     ghost failed_reads = { λ b. R.failed_reads (inner_reader b) };
 
     fn feed(&mut self, buf: &mut [u8]) -> Result<usize, Failed> {
-        if self.start == self.end && buf.len() >= PIECE {
+        if self.start == self.end && buf.len() >= CHUNK {
             return self.inner.feed(buf);
         }
         self.fill_counted()?;

@@ -3,7 +3,7 @@ ghost use Rattle.std.specs.Prelude.{◌≡◌, ℕ, ◌<◌, List, Option, OnOk,
 ghost use Rattle.std.specs.Io.{ReadsAtMost, WritesAtMost};
 ghost use Rattle.std.specs.Io.KnownBytes.{Keeps, ReadConsumes, WriteAppends};
 ghost use Rattle.ls_frame.specs.View.Devices.{count_after, failed_read, last_after};
-ghost use Rattle.ls_frame.specs.View.Known.{TakesUntil, WasAtEnd};
+ghost use Rattle.ls_frame.specs.View.Known.{TakesUntil, WasAtEnd, HadBytes};
 
 use std::io;
 use std::io::{Read, Write};
@@ -54,7 +54,7 @@ pub trait Feed: Read {
     /// Reads some bytes and appends them to `bytes`: at most `most`, which is 1 or more, and none after the first `mark`. Answers the
     /// last of them; `None` is the end of input.
     ///
-    /// On a fault nothing is appended. After `NoMemory` nothing is said of the reader's place.
+    /// On a fault nothing is appended. `NoMemory` comes only if the reader had a byte; after it nothing is said of the reader's place.
     fn feed_until(
         &mut self,
         mark: u8,
@@ -68,6 +68,7 @@ pub trait Feed: Read {
             ((bytes.new.items ≡ bytes.old.items) × WasAtEnd (Self.remaining self.old) (Self.remaining self.new))) }
         ensures nothing { OnErr result (bytes.new.items ≡ bytes.old.items) }
         ensures fault { IfErr result (λ fault. fault ≡ FeedFault.Io → Keeps (Self.remaining self.old) (Self.remaining self.new)) }
+        ensures memory { IfErr result (λ fault. fault ≡ FeedFault.NoMemory → HadBytes (Self.remaining self.old)) }
         ensures failures { failed_reads self.new ≡ count_after (failed_read result) (failed_reads self.old) }
     {
         let mut byte = [0u8; 1];

@@ -8,17 +8,33 @@
 //! writers and frames are seen as what these definitions speak of is in `specs/View`.
 //!
 //! ```
-//! let mut reader = Buffered::new(alloc, Counted::new(file))?;
-//! while let Some(frame) = next_frame(alloc, &mut reader)? {
-//!     let presets = Presets::default_of(frame.maxval());
-//!     // .. frame.width(), frame.samples(), presets.t1() ..
-//!     write_frame(&mut writer, &frame)?;
+//! use ls_frame::{Feed, NetpbmFault, Outlet, next_frame, write_frame};
+//! use std::alloc::Global;
+//!
+//! /// Writes the images of a film again, up to the first write that fails, and answers how many.
+//! fn copy_film<R: Feed, W: Outlet>(
+//!     alloc: Global,
+//!     reader: &mut R,
+//!     writer: &mut W,
+//! ) -> Result<u64, NetpbmFault> {
+//!     for count in 0..u64::MAX {
+//!         let Some(frame) = next_frame(alloc, reader)? else {
+//!             return Ok(count);
+//!         };
+//!         if write_frame(writer, &frame).is_err() {
+//!             return Ok(count);
+//!         }
+//!     }
+//!     Ok(u64::MAX)
 //! }
 //! ```
 //!
-//! In reading order: `device` (readers and writers that count), `buffered` (a reader for those who read byte by byte),
-//! `frame`, `presets`, `tuning` (presets chosen in part), `output` (writing bytes whole), `netpbm` (reading an image and
-//! writing one), `laws` (what follows from the definitions alone); `memory` is for whole programs.
+//! Over files the reader is a `Buffered::new(alloc, Counted::new(file))?` and the writer a `Counted::new(file)`. A
+//! frame is coded with parameters, `Presets::default_of(frame.maxval())` if none were chosen.
+//!
+//! In reading order: `device` (readers and writers that count), `buffered` (a reader for callers that read byte by
+//! byte), `frame`, `presets`, `tuning` (presets chosen in part), `output` (writing bytes whole), `netpbm` (reading an
+//! image and writing one), `laws` (what follows from the definitions alone); `memory` is for whole programs.
 #![tactic(auto)]
 
 pub mod buffered;

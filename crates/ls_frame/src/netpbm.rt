@@ -45,7 +45,7 @@ pub enum NetpbmFault {
     /// A read failed.
     #[error("read failed")]
     Io,
-    /// The room for the raster was refused, when exactly the header had been read.
+    /// Memory for the raster was refused, when exactly the header had been read.
     #[error("no memory")]
     NoMemory,
 }
@@ -75,8 +75,8 @@ fn read_image<R: Feed>(alloc: Global, reader: &mut R) -> Result<Option<Frame>, N
         Ok(0) => return Ok(None),
         Ok(_) => {}
     }
-    let mut room = HEADER_BYTES - 1;
-    let header = read_header(reader, &mut room, first[0])?;
+    let mut allowed = HEADER_BYTES - 1;
+    let header = read_header(reader, &mut allowed, first[0])?;
     let samples = read_raster(alloc, reader, header)?;
     Ok(Some(Frame::from_parts(
         header.kind,

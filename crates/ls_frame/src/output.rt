@@ -31,13 +31,13 @@ pub fn write_bytes<W: Outlet>(writer: &mut W, bytes: &[u8]) -> Result<(), WriteF
     Ok(())
 }
 
-/// Lays `text` after the `filled` bytes at the front of `room`, which has to have room for it, and says where it ends.
-pub fn lay(room: &mut [u8], filled: usize, text: &[u8]) -> usize
-    requires { filled + length text.now ≤ length room.old }
-    ensures laid { take result room.new ≡ take filled room.old ++ text.now }
+/// Lays `text` after the `filled` bytes at the front of `buffer`, which has to be long enough, and says where it ends.
+pub fn lay(buffer: &mut [u8], filled: usize, text: &[u8]) -> usize
+    requires { filled + length text.now ≤ length buffer.old }
+    ensures laid { take result buffer.new ≡ take filled buffer.old ++ text.now }
     ensures end { result ≡ filled + length text.now }
 {
     let end = filled + text.len();
-    room[filled..end].copy_from_slice(text);
+    buffer[filled..end].copy_from_slice(text);
     end
 }

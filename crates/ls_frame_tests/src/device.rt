@@ -1,5 +1,5 @@
 use crate::testing::{
-    BROKEN, Mishap, Pieces, Sink, Take, check, check_items, check_so, check_takes,
+    BROKEN, Chunks, Mishap, Sink, Take, check, check_items, check_so, check_takes,
 };
 use ls_frame::{Counted, Failed, Feed, FeedFault, Outlet};
 use std::io;
@@ -24,7 +24,7 @@ fn a_failure_keeps_its_kind_and_the_number_of_the_system(rt: HostRuntime) {
 
 #[test]
 fn failed_feeds_are_counted_one_by_one_and_the_last_is_kept(rt: HostRuntime) {
-    let mut reader = Counted::new(Pieces::new(b"abc", 2, &[1, 2, 4]));
+    let mut reader = Counted::new(Chunks::new(b"abc", 2, &[1, 2, 4]));
     let mut buf = [0u8; 3];
     let steps: [(Result<usize, Failed>, &[u8], u64); 7] = [
         (Ok(2), b"ab", 0),
@@ -57,15 +57,15 @@ const TAKES: [Take<'static>; 6] = [
 ];
 
 #[test]
-fn bytes_are_taken_one_by_one_or_memory_is_wanting(rt: HostRuntime) {
-    let mut reader = Counted::new(Pieces::new(b"abc", 2, &[1]));
+fn bytes_are_taken_one_by_one_or_memory_is_refused(rt: HostRuntime) {
+    let mut reader = Counted::new(Chunks::new(b"abc", 2, &[1]));
     let mut bytes = Vec::new(rt.alloc());
     check_takes(&rt, &mut reader, &mut bytes, &TAKES);
 }
 
 #[test]
 fn bytes_are_taken_one_by_one_with_ample_memory(rt: HostRuntime) {
-    let mut reader = Counted::new(Pieces::new(b"abc", 2, &[1]));
+    let mut reader = Counted::new(Chunks::new(b"abc", 2, &[1]));
     let mut bytes = Vec::new(rt.alloc());
     let all = check_takes(&rt, &mut reader, &mut bytes, &TAKES);
     check_so(&rt, "memory", 0, all);
@@ -108,7 +108,7 @@ fn read<R: Read>(reader: &mut R, buf: &mut [u8]) -> Result<usize, io::ErrorKind>
 #[test]
 fn plain_reads_are_handed_on_and_not_counted(rt: HostRuntime) {
     let broken = Err(io::ErrorKind::BrokenPipe);
-    let mut reader = Counted::new(Pieces::new(b"abc", 2, &[0, 2]));
+    let mut reader = Counted::new(Chunks::new(b"abc", 2, &[0, 2]));
     let mut buf = [0u8; 2];
     check(&rt, "a feed", 0, &reader.feed(&mut buf), &Err(BROKEN));
     check(&rt, "a read", 1, &read(&mut reader, &mut buf), &Ok(2));

@@ -15,6 +15,8 @@ mod netpbm;
 #[cfg(test)]
 mod output;
 #[cfg(test)]
+mod page;
+#[cfg(test)]
 mod presets;
 #[cfg(test)]
 mod testing;

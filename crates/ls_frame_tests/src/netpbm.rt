@@ -1,7 +1,7 @@
 mod failures;
 mod long;
 
-use crate::testing::{Pieces, check, check_items, check_so};
+use crate::testing::{Chunks, check, check_items, check_so};
 use ls_frame::{Counted, Feed, Frame, Kind, NetpbmFault, first_frame, next_frame};
 use std::alloc::{AllocError, Global};
 use std::io;
@@ -11,7 +11,7 @@ use std::process::Abort;
 /// Kind, width, height, maxval, samples.
 type Parts<'a> = (Kind, u16, u16, u16, &'a [u16]);
 
-/// If memory may be refused, the want of it is an answer too.
+/// If memory may be refused, running out of it is an answer too.
 #[derive(Clone, Copy, Debug, PartialEq, Eq)]
 enum Memory {
     Ample,
@@ -107,7 +107,7 @@ fn bad_headers_are_named_without_memory(rt: HostRuntime) {
         let mut rest = bytes;
         let got = next_frame(rt.alloc(), &mut rest);
         check(&rt, case, 0, &seen(&got), &Err(want));
-        let mut reader = Counted::new(Pieces::new(bytes, 1, &[]));
+        let mut reader = Counted::new(Chunks::new(bytes, 1, &[]));
         let got = next_frame(rt.alloc(), &mut reader);
         check(&rt, case, 1, &seen(&got), &Err(want));
         check(&rt, case, 1, &Feed::failures(&reader), &0);
@@ -123,7 +123,7 @@ fn check_end(rt: &impl Abort, got: &Result<Option<Frame>, NetpbmFault>) {
 fn no_bytes_are_no_image(rt: HostRuntime) {
     let mut rest = b"".as_slice();
     check_end(&rt, &next_frame(rt.alloc(), &mut rest));
-    let mut reader = Counted::new(Pieces::new(b"", 1, &[]));
+    let mut reader = Counted::new(Chunks::new(b"", 1, &[]));
     check_end(&rt, &next_frame(rt.alloc(), &mut reader));
     check(&rt, "failures", 0, &Feed::failures(&reader), &0);
     check(
@@ -242,7 +242,7 @@ const IMAGES: [(&str, &[u8], Result<Parts<'static>, NetpbmFault>); 20] = [
     ("no raster", b"P5 2 1 255\n", Err(NetpbmFault::Truncated)),
 ];
 
-/// That each image is read as it is, whole and in pieces.
+/// That each image is read as it is, whole and in chunks.
 fn check_images(rt: &impl Abort, alloc: Global, memory: Memory) {
     for (case, bytes, want) in IMAGES {
         let mut rest = bytes;
@@ -251,7 +251,7 @@ fn check_images(rt: &impl Abort, alloc: Global, memory: Memory) {
             check_so(rt, case, 0, rest.is_empty());
         }
         for most in [1, 2, 3, 7] {
-            let mut reader = Counted::new(Pieces::new(bytes, most, &[]));
+            let mut reader = Counted::new(Chunks::new(bytes, most, &[]));
             let got = next_frame(alloc, &mut reader);
             let is_refused = is_refused(rt, memory, &got, want, case);
             check(rt, case, most, &Feed::failures(&reader), &0);
@@ -269,7 +269,7 @@ fn images_are_read_as_they_are_with_ample_memory(rt: HostRuntime) {
 }
 
 #[test]
-fn images_are_read_as_they_are_or_memory_is_wanting(rt: HostRuntime) {
+fn images_are_read_as_they_are_or_memory_is_refused(rt: HostRuntime) {
     check_images(&rt, rt.alloc(), Memory::Refusable);
 }
 
@@ -348,17 +348,17 @@ fn not_a_byte_after_an_image_is_asked_for(rt: HostRuntime) {
     check_so(&rt, "the end", 0, rest.is_empty());
     check_end(&rt, &next_frame(rt.alloc(), &mut rest));
     for most in [1, 2, 7, 100] {
-        let mut reader = Counted::new(Pieces::new(bytes, most, &[]));
+        let mut reader = Counted::new(Chunks::new(bytes, most, &[]));
         let got = next_frame(rt.alloc(), &mut reader);
-        let is_refused = is_refused(&rt, Memory::Refusable, &got, Ok(first), "the pieces");
-        let pieces = reader.into_inner();
+        let is_refused = is_refused(&rt, Memory::Refusable, &got, Ok(first), "the chunks");
+        let chunks = reader.into_inner();
         if is_refused {
             // The room for the raster is made before its first byte is asked for.
-            check(&rt, "bytes of a header", most, &pieces.given, &11);
+            check(&rt, "bytes of a header", most, &chunks.given, &11);
         } else {
-            check(&rt, "bytes one by one", most, &pieces.singly, &Some(11));
-            check(&rt, "bytes of an image", most, &pieces.given, &14);
-            check(&rt, "the farthest byte", most, &pieces.furthest, &14);
+            check(&rt, "bytes one by one", most, &chunks.singly, &Some(11));
+            check(&rt, "bytes of an image", most, &chunks.given, &14);
+            check(&rt, "the farthest byte", most, &chunks.furthest, &14);
         }
     }
 }

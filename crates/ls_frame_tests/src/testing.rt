@@ -39,7 +39,7 @@ pub fn check_so(rt: &impl Abort, case: &str, at: usize, holds: bool) {
 /// many reads failed by then.
 pub type Take<'a> = (u8, usize, Result<Option<u8>, FeedFault>, &'a [u8], u64);
 
-/// That calls of `feed_until` take this, up to a call for which memory is wanting; whether none was.
+/// That calls of `feed_until` take this, up to a call for which memory is refused; whether none was.
 pub fn check_takes<R: Feed>(
     rt: &impl Abort,
     reader: &mut R,
@@ -63,7 +63,7 @@ pub fn check_takes<R: Feed>(
 /// A reader over memory that gives at most `most` bytes a call. Its calls of the numbers `failing`,
 /// counted from 0, fail and give nothing.
 #[derive(Drop)]
-pub struct Pieces<'a> {
+pub struct Chunks<'a> {
     rest: &'a [u8],
     most: usize,
     failing: &'a [usize],
@@ -76,9 +76,9 @@ pub struct Pieces<'a> {
     pub singly: Option<usize>,
 }
 
-impl<'a> Pieces<'a> {
-    pub fn new(bytes: &'a [u8], most: usize, failing: &'a [usize]) -> Pieces<'a> {
-        Pieces {
+impl<'a> Chunks<'a> {
+    pub fn new(bytes: &'a [u8], most: usize, failing: &'a [usize]) -> Chunks<'a> {
+        Chunks {
             rest: bytes,
             most,
             failing,
@@ -90,7 +90,7 @@ impl<'a> Pieces<'a> {
     }
 }
 
-impl<'a> Read for Pieces<'a> {
+impl<'a> Read for Chunks<'a> {
     fn read(&mut self, buf: &mut [u8]) -> io::Result<usize> {
         let call = self.calls;
         self.calls = call.saturating_add(1);

@@ -81,7 +81,7 @@ fn long_frame(rt: &impl Abort, alloc: Global, maxval: u16) -> Result<Frame, Allo
 }
 
 #[test]
-fn a_frame_of_several_pieces_is_read_back_with_ample_memory(rt: HostRuntime) {
+fn a_frame_of_several_chunks_is_read_back_with_ample_memory(rt: HostRuntime) {
     for (maxval, size) in [(255, 9014), (65535, 18016)] {
         let Ok(frame) = long_frame(&rt, rt.alloc(), maxval) else {
             panic!(rt; "no memory");

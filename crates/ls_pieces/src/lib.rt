@@ -1,19 +1,36 @@
 //! Pieces: the codestreams of frames, made in any order and by anybody, and put in order.
 //!
-//! An order is a frame with the parameters to code it with (`specs/Orders.antt`). A piece is the codestream of an order, whoever made
-//! it. A collector puts the pieces of one source in the order in which they were booked (`specs/Collecting.antt`).
+//! An order is a frame with the parameters to code it with (`specs/Orders.antt`). A piece is the codestream of an
+//! order, whoever made it. A collector puts the pieces of one source in the order in which they were booked
+//! (`specs/Collecting.antt`).
 //!
 //! ```
 //! use ls_pieces::{Coded, Collector, Order};
+//! use ls_queue::Job;
+//! use std::alloc::Global;
 //!
-//! let mut collector = Collector::new(alloc, 0, 4)?;
-//! let order = Order::new(frame, Presets::default_of(255));
-//! let number = collector.book(order.clone()?);
-//! // Whoever holds the order codes it, under the number that it was put under.
-//! let piece = Coded::make(alloc, Job { source: 0, number: 0, item: order });
-//! collector.accept(piece);
-//! while let Some(piece) = collector.next() {
-//!     file.write_all(piece.bytes())?;
+//! /// The codestreams of two orders, coded in the wrong order and put in the right one. `None` if an allocation fails.
+//! fn in_order(alloc: Global, first: Order, second: Order) -> Option<Vec<u8>> {
+//!     let mut collector = Collector::new(alloc, 0, 4).ok()?;
+//!     collector.book(first.clone().ok()?).ok()?;
+//!     collector.book(second.clone().ok()?).ok()?;
+//!     let later = Job {
+//!         source: 0,
+//!         number: 1,
+//!         item: second,
+//!     };
+//!     let earlier = Job {
+//!         source: 0,
+//!         number: 0,
+//!         item: first,
+//!     };
+//!     collector.accept(Coded::make(alloc, later).ok()?).ok()?;
+//!     collector.accept(Coded::make(alloc, earlier).ok()?).ok()?;
+//!     let mut bytes = Vec::new(alloc);
+//!     for _ in 0..2 {
+//!         bytes.extend_from_slice(collector.next()?.bytes()).ok()?;
+//!     }
+//!     Some(bytes)
 //! }
 //! ```
 //!

@@ -67,7 +67,7 @@ fn pieces_go_out_in_order_with_ample_memory(rt: HostRuntime) {
 }
 
 #[test]
-fn pieces_go_out_in_order_or_memory_is_wanting(rt: HostRuntime) {
+fn pieces_go_out_in_order_or_memory_is_refused(rt: HostRuntime) {
     check(&rt, "calls", are_right(rt.alloc()), false);
 }
 
@@ -97,6 +97,6 @@ fn a_window_is_1_to_64_with_ample_memory(rt: HostRuntime) {
 }
 
 #[test]
-fn a_window_is_1_to_64_or_memory_is_wanting(rt: HostRuntime) {
+fn a_window_is_1_to_64_or_memory_is_refused(rt: HostRuntime) {
     check_windows(&rt, rt.alloc(), false);
 }

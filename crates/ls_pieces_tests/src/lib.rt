@@ -9,6 +9,8 @@ mod collector;
 #[cfg(test)]
 mod orders;
 #[cfg(test)]
+mod page;
+#[cfg(test)]
 mod pieces;
 pub mod pixels;
 #[cfg(test)]

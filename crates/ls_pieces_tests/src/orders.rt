@@ -29,7 +29,7 @@ fn orders_are_equal_by_frame_and_parameters_with_ample_memory(rt: HostRuntime) {
 }
 
 #[test]
-fn orders_are_equal_by_frame_and_parameters_or_memory_is_wanting(rt: HostRuntime) {
+fn orders_are_equal_by_frame_and_parameters_or_memory_is_refused(rt: HostRuntime) {
     check_pairs(&rt, rt.alloc(), false);
 }
 

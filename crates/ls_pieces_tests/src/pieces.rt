@@ -64,6 +64,6 @@ fn a_job_gives_its_codestream_with_ample_memory(rt: HostRuntime) {
 }
 
 #[test]
-fn a_job_gives_its_codestream_or_memory_is_wanting(rt: HostRuntime) {
+fn a_job_gives_its_codestream_or_memory_is_refused(rt: HostRuntime) {
     check_pixels(&rt, rt.alloc(), false);
 }

@@ -43,7 +43,7 @@ fn a_queue_answers_step_by_step_with_ample_memory(rt: HostRuntime) {
 }
 
 #[test]
-fn a_queue_answers_step_by_step_or_memory_is_wanting(rt: HostRuntime) {
+fn a_queue_answers_step_by_step_or_memory_is_refused(rt: HostRuntime) {
     let made = Core::new(rt.alloc(), 2, 2);
     check_script(&rt, Memory::Refusable, made, &STEPS, &REPLIES);
 }
@@ -111,7 +111,7 @@ fn texts_are_handed_out_and_come_back_with_ample_memory(rt: HostRuntime) {
 }
 
 #[test]
-fn texts_are_handed_out_and_come_back_or_memory_is_wanting(rt: HostRuntime) {
+fn texts_are_handed_out_and_come_back_or_memory_is_refused(rt: HostRuntime) {
     let came = texts_come_back(rt.alloc());
     check(
         &rt,

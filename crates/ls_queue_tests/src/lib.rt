@@ -10,6 +10,8 @@ mod crowd;
 #[cfg(test)]
 mod faults;
 #[cfg(test)]
+mod page;
+#[cfg(test)]
 mod running;
 #[cfg(test)]
 mod steps;

@@ -232,7 +232,7 @@ fn a_queue_is_used_by_one_thread_with_ample_memory(rt: HostRuntime) {
 }
 
 #[test]
-fn a_queue_is_used_by_one_thread_or_memory_is_wanting(rt: HostRuntime) {
+fn a_queue_is_used_by_one_thread_or_memory_is_refused(rt: HostRuntime) {
     check_calls(&rt, rt.alloc(), Memory::Refusable);
 }
 

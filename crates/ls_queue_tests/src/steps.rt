@@ -57,7 +57,7 @@ fn steps_are_replayed_with_ample_memory(rt: HostRuntime) {
 }
 
 #[test]
-fn steps_are_replayed_or_memory_is_wanting(rt: HostRuntime) {
+fn steps_are_replayed_or_memory_is_refused(rt: HostRuntime) {
     check_runs(&rt, rt.alloc(), Memory::Refusable);
 }
 

@@ -5,7 +5,7 @@ ghost use Rattle.ls_queue.specs.View.Running.{AreNewSources, AreNewWorkers, IsSo
 use ls_queue::{Close, Job, Put, Queue, Reply, SourceSeat, Step, Take, WorkerSeat};
 use std::process::Abort;
 
-/// If memory may be refused, the want of it is an answer too.
+/// If memory may be refused, running out of it is an answer too.
 #[derive(Clone, Copy, Debug, PartialEq, Eq)]
 pub enum Memory {
     Ample,

@@ -12,7 +12,7 @@ use Rattle.ls_stream.specs.declared.marker.Marker.TheVariants.{StartOfImage, End
 use Rattle.ls_stream.specs.Markers.{IsMarker, marker}
 use Rattle.ls_stream.specs.Segments.{segment, presets_contents}
 use Rattle.ls_stream.specs.Grammar.{filled, Miscellaneous, skipped, presets, one_miscellaneous_bytes, miscellaneous_bytes, is_skipped, IsSkipped, MayPrecedeScans, MayFollowScan, last_presets}
-use Rattle.ls_stream.specs.View.Reading.{◌>>=◌, Piece, Ahead, marker_at, contents_at, preset_fields_of, skipped_at, presets_at, after_marker, piece_at, unless_marker, ahead_within, ahead_at}
+use Rattle.ls_stream.specs.View.Reading.{◌>>=◌, Part, Ahead, marker_at, contents_at, preset_fields_of, skipped_at, presets_at, after_marker, part_at, unless_marker, ahead_within, ahead_at}
 use Rattle.ls_stream.proofs.StepLemmas.{step_ok, step_is, same_ok}
 use Rattle.ls_stream.proofs.MarkerLemmas.{IsLawful, application_is, marker_read, marker_again}
 use Rattle.ls_stream.proofs.SegmentLemmas.{contents_read, contents_again, contents_shorter, fields_are, fields_again, bytes_along}
@@ -63,12 +63,12 @@ pub record MarkerRead (written : Parameters) (bytes : List ℕ) (m : Marker) (la
   pub stops : Stops m
   pub last_is : last ≡ written
 
-abbrev pub PieceRead : Bool → Parameters → List ℕ → Option Marker → Parameters → List ℕ → Type 0
-PieceRead late written bytes None last rest = SegmentRead late written bytes last rest
-PieceRead late written bytes (Some m) last rest = MarkerRead written bytes m last rest
+abbrev pub PartRead : Bool → Parameters → List ℕ → Option Marker → Parameters → List ℕ → Type 0
+PartRead late written bytes None last rest = SegmentRead late written bytes last rest
+PartRead late written bytes (Some m) last rest = MarkerRead written bytes m last rest
 
 abbrev Read : Bool → Parameters → List ℕ → Found → Type 0
-Read late written bytes found = PieceRead late written bytes found.0 found.1 found.2
+Read late written bytes found = PartRead late written bytes found.0 found.1 found.2
 
 -- the bytes of a segment, in parts
 pub segment_parts : (fill : ℕ) (m : Marker) (contents rest : List ℕ)
@@ -120,7 +120,7 @@ presets_read false written bytes after fill found are whole e =
     subst (Read false written bytes) (same_ok made found d.2) segment
 
 marker_stands : (late : Bool) (written : Parameters) (bytes rest : List ℕ) (fill : ℕ) (m : Marker) (found : Found) → Stops m → bytes ≡ filled fill (marker m) ++ rest
-    → ◌≡◌ {A = Piece} (Ok (Some m, written, rest)) (Ok found) → Read late written bytes found
+    → ◌≡◌ {A = Part} (Ok (Some m, written, rest)) (Ok found) → Read late written bytes found
 marker_stands late written bytes rest fill m found stops whole e =
     let made : Found = (Some m, written, rest) in
     let stands : MarkerRead written bytes m written rest = record { fill = fill; whole = whole; stops = stops; last_is = refl } in
@@ -138,9 +138,9 @@ after_read late written bytes rest fill (Application code) found are lawful whol
 after_read late written bytes rest fill Comment found are lawful whole e = skipped_read late written bytes rest fill Comment found are refl whole e
 after_read late written bytes rest fill (Other code) found are lawful whole e = absurd cc
 
-pub piece_read : (late : Bool) (written : Parameters) (bytes : List ℕ) (found : Found) → AreBytes bytes → piece_at late written bytes ≡ Ok found → Read late written bytes found
-unfolding piece_at
-piece_read late written bytes found are e =
+pub part_read : (late : Bool) (written : Parameters) (bytes : List ℕ) (found : Found) → AreBytes bytes → part_at late written bytes ≡ Ok found → Read late written bytes found
+unfolding part_at
+part_read late written bytes found are e =
     let next = step_ok (marker_at bytes) (λ n. after_marker late written n.0 n.1) found e in
     let read = marker_read bytes next.0 next.1 in
     after_read late written bytes next.0.1 read.0 next.0.0 found (bytes_along (filled read.0 (marker next.0.0)) next.0.1 are read.1) read.2 read.1 next.2
@@ -161,7 +161,7 @@ presets_shorter false bytes found e =
     let made : Found = (None, d.0, c.0.1) in
     subst (λ (f : Found). length f.2 ≤ length bytes) (same_ok made found d.2) (contents_shorter bytes c.0 c.1)
 
-marker_shorter : (written : Parameters) (bytes : List ℕ) (m : Marker) (found : Found) → ◌≡◌ {A = Piece} (Ok (Some m, written, bytes)) (Ok found) → length found.2 ≤ length bytes
+marker_shorter : (written : Parameters) (bytes : List ℕ) (m : Marker) (found : Found) → ◌≡◌ {A = Part} (Ok (Some m, written, bytes)) (Ok found) → length found.2 ≤ length bytes
 marker_shorter written bytes m found e =
     let made : Found = (Some m, written, bytes) in
     subst (λ (f : Found). length f.2 ≤ length bytes) (same_ok made found e) (omega arith)
@@ -177,9 +177,9 @@ after_shorter late written (Application code) bytes found e = skipped_shorter wr
 after_shorter late written Comment bytes found e = skipped_shorter written bytes found e
 after_shorter late written (Other code) bytes found e = absurd cc
 
-pub piece_shorter : (late : Bool) (written : Parameters) (bytes : List ℕ) (found : Found) → piece_at late written bytes ≡ Ok found → length found.2 < length bytes
-unfolding piece_at
-piece_shorter late written bytes found e =
+pub part_shorter : (late : Bool) (written : Parameters) (bytes : List ℕ) (found : Found) → part_at late written bytes ≡ Ok found → length found.2 < length bytes
+unfolding part_at
+part_shorter late written bytes found e =
     let next = step_ok (marker_at bytes) (λ n. after_marker late written n.0 n.1) found e in
     let read = marker_read bytes next.0 next.1 in
     let left = after_shorter late written next.0.0 next.0.1 found next.2 in
@@ -198,41 +198,41 @@ next_by : (o : Option Marker) (last : Parameters) (rest : List ℕ) (f g : Param
 next_by None last rest f g same = same refl
 next_by (Some m) last rest f g same = refl
 
-same_next : (r : Piece) (f g : Parameters → List ℕ → Ahead) → ((last : Parameters) (rest : List ℕ) → r ≡ Ok (None, last, rest) → f last rest ≡ g last rest)
-    → (r >>= λ piece. unless_marker f piece.0 piece.1 piece.2) ≡ (r >>= λ piece. unless_marker g piece.0 piece.1 piece.2)
+same_next : (r : Part) (f g : Parameters → List ℕ → Ahead) → ((last : Parameters) (rest : List ℕ) → r ≡ Ok (None, last, rest) → f last rest ≡ g last rest)
+    → (r >>= λ part. unless_marker f part.0 part.1 part.2) ≡ (r >>= λ part. unless_marker g part.0 part.1 part.2)
 same_next (Ok found) f g same = next_by found.0 found.1 found.2 f g (λ none. same found.1 found.2 (ap (λ (o : Option Marker). Ok (o, found.1, found.2)) none))
 same_next (Err fault) f g same = refl
 
 -- the length of the bytes is enough
 enough : (late : Bool) (a b : ℕ) (written : Parameters) (bytes : List ℕ) → length bytes ≤ a → length bytes ≤ b → ahead_within a late written bytes ≡ ahead_within b late written bytes
-unfolding ahead_within piece_at marker_at
+unfolding ahead_within part_at marker_at
 enough late zero zero written bytes first second = refl
 enough late zero (suc b) written [] first second = refl
 enough late zero (suc b) written (byte ∷ bytes) first second = absurd (omega arith)
 enough late (suc a) zero written [] first second = refl
 enough late (suc a) zero written (byte ∷ bytes) first second = absurd (omega arith)
 enough late (suc a) (suc b) written bytes first second =
-    same_next (piece_at late written bytes) (λ w rest. ahead_within a late w rest) (λ w rest. ahead_within b late w rest)
-    (λ last rest e. let less = piece_shorter late written bytes (None, last, rest) e in enough late a b last rest (omega arith) (omega arith))
+    same_next (part_at late written bytes) (λ w rest. ahead_within a late w rest) (λ w rest. ahead_within b late w rest)
+    (λ last rest e. let less = part_shorter late written bytes (None, last, rest) e in enough late a b last rest (omega arith) (omega arith))
 
-pub ahead_at-piece : (late : Bool) (written : Parameters) (bytes : List ℕ)
-    → ahead_at late written bytes ≡ (piece_at late written bytes >>= λ piece. unless_marker (λ w rest. ahead_at late w rest) piece.0 piece.1 piece.2)
-unfolding ahead_at ahead_within piece_at marker_at
-ahead_at-piece late written [] = refl
-ahead_at-piece late written (byte ∷ bytes) =
-    same_next (piece_at late written (byte ∷ bytes)) (λ w rest. ahead_within (length bytes) late w rest) (λ w rest. ahead_within (length rest) late w rest)
-    (λ last rest e. let less = piece_shorter late written (byte ∷ bytes) (None, last, rest) e in enough late (length bytes) (length rest) last rest (omega arith) (omega arith))
+pub ahead_at-part : (late : Bool) (written : Parameters) (bytes : List ℕ)
+    → ahead_at late written bytes ≡ (part_at late written bytes >>= λ part. unless_marker (λ w rest. ahead_at late w rest) part.0 part.1 part.2)
+unfolding ahead_at ahead_within part_at marker_at
+ahead_at-part late written [] = refl
+ahead_at-part late written (byte ∷ bytes) =
+    same_next (part_at late written (byte ∷ bytes)) (λ w rest. ahead_within (length bytes) late w rest) (λ w rest. ahead_within (length rest) late w rest)
+    (λ last rest e. let less = part_shorter late written (byte ∷ bytes) (None, last, rest) e in enough late (length bytes) (length rest) last rest (omega arith) (omega arith))
 
-pub ahead_at-fault : (late : Bool) (written : Parameters) (bytes : List ℕ) (fault : StreamFault) → piece_at late written bytes ≡ Err fault → ahead_at late written bytes ≡ Err fault
-ahead_at-fault late written bytes fault e = rw (ahead_at-piece late written bytes, e) refl
+pub ahead_at-fault : (late : Bool) (written : Parameters) (bytes : List ℕ) (fault : StreamFault) → part_at late written bytes ≡ Err fault → ahead_at late written bytes ≡ Err fault
+ahead_at-fault late written bytes fault e = rw (ahead_at-part late written bytes, e) refl
 
-pub ahead_at-marker : (late : Bool) (written last : Parameters) (bytes rest : List ℕ) (m : Marker) → piece_at late written bytes ≡ Ok (Some m, last, rest)
+pub ahead_at-marker : (late : Bool) (written last : Parameters) (bytes rest : List ℕ) (m : Marker) → part_at late written bytes ≡ Ok (Some m, last, rest)
     → ahead_at late written bytes ≡ Ok (m, last, rest)
-ahead_at-marker late written last bytes rest m e = rw (ahead_at-piece late written bytes, e) refl
+ahead_at-marker late written last bytes rest m e = rw (ahead_at-part late written bytes, e) refl
 
-pub ahead_at-segment : (late : Bool) (written last : Parameters) (bytes rest : List ℕ) → piece_at late written bytes ≡ Ok (None, last, rest)
+pub ahead_at-segment : (late : Bool) (written last : Parameters) (bytes rest : List ℕ) → part_at late written bytes ≡ Ok (None, last, rest)
     → ahead_at late written bytes ≡ ahead_at late last rest
-ahead_at-segment late written last bytes rest e = rw (ahead_at-piece late written bytes, e) refl
+ahead_at-segment late written last bytes rest e = rw (ahead_at-part late written bytes, e) refl
 
 pub ruleset ahead_lemmas = (ahead_at-fault, ahead_at-marker, ahead_at-segment)
 
@@ -256,31 +256,31 @@ presets_after written (skipped fill m contents) segments = refl
 presets_after written (presets fill p) segments = refl
 
 ahead_by : (late : Bool) (written : Parameters) (bytes : List ℕ) (o : Option Marker) (last : Parameters) (rest : List ℕ) (again : Parameters → List ℕ → Ahead) (found : Stands)
-    → AreBytes bytes → PieceRead late written bytes o last rest → unless_marker again o last rest ≡ Ok found
+    → AreBytes bytes → PartRead late written bytes o last rest → unless_marker again o last rest ≡ Ok found
     → (AreBytes rest → again last rest ≡ Ok found → AheadRead late last rest found) → AheadRead late written bytes found
-ahead_by late written bytes (Some m) last rest again found are piece e others =
+ahead_by late written bytes (Some m) last rest again found are part e others =
     let made : Stands = (m, last, rest) in
     let stands : AheadRead late written bytes made = record {
       segments = [];
-      fill = piece.fill;
-      whole = piece.whole;
-      stops = piece.stops;
+      fill = part.fill;
+      whole = part.whole;
+      stops = part.stops;
       lawful = tt;
       may = tt;
-      last_is = piece.last_is;
+      last_is = part.last_is;
     } in
     subst (AheadRead late written bytes) (same_ok made found e) stands
-ahead_by late written bytes None last rest again found are piece e others =
-    let more = others (bytes_along (one_miscellaneous_bytes piece.one) rest are piece.whole) e in
+ahead_by late written bytes None last rest again found are part e others =
+    let more = others (bytes_along (one_miscellaneous_bytes part.one) rest are part.whole) e in
     record {
-      segments = piece.one ∷ more.segments;
+      segments = part.one ∷ more.segments;
       fill = more.fill;
-      whole = piece.whole ∙ ap (λ bs. one_miscellaneous_bytes piece.one ++ bs) more.whole
-          ∙ sym (append_assoc (one_miscellaneous_bytes piece.one) (miscellaneous_bytes more.segments) (filled more.fill (marker found.0) ++ found.2));
+      whole = part.whole ∙ ap (λ bs. one_miscellaneous_bytes part.one ++ bs) more.whole
+          ∙ sym (append_assoc (one_miscellaneous_bytes part.one) (miscellaneous_bytes more.segments) (filled more.fill (marker found.0) ++ found.2));
       stops = more.stops;
-      lawful = (piece.lawful, more.lawful);
-      may = (piece.may, more.may);
-      last_is = more.last_is ∙ ap (λ p. last_presets p more.segments) piece.last_is ∙ presets_after written piece.one more.segments;
+      lawful = (part.lawful, more.lawful);
+      may = (part.may, more.may);
+      last_is = more.last_is ∙ ap (λ p. last_presets p more.segments) part.last_is ∙ presets_after written part.one more.segments;
     }
 
 within_read : (most : ℕ) (late : Bool) (written : Parameters) (bytes : List ℕ) (found : Stands) → AreBytes bytes → ahead_within most late written bytes ≡ Ok found → AheadRead late written bytes found
@@ -288,8 +288,8 @@ unfolding ahead_within
 within_read zero late written bytes found are e = absurd cc
 within_read (suc most) late written bytes found are e =
     let again : Parameters → List ℕ → Ahead = λ w rest. ahead_within most late w rest in
-    let p = step_ok (piece_at late written bytes) (λ piece. unless_marker again piece.0 piece.1 piece.2) found e in
-    ahead_by late written bytes p.0.0 p.0.1 p.0.2 again found are (piece_read late written bytes p.0 are p.1) p.2
+    let p = step_ok (part_at late written bytes) (λ part. unless_marker again part.0 part.1 part.2) found e in
+    ahead_by late written bytes p.0.0 p.0.1 p.0.2 again found are (part_read late written bytes p.0 are p.1) p.2
     (λ rest_are f. within_read most late p.0.1 p.0.2 found rest_are f)
 
 pub ahead_read : (late : Bool) (written : Parameters) (bytes : List ℕ) (found : Stands) → AreBytes bytes → ahead_at late written bytes ≡ Ok found → AheadRead late written bytes found
@@ -325,29 +325,29 @@ after_skipped late written Comment bytes is = refl
 after_skipped late written (Other code) bytes is = absurd (false≢true is)
 
 -- a marker and what stands after it
-pub piece_after : (late : Bool) (written : Parameters) (fill : ℕ) (m : Marker) (rest : List ℕ) → IsMarker m
-    → piece_at late written (filled fill (marker m) ++ rest) ≡ after_marker late written m rest
-unfolding piece_at
-piece_after late written fill m rest is = step_is (marker_at (filled fill (marker m) ++ rest)) (λ n. after_marker late written n.0 n.1) (m, rest) (marker_again fill m rest is)
+pub part_after : (late : Bool) (written : Parameters) (fill : ℕ) (m : Marker) (rest : List ℕ) → IsMarker m
+    → part_at late written (filled fill (marker m) ++ rest) ≡ after_marker late written m rest
+unfolding part_at
+part_after late written fill m rest is = step_is (marker_at (filled fill (marker m) ++ rest)) (λ n. after_marker late written n.0 n.1) (m, rest) (marker_again fill m rest is)
 
 presets_short : (p : Parameters) → 2 + length (presets_contents p) < 2 ^ 16
 unfolding presets_contents
 presets_short p = omega arith
 
-pub piece_again : (late : Bool) (written : Parameters) (s : Miscellaneous) (rest : List ℕ) → MayPrecedeScans s → MayCome late s
-    → piece_at late written (one_miscellaneous_bytes s ++ rest) ≡ Ok (None, last_presets written (s ∷ []), rest)
+pub part_again : (late : Bool) (written : Parameters) (s : Miscellaneous) (rest : List ℕ) → MayPrecedeScans s → MayCome late s
+    → part_at late written (one_miscellaneous_bytes s ++ rest) ≡ Ok (None, last_presets written (s ∷ []), rest)
 unfolding after_marker
-piece_again late written (skipped fill m contents) rest lawful may =
+part_again late written (skipped fill m contents) rest lawful may =
     let after : List ℕ = (two_bytes (2 + length contents) ++ contents) ++ rest in
-    ap (piece_at late written) (segment_parts fill m contents rest) ∙ piece_after late written fill m after (skipped_is m lawful.marker_is)
+    ap (part_at late written) (segment_parts fill m contents rest) ∙ part_after late written fill m after (skipped_is m lawful.marker_is)
     ∙ after_skipped late written m after lawful.marker_is
     ∙ step_is (contents_at after) (λ c. Ok (None, written, c.1)) (contents, rest) (contents_again contents rest lawful.short)
-piece_again true written (presets fill p) rest lawful may = absurd may
-piece_again false written (presets fill p) rest lawful may =
+part_again true written (presets fill p) rest lawful may = absurd may
+part_again false written (presets fill p) rest lawful may =
     let contents = presets_contents p in
     let after : List ℕ = (two_bytes (2 + length contents) ++ contents) ++ rest in
-    ap (piece_at false written) (segment_parts fill PresetParameters contents rest)
-    ∙ piece_after false written fill PresetParameters after presets_is
+    ap (part_at false written) (segment_parts fill PresetParameters contents rest)
+    ∙ part_after false written fill PresetParameters after presets_is
     ∙ step_is (contents_at after) (λ c. preset_fields_of c.0 >>= λ last. Ok (None, last, c.1)) (contents, rest) (contents_again contents rest (presets_short p))
     ∙ step_is (preset_fields_of contents) (λ last. Ok (None, last, rest)) p (fields_again p)
 
@@ -372,11 +372,11 @@ pub ahead_again : (late : Bool) (written : Parameters) (segments : List Miscella
     → AllByRecursion (MayCome late) segments → IsAhead m
     → ahead_at late written (miscellaneous_bytes segments ++ (filled fill (marker m) ++ rest)) ≡ Ok (m, last_presets written segments, rest)
 ahead_again late written [] fill m rest lawful may is =
-    ahead_at-marker late written written (filled fill (marker m) ++ rest) rest m (piece_after late written fill m rest is.is ∙ is.after late written rest)
+    ahead_at-marker late written written (filled fill (marker m) ++ rest) rest m (part_after late written fill m rest is.is ∙ is.after late written rest)
 ahead_again late written (s ∷ segments) fill m rest lawful may is =
     let last = last_presets written (s ∷ []) in
     let others : List ℕ = miscellaneous_bytes segments ++ (filled fill (marker m) ++ rest) in
     ap (ahead_at late written) (append_assoc (one_miscellaneous_bytes s) (miscellaneous_bytes segments) (filled fill (marker m) ++ rest))
-    ∙ ahead_at-segment late written last (one_miscellaneous_bytes s ++ others) others (piece_again late written s others lawful.0 may.0)
+    ∙ ahead_at-segment late written last (one_miscellaneous_bytes s ++ others) others (part_again late written s others lawful.0 may.0)
     ∙ ahead_again late last segments fill m rest lawful.1 may.1 is
     ∙ ap (λ p. Ok (m, p, rest)) (presets_after written s segments)

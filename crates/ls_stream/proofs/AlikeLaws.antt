@@ -81,14 +81,14 @@ pub decoded_alike : LegalWithoutFault → (taken rest all : List ℕ) → all �
     → ((fault : StreamFault) → IsFirstFault taken fault ↔ IsFirstFault all fault)
     → (one other : Result Decoded StreamFault) → IsDecoding taken one → IsDecoding all other → AreAlike one other
 decoded_alike legal taken rest all e are whole faults (Ok one) (Ok other) first second =
-    let found = second.whole (take one.used taken) (drop one.used taken ++ rest) one.frame (front_of one.used taken rest all e) first.ok.1 in
+    let found = second.complete (take one.used taken) (drop one.used taken ++ rest) one.frame (front_of one.used taken rest all e) first.ok.1 in
     (sym found.0, sym (found.1 ∙ length_of_front one.used taken first.ok.0))
 decoded_alike legal taken rest all e are whole faults (Ok one) (Err fault) first second =
-    second.whole (take one.used taken) (drop one.used taken ++ rest) one.frame (front_of one.used taken rest all e) first.ok.1
+    second.complete (take one.used taken) (drop one.used taken ++ rest) one.frame (front_of one.used taken rest all e) first.ok.1
 decoded_alike legal taken rest all e are whole faults (Err fault) (Ok other) first second =
     let front : List ℕ = take other.used all in
     let is : taken ≡ front = whole front (drop other.used all) other.frame (sym (take-append-drop other.used all)) second.ok.1 in
-    first.whole front [] other.frame (is ∙ sym (append-nil front)) second.ok.1
+    first.complete front [] other.frame (is ∙ sym (append-nil front)) second.ok.1
 decoded_alike legal taken rest all e are whole faults (Err fault) (Err other) first second =
     elim first.first [
       | inl memory ↦ inl memory

@@ -1,4 +1,4 @@
--- Reading the outline of a codestream goes along with reading its extent: each piece that the one reads the other passes, and where
+-- Reading the outline of a codestream goes along with reading its extent: each part that the one reads the other passes, and where
 -- the one wants a byte that isn't there, so does the other.
 use Rattle.std.proofs.Common.{◌≡◌, ℕ, zero, suc, ◌+◌, ◌*◌, ◌<◌, ◌&&◌, Bool, true, false, cond, eqb, leb, List, [], ◌∷◌, length, drop, Option, None, Some, Result, Ok, Err, MatchResult, refl, sym, ap, subst, arith}
 use Rattle.std.specs.Prelude.{slice_index, not}
@@ -16,12 +16,12 @@ use Rattle.ls_stream.specs.declared.marker.Marker.TheVariants.{StartOfImage, End
 use Rattle.ls_stream.specs.declared.segments.read.FrameHeader.{FrameHeader}
 use Rattle.ls_stream.specs.Segments.{field_of}
 use Rattle.ls_stream.specs.Grammar.{no_presets, parameters_of}
-use Rattle.ls_stream.specs.View.Reading.{◌>>=◌, wanted, Take, start_at, marker_at, contents_at, kind_of_count, id_of, ids_of, frame_header_of, scan_header_of, preset_fields_of, skipped_at, presets_at, after_marker, piece_at, Ahead, unless_marker, ahead_at, is_start_of_frame, is_start_of_scan, is_end_of_image, frame_header_at, scan_header_at, next_scan_at, end_at, or_bad_presets, opening_at}
+use Rattle.ls_stream.specs.View.Reading.{◌>>=◌, wanted, Take, start_at, marker_at, contents_at, kind_of_count, id_of, ids_of, frame_header_of, scan_header_of, preset_fields_of, skipped_at, presets_at, after_marker, part_at, Ahead, unless_marker, ahead_at, is_start_of_frame, is_start_of_scan, is_end_of_image, frame_header_at, scan_header_at, next_scan_at, end_at, or_bad_presets, opening_at}
 use Rattle.ls_stream.specs.View.Outlines.{data_at, after_data, Outline, ids_in, scans_at, outline_at}
 use Rattle.ls_stream.specs.View.Extents.{Left, after_segment, after_any, segments_at, extent_at}
 use Rattle.ls_stream.proofs.StepLemmas.{same_fault}
 use Rattle.ls_stream.proofs.BreakLemmas.{no_err}
-use Rattle.ls_stream.proofs.AheadLemmas.{Found, Stands, piece_shorter, ahead_at-piece}
+use Rattle.ls_stream.proofs.AheadLemmas.{Found, Stands, part_shorter, ahead_at-part}
 use Rattle.ls_stream.proofs.OutlineLemmas.{is_frame, is_scan, is_end}
 use Rattle.ls_stream.proofs.PlaceLemmas.{segments_at-next}
 
@@ -152,27 +152,27 @@ presets_no_byte (Err fault) e = no_presets_fault fault (same_fault {A = Paramete
 
 -- ---- miscellaneous segments
 
--- where the extent goes on after a piece
+-- where the extent goes on after a part
 abbrev unless_ends : Option Marker → List ℕ → Left
 unless_ends None rest = segments_at rest
 unless_ends (Some m) rest = after_any segments_at m rest
 
-abbrev after_piece : Found → Left
-after_piece found = unless_ends found.0 found.2
+abbrev after_part : Found → Left
+after_part found = unless_ends found.0 found.2
 
 abbrev after_ahead : Stands → Left
 after_ahead found = after_any segments_at found.0 found.2
 
-skipped_along : (written : Parameters) (bytes : List ℕ) → IsAlong after_piece (skipped_at written bytes) (after_segment segments_at bytes)
-skipped_along written bytes = both_along after_piece (contents_at bytes) (λ c. Ok (None, written, c.1)) (λ c. segments_at c.1) (λ c. refl)
+skipped_along : (written : Parameters) (bytes : List ℕ) → IsAlong after_part (skipped_at written bytes) (after_segment segments_at bytes)
+skipped_along written bytes = both_along after_part (contents_at bytes) (λ c. Ok (None, written, c.1)) (λ c. segments_at c.1) (λ c. refl)
 
-presets_along : (late : Bool) (bytes : List ℕ) → IsAlong after_piece (presets_at late bytes) (after_segment segments_at bytes)
+presets_along : (late : Bool) (bytes : List ℕ) → IsAlong after_part (presets_at late bytes) (after_segment segments_at bytes)
 presets_along true bytes = λ e. absurd (no_what what.LseLate e)
 presets_along false bytes =
-    both_along after_piece (contents_at bytes) (λ c. preset_fields_of c.0 >>= λ written. Ok (None, written, c.1)) (λ c. segments_at c.1)
-    (λ c. inside_along after_piece (preset_fields_of c.0) (λ written. Ok (None, written, c.1)) (segments_at c.1) (fields_no_byte c.0) (λ written. refl))
+    both_along after_part (contents_at bytes) (λ c. preset_fields_of c.0 >>= λ written. Ok (None, written, c.1)) (λ c. segments_at c.1)
+    (λ c. inside_along after_part (preset_fields_of c.0) (λ written. Ok (None, written, c.1)) (segments_at c.1) (fields_no_byte c.0) (λ written. refl))
 
-after_along : (late : Bool) (written : Parameters) (m : Marker) (bytes : List ℕ) → IsAlong after_piece (after_marker late written m bytes) (after_any segments_at m bytes)
+after_along : (late : Bool) (written : Parameters) (m : Marker) (bytes : List ℕ) → IsAlong after_part (after_marker late written m bytes) (after_any segments_at m bytes)
 unfolding after_marker after_any
 after_along late written StartOfImage bytes = λ e. absurd (no_what _ e)
 after_along late written EndOfImage bytes = refl
@@ -183,11 +183,11 @@ after_along late written (Application code) bytes = skipped_along written bytes
 after_along late written Comment bytes = skipped_along written bytes
 after_along late written (Other code) bytes = λ e. absurd (no_what _ e)
 
-piece_along : (late : Bool) (written : Parameters) (bytes : List ℕ) → IsAlong after_piece (piece_at late written bytes) (segments_at bytes)
-unfolding piece_at
-piece_along late written bytes =
-    subst (λ e. IsAlong after_piece (marker_at bytes >>= λ n. after_marker late written n.0 n.1) e) (sym (segments_at-next bytes))
-    (both_along after_piece (marker_at bytes) (λ n. after_marker late written n.0 n.1) (λ n. after_any segments_at n.0 n.1) (λ n. after_along late written n.0 n.1))
+part_along : (late : Bool) (written : Parameters) (bytes : List ℕ) → IsAlong after_part (part_at late written bytes) (segments_at bytes)
+unfolding part_at
+part_along late written bytes =
+    subst (λ e. IsAlong after_part (marker_at bytes >>= λ n. after_marker late written n.0 n.1) e) (sym (segments_at-next bytes))
+    (both_along after_part (marker_at bytes) (λ n. after_marker late written n.0 n.1) (λ n. after_any segments_at n.0 n.1) (λ n. after_along late written n.0 n.1))
 
 unless_along : (again : Parameters → List ℕ → Ahead) (o : Option Marker) (last : Parameters) (rest : List ℕ)
     → (o ≡ None → IsAlong after_ahead (again last rest) (segments_at rest)) → IsAlong after_ahead (unless_marker again o last rest) (unless_ends o rest)
@@ -198,10 +198,10 @@ ahead_along_within : (most : ℕ) (late : Bool) (written : Parameters) (bytes : 
 ahead_along_within zero late written bytes few = absurd (omega arith)
 ahead_along_within (suc most) late written bytes few =
     let again : Parameters → List ℕ → Ahead = λ w rest. ahead_at late w rest in
-    subst (λ r. IsAlong after_ahead r (segments_at bytes)) (sym (ahead_at-piece late written bytes))
-    (step_along after_piece after_ahead (piece_at late written bytes) (λ piece. unless_marker again piece.0 piece.1 piece.2) (segments_at bytes) (piece_along late written bytes)
+    subst (λ r. IsAlong after_ahead r (segments_at bytes)) (sym (ahead_at-part late written bytes))
+    (step_along after_part after_ahead (part_at late written bytes) (λ part. unless_marker again part.0 part.1 part.2) (segments_at bytes) (part_along late written bytes)
     (λ p e.
-    let less = piece_shorter late written bytes p e in
+    let less = part_shorter late written bytes p e in
     unless_along again p.0 p.1 p.2 (λ none. ahead_along_within most late p.1 p.2 (omega arith))))
 
 ahead_along : (late : Bool) (written : Parameters) (bytes : List ℕ) → IsAlong after_ahead (ahead_at late written bytes) (segments_at bytes)

@@ -11,14 +11,14 @@ use Rattle.ls_stream.specs.declared.marker.Marker.{Marker}
 use Rattle.ls_stream.specs.declared.marker.Marker.TheVariants.{StartOfImage, EndOfImage, StartOfScan, StartOfFrame, PresetParameters, Application, Comment, Other}
 use Rattle.ls_stream.specs.Markers.{marker_of, IsMarker, marker}
 use Rattle.ls_stream.specs.Grammar.{filled, Miscellaneous, one_miscellaneous_bytes, miscellaneous_bytes, MayPrecedeScans}
-use Rattle.ls_stream.specs.Faults.{Due, is_late, MayStand, marker_fault, has_segment, presets_checks, BreaksSegment, no_length, bad_length, cut_off, fails, BreaksMarker, ends, no_marker, zero_code, misplaced, broken, BreaksAfter}
+use Rattle.ls_stream.specs.Faults.{Due, is_late, MayStand, marker_fault, has_segment, presets_checks, BreaksSegment, no_length, bad_length, cut_off, fails, BreaksMarker, ends, no_marker, zero_code, misplaced, malformed, BreaksAfter}
 use Rattle.ls_stream.specs.Segments.{field_of}
-use Rattle.ls_stream.specs.View.Reading.{◌>>=◌, Ahead, wanted, code_at, marker_at, contents_at, preset_fields_of, skipped_at, presets_at, after_marker, piece_at, unless_marker, ahead_within, ahead_at}
+use Rattle.ls_stream.specs.View.Reading.{◌>>=◌, Ahead, wanted, code_at, marker_at, contents_at, preset_fields_of, skipped_at, presets_at, after_marker, part_at, unless_marker, ahead_within, ahead_at}
 use Rattle.ls_stream.proofs.StepLemmas.{same_fault, step_err, test_err}
 use Rattle.ls_stream.proofs.MarkerLemmas.{marker_read, marker_is}
 use Rattle.ls_stream.proofs.SegmentLemmas.{two_are, contents_read, bytes_along}
 use Rattle.ls_stream.proofs.CheckLemmas.{presets_agree, unmet_of}
-use Rattle.ls_stream.proofs.AheadLemmas.{MayCome, Found, Stands, PieceRead, piece_read, piece_shorter}
+use Rattle.ls_stream.proofs.AheadLemmas.{MayCome, Found, Stands, PartRead, part_read, part_shorter}
 
 -- a value is no fault
 abbrev pub value : {A : Type 0} → A → Result A StreamFault
@@ -97,7 +97,7 @@ segment_breaks d m (high ∷ low ∷ more) fault are e =
 skipped_breaks : (d : Due) (written : Parameters) (fill : ℕ) (m : Marker) (rest bytes : List ℕ) (fault : StreamFault) → AreBytes rest → bytes ≡ filled fill (marker m) ++ rest
     → IsMarker m → marker_fault d m ≡ None → has_segment m ≡ true → skipped_at written rest ≡ Err fault → BreaksMarker d bytes fault
 skipped_breaks d written fill m rest bytes fault are whole is may has e = elim (step_err (contents_at rest) (λ contents. Ok (None, written, contents.1)) fault e) [
-  | inl bad ↦ broken fill m rest whole is may has (segment_breaks d m rest fault are bad)
+  | inl bad ↦ malformed fill m rest whole is may has (segment_breaks d m rest fault are bad)
   | inr good ↦ absurd (no_err (None, written, good.0.1) fault good.2)
 ]
 
@@ -108,11 +108,11 @@ presets_break d true fill rest bytes fault same are whole is e =
 presets_break d false fill rest bytes fault same are whole is e =
     let may : marker_fault d PresetParameters ≡ None = cond-false (is_late d) _ _ same in
     elim (step_err (contents_at rest) (λ contents. preset_fields_of contents.0 >>= λ last. Ok (None, last, contents.1)) fault e) [
-      | inl bad ↦ broken fill PresetParameters rest whole is may refl (segment_breaks d PresetParameters rest fault are bad)
+      | inl bad ↦ malformed fill PresetParameters rest whole is may refl (segment_breaks d PresetParameters rest fault are bad)
       | inr c ↦ elim (step_err (preset_fields_of c.0.0) (λ last. Ok (None, last, c.0.1)) fault c.2) [
         | inl bad ↦
             let read = contents_read rest c.0 are c.1 in
-            broken fill PresetParameters rest whole is may refl
+            malformed fill PresetParameters rest whole is may refl
             (fails c.0.0 c.0.1 read.whole (unmet_of (presets_checks c.0.0) (preset_fields_of c.0.0) fault (presets_agree c.0.0) bad))
         | inr good ↦ absurd (no_err (None, good.0, c.0.1) fault good.2)
       ]
@@ -130,9 +130,9 @@ after_breaks d written fill (Application code) rest bytes fault are whole is e =
 after_breaks d written fill Comment rest bytes fault are whole is e = skipped_breaks d written fill Comment rest bytes fault are whole is refl refl e
 after_breaks d written fill (Other code) rest bytes fault are whole is e = misplaced fill (Other code) rest whole is (ap (λ (f : StreamFault). Some f) (same_fault {A = Found} _ fault e))
 
-piece_breaks : (d : Due) (written : Parameters) (bytes : List ℕ) (fault : StreamFault) → AreBytes bytes → piece_at (is_late d) written bytes ≡ Err fault → BreaksMarker d bytes fault
-unfolding piece_at
-piece_breaks d written bytes fault are e = elim (step_err (marker_at bytes) (λ n. after_marker (is_late d) written n.0 n.1) fault e) [
+part_breaks : (d : Due) (written : Parameters) (bytes : List ℕ) (fault : StreamFault) → AreBytes bytes → part_at (is_late d) written bytes ≡ Err fault → BreaksMarker d bytes fault
+unfolding part_at
+part_breaks d written bytes fault are e = elim (step_err (marker_at bytes) (λ n. after_marker (is_late d) written n.0 n.1) fault e) [
   | inl bad ↦ marker_breaks d bytes fault bad
   | inr next ↦
       let read = marker_read bytes next.0 next.1 in
@@ -150,17 +150,17 @@ all_stand late [] lawful may = tt
 all_stand late (s ∷ segments) lawful may = (may_stand late s lawful.0 may.0, all_stand late segments lawful.1 may.1)
 
 next_breaks : (d : Due) (written : Parameters) (bytes : List ℕ) (o : Option Marker) (last : Parameters) (rest : List ℕ) (again : Parameters → List ℕ → Ahead) (fault : StreamFault)
-    → AreBytes bytes → PieceRead (is_late d) written bytes o last rest → unless_marker again o last rest ≡ Err fault
+    → AreBytes bytes → PartRead (is_late d) written bytes o last rest → unless_marker again o last rest ≡ Err fault
     → (AreBytes rest → again last rest ≡ Err fault → BreaksAfter d rest fault) → BreaksAfter d bytes fault
-next_breaks d written bytes (Some m) last rest again fault are piece e others = absurd (no_err (m, last, rest) fault e)
-next_breaks d written bytes None last rest again fault are piece e others =
-    let more = others (bytes_along (one_miscellaneous_bytes piece.one) rest are piece.whole) e in
+next_breaks d written bytes (Some m) last rest again fault are part e others = absurd (no_err (m, last, rest) fault e)
+next_breaks d written bytes None last rest again fault are part e others =
+    let more = others (bytes_along (one_miscellaneous_bytes part.one) rest are part.whole) e in
     record {
-      segments = piece.one ∷ more.segments;
+      segments = part.one ∷ more.segments;
       rest = more.rest;
-      whole = piece.whole ∙ ap (λ bs. one_miscellaneous_bytes piece.one ++ bs) more.whole
-          ∙ sym (append_assoc (one_miscellaneous_bytes piece.one) (miscellaneous_bytes more.segments) more.rest);
-      lawful = (may_stand (is_late d) piece.one piece.lawful piece.may, more.lawful);
+      whole = part.whole ∙ ap (λ bs. one_miscellaneous_bytes part.one ++ bs) more.whole
+          ∙ sym (append_assoc (one_miscellaneous_bytes part.one) (miscellaneous_bytes more.segments) more.rest);
+      lawful = (may_stand (is_late d) part.one part.lawful part.may, more.lawful);
       breaks = more.breaks;
     }
 
@@ -177,17 +177,17 @@ within_breaks zero d written [] fault are few e = record {
 within_breaks zero d written (byte ∷ bytes) fault are few e = absurd (omega arith)
 within_breaks (suc most) d written bytes fault are few e =
     let again : Parameters → List ℕ → Ahead = λ w rest. ahead_within most (is_late d) w rest in
-    elim (step_err (piece_at (is_late d) written bytes) (λ piece. unless_marker again piece.0 piece.1 piece.2) fault e) [
+    elim (step_err (part_at (is_late d) written bytes) (λ part. unless_marker again part.0 part.1 part.2) fault e) [
       | inl bad ↦ record {
         segments = [];
         rest = bytes;
         whole = refl;
         lawful = tt;
-        breaks = piece_breaks d written bytes fault are bad;
+        breaks = part_breaks d written bytes fault are bad;
       }
       | inr p ↦
-          let less = piece_shorter (is_late d) written bytes p.0 p.1 in
-          next_breaks d written bytes p.0.0 p.0.1 p.0.2 again fault are (piece_read (is_late d) written bytes p.0 are p.1) p.2
+          let less = part_shorter (is_late d) written bytes p.0 p.1 in
+          next_breaks d written bytes p.0.0 p.0.1 p.0.2 again fault are (part_read (is_late d) written bytes p.0 are p.1) p.2
           (λ rest_are f. within_breaks most d p.0.1 p.0.2 fault rest_are (omega arith) f)
     ]
 

@@ -3,7 +3,7 @@ use Rattle.std.proofs.Common.{◌≡◌, ℕ, ◌+◌, Bool, true, false, cond, 
 use Rattle.ls_frame.specs.Parameters.{Parameters}
 use Rattle.ls_coding.specs.Interruptions.{Counts, ri_type_of, interruption_error}
 use Rattle.ls_coding.specs.Runs.{Run, run_of, run_bits, index_at}
-use Rattle.ls_coding.specs.Events.{Event, run, interruption, run_index_after_events, counts_after_events, broken_after_events, is_broken, interruption_word, golomb_bits}
+use Rattle.ls_coding.specs.Events.{Event, run, interruption, run_index_after_events, counts_after_events, interrupted_after_events, is_interrupted, interruption_word, golomb_bits}
 use Rattle.ls_coding.specs.View.States.{Coding, state_of, run_after, interruption_word_in, interruption_after}
 use Rattle.ls_coding.proofs.EventLemmas.{word_of_regular, state_after_regular, state_of-interruption}
 use Rattle.ls_coding.proofs.StateLemmas.{state_of-run, fold-push}
@@ -14,9 +14,9 @@ pub parameters_of : (p : Parameters) (events : List Event) → (state_of p event
 unfolding state_of
 parameters_of p events = refl
 
-pub whole_of : (p : Parameters) (events : List Event) → broken_after_events events ≡ false → (state_of p events).broken ≡ false
+pub uninterrupted_of : (p : Parameters) (events : List Event) → interrupted_after_events events ≡ false → (state_of p events).interrupted ≡ false
 unfolding state_of
-whole_of p events h = h
+uninterrupted_of p events h = h
 
 index_of : (p : Parameters) (events : List Event) → (state_of p events).run_index ≡ run_index_after_events events
 unfolding state_of
@@ -28,10 +28,10 @@ sample_bits-same : (p : Parameters) (plane : Plane) (i j : ℕ) (events : List E
 unfolding sample_bits state_of
 sample_bits-same p plane i j events = ap (golomb_bits p) (sym (word_of_regular (state_of p events) (around plane i j) (at plane i j) events refl))
 
-pub sample_after-same : (p : Parameters) (plane : Plane) (i j : ℕ) (events : List Event) → broken_after_events events ≡ false
+pub sample_after-same : (p : Parameters) (plane : Plane) (i j : ℕ) (events : List Event) → interrupted_after_events events ≡ false
     → state_of p (events ++ sample_event p plane i j events ∷ []) ≡ sample_after plane i j (state_of p events)
 unfolding sample_event state_of
-sample_after-same p plane i j events whole = sym (state_after_regular (state_of p events) _ (around plane i j) (at plane i j) whole refl events refl)
+sample_after-same p plane i j events uninterrupted = sym (state_after_regular (state_of p events) _ (around plane i j) (at plane i j) uninterrupted refl events refl)
 
 -- ---- the sample that interrupts a run
 
@@ -59,41 +59,41 @@ interrupting_sample_after-same p plane i j events r =
 
 -- ---- all spans
 
-pub last_of : (events : List Event) (event : Event) → broken_after_events (events ++ event ∷ []) ≡ is_broken event
-last_of events event = fold-push (λ (broken : Bool) (event : Event). is_broken event) false events event
+pub last_of : (events : List Event) (event : Event) → interrupted_after_events (events ++ event ∷ []) ≡ is_interrupted event
+last_of events event = fold-push (λ (interrupted : Bool) (event : Event). is_interrupted event) false events event
 
-last_of_two : (events : List Event) (event last : Event) → broken_after_events (events ++ event ∷ last ∷ []) ≡ is_broken last
-last_of_two events event last = ap broken_after_events (sym (append_assoc events (event ∷ []) (last ∷ []))) ∙ last_of (events ++ event ∷ []) last
+last_of_two : (events : List Event) (event last : Event) → interrupted_after_events (events ++ event ∷ last ∷ []) ≡ is_interrupted last
+last_of_two events event last = ap interrupted_after_events (sym (append_assoc events (event ∷ []) (last ∷ []))) ∙ last_of (events ++ event ∷ []) last
 
 step : (p : Parameters) (plane : Plane) (more : List Span) (bits bits' : List Bool) (events : List Event) (after : Coding) → bits ≡ bits' → state_of p events ≡ after
     → coded p plane more events ≡ bits_from plane more (state_of p events) → bits ++ coded p plane more events ≡ bits' ++ bits_from plane more after
 step p plane more bits bits' events after e f g = ap (λ x. x ++ coded p plane more events) e ∙ ap (λ x. bits' ++ x) (g ∙ ap (bits_from plane more) f)
 
-pub sample_whole : (p : Parameters) (plane : Plane) (i j : ℕ) (events : List Event) → broken_after_events (events ++ sample_event p plane i j events ∷ []) ≡ false
+pub sample_uninterrupted : (p : Parameters) (plane : Plane) (i j : ℕ) (events : List Event) → interrupted_after_events (events ++ sample_event p plane i j events ∷ []) ≡ false
 unfolding sample_event
-sample_whole p plane i j events = last_of events (sample_event p plane i j events)
+sample_uninterrupted p plane i j events = last_of events (sample_event p plane i j events)
 
-pub break_whole : (p : Parameters) (plane : Plane) (i j : ℕ) (events : List Event) (r : Run) → broken_after_events (events ++ run r ∷ interrupting_sample_event p plane i j ∷ []) ≡ false
+pub break_uninterrupted : (p : Parameters) (plane : Plane) (i j : ℕ) (events : List Event) (r : Run) → interrupted_after_events (events ++ run r ∷ interrupting_sample_event p plane i j ∷ []) ≡ false
 unfolding interrupting_sample_event
-break_whole p plane i j events r = last_of_two events (run r) (interrupting_sample_event p plane i j)
+break_uninterrupted p plane i j events r = last_of_two events (run r) (interrupting_sample_event p plane i j)
 
 run_bits-same : (p : Parameters) (events : List Event) (r : Run) → run_bits (run_index_after_events events) r ≡ run_bits (state_of p events).run_index r
 run_bits-same p events r = ap (λ index. run_bits index r) (sym (index_of p events))
 
-pub all_same : (p : Parameters) (plane : Plane) (more : List Span) (events : List Event) → broken_after_events events ≡ false
+pub all_same : (p : Parameters) (plane : Plane) (more : List Span) (events : List Event) → interrupted_after_events events ≡ false
     → coded p plane more events ≡ bits_from plane more (state_of p events)
 unfolding coded bits_from
-all_same p plane [] events whole = refl
-all_same p plane (sample_span i j ∷ more) events whole =
-    step p plane more _ _ (events ++ sample_event p plane i j events ∷ []) _ (sample_bits-same p plane i j events) (sample_after-same p plane i j events whole)
-    (all_same p plane more (events ++ sample_event p plane i j events ∷ []) (sample_whole p plane i j events))
-all_same p plane (run_span i j count true ∷ more) events whole =
+all_same p plane [] events uninterrupted = refl
+all_same p plane (sample_span i j ∷ more) events uninterrupted =
+    step p plane more _ _ (events ++ sample_event p plane i j events ∷ []) _ (sample_bits-same p plane i j events) (sample_after-same p plane i j events uninterrupted)
+    (all_same p plane more (events ++ sample_event p plane i j events ∷ []) (sample_uninterrupted p plane i j events))
+all_same p plane (run_span i j count true ∷ more) events uninterrupted =
     step p plane more _ _ (events ++ run (run_of count true) ∷ interrupting_sample_event p plane i (j + count) ∷ []) _
     (ap (λ bits. bits ++ interrupting_sample_bits p plane i (j + count) (index_at (run_index_after_events events) (run_of count true)) events) (run_bits-same p events (run_of count true))
     ∙ ap (λ bits. run_bits (state_of p events).run_index (run_of count true) ++ bits) (break_bits-same p plane i (j + count) events (run_of count true)))
     (interrupting_sample_after-same p plane i (j + count) events (run_of count true))
-    (all_same p plane more (events ++ run (run_of count true) ∷ interrupting_sample_event p plane i (j + count) ∷ []) (break_whole p plane i (j + count) events (run_of count true)))
-all_same p plane (run_span i j count false ∷ more) events whole =
+    (all_same p plane more (events ++ run (run_of count true) ∷ interrupting_sample_event p plane i (j + count) ∷ []) (break_uninterrupted p plane i (j + count) events (run_of count true)))
+all_same p plane (run_span i j count false ∷ more) events uninterrupted =
     step p plane more _ _ (events ++ run (run_of count false) ∷ []) _ (run_bits-same p events (run_of count false)) (sym (state_of-run p events (run_of count false)))
     (all_same p plane more (events ++ run (run_of count false) ∷ []) (last_of events (run (run_of count false))))
 

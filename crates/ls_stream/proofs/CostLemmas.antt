@@ -6,9 +6,9 @@ use Rattle.ls_frame.specs.Parameters.{Parameters, IsLegal, limit_of}
 use Rattle.ls_coding.specs.Samples.{AreSamples, Interrupts}
 use Rattle.ls_coding.specs.Contexts.{is_run}
 use Rattle.ls_coding.specs.Runs.{run_of}
-use Rattle.ls_coding.specs.Events.{Event, run, broken_after_events}
+use Rattle.ls_coding.specs.Events.{Event, run, interrupted_after_events}
 use Rattle.ls_coding.specs.Lawful.{by_sample, by_run, by_interruption, IsLawful, none, more}
-use Rattle.ls_coding.proofs.CostLemmas.{sample_cost, full_run_cost, broken_run_cost}
+use Rattle.ls_coding.proofs.CostLemmas.{sample_cost, full_run_cost, interrupted_run_cost}
 use Rattle.ls_coding.proofs.FieldLemmas.{same_or_not}
 use Rattle.ls_coding.proofs.StatsLemmas.{choose}
 use Rattle.ls_stream.specs.Planes.{Plane, at, around, left, above, above_left, above_right, equal_from, run_length, IsLongest, Span, sample_span, run_span, cut, row_spans, rows_from, spans, sample_event, sample_bits, interrupting_sample_event, interrupting_sample_bits, span_events, span_bits, coded, plane_bits}
@@ -86,10 +86,10 @@ left_after : (plane : Plane) (i value j count : ℕ) → left plane i j ≡ valu
 left_after plane i value j zero e equal = let same : j + 0 ≡ j = omega arith in ap (left plane i) same ∙ e
 left_after plane i value j (suc count) e equal = let next : j + suc count ≡ suc (j + count) = omega arith in ap (left plane i) next ∙ equal count (omega arith)
 
-pub interrupted : (maxval : ℕ) (plane : Plane) (i most j count : ℕ) → AreSmall maxval plane → IsLongest plane i (left plane i j) most j count → count < most
+pub interrupted_run : (maxval : ℕ) (plane : Plane) (i most j count : ℕ) → AreSmall maxval plane → IsLongest plane i (left plane i j) most j count → count < most
     → Interrupts maxval (around plane i (j + count)).a (at plane i (j + count))
 unfolding around
-interrupted maxval plane i most j count small h short = record {
+interrupted_run maxval plane i most j count small h short = record {
   within = small (i * plane.width + (j + count));
   other = λ same. h.other short (same ∙ left_after plane i (left plane i j) j count refl h.equal);
 }
@@ -98,7 +98,7 @@ interrupted maxval plane i most j count small h short = record {
 
 -- after lawful events no more bits than these
 abbrev Cost : Parameters → Plane → List Span → ℕ → Type 0
-Cost p plane list most = (events : List Event) → IsLawful p events → broken_after_events events ≡ false → length (coded p plane list events) ≤ most
+Cost p plane list most = (events : List Event) → IsLawful p events → interrupted_after_events events ≡ false → length (coded p plane list events) ≤ most
 
 one_more : (p : Parameters) (plane : Plane) (span : Span) (later : List Span) (events : List Event) (own rest : ℕ) → length (span_bits p plane span events) ≤ own
     → length (coded p plane later (events ++ span_events p plane span events)) ≤ rest → length (coded p plane (span ∷ later) events) ≤ own + rest
@@ -109,44 +109,44 @@ one_more p plane span later events own rest h k =
 cost_of-sample : (p : Parameters) (plane : Plane) (i j : ℕ) (later : List Span) (rest : ℕ) → IsLegal p → AreSmall p.maxval plane → is_run (around plane i j) ≡ false
     → Cost p plane later rest → Cost p plane (sample_span i j ∷ later) (limit_of p.maxval + rest)
 unfolding sample_event sample_bits
-cost_of-sample p plane i j later rest legal small regular cost events lawful whole =
+cost_of-sample p plane i j later rest legal small regular cost events lawful uninterrupted =
     let samples : AreSamples p.maxval (around plane i j) = around_small p.maxval plane i j small in
     let within : at plane i j ≤ p.maxval = small (i * plane.width + j) in
     one_more p plane (sample_span i j) later events (limit_of p.maxval) rest
     (sample_cost p events legal lawful (around plane i j) (at plane i j) samples within)
     (cost (events ++ sample_event p plane i j events ∷ [])
-    (more events (sample_event p plane i j events) lawful (by_sample (around plane i j) (at plane i j) samples within regular whole refl))
+    (more events (sample_event p plane i j events) lawful (by_sample (around plane i j) (at plane i j) samples within regular uninterrupted refl))
     (last_of events (sample_event p plane i j events)))
 
 cost_of-full_run : (p : Parameters) (plane : Plane) (i j count : ℕ) (later : List Span) (rest : ℕ) → IsLegal p → 0 < count
     → Cost p plane later rest → Cost p plane (run_span i j count false ∷ later) (limit_of p.maxval * count + rest)
-cost_of-full_run p plane i j count later rest legal some cost events lawful whole =
+cost_of-full_run p plane i j count later rest legal some cost events lawful uninterrupted =
     one_more p plane (run_span i j count false) later events (limit_of p.maxval * count) rest
     (full_run_cost p events legal lawful count some)
     (cost (events ++ run (run_of count false) ∷ [])
-    (more events (run (run_of count false)) lawful (by_run count false (λ e. some) whole refl))
+    (more events (run (run_of count false)) lawful (by_run count false (λ e. some) uninterrupted refl))
     (last_of events (run (run_of count false))))
 
-cost_of-broken_run : (p : Parameters) (plane : Plane) (i j count : ℕ) (later : List Span) (rest : ℕ) → IsLegal p → AreSmall p.maxval plane
+cost_of-interrupted_run : (p : Parameters) (plane : Plane) (i j count : ℕ) (later : List Span) (rest : ℕ) → IsLegal p → AreSmall p.maxval plane
     → Interrupts p.maxval (around plane i (j + count)).a (at plane i (j + count))
     → Cost p plane later rest → Cost p plane (run_span i j count true ∷ later) (limit_of p.maxval * (count + 1) + rest)
 unfolding interrupting_sample_event interrupting_sample_bits
-cost_of-broken_run p plane i j count later rest legal small other cost events lawful whole =
+cost_of-interrupted_run p plane i j count later rest legal small other cost events lawful uninterrupted =
     let samples : AreSamples p.maxval (around plane i (j + count)) = around_small p.maxval plane i (j + count) small in
     let begun : List Event = events ++ run (run_of count true) ∷ [] in
     let event : Event = interrupting_sample_event p plane i (j + count) in
-    let first : IsLawful p begun = more events (run (run_of count true)) lawful (by_run count true (λ e. absurd (false≢true (sym e))) whole refl) in
+    let first : IsLawful p begun = more events (run (run_of count true)) lawful (by_run count true (λ e. absurd (false≢true (sym e))) uninterrupted refl) in
     let both : IsLawful p (begun ++ event ∷ []) =
     more begun event first (by_interruption (around plane i (j + count)) (at plane i (j + count)) samples other (last_of events (run (run_of count true))) refl) in
     let joined : begun ++ event ∷ [] ≡ events ++ run (run_of count true) ∷ event ∷ [] = append_assoc events (run (run_of count true) ∷ []) (event ∷ []) in
     one_more p plane (run_span i j count true) later events (limit_of p.maxval * (count + 1)) rest
-    (broken_run_cost p events legal lawful count (around plane i (j + count)) (at plane i (j + count)) samples other)
-    (cost (events ++ run (run_of count true) ∷ event ∷ []) (subst (IsLawful p) joined both) (sym (ap broken_after_events joined) ∙ last_of begun event))
+    (interrupted_run_cost p events legal lawful count (around plane i (j + count)) (at plane i (j + count)) samples other)
+    (cost (events ++ run (run_of count true) ∷ event ∷ []) (subst (IsLawful p) joined both) (sym (ap interrupted_after_events joined) ∙ last_of begun event))
 
 -- ---- rows
 
 less : (p : Parameters) (plane : Plane) (list : List Span) (a b : ℕ) → a ≤ b → Cost p plane list a → Cost p plane list b
-less p plane list a b h cost events lawful whole = omega (arith, cost events lawful whole)
+less p plane list a b h cost events lawful uninterrupted = omega (arith, cost events lawful uninterrupted)
 
 -- some samples of a row, and those after them
 spent : (limit a b c rest : ℕ) → a + b ≡ c → limit * a + (limit * b + rest) ≤ limit * c + rest
@@ -155,15 +155,15 @@ spent limit a b c rest e =
     let whole : limit * (a + b) ≡ limit * c = ap (λ n. limit * n) e in
     omega arith
 
-cost_of-run_span : (p : Parameters) (plane : Plane) (i j count : ℕ) (broken : Bool) (later : List Span) (rest : ℕ) → IsLegal p → AreSmall p.maxval plane → j < plane.width
-    → IsLongest plane i (left plane i j) (plane.width - j) j count → ltb (j + count) plane.width ≡ broken
+cost_of-run_span : (p : Parameters) (plane : Plane) (i j count : ℕ) (interrupted : Bool) (later : List Span) (rest : ℕ) → IsLegal p → AreSmall p.maxval plane → j < plane.width
+    → IsLongest plane i (left plane i j) (plane.width - j) j count → ltb (j + count) plane.width ≡ interrupted
     → Cost p plane later (limit_of p.maxval * (plane.width - (j + count + 1)) + rest)
-    → Cost p plane (run_span i j count broken ∷ later) (limit_of p.maxval * (plane.width - j) + rest)
+    → Cost p plane (run_span i j count interrupted ∷ later) (limit_of p.maxval * (plane.width - j) + rest)
 cost_of-run_span p plane i j count true later rest legal small inside longest e cost =
     let short : j + count < plane.width = ltb-true (j + count) plane.width e in
     less p plane (run_span i j count true ∷ later) _ _ (spent (limit_of p.maxval) (count + 1) (plane.width - (j + count + 1)) (plane.width - j) rest (omega arith))
-    (cost_of-broken_run p plane i j count later (limit_of p.maxval * (plane.width - (j + count + 1)) + rest) legal small
-    (interrupted p.maxval plane i (plane.width - j) j count small longest (omega arith)) cost)
+    (cost_of-interrupted_run p plane i j count later (limit_of p.maxval * (plane.width - (j + count + 1)) + rest) legal small
+    (interrupted_run p.maxval plane i (plane.width - j) j count small longest (omega arith)) cost)
 cost_of-run_span p plane i j count false later rest legal small inside longest e cost =
     let far : plane.width ≤ j + count = ltb-false (j + count) plane.width e in
     less p plane (run_span i j count false ∷ later) _ _ (spent (limit_of p.maxval) count (plane.width - (j + count + 1)) (plane.width - j) rest (omega (arith, longest.few)))
@@ -189,7 +189,7 @@ cost_of-cut p plane i (suc most) j later rest legal small cost =
 
 cost_of-rows : (p : Parameters) (plane : Plane) (count i : ℕ) → IsLegal p → AreSmall p.maxval plane → Cost p plane (rows_from plane count i) (limit_of p.maxval * (plane.width * count))
 unfolding coded row_spans
-cost_of-rows p plane zero i legal small = λ events lawful whole. omega arith
+cost_of-rows p plane zero i legal small = λ events lawful uninterrupted. omega arith
 cost_of-rows p plane (suc count) i legal small =
     let limit : ℕ = limit_of p.maxval in
     let rows : plane.width - 0 + plane.width * count ≡ plane.width * suc count = omega arith in

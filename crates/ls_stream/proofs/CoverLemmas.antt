@@ -32,13 +32,13 @@ run_covers plane i j count rest h covers =
       | inl inside ↦
           let whole : plane.width - j ≡ (count + 1) + (plane.width - (j + count + 1)) = omega arith in
           let next : j + (count + 1) ≡ j + count + 1 = omega arith in
-          ap (λ broken. span_columns (run_span i j count broken) ++ columns rest) (lt-ltb (j + count) plane.width inside)
+          ap (λ interrupted. span_columns (run_span i j count interrupted) ++ columns rest) (lt-ltb (j + count) plane.width inside)
           ∙ ap (λ xs. range_with_len j (count + 1) ++ xs) (covers ∙ sym (ap (λ b. range_with_len b (plane.width - (j + count + 1))) next))
           ∙ sym (ap (range_with_len j) whole ∙ range_split j (count + 1) (plane.width - (j + count + 1)))
       | inr outside ↦
           let whole : plane.width - j ≡ count = omega arith in
           let none : plane.width - (j + count + 1) ≡ 0 = omega arith in
-          ap (λ broken. span_columns (run_span i j count broken) ++ columns rest) (le-ltb (j + count) plane.width outside)
+          ap (λ interrupted. span_columns (run_span i j count interrupted) ++ columns rest) (le-ltb (j + count) plane.width outside)
           ∙ ap (λ xs. range_with_len j count ++ xs) (covers ∙ ap (range_with_len (j + count + 1)) none)
           ∙ append-nil (range_with_len j count) ∙ sym (ap (range_with_len j) whole)
     ]

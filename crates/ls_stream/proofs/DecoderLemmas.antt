@@ -44,9 +44,9 @@ given plan word_of k glimit qbpp maxval P code h =
 pub none_taken : (plan : Planned) (word_of : ℕ → Word) (k glimit qbpp maxval x : ℕ) (bits rest : List Bool) (fault : CodeFault) → IsCode plan word_of k glimit qbpp maxval
     → GolombFault k glimit qbpp bits fault → (word_of x).value ≤ most_value (qbpp_of maxval)
     → bits ≡ code_word (word_of x).k (word_of x).glimit (qbpp_of maxval) (word_of x).value ++ rest → ⊥
-none_taken plan word_of k glimit qbpp maxval x bits rest fault code broken small e =
+none_taken plan word_of k glimit qbpp maxval x bits rest fault code malformed small e =
     no_word plan.k plan.glimit (qbpp_of maxval) (word_of x).value bits rest fault code.golomb
-    (given plan word_of k glimit qbpp maxval (λ a b c. GolombFault a b c bits fault) code broken) (takes plan word_of k glimit qbpp maxval x bits rest code small e)
+    (given plan word_of k glimit qbpp maxval (λ a b c. GolombFault a b c bits fault) code malformed) (takes plan word_of k glimit qbpp maxval x bits rest code small e)
 
 -- the word that was taken is the one that is in front
 taken_is : (plan : Planned) (word_of : ℕ → Word) (k glimit qbpp maxval x value : ℕ) (bits new rest : List Bool) → IsCode plan word_of k glimit qbpp maxval

@@ -125,9 +125,9 @@ no_sample maxval width j above line s bits n inside e regular none plane i row m
 -- ---- runs
 
 -- the plane has this run from a column on
-record HasRun (plane : Plane) (i j count : ℕ) (broken : Bool) : Type 0 where
+record HasRun (plane : Plane) (i j count : ℕ) (interrupted : Bool) : Type 0 where
   length_is : count ≡ run_length plane i j
-  broken_is : ltb (j + count) plane.width ≡ broken
+  interrupted_is : ltb (j + count) plane.width ≡ interrupted
 
 abbrev run_of_plane : Plane → ℕ → ℕ → Bool
 run_of_plane plane i j = ltb (j + run_length plane i j) plane.width
@@ -148,48 +148,48 @@ after_run plane i j count true s more rest =
 after_run plane i j count false s more rest =
     bits_from plane (row_from plane i (j + count + 1) ++ more) (run_after s (run_of count false)) ++ rest
 
-run_split : (plane : Plane) (i j count : ℕ) (broken : Bool) (s : Coding) (more : List Span) (rest : List Bool) → j < plane.width → is_run (around plane i j) ≡ true
-    → HasRun plane i j count broken
-    → bits_from plane (row_from plane i j ++ more) s ++ rest ≡ run_bits s.run_index (run_of count broken) ++ after_run plane i j count broken s more rest
+run_split : (plane : Plane) (i j count : ℕ) (interrupted : Bool) (s : Coding) (more : List Span) (rest : List Bool) → j < plane.width → is_run (around plane i j) ≡ true
+    → HasRun plane i j count interrupted
+    → bits_from plane (row_from plane i j ++ more) s ++ rest ≡ run_bits s.run_index (run_of count interrupted) ++ after_run plane i j count interrupted s more rest
 run_split plane i j count true s more rest inside is has =
-    first_span plane (run_span i j count true) (row_from plane i (j + count + 1)) more (row_from plane i j) s rest (row_from-run plane i j count true inside is has.length_is has.broken_is)
+    first_span plane (run_span i j count true) (row_from plane i (j + count + 1)) more (row_from plane i j) s rest (row_from-run plane i j count true inside is has.length_is has.interrupted_is)
     ∙ append_assoc (run_bits s.run_index (run_of count true)) (interrupting_sample_bits_in plane i (j + count) (run_after s (run_of count true))) _
 run_split plane i j count false s more rest inside is has =
-    first_span plane (run_span i j count false) (row_from plane i (j + count + 1)) more (row_from plane i j) s rest (row_from-run plane i j count false inside is has.length_is has.broken_is)
+    first_span plane (run_span i j count false) (row_from plane i (j + count + 1)) more (row_from plane i j) s rest (row_from-run plane i j count false inside is has.length_is has.interrupted_is)
 
 -- only this run can be read, and these bits are then left
 abbrev pub IsOnlyRun : ℕ → ℕ → List Bool → ℕ → Bool → List Bool → Type 0
-IsOnlyRun left index bits count broken new =
+IsOnlyRun left index bits count interrupted new =
     (other : ℕ) (ends : Bool) (rest : List Bool) → EndsInLine left other ends → bits ≡ run_bits index (run_of other ends) ++ rest
-    → (other ≡ count) × (ends ≡ broken) × (rest ≡ new)
+    → (other ≡ count) × (ends ≡ interrupted) × (rest ≡ new)
 
 -- what a plane that may be read says of the run that was read
-record Runs (plane : Plane) (i j count : ℕ) (broken : Bool) (s : Coding) (more : List Span) (rest new : List Bool) : Type 0 where
-  has : HasRun plane i j count broken
-  left_are : new ≡ after_run plane i j count broken s more rest
+record Runs (plane : Plane) (i j count : ℕ) (interrupted : Bool) (s : Coding) (more : List Span) (rest new : List Bool) : Type 0 where
+  has : HasRun plane i j count interrupted
+  left_are : new ≡ after_run plane i j count interrupted s more rest
   equal : (c : ℕ) → j ≤ c → c < j + count → at plane i c ≡ left plane i j
-  other : broken ≡ true → at plane i (j + count) ≢ left plane i j
+  other : interrupted ≡ true → at plane i (j + count) ≢ left plane i j
 
 pub run_equal : (plane : Plane) (i j count : ℕ) → count ≡ run_length plane i j → (c : ℕ) → j ≤ c → c < j + count → at plane i c ≡ left plane i j
 run_equal plane i j count e c low high =
     let back : c ≡ j + (c - j) = omega arith in
     ap (at plane i) back ∙ (longest plane i (left plane i j) (plane.width - j) j).equal (c - j) (omega arith)
 
-runs_in : (plane : Plane) (i j count width : ℕ) (broken : Bool) (s : Coding) (more : List Span) (bits rest new : List Bool) → plane.width ≡ width → j < width
-    → is_run (around plane i j) ≡ true → bits ≡ bits_from plane (row_from plane i j ++ more) s ++ rest → IsOnlyRun (width - j) s.run_index bits count broken new
-    → Runs plane i j count broken s more rest new
-runs_in plane i j count width broken s more bits rest new e inside is f only =
+runs_in : (plane : Plane) (i j count width : ℕ) (interrupted : Bool) (s : Coding) (more : List Span) (bits rest new : List Bool) → plane.width ≡ width → j < width
+    → is_run (around plane i j) ≡ true → bits ≡ bits_from plane (row_from plane i j ++ more) s ++ rest → IsOnlyRun (width - j) s.run_index bits count interrupted new
+    → Runs plane i j count interrupted s more rest new
+runs_in plane i j count width interrupted s more bits rest new e inside is f only =
     let length_of : ℕ = run_length plane i j in
     let ends_so : Bool = run_of_plane plane i j in
     let found = only length_of ends_so (after_run plane i j length_of ends_so s more rest) (ends plane i j width e inside)
-    (f ∙ run_split plane i j length_of ends_so s more rest (omega arith) is (record { length_is = refl; broken_is = refl })) in
-    let has : HasRun plane i j count broken = record { length_is = sym found.0; broken_is = ap (λ n. ltb (j + n) plane.width) (sym found.0) ∙ found.1 } in
+    (f ∙ run_split plane i j length_of ends_so s more rest (omega arith) is (record { length_is = refl; interrupted_is = refl })) in
+    let has : HasRun plane i j count interrupted = record { length_is = sym found.0; interrupted_is = ap (λ n. ltb (j + n) plane.width) (sym found.0) ∙ found.1 } in
     record {
       has = has;
       left_are = sym found.2 ∙ ap (λ n. after_run plane i j n ends_so s more rest) found.0 ∙ ap (λ b. after_run plane i j count b s more rest) found.1;
       equal = run_equal plane i j count (sym found.0);
       other = λ h.
-          let near_end = ltb-true (j + count) plane.width (has.broken_is ∙ h) in
+          let near_end = ltb-true (j + count) plane.width (has.interrupted_is ∙ h) in
           subst (λ n. at plane i (j + n) ≢ left plane i j) found.0 ((longest plane i (left plane i j) (plane.width - j) j).other (omega arith));
     }
 
@@ -239,7 +239,7 @@ run_read_to_end maxval width j count above line new_line s after bits new inside
           let back : count ≡ j + count - j = omega arith in
           let has : HasRun plane i j count false = record {
             length_is = back ∙ run_in_buffer plane i j (j + count) (omega arith) (omega (arith, row.width_is)) equal (λ h. absurd (omega (arith, row.width_is)));
-            broken_is = le-ltb (j + count) plane.width (omega (arith, row.width_is));
+            interrupted_is = le-ltb (j + count) plane.width (omega (arith, row.width_is));
           } in
           record {
             over = m.over;
@@ -260,7 +260,7 @@ pub no_run : (maxval width j : ℕ) (above line : List ℕ) (s : Coding) (bits :
 no_run maxval width j above line s bits inside is none plane i row more rest m =
     let e : neighbours_in above line j ≡ around plane i j = around_read plane i above maxval width j j line row inside m.over m.first m.before (omega arith) in
     none (run_length plane i j) (run_of_plane plane i j) _ (ends plane i j width row.width_is inside)
-    (m.bits_are ∙ run_split plane i j (run_length plane i j) (run_of_plane plane i j) s more rest (omega (arith, row.width_is)) (sym (ap is_run e) ∙ is) (record { length_is = refl; broken_is = refl }))
+    (m.bits_are ∙ run_split plane i j (run_length plane i j) (run_of_plane plane i j) s more rest (omega (arith, row.width_is)) (sym (ap is_run e) ∙ is) (record { length_is = refl; interrupted_is = refl }))
 
 -- ---- the sample that interrupts a run
 
@@ -271,17 +271,17 @@ IsOnlyInterruption maxval s n bits x new =
     → (other ≡ x) × (rest ≡ new)
 
 -- the bits and the state of an interrupting sample, by its neighbours
-abbrev broken_word : Coding → Neighbours → ℕ → List Bool
-broken_word s n x = golomb_bits s.parameters (interruption_word_in s n x)
+abbrev interrupted_word : Coding → Neighbours → ℕ → List Bool
+interrupted_word s n x = golomb_bits s.parameters (interruption_word_in s n x)
 
-abbrev broken_state : Coding → Neighbours → ℕ → Coding
-broken_state s n x = interruption_after s (ri_type_of n) (interruption_error s.parameters n x)
+abbrev interrupted_state : Coding → Neighbours → ℕ → Coding
+interrupted_state s n x = interruption_after s (ri_type_of n) (interruption_error s.parameters n x)
 
 by_neighbours : (plane : Plane) (i e : ℕ) (s : Coding) (n : Neighbours) (more : List Span) (rest : List Bool) → n ≡ around plane i e
     → interrupting_sample_bits_in plane i e s ++ (bits_from plane (row_from plane i (e + 1) ++ more) (interrupting_sample_after plane i e s) ++ rest)
-    ≡ broken_word s n (at plane i e) ++ (bits_from plane (row_from plane i (e + 1) ++ more) (broken_state s n (at plane i e)) ++ rest)
+    ≡ interrupted_word s n (at plane i e) ++ (bits_from plane (row_from plane i (e + 1) ++ more) (interrupted_state s n (at plane i e)) ++ rest)
 by_neighbours plane i e s n more rest is =
-    ap (λ (m : Neighbours). broken_word s m (at plane i e) ++ (bits_from plane (row_from plane i (e + 1) ++ more) (broken_state s m (at plane i e)) ++ rest)) (sym is)
+    ap (λ (m : Neighbours). interrupted_word s m (at plane i e) ++ (bits_from plane (row_from plane i (e + 1) ++ more) (interrupted_state s m (at plane i e)) ++ rest)) (sym is)
 
 interrupts : (plane : Plane) (i j count maxval width : ℕ) (above line : List ℕ) (n : Neighbours) → HasSampleRow maxval width plane i
     → n ≡ neighbours_in above line (j + count) → get_or line (j + count) 0 ≡ left plane i j → at plane i (j + count) ≢ left plane i j
@@ -325,7 +325,7 @@ run_read_to_break maxval width j count x above line mid_line new_line s after bi
             first = longer'.before 0 (omega arith) ∙ first;
             before = one_more plane i (j + count) x mid_line new_line longer' set last.0 before;
             bits_are = sym last.1
-                ∙ ap (λ v. bits_from plane (row_from plane i (j + count + 1) ++ more) (broken_state r n v) ++ rest) last.0
+                ∙ ap (λ v. bits_from plane (row_from plane i (j + count + 1) ++ more) (interrupted_state r n v) ++ rest) last.0
                 ∙ ap (λ (t : Coding). bits_from plane (row_from plane i (j + count + 1) ++ more) t ++ rest) (sym g);
           },
       λ m.
@@ -343,7 +343,7 @@ run_read_to_break maxval width j count x above line mid_line new_line s after bi
           let back : count ≡ j + count - j = omega arith in
           let has : HasRun plane i j count true = record {
             length_is = back ∙ run_in_buffer plane i j (j + count) (omega arith) (omega (arith, row.width_is)) equal (λ h. other);
-            broken_is = lt-ltb (j + count) plane.width (omega (arith, row.width_is));
+            interrupted_is = lt-ltb (j + count) plane.width (omega (arith, row.width_is));
           } in
           record {
             over = m.over;
@@ -352,8 +352,8 @@ run_read_to_break maxval width j count x above line mid_line new_line s after bi
             bits_are = f
                 ∙ ap (λ v. run_bits s.run_index (run_of count true) ++ v)
                 (f'
-                ∙ ap (λ v. broken_word r n x ++ v) (m.bits_are ∙ ap (λ (t : Coding). bits_from plane (row_from plane i (j + count + 1) ++ more) t ++ rest) g)
-                ∙ ap (λ v. broken_word r n v ++ (bits_from plane (row_from plane i (j + count + 1) ++ more) (broken_state r n v) ++ rest)) here
+                ∙ ap (λ v. interrupted_word r n x ++ v) (m.bits_are ∙ ap (λ (t : Coding). bits_from plane (row_from plane i (j + count + 1) ++ more) t ++ rest) g)
+                ∙ ap (λ v. interrupted_word r n v ++ (bits_from plane (row_from plane i (j + count + 1) ++ more) (interrupted_state r n v) ++ rest)) here
                 ∙ sym (by_neighbours plane i (j + count) r n more rest next))
                 ∙ sym (run_split plane i j count true s more rest (omega (arith, row.width_is)) (sym (ap is_run e) ∙ is) has);
           },

@@ -85,7 +85,7 @@ next_is bytes rest front other f next same spelled = elim (cases_Bool (ltb (leng
       let few : length bytes ≤ length front = ltb-false (length front) (length bytes) most in
       let more : List ℕ = drop (length bytes) front in
       let whole : front ≡ bytes ++ more = more_of bytes front rest other same few in
-      elim next.whole [
+      elim next.enough [
         | inl decided ↦
             let none : more ≡ [] = past_end bytes more decided (ap extent_at (sym whole) ∙ spelled_alone front f spelled) in
             sym (whole ∙ ap (λ bs. bytes ++ bs) none ∙ append-nil bytes)
@@ -102,7 +102,7 @@ not_shorter : (bytes rest other left : List ℕ) → IsNext bytes rest → IsNex
 not_shorter bytes rest other left next next' same less =
     let undecided : extent_at bytes ≡ Err Truncated =
     ap extent_at (sym (shorter_front bytes other rest left same (omega arith))) ∙ next'.least (length bytes) less in
-    elim next.whole [
+    elim next.enough [
       | inl decided ↦ decided undecided
       | inr end ↦
           let sizes : length bytes ≡ length other + length left =
@@ -167,7 +167,7 @@ left_none (Err fault) = refl
 -- the outline of the next codestream is that of all that was left
 pub next_outline : (bytes rest : List ℕ) → IsNext bytes rest → outline_of (bytes ++ rest) ≡ with_left rest (outline_of bytes)
 unfolding outline_of
-next_outline bytes rest next = elim next.whole [
+next_outline bytes rest next = elim next.enough [
   | inl decided ↦
       let more : List ℕ = take (most_bytes - length bytes) rest in
       let decided' = decided_outline bytes decided in

@@ -53,7 +53,7 @@ ended place bytes rest byte reached ends few = record {
   least = λ count less.
       let within : count ≤ length bytes = omega (arith, grown_one bytes byte) in
       ap extent_at (take-append-le count bytes (byte ∷ []) within) ∙ reached.undecided count within;
-  whole = inl (λ truncated. elim ends.ends [
+  enough = inl (λ truncated. elim ends.ends [
     | inl all ↦ no_err [] Truncated (sym (all []) ∙ sym (reached.on (byte ∷ [])) ∙ truncated)
     | inr bad ↦ bad.1 (same_fault {A = List ℕ} bad.0 Truncated (sym (bad.2 []) ∙ sym (reached.on (byte ∷ [])) ∙ truncated))
   ]);
@@ -65,5 +65,5 @@ cut_off place bytes rest reached some short end = record {
   some = some;
   short = short;
   least = λ count less. reached.undecided count (omega arith);
-  whole = inr end;
+  enough = inr end;
 }

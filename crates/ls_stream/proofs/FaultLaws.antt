@@ -18,7 +18,7 @@ use Rattle.ls_stream.specs.declared.segments.read.FrameHeader.{FrameHeader}
 use Rattle.ls_stream.specs.Markers.{IsMarker, marker}
 use Rattle.ls_stream.specs.Segments.{segment, field_of, Component, header_contents, scan_contents}
 use Rattle.ls_stream.specs.Grammar.{filled, Miscellaneous, miscellaneous_bytes, last_presets, no_presets, parameters_of}
-use Rattle.ls_stream.specs.Faults.{Due, frame_header, first_scan, next_scan, end_marker, is_late, MayStand, marker_fault, first_unmet, contents_checks, frame_checks, scan_checks, has_segment, BreaksSegment, fails, misplaced, broken, BreaksAfter, BreaksStart, no_byte, one_byte, another_first, another_second, HasFrame, HasScan, BeginsWithOpening, HasNextScan, later_ids, BreaksScans, BreaksOpening, at_start, before_frame, before_scan, bad_presets, in_opening, in_scans}
+use Rattle.ls_stream.specs.Faults.{Due, frame_header, first_scan, next_scan, end_marker, is_late, MayStand, marker_fault, first_unmet, contents_checks, frame_checks, scan_checks, has_segment, BreaksSegment, fails, misplaced, malformed, BreaksAfter, BreaksStart, no_byte, one_byte, another_first, another_second, HasFrame, HasScan, BeginsWithOpening, HasNextScan, later_ids, BreaksScans, BreaksOpening, at_start, before_frame, before_scan, bad_presets, in_opening, in_scans}
 use Rattle.ls_stream.specs.View.FirstFaults.{BreaksPlanes, before_data, from_data}
 use Rattle.ls_stream.specs.View.Reading.{◌>>=◌, wanted, ahead_at, contents_at, frame_header_of, scan_header_of, is_start_of_frame, is_start_of_scan, is_end_of_image, start_at, frame_header_at, scan_header_at, next_scan_at, end_at, or_bad_presets, opening_at, HasOpening}
 use Rattle.ls_stream.specs.View.Outlines.{data_length, data_at, after_data, Outline, ids_in, scans_at, outline_at, OutlineFaultsBreak, ScansStop, at_opening, at_scans, StopsAreFirstFaults}
@@ -85,14 +85,14 @@ misplaced_after d written bytes next fault read no_place = record {
 }
 
 -- a segment breaks after miscellaneous ones
-broken_after : (d : Due) (written : Parameters) (bytes : List ℕ) (next : Stands) (fault : StreamFault) (m : Marker) → AheadRead (is_late d) written bytes next → next.0 ≡ m
+malformed_after : (d : Due) (written : Parameters) (bytes : List ℕ) (next : Stands) (fault : StreamFault) (m : Marker) → AheadRead (is_late d) written bytes next → next.0 ≡ m
     → marker_fault d m ≡ None → has_segment m ≡ true → BreaksSegment d m next.2 fault → BreaksAfter d bytes fault
-broken_after d written bytes next fault m read is may has breaks = record {
+malformed_after d written bytes next fault m read is may has breaks = record {
   segments = read.segments;
   rest = filled read.fill (marker next.0) ++ next.2;
   whole = read.whole;
   lawful = all_stand (is_late d) read.segments read.lawful read.may;
-  breaks = broken read.fill m next.2 (ap (λ k. filled read.fill (marker k) ++ next.2) is) (subst IsMarker is (stop_is next.0 read.stops)) may has breaks;
+  breaks = malformed read.fill m next.2 (ap (λ k. filled read.fill (marker k) ++ next.2) is) (subst IsMarker is (stop_is next.0 read.stops)) may has breaks;
 }
 
 left_are : (late : Bool) (written : Parameters) (bytes : List ℕ) (next : Stands) → AreBytes bytes → AheadRead late written bytes next → AreBytes next.2
@@ -114,7 +114,7 @@ frame_breaks bytes fault are e =
           elim (test_err (is_start_of_frame next.0) BadSegment (contents_at next.2 >>= λ contents. frame_header_of contents.0 >>= λ header. Ok (header, next.1, contents.1)) fault a.2) [
             | inl other ↦ misplaced_after frame_header no_presets bytes next fault read (wrong_frame next.0 read.stops other.0 ∙ ap (λ (f : StreamFault). Some f) (sym other.1))
             | inr b ↦
-                let after = broken_after frame_header no_presets bytes next fault StartOfFrame read (is_frame next.0 b.0) refl refl in
+                let after = malformed_after frame_header no_presets bytes next fault StartOfFrame read (is_frame next.0 b.0) refl refl in
                 elim (step_err (contents_at next.2) (λ contents. frame_header_of contents.0 >>= λ header. Ok (header, next.1, contents.1)) fault b.1) [
                   | inl bad ↦ after (segment_breaks frame_header StartOfFrame next.2 fault rest_are bad)
                   | inr c ↦
@@ -144,7 +144,7 @@ scan_breaks d id written bytes fault wrong may checks are e =
           elim (test_err (is_start_of_scan next.0) BadSegment (contents_at next.2 >>= λ contents. scan_header_of id contents.0 >>= λ header. Ok (next.1, contents.1)) fault a.2) [
             | inl other ↦ misplaced_after d written bytes next fault read (wrong next.0 read.stops other.0 ∙ ap (λ (f : StreamFault). Some f) (sym other.1))
             | inr b ↦
-                let after = broken_after d written bytes next fault StartOfScan read (is_scan next.0 b.0) may refl in
+                let after = malformed_after d written bytes next fault StartOfScan read (is_scan next.0 b.0) may refl in
                 elim (step_err (contents_at next.2) (λ contents. scan_header_of id contents.0 >>= λ header. Ok (next.1, contents.1)) fault b.1) [
                   | inl bad ↦ after (segment_breaks d StartOfScan next.2 fault rest_are bad)
                   | inr c ↦

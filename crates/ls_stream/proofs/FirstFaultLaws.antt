@@ -16,9 +16,9 @@ use Rattle.ls_stream.specs.declared.segments.read.FrameHeader.{FrameHeader}
 use Rattle.ls_stream.specs.Markers.{code_of, marker_of, IsMarker, marker}
 use Rattle.ls_stream.specs.Segments.{segment, field_of, scan_contents}
 use Rattle.ls_stream.specs.Grammar.{filled, Miscellaneous, one_miscellaneous_bytes, miscellaneous_bytes, MayPrecedeScans, last_presets, no_presets, parameters_of}
-use Rattle.ls_stream.specs.Faults.{Due, frame_header, first_scan, next_scan, end_marker, is_late, MayStand, marker_fault, Check, first_unmet, contents_checks, frame_checks, presets_checks, scan_checks, has_segment, BreaksSegment, no_length, bad_length, cut_off, fails, BreaksMarker, ends, no_marker, zero_code, misplaced, broken, BreaksAfter, BreaksStart, no_byte, one_byte, another_first, another_second, HasFrame, HasScan, HasNextScan, BreaksOpening, at_start, before_frame, before_scan, bad_presets}
+use Rattle.ls_stream.specs.Faults.{Due, frame_header, first_scan, next_scan, end_marker, is_late, MayStand, marker_fault, Check, first_unmet, contents_checks, frame_checks, presets_checks, scan_checks, has_segment, BreaksSegment, no_length, bad_length, cut_off, fails, BreaksMarker, ends, no_marker, zero_code, misplaced, malformed, BreaksAfter, BreaksStart, no_byte, one_byte, another_first, another_second, HasFrame, HasScan, HasNextScan, BreaksOpening, at_start, before_frame, before_scan, bad_presets}
 use Rattle.ls_stream.specs.View.FirstFaults.{BreaksData, IsPlaneData, BreaksPlanes, before_data, from_data}
-use Rattle.ls_stream.specs.View.Reading.{◌>>=◌, wanted, Take, Ahead, byte_at, code_at, marker_at, contents_at, preset_fields_of, skipped_at, presets_at, after_marker, piece_at, ahead_at, frame_header_of, scan_header_of, is_start_of_frame, is_start_of_scan, is_end_of_image, start_at, frame_header_at, scan_header_at, next_scan_at, end_at, or_bad_presets, opening_at}
+use Rattle.ls_stream.specs.View.Reading.{◌>>=◌, wanted, Take, Ahead, byte_at, code_at, marker_at, contents_at, preset_fields_of, skipped_at, presets_at, after_marker, part_at, ahead_at, frame_header_of, scan_header_of, is_start_of_frame, is_start_of_scan, is_end_of_image, start_at, frame_header_at, scan_header_at, next_scan_at, end_at, or_bad_presets, opening_at}
 use Rattle.ls_stream.specs.View.Outlines.{data_length, data_at, after_data, ids_in, ScansStop, at_opening, at_scans, FirstFaultsAreStops}
 use Rattle.ls_stream.proofs.StepLemmas.{test_met, step_is}
 use Rattle.ls_stream.proofs.SegmentLemmas.{two_again, bytes_of_front, bytes_of_rest, bytes_along, contents_again}
@@ -26,7 +26,7 @@ use Rattle.ls_stream.proofs.HeaderLemmas.{HeaderRead, header_read}
 use Rattle.ls_stream.proofs.FrontLemmas.{data_length-only}
 use Rattle.ls_stream.proofs.CheckLemmas.{Agrees, frame_agrees, presets_agree, scan_agrees}
 use Rattle.ls_stream.proofs.AlongLemmas.{Frame}
-use Rattle.ls_stream.proofs.AheadLemmas.{MayCome, Stops, segment_parts, piece_after, piece_again, ahead_at-fault, ahead_at-marker, ahead_at-segment, Stands, presets_after}
+use Rattle.ls_stream.proofs.AheadLemmas.{MayCome, Stops, segment_parts, part_after, part_again, ahead_at-fault, ahead_at-marker, ahead_at-segment, Stands, presets_after}
 use Rattle.ls_stream.proofs.OutlineLemmas.{is_frame, is_scan, is_end, precedes_one, early, presets_append, frame_spelled, scan_header_spelled, next_scan_spelled}
 use Rattle.ls_stream.proofs.FaultLaws.{wrong_frame, wrong_first, wrong_next, wrong_end, ids_at, precision_at}
 
@@ -139,11 +139,11 @@ data AheadFails (d : Due) (ahead : Ahead) (fault : StreamFault) : Type 0 where
       → AheadFails d ahead fault
 
 marker_fails : (d : Due) (written : Parameters) (bytes : List ℕ) (fault : StreamFault) → marker_at bytes ≡ Err fault → AheadFails d (ahead_at (is_late d) written bytes) fault
-unfolding piece_at
+unfolding part_at
 marker_fails d written bytes fault e =
     fails_before (ahead_at-fault (is_late d) written bytes fault (step_bad (marker_at bytes) (λ n. after_marker (is_late d) written n.0 n.1) fault e))
 
-after_fails : (d : Due) (written : Parameters) (bytes : List ℕ) (m : Marker) (rest : List ℕ) (fault : StreamFault) → piece_at (is_late d) written bytes ≡ after_marker (is_late d) written m rest
+after_fails : (d : Due) (written : Parameters) (bytes : List ℕ) (m : Marker) (rest : List ℕ) (fault : StreamFault) → part_at (is_late d) written bytes ≡ after_marker (is_late d) written m rest
     → after_marker (is_late d) written m rest ≡ Err fault → AheadFails d (ahead_at (is_late d) written bytes) fault
 after_fails d written bytes m rest fault same e = fails_before (ahead_at-fault (is_late d) written bytes fault (same ∙ e))
 
@@ -152,7 +152,7 @@ presets_wrong : (late : Bool) (rest : List ℕ) (fault : StreamFault) → cond l
 presets_wrong true rest fault is = ap (λ (f : StreamFault). Err f) (some_same (Unsupported what.LseLate) fault is)
 presets_wrong false rest fault is = absurd (none_some fault is)
 
-wrong_marker : (d : Due) (written : Parameters) (m : Marker) (rest bytes : List ℕ) (fault : StreamFault) → piece_at (is_late d) written bytes ≡ after_marker (is_late d) written m rest
+wrong_marker : (d : Due) (written : Parameters) (m : Marker) (rest bytes : List ℕ) (fault : StreamFault) → part_at (is_late d) written bytes ≡ after_marker (is_late d) written m rest
     → marker_fault d m ≡ Some fault → AheadFails d (ahead_at (is_late d) written bytes) fault
 unfolding after_marker
 wrong_marker d written StartOfImage rest bytes fault same is =
@@ -180,36 +180,36 @@ presets_fail d false rest fault are may breaks =
     (λ contents left unmet. step_bad (preset_fields_of contents) (λ written. Ok (None, written, left)) fault
     (err_of (presets_checks contents) (preset_fields_of contents) fault (presets_agree contents) unmet))
 
-broken_marker : (d : Due) (written : Parameters) (m : Marker) (rest bytes : List ℕ) (fault : StreamFault) → AreBytes rest
-    → piece_at (is_late d) written bytes ≡ after_marker (is_late d) written m rest → marker_fault d m ≡ None → has_segment m ≡ true → BreaksSegment d m rest fault
+malformed_marker : (d : Due) (written : Parameters) (m : Marker) (rest bytes : List ℕ) (fault : StreamFault) → AreBytes rest
+    → part_at (is_late d) written bytes ≡ after_marker (is_late d) written m rest → marker_fault d m ≡ None → has_segment m ≡ true → BreaksSegment d m rest fault
     → AheadFails d (ahead_at (is_late d) written bytes) fault
 unfolding after_marker
-broken_marker d written StartOfImage rest bytes fault are same may has breaks = absurd (false≢true has)
-broken_marker d written EndOfImage rest bytes fault are same may has breaks = absurd (false≢true has)
-broken_marker d written StartOfScan rest bytes fault are same may has breaks =
+malformed_marker d written StartOfImage rest bytes fault are same may has breaks = absurd (false≢true has)
+malformed_marker d written EndOfImage rest bytes fault are same may has breaks = absurd (false≢true has)
+malformed_marker d written StartOfScan rest bytes fault are same may has breaks =
     breaks_within (StartOfScan, written, rest) (ahead_at-marker (is_late d) written written bytes rest StartOfScan same) tt may has are breaks
-broken_marker d written StartOfFrame rest bytes fault are same may has breaks =
+malformed_marker d written StartOfFrame rest bytes fault are same may has breaks =
     breaks_within (StartOfFrame, written, rest) (ahead_at-marker (is_late d) written written bytes rest StartOfFrame same) tt may has are breaks
-broken_marker d written PresetParameters rest bytes fault are same may has breaks =
+malformed_marker d written PresetParameters rest bytes fault are same may has breaks =
     after_fails d written bytes PresetParameters rest fault same (presets_fail d (is_late d) rest fault are may breaks)
-broken_marker d written (Application code) rest bytes fault are same may has breaks =
+malformed_marker d written (Application code) rest bytes fault are same may has breaks =
     after_fails d written bytes (Application code) rest fault same (skipped_fails d written (Application code) rest fault are (λ contents. refl) breaks)
-broken_marker d written Comment rest bytes fault are same may has breaks =
+malformed_marker d written Comment rest bytes fault are same may has breaks =
     after_fails d written bytes Comment rest fault same (skipped_fails d written Comment rest fault are (λ contents. refl) breaks)
-broken_marker d written (Other code) rest bytes fault are same may has breaks = absurd (false≢true has)
+malformed_marker d written (Other code) rest bytes fault are same may has breaks = absurd (false≢true has)
 
-piece_is : (late : Bool) (written : Parameters) (fill : ℕ) (m : Marker) (rest bytes : List ℕ) → bytes ≡ filled fill (marker m) ++ rest → IsMarker m
-    → piece_at late written bytes ≡ after_marker late written m rest
-piece_is late written fill m rest bytes whole is = ap (piece_at late written) whole ∙ piece_after late written fill m rest is
+part_is : (late : Bool) (written : Parameters) (fill : ℕ) (m : Marker) (rest bytes : List ℕ) → bytes ≡ filled fill (marker m) ++ rest → IsMarker m
+    → part_at late written bytes ≡ after_marker late written m rest
+part_is late written fill m rest bytes whole is = ap (part_at late written) whole ∙ part_after late written fill m rest is
 
-piece_fails : (d : Due) (written : Parameters) (bytes : List ℕ) (fault : StreamFault) → AreBytes bytes → BreaksMarker d bytes fault → AheadFails d (ahead_at (is_late d) written bytes) fault
-piece_fails d written bytes fault are (ends fill whole is) = marker_fails d written bytes fault (fails_with (ap marker_at whole ∙ marker_ends fill) is)
-piece_fails d written bytes fault are (no_marker byte rest whole other is) = marker_fails d written bytes fault (fails_with (ap marker_at whole ∙ marker_none byte rest other) is)
-piece_fails d written bytes fault are (zero_code fill rest whole is) = marker_fails d written bytes fault (fails_with (ap marker_at whole ∙ marker_zero fill rest) is)
-piece_fails d written bytes fault are (misplaced fill m rest whole is no_place) =
-    wrong_marker d written m rest bytes fault (piece_is (is_late d) written fill m rest bytes whole is) no_place
-piece_fails d written bytes fault are (broken fill m rest whole is may has breaks) =
-    broken_marker d written m rest bytes fault (bytes_along (filled fill (marker m)) rest are whole) (piece_is (is_late d) written fill m rest bytes whole is) may has breaks
+part_fails : (d : Due) (written : Parameters) (bytes : List ℕ) (fault : StreamFault) → AreBytes bytes → BreaksMarker d bytes fault → AheadFails d (ahead_at (is_late d) written bytes) fault
+part_fails d written bytes fault are (ends fill whole is) = marker_fails d written bytes fault (fails_with (ap marker_at whole ∙ marker_ends fill) is)
+part_fails d written bytes fault are (no_marker byte rest whole other is) = marker_fails d written bytes fault (fails_with (ap marker_at whole ∙ marker_none byte rest other) is)
+part_fails d written bytes fault are (zero_code fill rest whole is) = marker_fails d written bytes fault (fails_with (ap marker_at whole ∙ marker_zero fill rest) is)
+part_fails d written bytes fault are (misplaced fill m rest whole is no_place) =
+    wrong_marker d written m rest bytes fault (part_is (is_late d) written fill m rest bytes whole is) no_place
+part_fails d written bytes fault are (malformed fill m rest whole is may has breaks) =
+    malformed_marker d written m rest bytes fault (bytes_along (filled fill (marker m)) rest are whole) (part_is (is_late d) written fill m rest bytes whole is) may has breaks
 
 -- the segments before it are read
 stand_lawful : (late : Bool) (s : Miscellaneous) → MayStand late s → MayPrecedeScans s
@@ -227,7 +227,7 @@ ahead_past late written (s ∷ segments) rest may =
     let last = last_presets written (s ∷ []) in
     let others : List ℕ = miscellaneous_bytes segments ++ rest in
     ap (ahead_at late written) (append_assoc (one_miscellaneous_bytes s) (miscellaneous_bytes segments) rest)
-    ∙ ahead_at-segment late written last (one_miscellaneous_bytes s ++ others) others (piece_again late written s others (stand_lawful late s may.0) (stand_come late s may.0))
+    ∙ ahead_at-segment late written last (one_miscellaneous_bytes s ++ others) others (part_again late written s others (stand_lawful late s may.0) (stand_come late s may.0))
     ∙ ahead_past late last segments rest may.1
     ∙ ap (λ p. ahead_at late p rest) (presets_after written s segments)
 
@@ -237,7 +237,7 @@ ahead_fails d written bytes fault are breaks =
     let last = last_presets written breaks.segments in
     let same : ahead_at (is_late d) written bytes ≡ ahead_at (is_late d) last breaks.rest =
     ap (ahead_at (is_late d) written) breaks.whole ∙ ahead_past (is_late d) written breaks.segments breaks.rest breaks.lawful in
-    subst (λ (r : Ahead). AheadFails d r fault) (sym same) (piece_fails d last breaks.rest fault (bytes_along front breaks.rest are breaks.whole) breaks.breaks)
+    subst (λ (r : Ahead). AheadFails d r fault) (sym same) (part_fails d last breaks.rest fault (bytes_along front breaks.rest are breaks.whole) breaks.breaks)
 
 -- ---- headers and EOI
 

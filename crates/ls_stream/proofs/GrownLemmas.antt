@@ -12,12 +12,12 @@ use Rattle.ls_stream.specs.declared.segments.read.FrameHeader.{FrameHeader}
 use Rattle.ls_stream.specs.Markers.{marker_of}
 use Rattle.ls_stream.specs.Segments.{field_of}
 use Rattle.ls_stream.specs.Grammar.{no_presets, parameters_of}
-use Rattle.ls_stream.specs.View.Reading.{◌>>=◌, wanted, Take, start_at, code_at, marker_at, contents_at, frame_header_of, scan_header_of, preset_fields_of, skipped_at, presets_at, after_marker, piece_at, Ahead, unless_marker, ahead_at, is_start_of_frame, is_start_of_scan, is_end_of_image, frame_header_at, scan_header_at, next_scan_at, end_at, or_bad_presets, opening_at}
+use Rattle.ls_stream.specs.View.Reading.{◌>>=◌, wanted, Take, start_at, code_at, marker_at, contents_at, frame_header_of, scan_header_of, preset_fields_of, skipped_at, presets_at, after_marker, part_at, Ahead, unless_marker, ahead_at, is_start_of_frame, is_start_of_scan, is_end_of_image, frame_header_at, scan_header_at, next_scan_at, end_at, or_bad_presets, opening_at}
 use Rattle.ls_stream.specs.View.Outlines.{data_length, data_at, after_data, Outline, ids_in, scans_at, outline_at}
 use Rattle.ls_stream.specs.View.Extents.{Left, after_segment, after_any, segments_at, extent_at}
 use Rattle.ls_stream.proofs.StepLemmas.{same_fault}
 use Rattle.ls_stream.proofs.BreakLemmas.{no_err}
-use Rattle.ls_stream.proofs.AheadLemmas.{Found, Stands, piece_shorter, ahead_at-piece, ahead_at-fault}
+use Rattle.ls_stream.proofs.AheadLemmas.{Found, Stands, part_shorter, ahead_at-part, ahead_at-fault}
 use Rattle.ls_stream.proofs.PlaceLemmas.{segments_at-next, marker_shorter, data_shorter}
 use Rattle.ls_stream.proofs.SegmentLemmas.{contents_shorter}
 use Rattle.ls_stream.proofs.FrontLemmas.{length-none, length-last, length-pair, length-marker, length-other, data_length-is}
@@ -244,9 +244,9 @@ after_grown late written (Application code) bytes more = skipped_grown written b
 after_grown late written Comment bytes more = skipped_grown written bytes more
 after_grown late written (Other code) bytes more = inr refl
 
-piece_grown : (late : Bool) (written : Parameters) (bytes more : List ℕ) → IsGrown (third_more more) (piece_at late written bytes) (piece_at late written (bytes ++ more))
-unfolding piece_at
-piece_grown late written bytes more =
+part_grown : (late : Bool) (written : Parameters) (bytes more : List ℕ) → IsGrown (third_more more) (part_at late written bytes) (part_at late written (bytes ++ more))
+unfolding part_at
+part_grown late written bytes more =
     step_grown (left_more more) (third_more more) (marker_at bytes) (marker_at (bytes ++ more)) (λ n. after_marker late written n.0 n.1) (λ n. after_marker late written n.0 n.1) (marker_grown bytes more)
     (λ n e. after_grown late written n.0 n.1 more)
 
@@ -256,7 +256,7 @@ unless_grown again None last rest more grown = grown refl
 unless_grown again (Some m) last rest more grown = inr refl
 
 pub ahead_none : (late : Bool) (written : Parameters) (bytes : List ℕ) → marker_at bytes ≡ Err Truncated → ahead_at late written bytes ≡ Err Truncated
-unfolding piece_at
+unfolding part_at
 ahead_none late written bytes none = ahead_at-fault late written bytes Truncated (ap (λ r. r >>= λ n. after_marker late written n.0 n.1) none)
 
 ahead_grown_within : (most : ℕ) (late : Bool) (written : Parameters) (bytes more : List ℕ) → length bytes ≤ most → IsGrown (third_more more) (ahead_at late written bytes) (ahead_at late written (bytes ++ more))
@@ -265,12 +265,12 @@ ahead_grown_within zero late written [] more few = inl (ahead_none late written 
 ahead_grown_within zero late written (byte ∷ bytes) more few = absurd (omega arith)
 ahead_grown_within (suc most) late written bytes more few =
     let again : Parameters → List ℕ → Ahead = λ w rest. ahead_at late w rest in
-    let next : Found → Ahead = λ piece. unless_marker again piece.0 piece.1 piece.2 in
-    subst (λ r. IsGrown (third_more more) r (ahead_at late written (bytes ++ more))) (sym (ahead_at-piece late written bytes))
-    (subst (λ r. IsGrown (third_more more) (piece_at late written bytes >>= next) r) (sym (ahead_at-piece late written (bytes ++ more)))
-    (step_grown (third_more more) (third_more more) (piece_at late written bytes) (piece_at late written (bytes ++ more)) next next (piece_grown late written bytes more)
+    let next : Found → Ahead = λ part. unless_marker again part.0 part.1 part.2 in
+    subst (λ r. IsGrown (third_more more) r (ahead_at late written (bytes ++ more))) (sym (ahead_at-part late written bytes))
+    (subst (λ r. IsGrown (third_more more) (part_at late written bytes >>= next) r) (sym (ahead_at-part late written (bytes ++ more)))
+    (step_grown (third_more more) (third_more more) (part_at late written bytes) (part_at late written (bytes ++ more)) next next (part_grown late written bytes more)
     (λ p e.
-    let less = piece_shorter late written bytes p e in
+    let less = part_shorter late written bytes p e in
     unless_grown again p.0 p.1 p.2 more (λ none. ahead_grown_within most late p.1 p.2 more (omega arith)))))
 
 pub ahead_grown : (late : Bool) (written : Parameters) (bytes more : List ℕ) → IsGrown (third_more more) (ahead_at late written bytes) (ahead_at late written (bytes ++ more))

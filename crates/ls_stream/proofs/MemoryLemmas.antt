@@ -13,7 +13,7 @@ use Rattle.ls_stream.specs.declared.marker.Marker.{Marker}
 use Rattle.ls_stream.specs.declared.marker.Marker.TheVariants.{StartOfImage, EndOfImage, StartOfScan, StartOfFrame, PresetParameters, Application, Comment, Other}
 use Rattle.ls_stream.specs.Segments.{field_of}
 use Rattle.ls_stream.specs.Grammar.{parameters_of, most_bytes}
-use Rattle.ls_stream.specs.View.Reading.{◌>>=◌, wanted, byte_at, start_at, code_at, marker_at, contents_at, kind_of_count, id_of, ids_of, frame_header_of, preset_fields_of, scan_header_of, skipped_at, presets_at, after_marker, piece_at, Ahead, unless_marker, ahead_within, ahead_at, frame_header_at, scan_header_at, or_bad_presets, opening_at}
+use Rattle.ls_stream.specs.View.Reading.{◌>>=◌, wanted, byte_at, start_at, code_at, marker_at, contents_at, kind_of_count, id_of, ids_of, frame_header_of, preset_fields_of, scan_header_of, skipped_at, presets_at, after_marker, part_at, Ahead, unless_marker, ahead_within, ahead_at, frame_header_at, scan_header_at, or_bad_presets, opening_at}
 use Rattle.ls_stream.specs.View.Outlines.{past_most, fault_of}
 use Rattle.ls_stream.proofs.StepLemmas.{same_fault}
 
@@ -159,9 +159,9 @@ after late written (Application code) bytes = skipped written bytes
 after late written Comment bytes = skipped written bytes
 after late written (Other code) bytes = fails _ (unsupported _)
 
-piece : (late : Bool) (written : Parameters) (bytes : List ℕ) → NeedsNone (piece_at late written bytes)
-unfolding piece_at
-piece late written bytes = step (marker_at bytes) _ (marker bytes) (λ next. after late written next.0 next.1)
+part : (late : Bool) (written : Parameters) (bytes : List ℕ) → NeedsNone (part_at late written bytes)
+unfolding part_at
+part late written bytes = step (marker_at bytes) _ (marker bytes) (λ next. after late written next.0 next.1)
 
 or_again : (again : Parameters → List ℕ → Ahead) (next : Option Marker) (written : Parameters) (bytes : List ℕ)
     → ((w : Parameters) (rest : List ℕ) → NeedsNone (again w rest)) → NeedsNone (unless_marker again next written bytes)
@@ -172,7 +172,7 @@ within : (most : ℕ) (late : Bool) (written : Parameters) (bytes : List ℕ) �
 unfolding ahead_within
 within zero late written bytes = fails Truncated truncated
 within (suc most) late written bytes =
-    step (piece_at late written bytes) _ (piece late written bytes)
+    step (part_at late written bytes) _ (part late written bytes)
     (λ found. or_again (λ w rest. ahead_within most late w rest) found.0 found.1 found.2 (λ w rest. within most late w rest))
 
 ahead : (late : Bool) (written : Parameters) (bytes : List ℕ) → NeedsNone (ahead_at late written bytes)

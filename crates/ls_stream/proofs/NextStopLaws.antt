@@ -282,7 +282,7 @@ decided_alike bytes rest fault few decided =
     )
 
 pub next_stops_alike : NextStopsAlike
-next_stops_alike bytes rest next fault = elim next.whole [
+next_stops_alike bytes rest next fault = elim next.enough [
   | inl decided ↦ decided_alike bytes rest fault next.short decided
   | inr end ↦
       let same : bytes ++ rest ≡ bytes = ap (λ bs. bytes ++ bs) end ∙ append-nil bytes in (

@@ -38,7 +38,7 @@ not_wrong : (p : Parameters) (width height : ℕ) (bits : List Bool) → IsLegal
 not_wrong p width height bits legal some wrong short = apart (one_break p width height bits NotCanonical OutOfBits legal some wrong.breaks short.breaks)
 
 not_left_over : (p : Parameters) (width height : ℕ) (bits : List Bool) (fault : CodeFault) → BreakInPlane p width height bits fault → HaveLeftoverBits p width height bits → ⊥
-not_left_over p width height bits fault broken more = broken.no_plane more.plane more.is_plane more.more more.whole
+not_left_over p width height bits fault malformed more = malformed.no_plane more.plane more.is_plane more.more more.whole
 
 one_data_fault : (p : Parameters) (width height component : ℕ) (stuffed : List ℕ) (stop : Stop) (f g : StreamFault) → IsLegal p → 1 ≤ width
     → BreaksData p width height component stuffed stop f → BreaksData p width height component stuffed stop g → f ≡ g
@@ -61,7 +61,7 @@ one_data_fault p width height component stuffed stop f g legal some (leftover h 
 
 -- the data of a plane is at no fault
 no_plane_at_fault : (p : Parameters) (width height : ℕ) (stuffed : List ℕ) (fault : CodeFault) → IsPlaneData p width height stuffed → BreakInPlane p width height (unstuff stuffed) fault → ⊥
-no_plane_at_fault p width height stuffed fault whole broken = broken.no_plane whole.plane whole.is_plane whole.coded.more whole.coded.bits
+no_plane_at_fault p width height stuffed fault whole malformed = malformed.no_plane whole.plane whole.is_plane whole.coded.more whole.coded.bits
 
 no_data_fault : (p : Parameters) (width height component : ℕ) (stuffed : List ℕ) (stop : Stop) (f : StreamFault) → IsLegal p → 1 ≤ width
     → IsPlaneData p width height stuffed → BreaksData p width height component stuffed stop f → ⊥

@@ -58,26 +58,26 @@ one_run_fault index left bits others f g (no_room count more e fits room fault) 
 one_run_fault index left bits others f g (no_room count more e fits room fault) (no_room count' more' e' fits' room' fault') same = fault ∙ sym fault'
 
 -- and then no run stands in front
-not_begun : (index left count : ℕ) (broken : Bool) (bits rest : List Bool) (f : CodeFault) → BreaksRun index left bits f → 0 < left → EndsInLine left count broken
-    → RunBegins index left count broken bits rest → ⊥
-not_begun index left count broken bits rest f (bits_end e fault) some ends b = no_begin index left count broken bits rest e b
-not_begun index left count broken bits rest f (rest_ends more e short fault) some ends b = few_begin index left count broken bits more rest e short b
-not_begun index left count broken bits rest f (after_one more e less later) some ends (whole_one enough g) =
-    let sooner : EndsInLine (left - 2 ^ order index) (count - 2 ^ order index) broken = ends_later left (2 ^ order index) count broken enough (omega arith) ends in
-    not_begun (min (index + 1) 31) (left - 2 ^ order index) (count - 2 ^ order index) broken more rest f later (omega arith) sooner
-    (begins (min (index + 1) 31) (left - 2 ^ order index) (count - 2 ^ order index) broken more rest (omega arith) sooner (same_later true true _ _ (sym e ∙ g)))
-not_begun index left count broken bits rest f (after_one more e less later) some ends (part_one is full few g) = absurd (omega arith)
-not_begun index left count broken bits rest f (after_one more e less later) some ends (break is short few g) = absurd (one_or_zero _ _ (sym e ∙ g))
-not_begun index left count broken bits rest f (no_room found more e fits room fault) some ends (whole_one enough g) = absurd (one_or_zero _ _ (sym g ∙ e))
-not_begun index left count broken bits rest f (no_room found more e fits room fault) some ends (part_one is full few g) = absurd (one_or_zero _ _ (sym g ∙ e))
-not_begun index left count broken bits rest f (no_room found more e fits room fault) some ends (break is short few g) =
+not_begun : (index left count : ℕ) (interrupted : Bool) (bits rest : List Bool) (f : CodeFault) → BreaksRun index left bits f → 0 < left → EndsInLine left count interrupted
+    → RunBegins index left count interrupted bits rest → ⊥
+not_begun index left count interrupted bits rest f (bits_end e fault) some ends b = no_begin index left count interrupted bits rest e b
+not_begun index left count interrupted bits rest f (rest_ends more e short fault) some ends b = few_begin index left count interrupted bits more rest e short b
+not_begun index left count interrupted bits rest f (after_one more e less later) some ends (whole_one enough g) =
+    let sooner : EndsInLine (left - 2 ^ order index) (count - 2 ^ order index) interrupted = ends_later left (2 ^ order index) count interrupted enough (omega arith) ends in
+    not_begun (min (index + 1) 31) (left - 2 ^ order index) (count - 2 ^ order index) interrupted more rest f later (omega arith) sooner
+    (begins (min (index + 1) 31) (left - 2 ^ order index) (count - 2 ^ order index) interrupted more rest (omega arith) sooner (same_later true true _ _ (sym e ∙ g)))
+not_begun index left count interrupted bits rest f (after_one more e less later) some ends (part_one is full few g) = absurd (omega arith)
+not_begun index left count interrupted bits rest f (after_one more e less later) some ends (break is short few g) = absurd (one_or_zero _ _ (sym e ∙ g))
+not_begun index left count interrupted bits rest f (no_room found more e fits room fault) some ends (whole_one enough g) = absurd (one_or_zero _ _ (sym g ∙ e))
+not_begun index left count interrupted bits rest f (no_room found more e fits room fault) some ends (part_one is full few g) = absurd (one_or_zero _ _ (sym g ∙ e))
+not_begun index left count interrupted bits rest f (no_room found more e fits room fault) some ends (break is short few g) =
     let low = same_low (order index) found count more rest (same_later false false _ _ (sym e ∙ g)) in
     let same : found ≡ count = sym (mod-eq_of_lt fits) ∙ low.0 ∙ mod-eq_of_lt few in
     absurd (omega arith)
 
-pub no_run : (index left count : ℕ) (broken : Bool) (bits rest : List Bool) (f : CodeFault) → BreaksRun index left bits f → 0 < left → EndsInLine left count broken
-    → bits ≡ run_bits index (run_of count broken) ++ rest → ⊥
-no_run index left count broken bits rest f fault some ends e = not_begun index left count broken bits rest f fault some ends (begins index left count broken bits rest some ends e)
+pub no_run : (index left count : ℕ) (interrupted : Bool) (bits rest : List Bool) (f : CodeFault) → BreaksRun index left bits f → 0 < left → EndsInLine left count interrupted
+    → bits ≡ run_bits index (run_of count interrupted) ++ rest → ⊥
+no_run index left count interrupted bits rest f fault some ends e = not_begun index left count interrupted bits rest f fault some ends (begins index left count interrupted bits rest some ends e)
 
 -- ---- a sample's word
 

@@ -22,12 +22,12 @@ use Rattle.ls_stream.proofs.SpanLemmas.{row_from-sample, row_from-run, row_from-
 breaks_here : (plane : Plane) (span : Span) (later more spans : List Span) (s : Coding) (bits : List Bool) (fault : CodeFault) → spans ≡ span ∷ later → BreaksSpan plane span s bits fault
     → BreaksSpans plane (spans ++ more) s bits fault
 unfolding BreaksSpans
-breaks_here plane span later more spans s bits fault e broken = subst (λ (xs : List Span). BreaksSpans plane (xs ++ more) s bits fault) (sym e) (inl broken)
+breaks_here plane span later more spans s bits fault e malformed = subst (λ (xs : List Span). BreaksSpans plane (xs ++ more) s bits fault) (sym e) (inl malformed)
 
 breaks_after : (plane : Plane) (span : Span) (later more spans : List Span) (s : Coding) (bits new : List Bool) (fault : CodeFault) → spans ≡ span ∷ later
     → bits ≡ span_bits_in plane span s ++ new → BreaksSpans plane (later ++ more) (span_after plane span s) new fault → BreaksSpans plane (spans ++ more) s bits fault
 unfolding BreaksSpans
-breaks_after plane span later more spans s bits new fault e f broken = subst (λ (xs : List Span). BreaksSpans plane (xs ++ more) s bits fault) (sym e) (inr (new, f, broken))
+breaks_after plane span later more spans s bits new fault e f malformed = subst (λ (xs : List Span). BreaksSpans plane (xs ++ more) s bits fault) (sym e) (inr (new, f, malformed))
 
 -- what a longer buffer holds, the shorter one does
 holds_shorter : (plane : Plane) (i : ℕ) (above line new : List ℕ) (column end : ℕ) → IsLonger line new column → column ≤ end → HoldsRowTo plane i above new end
@@ -44,9 +44,9 @@ around_held plane i above line maxval width j row inside holds = around_read pla
 
 -- ---- a sample of regular mode
 
-pub sample_broken : (maxval width j : ℕ) (above line : List ℕ) (s : Coding) (bits : List Bool) (n : Neighbours) (fault : CodeFault) → j < width → n ≡ neighbours_in above line j → is_run n ≡ false
+pub sample_malformed : (maxval width j : ℕ) (above line : List ℕ) (s : Coding) (bits : List Bool) (n : Neighbours) (fault : CodeFault) → j < width → n ≡ neighbours_in above line j → is_run n ≡ false
     → ((k : ℕ) → get_or line k 0 ≤ maxval) → BreaksSample s n bits fault → BreaksFrom maxval width above (place j line s bits) fault
-sample_broken maxval width j above line s bits n fault inside e regular small broken = record {
+sample_malformed maxval width j above line s bits n fault inside e regular small malformed = record {
   column = j;
   line = line;
   inside = inside;
@@ -56,7 +56,7 @@ sample_broken maxval width j above line s bits n fault inside e regular small br
   breaks = λ plane i row holds more.
       let is : n ≡ around plane i j = e ∙ around_held plane i above line maxval width j row inside holds in
       breaks_here plane (sample_span i j) (row_from plane i (j + 1)) more (row_from plane i j) s bits fault
-      (row_from-sample plane i j (omega (arith, row.width_is)) (sym (ap is_run is) ∙ regular)) (subst (λ (m : Neighbours). BreaksSample s m bits fault) is broken);
+      (row_from-sample plane i j (omega (arith, row.width_is)) (sym (ap is_run is) ∙ regular)) (subst (λ (m : Neighbours). BreaksSample s m bits fault) is malformed);
 }
 
 pub sample_later : (maxval width j x : ℕ) (above line new_line : List ℕ) (s after : Coding) (bits new : List Bool) (n : Neighbours) → j < width → n ≡ neighbours_in above line j → is_run n ≡ false
@@ -65,21 +65,21 @@ pub sample_later : (maxval width j x : ℕ) (above line new_line : List ℕ) (s 
 sample_later maxval width j x above line new_line s after bits new n inside e regular f g longer set = record {
   on = omega arith;
   kept = longer.before;
-  later = λ plane i row holds more fault broken.
+  later = λ plane i row holds more fault malformed.
       let is : n ≡ around plane i j = e ∙ around_held plane i above line maxval width j row inside (holds_shorter plane i above line new_line j (j + 1) longer (omega arith) holds) in
       let here : x ≡ at plane i j = sym set ∙ holds.before j (omega arith) in
       breaks_after plane (sample_span i j) (row_from plane i (j + 1)) more (row_from plane i j) s bits new fault
       (row_from-sample plane i j (omega (arith, row.width_is)) (sym (ap is_run is) ∙ regular))
       (f ∙ ap (λ v. golomb_bits s.parameters (regular_word_in s n v) ++ new) here ∙ ap (λ (m : Neighbours). golomb_bits s.parameters (regular_word_in s m (at plane i j)) ++ new) is)
       (subst (λ (t : Coding). BreaksSpans plane (row_from plane i (j + 1) ++ more) t new fault)
-      (g ∙ ap (λ v. regular_after s (context_in s n).number (regular_error_in s n v)) here ∙ ap (λ (m : Neighbours). regular_after s (context_in s m).number (regular_error_in s m (at plane i j))) is) broken);
+      (g ∙ ap (λ v. regular_after s (context_in s n).number (regular_error_in s n v)) here ∙ ap (λ (m : Neighbours). regular_after s (context_in s m).number (regular_error_in s m (at plane i j))) is) malformed);
 }
 
 -- ---- a run
 
-pub run_broken : (maxval width j : ℕ) (above line : List ℕ) (s : Coding) (bits : List Bool) (fault : CodeFault) → j < width → is_run (neighbours_in above line j) ≡ true
+pub run_malformed : (maxval width j : ℕ) (above line : List ℕ) (s : Coding) (bits : List Bool) (fault : CodeFault) → j < width → is_run (neighbours_in above line j) ≡ true
     → ((k : ℕ) → get_or line k 0 ≤ maxval) → BreaksRun s.run_index (width - j) bits fault → BreaksFrom maxval width above (place j line s bits) fault
-run_broken maxval width j above line s bits fault inside is small broken = record {
+run_malformed maxval width j above line s bits fault inside is small malformed = record {
   column = j;
   line = line;
   inside = inside;
@@ -90,7 +90,7 @@ run_broken maxval width j above line s bits fault inside is small broken = recor
       let e = around_held plane i above line maxval width j row inside holds in
       breaks_here plane (run_span i j (run_length plane i j) (ltb (j + run_length plane i j) plane.width)) (row_from plane i (j + run_length plane i j + 1)) more (row_from plane i j) s bits fault
       (row_from-run plane i j (run_length plane i j) (ltb (j + run_length plane i j) plane.width) (omega (arith, row.width_is)) (sym (ap is_run e) ∙ is) refl refl)
-      (inl (subst (λ w. BreaksRun s.run_index (w - j) bits fault) (sym row.width_is) broken));
+      (inl (subst (λ w. BreaksRun s.run_index (w - j) bits fault) (sym row.width_is) malformed));
 }
 
 -- a run's samples in the buffer are those of the plane
@@ -105,7 +105,7 @@ pub run_later_to_end : (maxval width j count : ℕ) (above line new_line : List 
 run_later_to_end maxval width j count above line new_line s after bits new inside whole is f g longer filled = record {
   on = omega arith;
   kept = longer.before;
-  later = λ plane i row holds more fault broken.
+  later = λ plane i row holds more fault malformed.
       let e = around_held plane i above line maxval width j row inside (holds_shorter plane i above line new_line j (j + count) longer (omega arith) holds) in
       let equal = equal_held plane i j (j + count) above line new_line e holds filled in
       let back : count ≡ j + count - j = omega arith in
@@ -116,7 +116,7 @@ run_later_to_end maxval width j count above line new_line s after bits new insid
       (back ∙ run_in_buffer plane i j (j + count) (omega arith) (omega (arith, row.width_is)) equal (λ h. absurd (omega (arith, row.width_is))))
       (le-ltb (j + count) plane.width (omega (arith, row.width_is)))) f
       (subst (λ (t : Coding). BreaksSpans plane (row_from plane i (j + count + 1) ++ more) t new fault) g
-      (subst (λ (xs : List Span). BreaksSpans plane (xs ++ more) after new fault) (sym past) broken));
+      (subst (λ (xs : List Span). BreaksSpans plane (xs ++ more) after new fault) (sym past) malformed));
 }
 
 -- ---- the sample that interrupts a run
@@ -134,7 +134,7 @@ run_later_to_break maxval width j count x above line mid_line new_line s after b
     record {
       on = omega arith;
       kept = λ k h. longer'.before k (omega arith) ∙ longer.before k h;
-      later = λ plane i row holds more fault broken.
+      later = λ plane i row holds more fault malformed.
           let mid_holds = holds_shorter plane i above mid_line new_line (j + count) (j + count + 1) longer' (omega arith) holds in
           let e = around_held plane i above line maxval width j row inside (holds_shorter plane i above line mid_line j (j + count) longer (omega arith) mid_holds) in
           let next : n ≡ around plane i (j + count) = at_break ∙ around_held plane i above mid_line maxval width (j + count) row short mid_holds in
@@ -153,18 +153,18 @@ run_later_to_break maxval width j count x above line mid_line new_line s after b
           ∙ sym (append_assoc (run_bits s.run_index (run_of count true)) (word (around plane i (j + count)) (at plane i (j + count))) new))
           (subst (λ (t : Coding). BreaksSpans plane (row_from plane i (j + count + 1) ++ more) t new fault)
           (g ∙ ap (λ v. interruption_after r (ri_type_of n) (interruption_error s.parameters n v)) here
-          ∙ ap (λ (m : Neighbours). interruption_after r (ri_type_of m) (interruption_error s.parameters m (at plane i (j + count)))) next) broken);
+          ∙ ap (λ (m : Neighbours). interruption_after r (ri_type_of m) (interruption_error s.parameters m (at plane i (j + count)))) next) malformed);
     }
 
 -- the state before it, by another name
 pub interruption_in : (s t : Coding) (n : Neighbours) (bits : List Bool) (fault : CodeFault) → s ≡ t → BreaksInterruption s n bits fault → BreaksInterruption t n bits fault
-interruption_in s t n bits fault e broken = subst (λ (x : Coding). BreaksInterruption x n bits fault) e broken
+interruption_in s t n bits fault e malformed = subst (λ (x : Coding). BreaksInterruption x n bits fault) e malformed
 
-pub interruption_broken : (maxval width j count : ℕ) (above line mid_line : List ℕ) (s : Coding) (bits mid : List Bool) (n : Neighbours) (fault : CodeFault)
+pub interruption_malformed : (maxval width j count : ℕ) (above line mid_line : List ℕ) (s : Coding) (bits mid : List Bool) (n : Neighbours) (fault : CodeFault)
     → j < width → j + count < width → is_run (neighbours_in above line j) ≡ true → n ≡ neighbours_in above mid_line (j + count)
     → bits ≡ run_bits s.run_index (run_of count true) ++ mid → IsLonger line mid_line j → ((c : ℕ) → j ≤ c → c < j + count → get_or mid_line (c + 1) 0 ≡ get_or line j 0)
     → ((k : ℕ) → get_or mid_line k 0 ≤ maxval) → BreaksInterruption (run_after s (run_of count true)) n mid fault → BreaksFrom maxval width above (place j line s bits) fault
-interruption_broken maxval width j count above line mid_line s bits mid n fault inside short is at_break f longer filled small broken =
+interruption_malformed maxval width j count above line mid_line s bits mid n fault inside short is at_break f longer filled small malformed =
     let r : Coding = run_after s (run_of count true) in
     record {
       column = j + count;
@@ -185,5 +185,5 @@ interruption_broken maxval width j count above line mid_line s bits mid n fault 
           ] in
           breaks_here plane (run_span i j most (ltb (j + most) plane.width)) (row_from plane i (j + most + 1)) more (row_from plane i j) s bits fault
           (row_from-run plane i j most (ltb (j + most) plane.width) (omega (arith, row.width_is)) (sym (ap is_run e) ∙ is) refl refl)
-          (inr (count, mid, few, omega (arith, row.width_is), f, subst (λ (m : Neighbours). BreaksInterruption r m mid fault) next broken));
+          (inr (count, mid, few, omega (arith, row.width_is), f, subst (λ (m : Neighbours). BreaksInterruption r m mid fault) next malformed));
     }

@@ -45,13 +45,13 @@ run-moved plane i j count bits new s after n inside far e is f h k more =
     (row_from-run plane i j count false inside (sym (ap is_run e) ∙ is) f (le-ltb (j + count) plane.width far)) h k
 
 -- a run, and the sample that interrupts it
-pub broken-moved : (plane : Plane) (i j count : ℕ) (bits new : List Bool) (s after : Coding) (n m : Neighbours) (x : ℕ)
+pub interrupted-moved : (plane : Plane) (i j count : ℕ) (bits new : List Bool) (s after : Coding) (n m : Neighbours) (x : ℕ)
     → j < plane.width → j + count < plane.width → n ≡ around plane i j → is_run n ≡ true → count ≡ run_length plane i j
     → m ≡ around plane i (j + count) → x ≡ at plane i (j + count)
     → new ≡ bits ++ (run_bits s.run_index (run_of count true) ++ golomb_bits s.parameters (interruption_word_in (run_after s (run_of count true)) m x))
     → after ≡ interruption_after (run_after s (run_of count true)) (ri_type_of m) (interruption_error s.parameters m x)
     → (more : List Span) → all_from plane new after (row_from plane i (j + count + 1) ++ more) ≡ all_from plane bits s (row_from plane i j ++ more)
-broken-moved plane i j count bits new s after n m x inside before_end e is f a b d l more =
+interrupted-moved plane i j count bits new s after n m x inside before_end e is f a b d l more =
     let r : Coding = run_after s (run_of count true) in
     moved plane (run_span i j count true) (row_from plane i (j + count + 1)) more (row_from plane i j) bits new s after
     (row_from-run plane i j count true inside (sym (ap is_run e) ∙ is) f (lt-ltb (j + count) plane.width before_end))
@@ -124,7 +124,7 @@ row_to_break plane i j end above line bits new s after n m width same lines insi
     let within : j < plane.width = omega arith in
     let near_end : end < plane.width = omega arith in
     ap (λ k. all_from plane new after (row_from plane i (k + 1) ++ more)) back
-    ∙ broken-moved plane i j (end - j) bits new s after n m (get_or line (end + 1) 0) within (omega (arith, h.low)) (e ∙ lines.neighbours j within) is
+    ∙ interrupted-moved plane i j (end - j) bits new s after n m (get_or line (end + 1) 0) within (omega (arith, h.low)) (e ∙ lines.neighbours j within) is
     (run_is plane i j end above line lines within (of_plane line width j end plane same h))
     (d ∙ lines.neighbours end near_end ∙ ap (around plane i) back) (lines.samples end near_end ∙ ap (at plane i) back) f g more
 

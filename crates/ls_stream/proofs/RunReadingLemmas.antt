@@ -30,84 +30,84 @@ one_or_zero x y e = true≢false (ap first_of e)
 
 -- how the bits of a run begin that ends in a line with so many samples left: with a bit 1 for 2^J samples, or for what is left; or with
 -- a bit 0, and what is left in J bits
-pub data RunBegins (index left count : ℕ) (broken : Bool) (bits rest : List Bool) : Type 0 where
-  whole_one : 2 ^ order index ≤ count → bits ≡ true ∷ (run_bits (min (index + 1) 31) (run_of (count - 2 ^ order index) broken) ++ rest)
-      → RunBegins index left count broken bits rest
-  part_one : broken ≡ false → count ≡ left → count < 2 ^ order index → bits ≡ true ∷ rest → RunBegins index left count broken bits rest
-  break : broken ≡ true → count < left → count < 2 ^ order index → bits ≡ false ∷ (bits_of (order index) count ++ rest)
-      → RunBegins index left count broken bits rest
+pub data RunBegins (index left count : ℕ) (interrupted : Bool) (bits rest : List Bool) : Type 0 where
+  whole_one : 2 ^ order index ≤ count → bits ≡ true ∷ (run_bits (min (index + 1) 31) (run_of (count - 2 ^ order index) interrupted) ++ rest)
+      → RunBegins index left count interrupted bits rest
+  part_one : interrupted ≡ false → count ≡ left → count < 2 ^ order index → bits ≡ true ∷ rest → RunBegins index left count interrupted bits rest
+  break : interrupted ≡ true → count < left → count < 2 ^ order index → bits ≡ false ∷ (bits_of (order index) count ++ rest)
+      → RunBegins index left count interrupted bits rest
 
-begins_few : (index left count : ℕ) (broken : Bool) (bits rest : List Bool) → 0 < left → EndsInLine left count broken → count < 2 ^ order index
-    → bits ≡ run_bits index (run_of count broken) ++ rest → RunBegins index left count broken bits rest
+begins_few : (index left count : ℕ) (interrupted : Bool) (bits rest : List Bool) → 0 < left → EndsInLine left count interrupted → count < 2 ^ order index
+    → bits ≡ run_bits index (run_of count interrupted) ++ rest → RunBegins index left count interrupted bits rest
 begins_few index left count true bits rest some ends few e =
     break refl (ends.short refl) few (e ∙ ap (λ x. x ++ rest) (bits_of_break index count few))
 begins_few index left count false bits rest some ends few e =
     let full : count ≡ left = ends.full refl in
     part_one refl full few (e ∙ ap (λ x. x ++ rest) (one_bit_left index count (omega arith) few))
 
-pub begins : (index left count : ℕ) (broken : Bool) (bits rest : List Bool) → 0 < left → EndsInLine left count broken
-    → bits ≡ run_bits index (run_of count broken) ++ rest → RunBegins index left count broken bits rest
-begins index left count broken bits rest some ends e =
+pub begins : (index left count : ℕ) (interrupted : Bool) (bits rest : List Bool) → 0 < left → EndsInLine left count interrupted
+    → bits ≡ run_bits index (run_of count interrupted) ++ rest → RunBegins index left count interrupted bits rest
+begins index left count interrupted bits rest some ends e =
     elim (cases_lt count (2 ^ order index)) [
-      | inl few ↦ begins_few index left count broken bits rest some ends few e
-      | inr enough ↦ whole_one enough (e ∙ ap (λ x. x ++ rest) (one_bit_more index count broken enough))
+      | inl few ↦ begins_few index left count interrupted bits rest some ends few e
+      | inr enough ↦ whole_one enough (e ∙ ap (λ x. x ++ rest) (one_bit_more index count interrupted enough))
     ]
 
 -- what is left of a run, and of its line, after so many samples
-pub ends_later : (left so_far other : ℕ) (broken : Bool) → so_far ≤ other → so_far ≤ left → EndsInLine left other broken → EndsInLine (left - so_far) (other - so_far) broken
-ends_later left so_far other broken h k ends = record { full = λ e. let full = ends.full e in omega arith; short = λ e. let short = ends.short e in omega arith }
+pub ends_later : (left so_far other : ℕ) (interrupted : Bool) → so_far ≤ other → so_far ≤ left → EndsInLine left other interrupted → EndsInLine (left - so_far) (other - so_far) interrupted
+ends_later left so_far other interrupted h k ends = record { full = λ e. let full = ends.full e in omega arith; short = λ e. let short = ends.short e in omega arith }
 
 -- ---- while bits are read
 
 -- so many samples were read of a run that began at one place, and the bits that are left are now those at the other
 pub record IsInRun (left so_far first index : ℕ) (start bits : List Bool) : Type 0 where
-  pub runs : (count : ℕ) (broken : Bool) (rest : List Bool)
-      → (start ≡ run_bits first (run_of (so_far + count) broken) ++ rest) ↔ (bits ≡ run_bits index (run_of count broken) ++ rest)
-  pub longer : (other : ℕ) (broken : Bool) (rest : List Bool) → EndsInLine left other broken
-      → start ≡ run_bits first (run_of other broken) ++ rest → so_far ≤ other
+  pub runs : (count : ℕ) (interrupted : Bool) (rest : List Bool)
+      → (start ≡ run_bits first (run_of (so_far + count) interrupted) ++ rest) ↔ (bits ≡ run_bits index (run_of count interrupted) ++ rest)
+  pub longer : (other : ℕ) (interrupted : Bool) (rest : List Bool) → EndsInLine left other interrupted
+      → start ≡ run_bits first (run_of other interrupted) ++ rest → so_far ≤ other
 
 pub begun : (left index : ℕ) (bits : List Bool) → IsInRun left 0 index index bits bits
 begun left index bits = record {
-  runs = λ count broken rest.
+  runs = λ count interrupted rest.
       let none : 0 + count ≡ count = omega arith in
-      (λ e. e ∙ ap (λ n. run_bits index (run_of n broken) ++ rest) none, λ e. e ∙ ap (λ n. run_bits index (run_of n broken) ++ rest) (sym none));
-  longer = λ other broken rest ends e. omega arith;
+      (λ e. e ∙ ap (λ n. run_bits index (run_of n interrupted) ++ rest) none, λ e. e ∙ ap (λ n. run_bits index (run_of n interrupted) ++ rest) (sym none));
+  longer = λ other interrupted rest ends e. omega arith;
 }
 
 -- the bits that are left, of a run that may have been begun
-to_come : (left so_far first index other : ℕ) (broken : Bool) (start bits rest : List Bool) → IsInRun left so_far first index start bits → so_far < left
-    → EndsInLine left other broken → start ≡ run_bits first (run_of other broken) ++ rest → RunBegins index (left - so_far) (other - so_far) broken bits rest
-to_come left so_far first index other broken start bits rest in_run short ends e =
-    let longer : so_far ≤ other = in_run.longer other broken rest ends e in
+to_come : (left so_far first index other : ℕ) (interrupted : Bool) (start bits rest : List Bool) → IsInRun left so_far first index start bits → so_far < left
+    → EndsInLine left other interrupted → start ≡ run_bits first (run_of other interrupted) ++ rest → RunBegins index (left - so_far) (other - so_far) interrupted bits rest
+to_come left so_far first index other interrupted start bits rest in_run short ends e =
+    let longer : so_far ≤ other = in_run.longer other interrupted rest ends e in
     let back : other ≡ so_far + (other - so_far) = omega arith in
-    begins index (left - so_far) (other - so_far) broken bits rest (omega arith) (ends_later left so_far other broken longer (omega arith) ends)
-    ((in_run.runs (other - so_far) broken rest).0 (e ∙ ap (λ n. run_bits first (run_of n broken) ++ rest) back))
+    begins index (left - so_far) (other - so_far) interrupted bits rest (omega arith) (ends_later left so_far other interrupted longer (omega arith) ends)
+    ((in_run.runs (other - so_far) interrupted rest).0 (e ∙ ap (λ n. run_bits first (run_of n interrupted) ++ rest) back))
 
 -- a bit 1 that stands for 2^J samples
-longer_by_one : (left index so_far other : ℕ) (broken : Bool) (bits new rest : List Bool) → bits ≡ true ∷ new → 2 ^ order index < left - so_far
-    → RunBegins index (left - so_far) (other - so_far) broken bits rest → so_far ≤ other → so_far + 2 ^ order index ≤ other
-longer_by_one left index so_far other broken bits new rest e more (whole_one enough f) h = omega arith
-longer_by_one left index so_far other broken bits new rest e more (part_one is full few f) h = omega arith
-longer_by_one left index so_far other broken bits new rest e more (break is short few f) h = absurd (one_or_zero new _ (sym e ∙ f))
+longer_by_one : (left index so_far other : ℕ) (interrupted : Bool) (bits new rest : List Bool) → bits ≡ true ∷ new → 2 ^ order index < left - so_far
+    → RunBegins index (left - so_far) (other - so_far) interrupted bits rest → so_far ≤ other → so_far + 2 ^ order index ≤ other
+longer_by_one left index so_far other interrupted bits new rest e more (whole_one enough f) h = omega arith
+longer_by_one left index so_far other interrupted bits new rest e more (part_one is full few f) h = omega arith
+longer_by_one left index so_far other interrupted bits new rest e more (break is short few f) h = absurd (one_or_zero new _ (sym e ∙ f))
 
 pub one_read : (left so_far first index count next : ℕ) (start bits new : List Bool) → IsInRun left so_far first index start bits → so_far < left
     → bits ≡ true ∷ new → count ≡ 2 ^ order index → next ≡ min (index + 1) 31 → so_far + count < left
     → IsInRun left (so_far + count) first next start new
 one_read left so_far first index count next start bits new in_run short e f g more = record {
-  runs = λ m broken rest.
+  runs = λ m interrupted rest.
       let all : so_far + count + m ≡ so_far + (count + m) = omega arith in
       let back : count + m - 2 ^ order index ≡ m = omega arith in
-      let one : run_bits index (run_of (count + m) broken) ++ rest ≡ true ∷ (run_bits next (run_of m broken) ++ rest) =
-      ap (λ x. x ++ rest) (one_bit_more index (count + m) broken (omega arith))
-      ∙ ap (λ n. true ∷ (run_bits (min (index + 1) 31) (run_of n broken) ++ rest)) back
-      ∙ ap (λ n. true ∷ (run_bits n (run_of m broken) ++ rest)) (sym g) in (
-        λ h. same_later true true _ _ (sym e ∙ (in_run.runs (count + m) broken rest).0 (h ∙ ap (λ n. run_bits first (run_of n broken) ++ rest) all) ∙ one),
-        λ h. (in_run.runs (count + m) broken rest).1 (e ∙ ap (λ x. true ∷ x) h ∙ sym one) ∙ ap (λ n. run_bits first (run_of n broken) ++ rest) (sym all),
+      let one : run_bits index (run_of (count + m) interrupted) ++ rest ≡ true ∷ (run_bits next (run_of m interrupted) ++ rest) =
+      ap (λ x. x ++ rest) (one_bit_more index (count + m) interrupted (omega arith))
+      ∙ ap (λ n. true ∷ (run_bits (min (index + 1) 31) (run_of n interrupted) ++ rest)) back
+      ∙ ap (λ n. true ∷ (run_bits n (run_of m interrupted) ++ rest)) (sym g) in (
+        λ h. same_later true true _ _ (sym e ∙ (in_run.runs (count + m) interrupted rest).0 (h ∙ ap (λ n. run_bits first (run_of n interrupted) ++ rest) all) ∙ one),
+        λ h. (in_run.runs (count + m) interrupted rest).1 (e ∙ ap (λ x. true ∷ x) h ∙ sym one) ∙ ap (λ n. run_bits first (run_of n interrupted) ++ rest) (sym all),
       );
-  longer = λ other broken rest ends h.
+  longer = λ other interrupted rest ends h.
       let enough : so_far + 2 ^ order index ≤ other =
-      longer_by_one left index so_far other broken bits new rest e (omega arith) (to_come left so_far first index other broken start bits rest in_run short ends h)
-      (in_run.longer other broken rest ends h) in
+      longer_by_one left index so_far other interrupted bits new rest e (omega arith) (to_come left so_far first index other interrupted start bits rest in_run short ends h)
+      (in_run.longer other interrupted rest ends h) in
       omega arith;
 }
 
@@ -126,9 +126,9 @@ last_one left so_far first index count start bits new in_run e some few =
           ∙ ap (λ x. true ∷ x) (no_bit_left (min (index + 1) 31)))
     ]))
 
-only_last : (index left so_far count other : ℕ) (broken : Bool) (bits new rest : List Bool) → bits ≡ true ∷ new → count ≡ left - so_far → so_far < left → count ≤ 2 ^ order index
-    → EndsInLine left other broken → so_far ≤ other → RunBegins index (left - so_far) (other - so_far) broken bits rest
-    → (other ≡ so_far + count) × (broken ≡ false) × (rest ≡ new)
+only_last : (index left so_far count other : ℕ) (interrupted : Bool) (bits new rest : List Bool) → bits ≡ true ∷ new → count ≡ left - so_far → so_far < left → count ≤ 2 ^ order index
+    → EndsInLine left other interrupted → so_far ≤ other → RunBegins index (left - so_far) (other - so_far) interrupted bits rest
+    → (other ≡ so_far + count) × (interrupted ≡ false) × (rest ≡ new)
 only_last index left so_far count other true bits new rest e f short few ends h (whole_one enough g) = let less = ends.short refl in absurd (omega arith)
 only_last index left so_far count other false bits new rest e f short few ends h (whole_one enough g) =
     let full = ends.full refl in
@@ -138,39 +138,39 @@ only_last index left so_far count other false bits new rest e f short few ends h
       sym (same_later true true _ _ (sym e ∙ g ∙ ap (λ n. true ∷ (run_bits (min (index + 1) 31) (run_of n false) ++ rest)) none
           ∙ ap (λ x. true ∷ (x ++ rest)) (no_bit_left (min (index + 1) 31)))),
     )
-only_last index left so_far count other broken bits new rest e f short few ends h (part_one is full less g) =
+only_last index left so_far count other interrupted bits new rest e f short few ends h (part_one is full less g) =
     (omega arith, is, same_later true true _ _ (sym g ∙ e))
-only_last index left so_far count other broken bits new rest e f short few ends h (break is less low g) = absurd (one_or_zero new _ (sym e ∙ g))
+only_last index left so_far count other interrupted bits new rest e f short few ends h (break is less low g) = absurd (one_or_zero new _ (sym e ∙ g))
 
-pub only_to_end : (left so_far first index count other : ℕ) (broken : Bool) (start bits new rest : List Bool) → IsInRun left so_far first index start bits → so_far < left
+pub only_to_end : (left so_far first index count other : ℕ) (interrupted : Bool) (start bits new rest : List Bool) → IsInRun left so_far first index start bits → so_far < left
     → bits ≡ true ∷ new → count ≡ left - so_far → count ≤ 2 ^ order index
-    → EndsInLine left other broken → start ≡ run_bits first (run_of other broken) ++ rest → (other ≡ so_far + count) × (broken ≡ false) × (rest ≡ new)
-only_to_end left so_far first index count other broken start bits new rest in_run short e f few ends g =
-    only_last index left so_far count other broken bits new rest e f short few ends (in_run.longer other broken rest ends g)
-    (to_come left so_far first index other broken start bits rest in_run short ends g)
+    → EndsInLine left other interrupted → start ≡ run_bits first (run_of other interrupted) ++ rest → (other ≡ so_far + count) × (interrupted ≡ false) × (rest ≡ new)
+only_to_end left so_far first index count other interrupted start bits new rest in_run short e f few ends g =
+    only_last index left so_far count other interrupted bits new rest e f short few ends (in_run.longer other interrupted rest ends g)
+    (to_come left so_far first index other interrupted start bits rest in_run short ends g)
 
 -- ---- where the bits end, or no run goes on so
 
-pub no_begin : (index left count : ℕ) (broken : Bool) (bits rest : List Bool) → bits ≡ [] → RunBegins index left count broken bits rest → ⊥
-no_begin index left count broken bits rest none (whole_one enough e) = absurd (omega (arith, ap length (sym none ∙ e)))
-no_begin index left count broken bits rest none (part_one is full few e) = absurd (omega (arith, ap length (sym none ∙ e)))
-no_begin index left count broken bits rest none (break is short few e) = absurd (omega (arith, ap length (sym none ∙ e)))
+pub no_begin : (index left count : ℕ) (interrupted : Bool) (bits rest : List Bool) → bits ≡ [] → RunBegins index left count interrupted bits rest → ⊥
+no_begin index left count interrupted bits rest none (whole_one enough e) = absurd (omega (arith, ap length (sym none ∙ e)))
+no_begin index left count interrupted bits rest none (part_one is full few e) = absurd (omega (arith, ap length (sym none ∙ e)))
+no_begin index left count interrupted bits rest none (break is short few e) = absurd (omega (arith, ap length (sym none ∙ e)))
 
-pub no_bit : (left so_far first index other : ℕ) (broken : Bool) (start bits rest : List Bool) → IsInRun left so_far first index start bits → so_far < left
-    → bits ≡ [] → EndsInLine left other broken → start ≡ run_bits first (run_of other broken) ++ rest → ⊥
-no_bit left so_far first index other broken start bits rest in_run short none ends e =
-    no_begin index (left - so_far) (other - so_far) broken bits rest none (to_come left so_far first index other broken start bits rest in_run short ends e)
+pub no_bit : (left so_far first index other : ℕ) (interrupted : Bool) (start bits rest : List Bool) → IsInRun left so_far first index start bits → so_far < left
+    → bits ≡ [] → EndsInLine left other interrupted → start ≡ run_bits first (run_of other interrupted) ++ rest → ⊥
+no_bit left so_far first index other interrupted start bits rest in_run short none ends e =
+    no_begin index (left - so_far) (other - so_far) interrupted bits rest none (to_come left so_far first index other interrupted start bits rest in_run short ends e)
 
-pub few_begin : (index left count : ℕ) (broken : Bool) (bits new rest : List Bool) → bits ≡ false ∷ new → length new < order index → RunBegins index left count broken bits rest → ⊥
-few_begin index left count broken bits new rest e short (whole_one enough f) = one_or_zero _ new (sym f ∙ e)
-few_begin index left count broken bits new rest e short (part_one is full few f) = one_or_zero _ new (sym f ∙ e)
-few_begin index left count broken bits new rest e short (break is less few f) =
+pub few_begin : (index left count : ℕ) (interrupted : Bool) (bits new rest : List Bool) → bits ≡ false ∷ new → length new < order index → RunBegins index left count interrupted bits rest → ⊥
+few_begin index left count interrupted bits new rest e short (whole_one enough f) = one_or_zero _ new (sym f ∙ e)
+few_begin index left count interrupted bits new rest e short (part_one is full few f) = one_or_zero _ new (sym f ∙ e)
+few_begin index left count interrupted bits new rest e short (break is less few f) =
     absurd (omega (arith, ap length (same_later false false new _ (sym e ∙ f)), length-append (bits_of (order index) count) rest, length-bits_of (order index) count))
 
-pub few_bits : (left so_far first index other : ℕ) (broken : Bool) (start bits new rest : List Bool) → IsInRun left so_far first index start bits → so_far < left
-    → bits ≡ false ∷ new → length new < order index → EndsInLine left other broken → start ≡ run_bits first (run_of other broken) ++ rest → ⊥
-few_bits left so_far first index other broken start bits new rest in_run short e few ends f =
-    few_begin index (left - so_far) (other - so_far) broken bits new rest e few (to_come left so_far first index other broken start bits rest in_run short ends f)
+pub few_bits : (left so_far first index other : ℕ) (interrupted : Bool) (start bits new rest : List Bool) → IsInRun left so_far first index start bits → so_far < left
+    → bits ≡ false ∷ new → length new < order index → EndsInLine left other interrupted → start ≡ run_bits first (run_of other interrupted) ++ rest → ⊥
+few_bits left so_far first index other interrupted start bits new rest in_run short e few ends f =
+    few_begin index (left - so_far) (other - so_far) interrupted bits new rest e few (to_come left so_far first index other interrupted start bits rest in_run short ends f)
 
 -- a bit 0, and the samples that are left
 pub break_read : (left so_far first index count : ℕ) (start bits mid new : List Bool) → IsInRun left so_far first index start bits
@@ -178,39 +178,39 @@ pub break_read : (left so_far first index count : ℕ) (start bits mid new : Lis
 break_read left so_far first index count start bits mid new in_run e f few =
     (in_run.runs count true new).1 (e ∙ ap (λ x. false ∷ x) f ∙ ap (λ x. x ++ new) (sym (bits_of_break index count few)))
 
-break_begin : (index left count found : ℕ) (broken : Bool) (bits mid new rest : List Bool) → bits ≡ false ∷ mid → mid ≡ bits_of (order index) found ++ new → found < 2 ^ order index
-    → RunBegins index left count broken bits rest → (count ≡ found) × (broken ≡ true) × (rest ≡ new) × (count < left)
-break_begin index left count found broken bits mid new rest e f few (whole_one enough g) = absurd (one_or_zero _ mid (sym g ∙ e))
-break_begin index left count found broken bits mid new rest e f few (part_one is full less g) = absurd (one_or_zero _ mid (sym g ∙ e))
-break_begin index left count found broken bits mid new rest e f few (break is short less g) =
+break_begin : (index left count found : ℕ) (interrupted : Bool) (bits mid new rest : List Bool) → bits ≡ false ∷ mid → mid ≡ bits_of (order index) found ++ new → found < 2 ^ order index
+    → RunBegins index left count interrupted bits rest → (count ≡ found) × (interrupted ≡ true) × (rest ≡ new) × (count < left)
+break_begin index left count found interrupted bits mid new rest e f few (whole_one enough g) = absurd (one_or_zero _ mid (sym g ∙ e))
+break_begin index left count found interrupted bits mid new rest e f few (part_one is full less g) = absurd (one_or_zero _ mid (sym g ∙ e))
+break_begin index left count found interrupted bits mid new rest e f few (break is short less g) =
     let low = same_low (order index) count found rest new (same_later false false _ _ (sym g ∙ e) ∙ f) in
     let one : count % 2 ^ order index ≡ count = mod-eq_of_lt less in
     let other : found % 2 ^ order index ≡ found = mod-eq_of_lt few in
     (sym one ∙ low.0 ∙ other, is, low.1, short)
 
-pub only_break : (left so_far first index found other : ℕ) (broken : Bool) (start bits mid new rest : List Bool) → IsInRun left so_far first index start bits → so_far < left
+pub only_break : (left so_far first index found other : ℕ) (interrupted : Bool) (start bits mid new rest : List Bool) → IsInRun left so_far first index start bits → so_far < left
     → bits ≡ false ∷ mid → mid ≡ bits_of (order index) found ++ new → found < 2 ^ order index
-    → EndsInLine left other broken → start ≡ run_bits first (run_of other broken) ++ rest
-    → (other ≡ so_far + found) × (broken ≡ true) × (rest ≡ new) × (found < left - so_far)
-only_break left so_far first index found other broken start bits mid new rest in_run short e f few ends g =
-    let same = break_begin index (left - so_far) (other - so_far) found broken bits mid new rest e f few (to_come left so_far first index other broken start bits rest in_run short ends g) in
-    let longer = in_run.longer other broken rest ends g in
+    → EndsInLine left other interrupted → start ≡ run_bits first (run_of other interrupted) ++ rest
+    → (other ≡ so_far + found) × (interrupted ≡ true) × (rest ≡ new) × (found < left - so_far)
+only_break left so_far first index found other interrupted start bits mid new rest in_run short e f few ends g =
+    let same = break_begin index (left - so_far) (other - so_far) found interrupted bits mid new rest e f few (to_come left so_far first index other interrupted start bits rest in_run short ends g) in
+    let longer = in_run.longer other interrupted rest ends g in
     let count : other ≡ so_far + found = omega (arith, same.0) in
     let inside : found < left - so_far = omega (arith, same.0, same.3) in
     (count, same.1, same.2, inside)
 
 -- ---- states
 
-pub states_on : (s t before : Coding) (so_far count : ℕ) → ((n : ℕ) (broken : Bool) → run_after s (run_of n broken) ≡ run_after before (run_of (so_far + n) broken))
+pub states_on : (s t before : Coding) (so_far count : ℕ) → ((n : ℕ) (interrupted : Bool) → run_after s (run_of n interrupted) ≡ run_after before (run_of (so_far + n) interrupted))
     → t ≡ run_after s (run_of count false) → count ≡ 2 ^ order s.run_index
-    → (n : ℕ) (broken : Bool) → run_after t (run_of n broken) ≡ run_after before (run_of (so_far + count + n) broken)
-states_on s t before so_far count on e f n broken =
+    → (n : ℕ) (interrupted : Bool) → run_after t (run_of n interrupted) ≡ run_after before (run_of (so_far + count + n) interrupted)
+states_on s t before so_far count on e f n interrupted =
     let all : so_far + (count + n) ≡ so_far + count + n = omega arith in
-    ap (λ (x : Coding). run_after x (run_of n broken)) e
-    ∙ ap (λ m. run_after (run_after s (run_of m false)) (run_of n broken)) f
-    ∙ after_joined s n broken
-    ∙ ap (λ m. run_after s (run_of (m + n) broken)) (sym f)
-    ∙ on (count + n) broken ∙ ap (λ m. run_after before (run_of m broken)) all
+    ap (λ (x : Coding). run_after x (run_of n interrupted)) e
+    ∙ ap (λ m. run_after (run_after s (run_of m false)) (run_of n interrupted)) f
+    ∙ after_joined s n interrupted
+    ∙ ap (λ m. run_after s (run_of (m + n) interrupted)) (sym f)
+    ∙ on (count + n) interrupted ∙ ap (λ m. run_after before (run_of m interrupted)) all
 
 pub next_index : (s t : Coding) (count : ℕ) → t ≡ run_after s (run_of count false) → count ≡ 2 ^ order s.run_index → t.run_index ≡ min (s.run_index + 1) 31
 next_index s t count e f =

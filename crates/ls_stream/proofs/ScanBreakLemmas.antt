@@ -29,7 +29,7 @@ pub rows_later : (p q : Parameters) (width height count component i : ℕ) (abov
     → IsStored width count component i samples new read → HoldsRows plane (i + 1) count component new
     → BreaksSpans plane (rows_from plane (height - (i + 1)) (i + 1)) t left_bits fault
     → HoldsRows plane i count component samples × BreaksSpans plane (rows_from plane (height - i) i) s bits fault
-rows_later p q width height count component i above line read samples new s t bits left_bits plane fault e inside some is held later first kept stored rows broken =
+rows_later p q width height count component i above line read samples new s t bits left_bits plane fault e inside some is held later first kept stored rows malformed =
     let more = rows_from plane (height - (i + 1)) (i + 1) in
     let row = sample_row p.maxval width height i plane is inside in
     let before = rows_before plane width count component i samples new read is.width_is stored rows in
@@ -43,7 +43,7 @@ rows_later p q width height count component i above line read samples new s t bi
     let past : more ≡ row_from plane i width ++ more = ap (λ (xs : List Span). xs ++ more) (sym (row_from-end plane i width (omega (arith, is.width_is)))) in (
       before,
       subst (λ (xs : List Span). BreaksSpans plane xs s bits fault) (sym (row_first plane height i inside))
-          (step.later plane i row holds more fault (subst (λ (xs : List Span). BreaksSpans plane xs t left_bits fault) past broken)),
+          (step.later plane i row holds more fault (subst (λ (xs : List Span). BreaksSpans plane xs t left_bits fault) past malformed)),
     )
 
 -- ---- in a row
@@ -109,12 +109,12 @@ row_made width height count component i c samples line inside h =
     let all : (i + 1) * width ≤ height * width = mul-le (i + 1) width height width (omega arith) (omega arith) in
     sym (cell_is width height count component i samples line (i * width + c) (omega arith) ∙ cell_in width count component i samples line (i * width + c) c refl)
 
-pub row_broken : (p q : Parameters) (width height count component i : ℕ) (above line samples : List ℕ) (s : Coding) (bits : List Bool) (fault : CodeFault) → q ≡ p → i < height → 1 ≤ width
+pub row_malformed : (p q : Parameters) (width height count component i : ℕ) (above line samples : List ℕ) (s : Coding) (bits : List Bool) (fault : CodeFault) → q ≡ p → i < height → 1 ≤ width
     → ((plane : Plane) → IsSamplePlane p.maxval width height plane → HoldsRows plane i count component samples → HoldsLine plane i above)
     → ((k : ℕ) → get_or samples k 0 ≤ p.maxval) → get_or line 0 0 ≡ get_or above 1 0 → BreaksFrom q.maxval width above (place 0 line s bits) fault
     → (plane : Plane) × IsSamplePlane p.maxval width height plane × HoldsRows plane i count component samples × BreaksSpans plane (rows_from plane (height - i) i) s bits fault
-row_broken p q width height count component i above line samples s bits fault e inside some held small first broken =
-    let b = subst (λ (x : Parameters). BreaksFrom x.maxval width above (place 0 line s bits) fault) e broken in
+row_malformed p q width height count component i above line samples s bits fault e inside some held small first malformed =
+    let b = subst (λ (x : Parameters). BreaksFrom x.maxval width above (place 0 line s bits) fault) e malformed in
     let plane : Plane = made width height count component i samples b.line in
     let is = is_made p.maxval width height count component i samples b.line small b.small in
     let rows = rows_made width height count component i samples b.line inside in
@@ -132,12 +132,12 @@ row_broken p q width height count component i above line samples s bits fault e 
     )
 
 -- and in all rows
-pub rows_broken : (p : Parameters) (width height count component i : ℕ) (samples : List ℕ) (s t : Coding) (bits left_bits : List Bool) (fault : CodeFault) → 1 ≤ width
+pub rows_malformed : (p : Parameters) (width height count component i : ℕ) (samples : List ℕ) (s t : Coding) (bits left_bits : List Bool) (fault : CodeFault) → 1 ≤ width
     → ((plane : Plane) → IsSamplePlane p.maxval width height plane → HoldsRows plane i count component samples → (fault : CodeFault)
     → BreaksSpans plane (rows_from plane (height - i) i) t left_bits fault → BreaksSpans plane (rows_from plane (height - 0) 0) s bits fault)
     → ((plane : Plane) × IsSamplePlane p.maxval width height plane × HoldsRows plane i count component samples × BreaksSpans plane (rows_from plane (height - i) i) t left_bits fault)
     → (plane : Plane) × IsSamplePlane p.maxval width height plane × BreaksSpans plane (spans plane) s bits fault
-rows_broken p width height count component i samples s t bits left_bits fault some later row = (
+rows_malformed p width height count component i samples s t bits left_bits fault some later row = (
   row.0,
   row.1,
   subst (λ (xs : List Span). BreaksSpans row.0 xs s bits fault) (sym (all_spans p.maxval width height row.0 some row.1)) (later row.0 row.1 row.2 fault row.3),

@@ -51,9 +51,9 @@ row_from-run_span plane i j h e =
     ∙ ap (λ rest. run ∷ rest) (cut-enough plane i (plane.width - (j + 1)) (plane.width - (j + count + 1)) (j + count + 1) (omega arith) (omega arith))
 
 -- the span of a run, by its count
-pub row_from-run : (plane : Plane) (i j count : ℕ) (broken : Bool) → j < plane.width → is_run (around plane i j) ≡ true → count ≡ run_length plane i j → ltb (j + count) plane.width ≡ broken
-    → row_from plane i j ≡ run_span i j count broken ∷ row_from plane i (j + count + 1)
-row_from-run plane i j count broken inside is e f =
+pub row_from-run : (plane : Plane) (i j count : ℕ) (interrupted : Bool) → j < plane.width → is_run (around plane i j) ≡ true → count ≡ run_length plane i j → ltb (j + count) plane.width ≡ interrupted
+    → row_from plane i j ≡ run_span i j count interrupted ∷ row_from plane i (j + count + 1)
+row_from-run plane i j count interrupted inside is e f =
     row_from-run_span plane i j inside is
     ∙ ap (λ n. run_span i j n (ltb (j + n) plane.width) ∷ row_from plane i (j + n + 1)) (sym e)
     ∙ ap (λ b. run_span i j count b ∷ row_from plane i (j + count + 1)) f

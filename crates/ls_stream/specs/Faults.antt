@@ -1,4 +1,4 @@
--- How bytes break the grammar of a codestream, as far as markers and segments go: the legal pieces from the left, and then what
+-- How bytes break the grammar of a codestream, as far as markers and segments go: the legal parts from the left, and then what
 -- breaks the next one.
 use Rattle.std.specs.Prelude.{◌≡◌, ◌≢◌, ℕ, suc, ◌+◌, ◌*◌, ◌<◌, ◌≤◌, ◌&&◌, ◌||◌, ◌==◌, not, nat_le, Bool, true, false, if◌then◌else◌, List, [], ◌∷◌, ◌++◌, length, drop, replicate, slice_index, ◌⊎◌, Option, None, Some, Ok, Err}
 use Rattle.std.specs.List.{AllByRecursion, list_any}
@@ -171,7 +171,7 @@ pub data BreaksMarker (d : Due) (bytes : List ℕ) (fault : StreamFault) : Type 
   no_marker : (byte : ℕ) (rest : List ℕ) → bytes ≡ byte ∷ rest → byte ≢ 255 → fault ≡ BadSegment → BreaksMarker d bytes fault
   zero_code : (fill : ℕ) (rest : List ℕ) → bytes ≡ replicate (suc fill) 255 ++ 0 ∷ rest → fault ≡ BadSegment → BreaksMarker d bytes fault
   misplaced : (fill : ℕ) (m : Marker) (rest : List ℕ) → bytes ≡ filled fill (marker m) ++ rest → IsMarker m → marker_fault d m ≡ Some fault → BreaksMarker d bytes fault
-  broken : (fill : ℕ) (m : Marker) (rest : List ℕ) → bytes ≡ filled fill (marker m) ++ rest → IsMarker m → marker_fault d m ≡ None → has_segment m ≡ true → BreaksSegment d m rest fault
+  malformed : (fill : ℕ) (m : Marker) (rest : List ℕ) → bytes ≡ filled fill (marker m) ++ rest → IsMarker m → marker_fault d m ≡ None → has_segment m ≡ true → BreaksSegment d m rest fault
       → BreaksMarker d bytes fault
 
 -- after miscellaneous segments
@@ -206,7 +206,7 @@ pub record HasScan (bytes contents : List ℕ) (before between : List Miscellane
   pub whole : middle ≡ miscellaneous_bytes between ++ (filled fill (segment StartOfScan (scan_contents (slice_index contents 6))) ++ rest)
   pub lawful : AllByRecursion MayPrecedeScans between
 
--- The bytes begin with a whole legal opening: all that stands before the data of the first scan, with coding parameters that are
+-- The bytes begin with a complete legal opening: all that stands before the data of the first scan, with coding parameters that are
 -- legal.
 pub record BeginsWithOpening (bytes : List ℕ) : Type 0 where
   pub contents : List ℕ

@@ -63,9 +63,9 @@ pub record Codestream : Type 0 where
   pub last_fill : ℕ
 
 unfoldable pub codestream_bytes : Codestream → List ℕ
-codestream_bytes whole =
-    marker StartOfImage ++ miscellaneous_bytes whole.before ++ filled whole.fill (segment StartOfFrame (header_contents whole.header))
-    ++ miscellaneous_bytes whole.between ++ scans_bytes whole.header.components whole.scans ++ filled whole.last_fill (marker EndOfImage)
+codestream_bytes stream =
+    marker StartOfImage ++ miscellaneous_bytes stream.before ++ filled stream.fill (segment StartOfFrame (header_contents stream.header))
+    ++ miscellaneous_bytes stream.between ++ scans_bytes stream.header.components stream.scans ++ filled stream.last_fill (marker EndOfImage)
 
 -- ---- what may stand where
 
@@ -145,15 +145,15 @@ AreCoded p f component [] = Unit {0}
 AreCoded p f component (scan ∷ scans) = IsCoded p (plane_of f component) scan.stuffed × AreCoded p f (suc component) scans
 
 -- a codestream that says this picture, coded with these parameters
-pub record Says (whole : Codestream) (p : Parameters) (f : Picture) : Type 0 where
-  pub before : AllByRecursion MayPrecedeScans whole.before
-  pub header : IsHeaderOf f whole.header
-  pub between : AllByRecursion MayPrecedeScans whole.between
-  pub parameters_are : parameters_of whole.header.precision (last_presets no_presets (whole.before ++ whole.between)) ≡ Ok p
+pub record Says (stream : Codestream) (p : Parameters) (f : Picture) : Type 0 where
+  pub before : AllByRecursion MayPrecedeScans stream.before
+  pub header : IsHeaderOf f stream.header
+  pub between : AllByRecursion MayPrecedeScans stream.between
+  pub parameters_are : parameters_of stream.header.precision (last_presets no_presets (stream.before ++ stream.between)) ≡ Ok p
   pub maxval : p.maxval ≡ f.maxval
-  pub count : length whole.scans ≡ components f.kind
-  pub coded : AreCoded p f 0 whole.scans
-  pub after : AllByRecursion (λ scan. AllByRecursion MayFollowScan scan.after) whole.scans
+  pub count : length stream.scans ≡ components f.kind
+  pub coded : AreCoded p f 0 stream.scans
+  pub after : AllByRecursion (λ scan. AllByRecursion MayFollowScan scan.after) stream.scans
 
 -- the most bytes of a codestream
 abbrev pub most_bytes : ℕ

@@ -49,7 +49,7 @@ layout f p = record {
 unfoldable pub codestream : Picture → Parameters → List ℕ
 codestream f p = codestream_bytes (layout f p)
 
--- ---- the same, piece by piece
+-- ---- the same, part by part
 
 -- the scan of a component: its header and its data
 abbrev pub scan_of : Picture → Parameters → ℕ → List ℕ

@@ -55,7 +55,7 @@ around plane i j = record { a = left plane i j; b = above plane i j; c = above_l
 -- equal their Ra, as long as can be, with the sample that interrupts it where the row has one.
 pub data Span : Type 0 where
   sample_span : (row column : ℕ) → Span
-  run_span : (row column count : ℕ) → (broken : Bool) → Span
+  run_span : (row column count : ℕ) → (interrupted : Bool) → Span
 
 -- how many samples from a column on equal a value, of `most` that there are
 abbrev pub equal_from : Plane → ℕ → ℕ → ℕ → ℕ → ℕ

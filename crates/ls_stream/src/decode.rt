@@ -43,7 +43,7 @@ pub struct Decoded {
 /// sample that no encoder writes for any plane, and if the bits run out before, Truncated if the input ends them, BadCode if a marker
 /// does. TooLarge stands for Truncated where there are more bytes than a codestream may have.
 ///
-/// NoMemory comes only if an allocation fails, and only for bytes that begin with a whole legal opening: SOI, the frame header, the
+/// NoMemory comes only if an allocation fails, and only for bytes that begin with a complete legal opening: SOI, the frame header, the
 /// segments before the first scan and its header, with coding parameters that are legal. What is asked for is two lines and a row of
 /// half contexts, a table of 2 * MAXVAL + 1 bytes, and the samples.
 pub fn decode_frame(alloc: Global, bytes: &[u8]) -> Result<Decoded, StreamFault>
@@ -52,7 +52,7 @@ pub fn decode_frame(alloc: Global, bytes: &[u8]) -> Result<Decoded, StreamFault>
         ⊎ ((front rest : List ℕ) (f : Picture) → bytes.now ≡ front ++ rest → Spells front f → ⊥)) }
     ensures first { IfErr result (λ fault. (fault ≡ StreamFault.NoMemory)
         ⊎ IsFirstFault bytes.now fault) }
-    ensures whole { (front rest : List ℕ) (f : Picture) → bytes.now ≡ front ++ rest → Spells front f
+    ensures complete { (front rest : List ℕ) (f : Picture) → bytes.now ≡ front ++ rest → Spells front f
         → MatchResult result (λ decoded. (decoded.frame ≡ f) × (decoded.used ≡ length front)) (λ fault. fault ≡ StreamFault.NoMemory) }
     ensures memory { IfErr result (λ fault. fault ≡ StreamFault.NoMemory → BeginsWithOpening (take most_bytes bytes.now)) }
 {

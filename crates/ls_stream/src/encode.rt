@@ -41,8 +41,8 @@ pub fn encode_with(alloc: Global, frame: &Frame, presets: &Presets) -> Result<Ve
     ensures short { IfOk result (λ bytes. length bytes.items < 2 ^ 32) }
     ensures capacity { IfOk result (λ bytes. vec_capacity bytes ≡ bound frame.now presets.now) }
 {
-    let room = code_bound(frame, presets) as usize;
-    let bytes = Vec::with_capacity(alloc, room)?;
+    let capacity = code_bound(frame, presets) as usize;
+    let bytes = Vec::with_capacity(alloc, capacity)?;
     let mut lines = Lines::new(alloc, frame.width())?;
     Ok(encode_within(frame, presets, &mut lines, bytes))
 }

@@ -32,7 +32,7 @@ pub enum StreamFault {
     /// After the plane of the component of this number, from 0, its data has 16 bits or more.
     #[error("leftover bits in component {0}")]
     LeftoverBits(u8),
-    /// An allocation failed, after the bytes were found to begin with a whole legal opening, up to the header of the first scan.
+    /// An allocation failed, after the bytes were found to begin with a complete legal opening, up to the header of the first scan.
     #[error("no memory")]
     NoMemory,
 }

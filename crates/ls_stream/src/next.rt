@@ -4,7 +4,7 @@ mod awaited;
 ghost use Rattle.std.specs.Prelude.{◌≡◌, ◌≢◌, ◌↔◌, ◌<◌, ◌⊎◌, ◌++◌, ℕ, List, length, IfOk, IfErr, IfSome, IfNone, MatchResult, MatchOption};
 ghost use Rattle.ls_frame.specs.Picture.{Picture};
 ghost use Rattle.ls_frame.specs.View.Devices.{count_after};
-ghost use Rattle.ls_frame.specs.View.Known.{Tells, Gave, WasAtEnd, TakesUntil, known};
+ghost use Rattle.ls_frame.specs.View.Known.{Tells, Gave, WasAtEnd, HadBytes, TakesUntil, known};
 ghost use Rattle.ls_bits.specs.Bits.{AreBytes};
 ghost use Rattle.ls_stream.specs.declared.faults.StreamFault.{StreamFault};
 ghost use Rattle.ls_stream.specs.Grammar.{Spells, most_bytes};
@@ -40,15 +40,15 @@ pub enum NextFault {
 /// else their first fault is its own.
 ///
 /// If the bytes are known (as in memory), the clauses say which were read. `TooLarge` comes after exactly 4,294,967,295 bytes that show
-/// neither an end nor a fault. `Io` comes only if a read failed, and `NoMemory` only if an allocation did; after these two nothing is
-/// said of the reader's place.
+/// neither an end nor a fault. `Io` comes only if a read failed, and `NoMemory` only if an allocation did, and never at the end of input;
+/// after these two nothing is said of the reader's place.
 pub fn next_stream<R: Feed>(alloc: Global, reader: &mut R) -> Result<Option<Vec<u8>>, NextFault>
     // The bytes are the next codestream's, and exactly they were read.
     ensures stream { IfOk result (λ next. IfSome next (λ bytes. Gave (R.remaining reader.old) (R.remaining reader.new)
         (λ read. (bytes.items ≡ read) × IsNext read (known (R.remaining reader.new))))) }
     ensures end { IfOk result (λ next. IfNone next (WasAtEnd (R.remaining reader.old) (R.remaining reader.new))) }
     // A front that is a codestream of a frame is the answer.
-    ensures whole { Tells (R.remaining reader.old) → (front rest : List ℕ) (f : Picture)
+    ensures complete { Tells (R.remaining reader.old) → (front rest : List ℕ) (f : Picture)
         → known (R.remaining reader.old) ≡ front ++ rest → Spells front f
         → MatchResult result (λ next. MatchOption next ⊥ (λ bytes. bytes.items ≡ front))
         (λ fault. (fault ≡ NextFault.Io) ⊎ (fault ≡ NextFault.NoMemory)) }
@@ -60,6 +60,7 @@ pub fn next_stream<R: Feed>(alloc: Global, reader: &mut R) -> Result<Option<Vec<
         → (fault : StreamFault) → IsFirstFault bytes.items fault ↔ IsFirstFault (known (R.remaining reader.old)) fault)) }
     ensures too_large { IfErr result (λ fault. fault ≡ NextFault.TooLarge →
         Gave (R.remaining reader.old) (R.remaining reader.new) (λ read. length read ≡ most_bytes)) }
+    ensures memory { IfErr result (λ fault. fault ≡ NextFault.NoMemory → HadBytes (R.remaining reader.old)) }
     ensures failures { R.failed_reads reader.new ≡ count_after (failed_feed result) (R.failed_reads reader.old) }
 {
     read_stream(alloc, reader)
@@ -68,6 +69,7 @@ pub fn next_stream<R: Feed>(alloc: Global, reader: &mut R) -> Result<Option<Vec<
 /// The bytes of the next codestream, or nothing at the end of input.
 fn read_stream<R: Feed>(alloc: Global, reader: &mut R) -> Result<Option<Vec<u8>>, NextFault>
     ensures bytes { GivesNext (λ bytes. bytes.items) (R.remaining reader.old) (R.remaining reader.new) result }
+    ensures memory { IfErr result (λ fault. fault ≡ NextFault.NoMemory → HadBytes (R.remaining reader.old)) }
     ensures failures { R.failed_reads reader.new ≡ count_after (failed_feed result) (R.failed_reads reader.old) }
 {
     let mut bytes = Vec::new(alloc);
@@ -99,6 +101,7 @@ fn next_bytes<R: Feed>(
     ensures end { IfOk result (λ next. IfNone next
         ((bytes.new.items ≡ bytes.old.items) × WasAtEnd (R.remaining reader.old) (R.remaining reader.new))) }
     ensures fault { IfErr result (λ fault. fault ≢ NextFault.TooLarge) }
+    ensures memory { IfErr result (λ fault. fault ≡ NextFault.NoMemory → HadBytes (R.remaining reader.old)) }
     ensures failures { R.failed_reads reader.new ≡ count_after (failed_feed result) (R.failed_reads reader.old) }
 {
     match reader.feed_until(0xFF, most, bytes) {

@@ -290,7 +290,7 @@ fn changed_codestreams_have_these_faults_with_ample_memory(rt: HostRuntime) -> R
 }
 
 /// What the data and what follows it shows, a width and a height, these bytes, and the fault.
-const BROKEN_SCANS: [(&str, u16, u16, &[u8], StreamFault); 12] = [
+const MALFORMED_SCANS: [(&str, u16, u16, &[u8], StreamFault); 12] = [
     (
         "an escape word of a small value",
         1,
@@ -372,8 +372,8 @@ const BROKEN_SCANS: [(&str, u16, u16, &[u8], StreamFault); 12] = [
 ];
 
 #[test]
-fn broken_scans_have_these_faults_with_ample_memory(rt: HostRuntime) -> Result<(), Fail> {
-    for (name, width, height, rest, fault) in BROKEN_SCANS {
+fn malformed_scans_have_these_faults_with_ample_memory(rt: HostRuntime) -> Result<(), Fail> {
+    for (name, width, height, rest, fault) in MALFORMED_SCANS {
         let mut bytes = head(width, height).to_vec(rt.alloc())?;
         bytes.extend_from_slice(rest)?;
         check_fault(&rt, rt.alloc(), name, &bytes, fault);

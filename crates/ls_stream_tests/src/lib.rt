@@ -14,4 +14,6 @@ mod headers;
 #[cfg(test)]
 mod next;
 #[cfg(test)]
+mod page;
+#[cfg(test)]
 mod testing;

@@ -79,7 +79,7 @@ fn count_left<R: Feed>(reader: &mut R) -> usize {
 }
 
 /// That so many of these bytes are taken off a buffered reader that is given so many at once, and that it has the others left.
-fn check_pieces(
+fn check_chunks(
     rt: &impl Abort,
     alloc: Global,
     at: usize,
@@ -91,7 +91,7 @@ fn check_pieces(
     let mut reader = Buffered::new(alloc, counted)?;
     let next = next_stream(alloc, &mut reader);
     let first = bytes.get(..count).unwrap_or(bytes);
-    check_taken(rt, "off pieces", at, &next, Ok(Some(first)));
+    check_taken(rt, "off chunks", at, &next, Ok(Some(first)));
     let left = bytes.len().saturating_sub(count);
     check_count(rt, "left", at, count_left(&mut reader), left);
     check_count(rt, "failures", at, Feed::failures(&reader) as usize, 0);
@@ -99,7 +99,7 @@ fn check_pieces(
 }
 
 /// Bytes, how many of them the next codestream has, and the fault of decoding them.
-const BROKEN: [(&[u8], usize, StreamFault); 22] = [
+const MALFORMED: [(&[u8], usize, StreamFault); 22] = [
     // No SOI.
     (&[0x00, 0x00], 1, StreamFault::NotSoi),
     (&[0xff, 0x00, 0x41], 2, StreamFault::NotSoi),
@@ -184,29 +184,31 @@ const BROKEN: [(&[u8], usize, StreamFault); 22] = [
 
 #[test]
 fn bytes_are_taken_up_to_what_breaks_them_with_ample_memory(rt: HostRuntime) {
-    for (at, (bytes, count, fault)) in BROKEN.into_iter().enumerate() {
+    for (at, (bytes, count, fault)) in MALFORMED.into_iter().enumerate() {
         check_first(&rt, rt.alloc(), at, bytes, count, Some(fault));
     }
 }
 
-/// Wherever the pieces are cut.
+/// Wherever the chunks are cut.
 #[test]
-fn broken_bytes_are_taken_off_pieces_with_ample_memory(rt: HostRuntime) -> Result<(), AllocError> {
-    for (at, (bytes, count, _)) in BROKEN.into_iter().enumerate() {
+fn malformed_bytes_are_taken_off_chunks_with_ample_memory(
+    rt: HostRuntime,
+) -> Result<(), AllocError> {
+    for (at, (bytes, count, _)) in MALFORMED.into_iter().enumerate() {
         for most in [1, 5] {
-            check_pieces(&rt, rt.alloc(), at, bytes, count, most)?;
+            check_chunks(&rt, rt.alloc(), at, bytes, count, most)?;
         }
     }
     Ok(())
 }
 
 #[test]
-fn codestreams_are_taken_off_pieces_with_ample_memory(rt: HostRuntime) -> Result<(), Fail> {
+fn codestreams_are_taken_off_chunks_with_ample_memory(rt: HostRuntime) -> Result<(), Fail> {
     for (at, (_, codestream, _)) in CODESTREAMS.into_iter().enumerate() {
         let mut bytes = codestream.to_vec(rt.alloc())?;
         bytes.extend_from_slice(codestream)?;
-        check_pieces(&rt, rt.alloc(), at, &bytes, codestream.len(), 7)?;
-        check_pieces(&rt, rt.alloc(), at, &bytes, codestream.len(), 1000)?;
+        check_chunks(&rt, rt.alloc(), at, &bytes, codestream.len(), 7)?;
+        check_chunks(&rt, rt.alloc(), at, &bytes, codestream.len(), 1000)?;
     }
     Ok(())
 }

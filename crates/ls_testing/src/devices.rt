@@ -5,7 +5,7 @@ ghost use Rattle.ls_testing.specs.declared.devices.TheConstants.{ROOM};
 use std::io;
 use std::io::{Read, Write};
 
-/// If memory may be refused, the want of it is an answer too.
+/// If memory may be refused, running out of it is an answer too.
 #[derive(Clone, Copy, Debug, PartialEq, Eq)]
 pub enum Memory {
     Ample,

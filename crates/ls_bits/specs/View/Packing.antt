@@ -36,20 +36,20 @@ pub record Packed : Type 0 where
   pub bits : List Bool
   -- how many of them aren't in a byte yet
   pub held : ℕ
-  -- how many bytes more the vector has room for
-  pub room : ℕ
+  -- how many bytes more the vector has the capacity for
+  pub capacity_left : ℕ
   -- how many bytes it can have in all
   pub capacity : ℕ
 
 -- so many bits more fit into the room, however they are stuffed
 abbrev pub HasRoom : Packed → ℕ → Type 0
-HasRoom packed count = packed.held + count < 7 * packed.room + 7
+HasRoom packed count = packed.held + count < 7 * packed.capacity_left + 7
 
 -- what isn't bits is as it was, and `count` bits more have taken no more room than they need
 pub record KeepsRest (old new : Packed) (count : ℕ) : Type 0 where
   pub front : new.front ≡ old.front
   pub capacity : new.capacity ≡ old.capacity
-  pub room : 7 * old.room + new.held ≤ 7 * new.room + old.held + count
+  pub room : 7 * old.capacity_left + new.held ≤ 7 * new.capacity_left + old.held + count
 
 -- bytes and the eight of a word after them
 abbrev pub with_word : List ℕ → ℕ → List ℕ

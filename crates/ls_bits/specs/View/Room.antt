@@ -4,11 +4,11 @@ use Rattle.std.specs.Prelude.{ℕ, ◌+◌, ◌/◌, ◌≤◌, Bool, List}
 pub record Filled : Type 0 where
   -- the vector's bytes when the sink was made
   pub front : List ℕ
-  -- how many bytes more it then had room for
-  pub room : ℕ
+  -- how many bytes more it then had the capacity for
+  pub capacity_left : ℕ
   -- the bits put since
   pub bits : List Bool
 
 -- so many bits fit into so many bytes, however they are stuffed
 abbrev pub Fits : ℕ → ℕ → Type 0
-Fits count room = count / 7 + 1 ≤ room
+Fits count capacity_left = count / 7 + 1 ≤ capacity_left

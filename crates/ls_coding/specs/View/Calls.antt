@@ -12,22 +12,22 @@ pub record MayCodeRegular (state : Coding) (neighbours : Neighbours) (sample : �
   pub samples : AreSamples state.parameters.maxval neighbours
   pub within : sample ≤ state.parameters.maxval
   pub regular : is_run neighbours ≡ false
-  pub whole : state.broken ≡ false
+  pub uninterrupted : state.interrupted ≡ false
 
 -- a sample of regular mode of which `mirror` was asked before
 pub record MayCodeMirrored (state : Coding) (mirrored : Mirrored) : Type 0 where
   pub context : mirrored.context < 365
   pub prediction : mirrored.prediction ≤ state.parameters.maxval
   pub within : mirrored.sample ≤ state.parameters.maxval
-  pub whole : state.broken ≡ false
+  pub uninterrupted : state.interrupted ≡ false
 
 -- a run; one that ends with the line has some samples
 pub record MayCodeRun (state : Coding) (run : Run) : Type 0 where
-  pub whole : state.broken ≡ false
-  pub some : run.broken ≡ false → 0 < run.count
+  pub uninterrupted : state.interrupted ≡ false
+  pub some : run.interrupted ≡ false → 0 < run.count
 
 -- the sample that interrupts a run
 pub record MayCodeInterruption (state : Coding) (neighbours : Neighbours) (sample : ℕ) : Type 0 where
   pub samples : AreSamples state.parameters.maxval neighbours
   pub interrupts : Interrupts state.parameters.maxval neighbours.a sample
-  pub broken : state.broken ≡ true
+  pub interrupted : state.interrupted ≡ true

@@ -8,7 +8,7 @@ use Rattle.ls_coding.specs.Contexts.{Context, context_of}
 use Rattle.ls_coding.specs.Stats.{Stats, stats, stats_step}
 use Rattle.ls_coding.specs.Interruptions.{Counts, counts_step, ri_type_of, interruption_error}
 use Rattle.ls_coding.specs.Runs.{Run, index_at}
-use Rattle.ls_coding.specs.Events.{Event, regular, interruption, stats_after_events, counts_after_events, run_index_after_events, broken_after_events, regular_error_of, regular_word, interruption_word}
+use Rattle.ls_coding.specs.Events.{Event, regular, interruption, stats_after_events, counts_after_events, run_index_after_events, interrupted_after_events, regular_error_of, regular_word, interruption_word}
 
 pub record Coding : Type 0 where
   pub parameters : Parameters
@@ -19,7 +19,7 @@ pub record Coding : Type 0 where
   pub ri_type_1 : Counts
   pub run_index : ℕ
   -- whether the sample that interrupts a run is to come next
-  pub broken : Bool
+  pub interrupted : Bool
 
 -- how many regular contexts there are
 abbrev pub context_count : ℕ
@@ -33,7 +33,7 @@ state_of p events = record {
   ri_type_0 = counts_after_events p false events;
   ri_type_1 = counts_after_events p true events;
   run_index = run_index_after_events events;
-  broken = broken_after_events events;
+  interrupted = interrupted_after_events events;
 }
 
 -- ---- a sample of regular mode
@@ -59,7 +59,7 @@ regular_after state number e = record {
   ri_type_0 = state.ri_type_0;
   ri_type_1 = state.ri_type_1;
   run_index = state.run_index;
-  broken = state.broken;
+  interrupted = state.interrupted;
 }
 
 -- a sample of regular mode that comes after these events, its word, and the state after it
@@ -78,7 +78,7 @@ run_after state run = record {
   ri_type_0 = state.ri_type_0;
   ri_type_1 = state.ri_type_1;
   run_index = index_at state.run_index run;
-  broken = run.broken;
+  interrupted = run.interrupted;
 }
 
 -- ---- the sample that interrupts a run
@@ -96,7 +96,7 @@ interruption_after state ri_type e = record {
   ri_type_0 = if ri_type then state.ri_type_0 else counts_step false state.parameters.reset state.ri_type_0 e;
   ri_type_1 = if ri_type then counts_step true state.parameters.reset state.ri_type_1 e else state.ri_type_1;
   run_index = state.run_index - 1;
-  broken = false;
+  interrupted = false;
 }
 
 -- the sample that interrupts a run after these events, its word, and the state after it

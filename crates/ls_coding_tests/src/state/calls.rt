@@ -88,7 +88,7 @@ pub fn code_regular(rt: &impl Abort, state: &mut State, around: Around, sample: 
     check_samples(rt, state, &neighbours);
     check(rt, sample <= state.presets().maxval());
     check_regular(rt, &neighbours);
-    check(rt, !state.broken());
+    check(rt, !state.interrupted());
     state.code_regular(&neighbours, sample)
 }
 
@@ -102,7 +102,7 @@ pub fn accept_regular(
     let neighbours = neighbours_of(around);
     check_samples(rt, state, &neighbours);
     check_regular(rt, &neighbours);
-    check(rt, !state.broken());
+    check(rt, !state.interrupted());
     let plan = state.plan_regular(&neighbours);
     check_number(rt, plan.k(), k);
     check_number(rt, plan.glimit(), glimit);
@@ -111,7 +111,7 @@ pub fn accept_regular(
 }
 
 pub fn code_run(rt: &impl Abort, state: &mut State, count: u32, eol: bool) -> RunWord {
-    check(rt, !state.broken());
+    check(rt, !state.interrupted());
     check(rt, count > 0 || !eol);
     state.code_run(count, eol)
 }
@@ -119,7 +119,7 @@ pub fn code_run(rt: &impl Abort, state: &mut State, count: u32, eol: bool) -> Ru
 pub fn accept_one(rt: &impl Abort, state: &mut State, left: u32) -> u32
     ensures { result ≤ left }
 {
-    check(rt, !state.broken());
+    check(rt, !state.interrupted());
     check(rt, left > 0);
     state.accept_one(left)
 }
@@ -130,7 +130,7 @@ pub fn accept_break(
     rest: u32,
     left: u32,
 ) -> Result<(), CodeFault> {
-    check(rt, !state.broken());
+    check(rt, !state.interrupted());
     check(rt, rest < 1 << state.break_width());
     state.accept_break(rest, left)
 }
@@ -140,7 +140,7 @@ pub fn code_interruption(rt: &impl Abort, state: &mut State, around: Around, sam
     check_samples(rt, state, &neighbours);
     check(rt, sample <= state.presets().maxval());
     check(rt, sample != neighbours.a);
-    check(rt, state.broken());
+    check(rt, state.interrupted());
     state.code_interruption(&neighbours, sample)
 }
 
@@ -153,7 +153,7 @@ pub fn accept_interruption(
 ) -> Result<u16, CodeFault> {
     let neighbours = neighbours_of(around);
     check_samples(rt, state, &neighbours);
-    check(rt, state.broken());
+    check(rt, state.interrupted());
     let plan = state.plan_interruption(&neighbours);
     check_number(rt, plan.k(), k);
     check_number(rt, plan.glimit(), glimit);

@@ -121,7 +121,7 @@ fn accept_run(rt: &impl Abort, state: &mut State, word: RunWord, left: u32) -> u
         Tail::LinePart => {
             after -= accept_one(rt, state, after);
         }
-        Tail::Broken { width, rest } => {
+        Tail::Interrupted { width, rest } => {
             check_number(rt, state.break_width(), width);
             check_break(rt, accept_break(rt, state, rest, after), Ok(()));
             after = after.saturating_sub(rest);

@@ -19,6 +19,10 @@ Gave old new P = Tells old → Tells new × (bytes : List ℕ) × (known old ≡
 abbrev pub WasAtEnd : Option (List ℕ) → Option (List ℕ) → Type 0
 WasAtEnd old new = Tells old → Tells new × (known old ≡ []) × (known new ≡ [])
 
+-- The reader wasn't at its end.
+abbrev pub HadBytes : Option (List ℕ) → Type 0
+HadBytes old = Tells old → 0 < length (known old)
+
 -- The reader gave bytes that were appended to others: `most` of them at most, of which only the last may be the mark.
 pub record TakesUntil (mark most : ℕ) (old new : Option (List ℕ)) (before after : List ℕ) (last : ℕ) : Type 0 where
   pub run : List ℕ

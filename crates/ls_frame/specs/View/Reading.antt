@@ -1,4 +1,4 @@
--- Reading an image off a list of bytes, piece by piece. The grammar is in `Netpbm`, and tied to this by laws.
+-- Reading an image off a list of bytes, part by part. The grammar is in `Netpbm`, and tied to this by laws.
 use Rattle.std.specs.Prelude.{◌≡◌, ℕ, zero, suc, ◌+◌, ◌-◌, ◌*◌, min, ◌&&◌, ◌==◌, Bool, true, false, not, nat_lt, nat_le, IsTrue, IsSome, if◌then◌else◌, List, [], ◌∷◌, ◌++◌, Option, None, Some, Result, Ok, Err, MatchResult, MatchOption}
 use Rattle.std.specs.List.{list_all}
 use Rattle.ls_frame.specs.declared.frame.Kind.{Kind}
@@ -18,7 +18,7 @@ abbrev pub ◌>>=◌ : {A B : Type 0} → Result A NetpbmFault → (A → Result
 (Ok x) >>= f = f x
 (Err e) >>= f = Err e
 
--- a value, the room that is left in the header, and the bytes that are left
+-- a value, how many more bytes the header may have, and the bytes that are left
 abbrev pub Step : Type 0 → Type 0
 Step X = Result (X × ℕ × List ℕ) NetpbmFault
 
@@ -31,8 +31,8 @@ wanted false fault = Err fault
 
 abbrev pub byte_at : ℕ → List ℕ → Step ℕ
 byte_at zero bytes = Err HeaderTooLong
-byte_at (suc room) [] = Err Truncated
-byte_at (suc room) (c ∷ bytes) = Ok (c, room, bytes)
+byte_at (suc allowed) [] = Err Truncated
+byte_at (suc allowed) (c ∷ bytes) = Ok (c, allowed, bytes)
 
 -- a number with one more digit; from 65536 on they are one, too large
 abbrev pub with_digit : ℕ → ℕ → ℕ
@@ -41,32 +41,32 @@ with_digit n digit = min (10 * n + (digit - 48)) (greatest + 1)
 -- digits after those that made n, and the white space character after them
 unfoldable pub digits_at : ℕ → ℕ → List ℕ → Step ℕ
 digits_at n zero bytes = Err HeaderTooLong
-digits_at n (suc room) [] = Err Truncated
-digits_at n (suc room) (c ∷ bytes) =
-    if is_digit c then digits_at (with_digit n c) room bytes
-    else (if is_white c then Ok (n, room, bytes) else Err BadHeader)
+digits_at n (suc allowed) [] = Err Truncated
+digits_at n (suc allowed) (c ∷ bytes) =
+    if is_digit c then digits_at (with_digit n c) allowed bytes
+    else (if is_white c then Ok (n, allowed, bytes) else Err BadHeader)
 
 -- the rest of a gap, in a comment if one is open, and the digit after it
 unfoldable pub gap_at : Bool → ℕ → List ℕ → Step ℕ
 gap_at in_comment zero bytes = Err HeaderTooLong
-gap_at in_comment (suc room) [] = Err Truncated
-gap_at true (suc room) (c ∷ bytes) = if is_line_end c then gap_at false room bytes else gap_at true room bytes
-gap_at false (suc room) (c ∷ bytes) =
-    if is_white c then gap_at false room bytes
-    else (if is_hash c then gap_at true room bytes
-    else (if is_digit c then Ok (c, room, bytes) else Err BadHeader))
+gap_at in_comment (suc allowed) [] = Err Truncated
+gap_at true (suc allowed) (c ∷ bytes) = if is_line_end c then gap_at false allowed bytes else gap_at true allowed bytes
+gap_at false (suc allowed) (c ∷ bytes) =
+    if is_white c then gap_at false allowed bytes
+    else (if is_hash c then gap_at true allowed bytes
+    else (if is_digit c then Ok (c, allowed, bytes) else Err BadHeader))
 
 -- the rest of a gap, a number and the white space character after it
 abbrev pub number_at : ℕ → List ℕ → Step ℕ
-number_at room bytes = gap_at false room bytes >>= λ digit. digits_at (digit.0 - 48) digit.1 digit.2
+number_at allowed bytes = gap_at false allowed bytes >>= λ digit. digits_at (digit.0 - 48) digit.1 digit.2
 
 abbrev pub in_range : NetpbmFault → ℕ → Result ℕ NetpbmFault
 in_range fault n = if nat_lt 0 n && nat_le n greatest then Ok n else Err fault
 
 -- the same, of a number from 1 to 65535
 abbrev pub in_range_at : NetpbmFault → ℕ → List ℕ → Step ℕ
-in_range_at fault room bytes = do
-  number ← number_at room bytes
+in_range_at fault allowed bytes = do
+  number ← number_at allowed bytes
   n ← in_range fault number.0
   Ok (n, number.1, number.2)
 
@@ -75,23 +75,23 @@ abbrev pub kind_of : ℕ → Result Kind NetpbmFault
 kind_of letter = if letter == 53 then Ok Gray else (if letter == 54 then Ok Color else Err BadMagic)
 
 abbrev pub magic_at : ℕ → ℕ → List ℕ → Step Kind
-magic_at first room bytes = do
+magic_at first allowed bytes = do
   p ← wanted (first == 80) BadMagic
-  letter ← byte_at room bytes
+  letter ← byte_at allowed bytes
   kind ← kind_of letter.0
   Ok (kind, letter.1, letter.2)
 
 -- the white space character that a gap begins with
 abbrev pub white_at : ℕ → List ℕ → Step (Unit {0})
-white_at room bytes = do
-  first ← byte_at room bytes
+white_at allowed bytes = do
+  first ← byte_at allowed bytes
   white ← wanted (is_white first.0) BadHeader
   Ok (tt, first.1, first.2)
 
 -- the header after its first byte
 unfoldable pub heading_at : ℕ → ℕ → List ℕ → Step Header
-heading_at first room bytes = do
-  kind ← magic_at first room bytes
+heading_at first allowed bytes = do
+  kind ← magic_at first allowed bytes
   gap ← white_at kind.1 kind.2
   width ← in_range_at SizeOutOfRange gap.1 gap.2
   height ← in_range_at SizeOutOfRange width.1 width.2
@@ -165,11 +165,11 @@ image_at (first ∷ bytes) = do
 
 -- ---- what a reader of the code gives
 
--- If the bytes are known, a call gives what reading gives: the value, the room and the bytes that are left, or the
+-- If the bytes are known, a call gives what reading gives: the value, how many more are allowed and the bytes that are left, or the
 -- fault. A fault of the device says nothing of the bytes.
 abbrev pub GivesStep : {X : Type 0} → Option (List ℕ) → Option (List ℕ) → ℕ → Result X NetpbmFault → Step X → Type 0
-GivesStep old new room result step = IsSome old → MatchResult result
-    (λ x. IsSome new × (step ≡ Ok (x, room, known new)))
+GivesStep old new allowed result step = IsSome old → MatchResult result
+    (λ x. IsSome new × (step ≡ Ok (x, allowed, known new)))
     (λ fault. IsTrue (not (blames_device fault)) → step ≡ Err fault)
 
 -- The same of samples. A fault of memory says nothing of the bytes either.

@@ -45,14 +45,14 @@ fn is_digit(byte: u8) -> bool
     b'0' <= byte && byte <= b'9'
 }
 
-/// The next byte of the header, while there is room for one.
-fn next_byte<R: Feed>(reader: &mut R, room: &mut u32) -> Result<u8, NetpbmFault>
-    ensures bytes { GivesStep (R.remaining reader.old) (R.remaining reader.new) room.new result
-        (byte_at room.old (known (R.remaining reader.old))) }
-    ensures spent { OnOk result (room.new + 1 ≡ room.old) }
+/// The next byte of the header, of which so many more are allowed.
+fn next_byte<R: Feed>(reader: &mut R, allowed: &mut u32) -> Result<u8, NetpbmFault>
+    ensures bytes { GivesStep (R.remaining reader.old) (R.remaining reader.new) allowed.new result
+        (byte_at allowed.old (known (R.remaining reader.old))) }
+    ensures spent { OnOk result (allowed.new + 1 ≡ allowed.old) }
     ensures failures { R.failed_reads reader.new ≡ count_after (failed_device result) (R.failed_reads reader.old) }
 {
-    if *room == 0 {
+    if *allowed == 0 {
         return Err(NetpbmFault::HeaderTooLong);
     }
     let mut byte = [0u8; 1];
@@ -60,7 +60,7 @@ fn next_byte<R: Feed>(reader: &mut R, room: &mut u32) -> Result<u8, NetpbmFault>
         Err(_) => Err(NetpbmFault::Io),
         Ok(0) => Err(NetpbmFault::Truncated),
         Ok(_) => {
-            *room -= 1;
+            *allowed -= 1;
             Ok(byte[0])
         }
     }
@@ -68,14 +68,18 @@ fn next_byte<R: Feed>(reader: &mut R, room: &mut u32) -> Result<u8, NetpbmFault>
 
 /// The digits after those that made `number`, and the white space character after them.
 #[tactic(auto, using(crate::proofs::StepLemmas::digit_lemmas))]
-fn read_digits<R: Feed>(reader: &mut R, room: &mut u32, mut number: u32) -> Result<u32, NetpbmFault>
+fn read_digits<R: Feed>(
+    reader: &mut R,
+    allowed: &mut u32,
+    mut number: u32,
+) -> Result<u32, NetpbmFault>
     requires { number ≤ 65536 }
-    ensures bytes { GivesStep (R.remaining reader.old) (R.remaining reader.new) room.new result
-        (digits_at number room.old (known (R.remaining reader.old))) }
+    ensures bytes { GivesStep (R.remaining reader.old) (R.remaining reader.new) allowed.new result
+        (digits_at number allowed.old (known (R.remaining reader.old))) }
     ensures failures { R.failed_reads reader.new ≡ count_after (failed_device result) (R.failed_reads reader.old) }
 {
     loop {
-        let byte = next_byte(reader, room)?;
+        let byte = next_byte(reader, allowed)?;
         if is_digit(byte) {
             number = with_digit(number, byte);
         } else if is_white(byte) {
@@ -98,15 +102,15 @@ fn with_digit(number: u32, digit: u8) -> u32
 
 /// The first digit after the rest of a gap.
 #[tactic(auto, using(crate::proofs::StepLemmas::gap_lemmas))]
-fn read_gap<R: Feed>(reader: &mut R, room: &mut u32) -> Result<u8, NetpbmFault>
-    ensures bytes { GivesStep (R.remaining reader.old) (R.remaining reader.new) room.new result
-        (gap_at false room.old (known (R.remaining reader.old))) }
+fn read_gap<R: Feed>(reader: &mut R, allowed: &mut u32) -> Result<u8, NetpbmFault>
+    ensures bytes { GivesStep (R.remaining reader.old) (R.remaining reader.new) allowed.new result
+        (gap_at false allowed.old (known (R.remaining reader.old))) }
     ensures digit { IfOk result (λ byte. is_digit byte ≡ true) }
     ensures failures { R.failed_reads reader.new ≡ count_after (failed_device result) (R.failed_reads reader.old) }
 {
     let mut in_comment = false;
     loop {
-        let byte = next_byte(reader, room)?;
+        let byte = next_byte(reader, allowed)?;
         if in_comment {
             in_comment = !is_line_end(byte);
         } else if byte == b'#' {
@@ -120,44 +124,44 @@ fn read_gap<R: Feed>(reader: &mut R, room: &mut u32) -> Result<u8, NetpbmFault>
 }
 
 /// The number after the rest of a gap, and the white space character after it.
-fn read_number<R: Feed>(reader: &mut R, room: &mut u32) -> Result<u32, NetpbmFault>
-    ensures bytes { GivesStep (R.remaining reader.old) (R.remaining reader.new) room.new result
-        (number_at room.old (known (R.remaining reader.old))) }
+fn read_number<R: Feed>(reader: &mut R, allowed: &mut u32) -> Result<u32, NetpbmFault>
+    ensures bytes { GivesStep (R.remaining reader.old) (R.remaining reader.new) allowed.new result
+        (number_at allowed.old (known (R.remaining reader.old))) }
     ensures failures { R.failed_reads reader.new ≡ count_after (failed_device result) (R.failed_reads reader.old) }
 {
-    let digit = read_gap(reader, room)?;
-    read_digits(reader, room, u32::from(digit - b'0'))
+    let digit = read_gap(reader, allowed)?;
+    read_digits(reader, allowed, u32::from(digit - b'0'))
 }
 
 /// The number after the rest of a gap, and the white space character after it; `fault` if it
 /// isn't 1 to 65535.
 fn read_in_range<R: Feed>(
     reader: &mut R,
-    room: &mut u32,
+    allowed: &mut u32,
     fault: NetpbmFault,
 ) -> Result<u16, NetpbmFault>
     requires { blames_device fault ≡ false }
-    ensures bytes { GivesStep (R.remaining reader.old) (R.remaining reader.new) room.new result
-        (in_range_at fault room.old (known (R.remaining reader.old))) }
+    ensures bytes { GivesStep (R.remaining reader.old) (R.remaining reader.new) allowed.new result
+        (in_range_at fault allowed.old (known (R.remaining reader.old))) }
     ensures some { IfOk result (λ number. 0 < number) }
     ensures failures { R.failed_reads reader.new ≡ count_after (failed_device result) (R.failed_reads reader.old) }
 {
-    match u16::try_from(read_number(reader, room)?) {
+    match u16::try_from(read_number(reader, allowed)?) {
         Ok(number) if number > 0 => Ok(number),
         _ => Err(fault),
     }
 }
 
 /// The kind that the magic says, whose first byte was read.
-fn read_magic<R: Feed>(reader: &mut R, room: &mut u32, first: u8) -> Result<Kind, NetpbmFault>
-    ensures bytes { GivesStep (R.remaining reader.old) (R.remaining reader.new) room.new result
-        (magic_at first room.old (known (R.remaining reader.old))) }
+fn read_magic<R: Feed>(reader: &mut R, allowed: &mut u32, first: u8) -> Result<Kind, NetpbmFault>
+    ensures bytes { GivesStep (R.remaining reader.old) (R.remaining reader.new) allowed.new result
+        (magic_at first allowed.old (known (R.remaining reader.old))) }
     ensures failures { R.failed_reads reader.new ≡ count_after (failed_device result) (R.failed_reads reader.old) }
 {
     if first != b'P' {
         return Err(NetpbmFault::BadMagic);
     }
-    match next_byte(reader, room)? {
+    match next_byte(reader, allowed)? {
         b'5' => Ok(Kind::Gray),
         b'6' => Ok(Kind::Color),
         _ => Err(NetpbmFault::BadMagic),
@@ -165,12 +169,12 @@ fn read_magic<R: Feed>(reader: &mut R, room: &mut u32, first: u8) -> Result<Kind
 }
 
 /// The white space character that a gap begins with.
-fn read_white<R: Feed>(reader: &mut R, room: &mut u32) -> Result<(), NetpbmFault>
-    ensures bytes { GivesStep (R.remaining reader.old) (R.remaining reader.new) room.new result
-        (white_at room.old (known (R.remaining reader.old))) }
+fn read_white<R: Feed>(reader: &mut R, allowed: &mut u32) -> Result<(), NetpbmFault>
+    ensures bytes { GivesStep (R.remaining reader.old) (R.remaining reader.new) allowed.new result
+        (white_at allowed.old (known (R.remaining reader.old))) }
     ensures failures { R.failed_reads reader.new ≡ count_after (failed_device result) (R.failed_reads reader.old) }
 {
-    if is_white(next_byte(reader, room)?) {
+    if is_white(next_byte(reader, allowed)?) {
         Ok(())
     } else {
         Err(NetpbmFault::BadHeader)
@@ -181,25 +185,25 @@ fn read_white<R: Feed>(reader: &mut R, room: &mut u32) -> Result<(), NetpbmFault
 #[tactic(auto, unfolding(crate::specs::View::Reading::heading_at))]
 pub(super) fn read_header<R: Feed>(
     reader: &mut R,
-    room: &mut u32,
+    allowed: &mut u32,
     first: u8,
 ) -> Result<Header, NetpbmFault>
-    ensures bytes { GivesStep (R.remaining reader.old) (R.remaining reader.new) room.new result
-        (heading_at first room.old (known (R.remaining reader.old))) }
+    ensures bytes { GivesStep (R.remaining reader.old) (R.remaining reader.new) allowed.new result
+        (heading_at first allowed.old (known (R.remaining reader.old))) }
     ensures width { IfOk result (λ h. 0 < h.width) }
     ensures height { IfOk result (λ h. 0 < h.height) }
     ensures maxval { IfOk result (λ h. 0 < h.maxval) }
     ensures few { IfOk result (λ h. sample_count h.kind h.width h.height ≤ most_samples) }
     ensures failures { R.failed_reads reader.new ≡ count_after (failed_device result) (R.failed_reads reader.old) }
 {
-    let kind = read_magic(reader, room, first)?;
-    read_white(reader, room)?;
-    let width = read_in_range(reader, room, NetpbmFault::SizeOutOfRange)?;
-    let height = read_in_range(reader, room, NetpbmFault::SizeOutOfRange)?;
+    let kind = read_magic(reader, allowed, first)?;
+    read_white(reader, allowed)?;
+    let width = read_in_range(reader, allowed, NetpbmFault::SizeOutOfRange)?;
+    let height = read_in_range(reader, allowed, NetpbmFault::SizeOutOfRange)?;
     if sample_count(kind, width, height) > MOST_SAMPLES {
         return Err(NetpbmFault::SizeOutOfRange);
     }
-    let maxval = read_in_range(reader, room, NetpbmFault::MaxvalOutOfRange)?;
+    let maxval = read_in_range(reader, allowed, NetpbmFault::MaxvalOutOfRange)?;
     Ok(Header {
         kind,
         width,

@@ -1,4 +1,4 @@
-//! The raster of an image, in pieces.
+//! The raster of an image, in chunks.
 ghost use Rattle.std.specs.Prelude.{◌≡◌, ◌+◌, ◌*◌, ◌/◌, ◌<◌, ◌≤◌, ◌++◌, [], true, false, OnOk, IfOk, IfErr, IsSome, IsTrue, MatchResult, ◌^◌, length, take, vec_len, vec_capacity};
 ghost use Rattle.ls_frame.specs.View.Devices.{count_after};
 ghost use Rattle.ls_frame.specs.Picture.{sample_count};
@@ -15,7 +15,7 @@ use byteorder::{BigEndian, ByteOrder};
 use std::alloc::Global;
 
 /// How many bytes of a raster are asked for at once: an even number.
-const PIECE: usize = 65_536;
+const CHUNK: usize = 65_536;
 
 /// Whether no sample is over `maxval`. It looks at all of them, since a loop that ends early is no vector code.
 fn are_within(samples: &[u16], maxval: u16) -> bool
@@ -78,38 +78,38 @@ fn take_samples(
     Ok(())
 }
 
-/// Reads after the `held` bytes at the front of `piece`, up to `end` at most, and says where its bytes
+/// Reads after the `held` bytes at the front of `chunk`, up to `end` at most, and says where its bytes
 /// end then.
 fn feed_after<R: Feed>(
     reader: &mut R,
-    piece: &mut [u8],
+    chunk: &mut [u8],
     held: usize,
     end: usize,
 ) -> Result<usize, NetpbmFault>
     requires order { held < end }
-    requires within { end ≤ length piece.old }
+    requires within { end ≤ length chunk.old }
     ensures bytes { IsSome (R.remaining reader.old) → MatchResult result
         (λ filled. IsSome (R.remaining reader.new)
-        × (take held piece.old ++ known (R.remaining reader.old) ≡ take filled piece.new ++ known (R.remaining reader.new)))
+        × (take held chunk.old ++ known (R.remaining reader.old) ≡ take filled chunk.new ++ known (R.remaining reader.new)))
         (λ fault. IsTrue (blames_bytes fault) → (fault ≡ NetpbmFault.Truncated) × (known (R.remaining reader.old) ≡ [])) }
     ensures order { IfOk result (λ filled. held < filled) }
     ensures within { IfOk result (λ filled. filled ≤ end) }
     ensures memory { failed_for_memory result ≡ false }
     ensures failures { R.failed_reads reader.new ≡ count_after (failed_device result) (R.failed_reads reader.old) }
 {
-    match reader.feed(&mut piece[held..end]) {
+    match reader.feed(&mut chunk[held..end]) {
         Err(_) => Err(NetpbmFault::Io),
         Ok(0) => Err(NetpbmFault::Truncated),
         Ok(given) => Ok(held + given),
     }
 }
 
-/// Brings the byte of a sample begun, if the `filled` bytes end in one, to the front of `piece`, and says how
+/// Brings the byte of a sample begun, if the `filled` bytes end in one, to the front of `chunk`, and says how
 /// many there are.
-fn keep_begun(piece: &mut [u8], wide: bool, filled: usize) -> usize
+fn keep_begun(chunk: &mut [u8], wide: bool, filled: usize) -> usize
     requires some { 0 < filled }
-    requires within { filled ≤ length piece.old }
-    ensures kept { take result piece.new ≡ begun_of wide (take filled piece.old) }
+    requires within { filled ≤ length chunk.old }
+    ensures kept { take result chunk.new ≡ begun_of wide (take filled chunk.old) }
     ensures few { result ≤ 1 }
     ensures narrow { wide ≡ false → result ≡ 0 }
 {
@@ -119,7 +119,7 @@ fn keep_begun(piece: &mut [u8], wide: bool, filled: usize) -> usize
     if filled % 2 == 0 {
         return 0;
     }
-    piece[0] = piece[filled - 1];
+    chunk[0] = chunk[filled - 1];
     1
 }
 
@@ -131,11 +131,11 @@ fn byte_count(wide: bool, samples: usize) -> usize
     if wide { 2 * samples } else { samples }
 }
 
-/// Reads `count` samples into `samples`, which is empty and has the room, by way of `piece`, which holds
+/// Reads `count` samples into `samples`, which is empty and has room for them, by way of `chunk`, which holds
 /// a sample's bytes at least.
 fn read_samples<R: Feed>(
     reader: &mut R,
-    piece: &mut [u8],
+    chunk: &mut [u8],
     samples: &mut Vec<u16>,
     wide: bool,
     maxval: u16,
@@ -144,7 +144,7 @@ fn read_samples<R: Feed>(
     requires empty { samples.old.items ≡ [] }
     requires room { count ≤ vec_capacity samples.old }
     requires few { count ≤ 2 ^ 28 }
-    requires piece { 0 < count → sample_size wide ≤ length piece.old }
+    requires chunk { 0 < count → sample_size wide ≤ length chunk.old }
     ensures bytes { GivesTake (λ _. samples.new.items) (R.remaining reader.old) (R.remaining reader.new) result
         (samples_at wide maxval count (known (R.remaining reader.old))) }
     ensures count { OnOk result (length samples.new.items ≡ count) }
@@ -153,16 +153,16 @@ fn read_samples<R: Feed>(
     ensures failures { R.failed_reads reader.new ≡ count_after (failed_device result) (R.failed_reads reader.old) }
 {
     let mut held = 0;
-    'pieces: while samples.len() < count {
-        let end = byte_count(wide, count - samples.len()).min(piece.len());
-        let filled = feed_after(reader, piece, held, end)?;
-        take_samples(samples, wide, &piece[..filled], maxval)?;
-        held = keep_begun(piece, wide, filled);
+    'chunks: while samples.len() < count {
+        let end = byte_count(wide, count - samples.len()).min(chunk.len());
+        let filled = feed_after(reader, chunk, held, end)?;
+        take_samples(samples, wide, &chunk[..filled], maxval)?;
+        held = keep_begun(chunk, wide, filled);
     }
     Ok(())
 }
 
-/// The raster of an image with this header. Its room is made before its first byte is asked for.
+/// The raster of an image with this header. Its memory is asked for before its first byte is.
 pub(super) fn read_raster<R: Feed>(
     alloc: Global,
     reader: &mut R,
@@ -180,8 +180,8 @@ pub(super) fn read_raster<R: Feed>(
     let count = sample_count(header.kind, header.width, header.height) as usize;
     let wide = is_wide(header.maxval);
     let mut samples = Vec::with_capacity(alloc, count)?;
-    let mut piece = vec![in alloc; 0u8; byte_count(wide, count).min(PIECE)]?;
-    read_samples(reader, &mut piece, &mut samples, wide, header.maxval, count)?;
+    let mut chunk = vec![in alloc; 0u8; byte_count(wide, count).min(CHUNK)]?;
+    read_samples(reader, &mut chunk, &mut samples, wide, header.maxval, count)?;
     Ok(samples)
 }
 

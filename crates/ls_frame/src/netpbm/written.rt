@@ -1,4 +1,4 @@
-//! Writing Netpbm images: the canonical text of a frame, in pieces.
+//! Writing Netpbm images: the canonical text of a frame, in chunks.
 ghost use Rattle.std.specs.Prelude.{◌≡◌, ◌+◌, ◌-◌, ◌*◌, ◌<◌, ◌≤◌, ◌^◌, ◌++◌, true, false, OnOk, IfOk, IfErr, is_err, length, take};
 ghost use Rattle.std.specs.List.{AllByRecursion};
 ghost use Rattle.std.specs.Io.KnownBytes.{Appends};
@@ -14,7 +14,7 @@ use crate::output::{WriteFault, lay, write_bytes};
 use itoa::Buffer;
 
 /// How many bytes go out at once at most: an even number, and enough for a header.
-const PIECE: usize = 8192;
+const CHUNK: usize = 8192;
 
 /// Writes the canonical text of a frame: magic, LF, width, blank, height, LF, maxval, LF, raster.
 ///
@@ -26,37 +26,37 @@ pub fn write_frame<W: Outlet>(writer: &mut W, frame: &Frame) -> Result<(), Write
     ensures part { IfErr result (λ fault. fault.written < length (canonical frame.now)) }
     ensures failures { W.failed_writes writer.new ≡ count_after (is_err result) (W.failed_writes writer.old) }
 {
-    let mut piece = [0u8; PIECE];
-    let end = put_heading(&mut piece, frame);
-    let written = write_piece(writer, &piece[..end], 0)?;
+    let mut chunk = [0u8; CHUNK];
+    let end = put_heading(&mut chunk, frame);
+    let written = write_chunk(writer, &chunk[..end], 0)?;
     let wide = is_wide(frame.maxval());
-    write_samples(writer, &mut piece, wide, frame.samples(), written)?;
+    write_samples(writer, &mut chunk, wide, frame.samples(), written)?;
     Ok(())
 }
 
-/// Writes a piece of a text of which `before` bytes went out, and says how many that makes. So does a fault.
-fn write_piece<W: Outlet>(writer: &mut W, piece: &[u8], before: usize) -> Result<usize, WriteFault>
-    requires { before + length piece.now < 2 ^ 64 }
-    ensures ok { OnOk result (Appends (W.contents writer.old) (W.contents writer.new) piece.now) }
-    ensures count { IfOk result (λ written. written ≡ before + length piece.now) }
+/// Writes a chunk of a text of which `before` bytes went out, and says how many that makes. So does a fault.
+fn write_chunk<W: Outlet>(writer: &mut W, chunk: &[u8], before: usize) -> Result<usize, WriteFault>
+    requires { before + length chunk.now < 2 ^ 64 }
+    ensures ok { OnOk result (Appends (W.contents writer.old) (W.contents writer.new) chunk.now) }
+    ensures count { IfOk result (λ written. written ≡ before + length chunk.now) }
     ensures fault { IfErr result
-        (λ fault. Appends (W.contents writer.old) (W.contents writer.new) (take (fault.written - before) piece.now)) }
+        (λ fault. Appends (W.contents writer.old) (W.contents writer.new) (take (fault.written - before) chunk.now)) }
     ensures after { IfErr result (λ fault. before ≤ fault.written) }
-    ensures part { IfErr result (λ fault. fault.written < before + length piece.now) }
+    ensures part { IfErr result (λ fault. fault.written < before + length chunk.now) }
     ensures failures { W.failed_writes writer.new ≡ count_after (is_err result) (W.failed_writes writer.old) }
 {
-    match write_bytes(writer, piece) {
-        Ok(()) => Ok(before + piece.len()),
+    match write_bytes(writer, chunk) {
+        Ok(()) => Ok(before + chunk.len()),
         Err(fault) => Err(WriteFault {
             written: before + fault.written,
         }),
     }
 }
 
-/// Writes samples by way of `piece`, after `before` bytes. A fault counts those too.
+/// Writes samples by way of `chunk`, after `before` bytes. A fault counts those too.
 fn write_samples<W: Outlet>(
     writer: &mut W,
-    piece: &mut [u8; PIECE],
+    chunk: &mut [u8; CHUNK],
     wide: bool,
     samples: &[u16],
     before: usize,
@@ -71,33 +71,33 @@ fn write_samples<W: Outlet>(
     ensures part { IfErr result (λ fault. fault.written < before + length (raster_bytes wide samples.now)) }
     ensures failures { W.failed_writes writer.new ≡ count_after (is_err result) (W.failed_writes writer.old) }
 {
-    let most = if wide { PIECE / 2 } else { PIECE };
+    let most = if wide { CHUNK / 2 } else { CHUNK };
     let mut written = before;
     let mut done = 0;
-    'pieces: while done < samples.len() {
+    'chunks: while done < samples.len() {
         let end = done + most.min(samples.len() - done);
-        let filled = put_samples(piece, wide, &samples[done..end]);
-        written = write_piece(writer, &piece[..filled], written)?;
+        let filled = put_samples(chunk, wide, &samples[done..end]);
+        written = write_chunk(writer, &chunk[..filled], written)?;
         done = end;
     }
     Ok(())
 }
 
-/// Lays the header of a frame at the front of `piece`, and says where it ends.
+/// Lays the header of a frame at the front of `chunk`, and says where it ends.
 #[tactic(auto, unfolding(crate::specs::Canonical::canonical_heading))]
-fn put_heading(piece: &mut [u8; PIECE], frame: &Frame) -> usize
-    ensures laid { take result piece.new ≡ canonical_heading frame.now }
+fn put_heading(chunk: &mut [u8; CHUNK], frame: &Frame) -> usize
+    ensures laid { take result chunk.new ≡ canonical_heading frame.now }
     ensures within { result ≤ 21 }
 {
     let mut number = Buffer::new();
-    let mut end = lay(piece, 0, magic(frame.kind()));
-    end = lay(piece, end, b"\n");
-    end = lay(piece, end, number.format(frame.width()).as_bytes());
-    end = lay(piece, end, b" ");
-    end = lay(piece, end, number.format(frame.height()).as_bytes());
-    end = lay(piece, end, b"\n");
-    end = lay(piece, end, number.format(frame.maxval()).as_bytes());
-    lay(piece, end, b"\n")
+    let mut end = lay(chunk, 0, magic(frame.kind()));
+    end = lay(chunk, end, b"\n");
+    end = lay(chunk, end, number.format(frame.width()).as_bytes());
+    end = lay(chunk, end, b" ");
+    end = lay(chunk, end, number.format(frame.height()).as_bytes());
+    end = lay(chunk, end, b"\n");
+    end = lay(chunk, end, number.format(frame.maxval()).as_bytes());
+    lay(chunk, end, b"\n")
 }
 
 fn magic(kind: Kind) -> &'static [u8]
@@ -109,41 +109,41 @@ fn magic(kind: Kind) -> &'static [u8]
     }
 }
 
-/// Lays the bytes of samples at the front of `piece`, and says where they end.
-fn put_samples(piece: &mut [u8], wide: bool, samples: &[u16]) -> usize
-    requires room { byte_count wide (length samples.now) ≤ length piece.old }
+/// Lays the bytes of samples at the front of `chunk`, and says where they end.
+fn put_samples(chunk: &mut [u8], wide: bool, samples: &[u16]) -> usize
+    requires room { byte_count wide (length samples.now) ≤ length chunk.old }
     requires each { wide ≡ false → AllByRecursion (λ sample. sample < 256) samples.now }
-    ensures laid { take result piece.new ≡ raster_bytes wide samples.now }
+    ensures laid { take result chunk.new ≡ raster_bytes wide samples.now }
     ensures end { result ≡ byte_count wide (length samples.now) }
 {
     if wide {
-        put_wide(piece, samples);
+        put_wide(chunk, samples);
         2 * samples.len()
     } else {
-        put_narrow(piece, samples);
+        put_narrow(chunk, samples);
         samples.len()
     }
 }
 
-/// Lays samples that take one byte each at the front of `piece`.
-fn put_narrow(piece: &mut [u8], samples: &[u16])
-    requires room { length samples.now ≤ length piece.old }
+/// Lays samples that take one byte each at the front of `chunk`.
+fn put_narrow(chunk: &mut [u8], samples: &[u16])
+    requires room { length samples.now ≤ length chunk.old }
     requires each { AllByRecursion (λ sample. sample < 256) samples.now }
-    ensures { take (length samples.now) piece.new ≡ raster_bytes false samples.now }
+    ensures { take (length samples.now) chunk.new ≡ raster_bytes false samples.now }
 {
     for i in 0..samples.len() {
-        piece[i] = samples[i] as u8;
+        chunk[i] = samples[i] as u8;
     }
 }
 
-/// Lays samples that take two bytes each, the most significant first, at the front of `piece`.
-fn put_wide(piece: &mut [u8], samples: &[u16])
-    requires { 2 * length samples.now ≤ length piece.old }
-    ensures { take (2 * length samples.now) piece.new ≡ raster_bytes true samples.now }
+/// Lays samples that take two bytes each, the most significant first, at the front of `chunk`.
+fn put_wide(chunk: &mut [u8], samples: &[u16])
+    requires { 2 * length samples.now ≤ length chunk.old }
+    ensures { take (2 * length samples.now) chunk.new ≡ raster_bytes true samples.now }
 {
     for i in 0..samples.len() {
         let sample = samples[i];
-        piece[2 * i] = (sample / 256) as u8;
-        piece[2 * i + 1] = (sample % 256) as u8;
+        chunk[2 * i] = (sample / 256) as u8;
+        chunk[2 * i + 1] = (sample % 256) as u8;
     }
 }

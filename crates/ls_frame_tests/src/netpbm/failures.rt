@@ -7,7 +7,7 @@ fn a_failed_read_is_named_and_counted_once(rt: HostRuntime) {
     for bytes in FAILING {
         for i in 0..bytes.len() {
             let failing = [i];
-            let mut reader = Counted::new(Pieces::new(bytes, 1, &failing));
+            let mut reader = Counted::new(Chunks::new(bytes, 1, &failing));
             let got = next_frame(rt.alloc(), &mut reader).err();
             let failures = Feed::failures(&reader);
             // Memory is asked for after the header, and before the call that fails.
@@ -23,7 +23,7 @@ fn a_failed_read_is_named_and_counted_once(rt: HostRuntime) {
 
 #[test]
 fn a_failed_read_is_not_the_end(rt: HostRuntime) {
-    let mut reader = Counted::new(Pieces::new(b"", 1, &[0]));
+    let mut reader = Counted::new(Chunks::new(b"", 1, &[0]));
     let got = next_frame(rt.alloc(), &mut reader);
     check(&rt, "a failed read", 0, &seen(&got), &Err(NetpbmFault::Io));
     check(&rt, "failures", 0, &Feed::failures(&reader), &1);
@@ -40,7 +40,7 @@ fn a_bad_sample_is_named_before_the_next_read(rt: HostRuntime) {
     let want = Err(NetpbmFault::SampleTooLarge);
     for (bytes, call) in BAD_SAMPLES {
         let failing = [call];
-        let mut reader = Counted::new(Pieces::new(bytes, 1, &failing));
+        let mut reader = Counted::new(Chunks::new(bytes, 1, &failing));
         let got = next_frame(rt.alloc(), &mut reader);
         is_refused(&rt, Memory::Refusable, &got, want, "a read that would fail");
         check(&rt, "failures before", call, &Feed::failures(&reader), &0);

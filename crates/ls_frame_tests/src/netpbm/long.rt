@@ -59,7 +59,7 @@ fn check_long_images(rt: &impl Abort, alloc: Global, memory: Memory) {
         let mut rest = bytes.as_slice();
         let got = next_frame(alloc, &mut rest);
         check_long_image(rt, memory, &got, is_wide);
-        let mut reader = Counted::new(Pieces::new(&bytes, 65_535, &[]));
+        let mut reader = Counted::new(Chunks::new(&bytes, 65_535, &[]));
         let got = next_frame(alloc, &mut reader);
         check_long_image(rt, memory, &got, is_wide);
     }
@@ -71,6 +71,6 @@ fn long_rasters_are_read_through_with_ample_memory(rt: HostRuntime) {
 }
 
 #[test]
-fn long_rasters_are_read_through_or_memory_is_wanting(rt: HostRuntime) {
+fn long_rasters_are_read_through_or_memory_is_refused(rt: HostRuntime) {
     check_long_images(&rt, rt.alloc(), Memory::Refusable);
 }

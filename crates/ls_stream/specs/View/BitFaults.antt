@@ -51,7 +51,7 @@ pub data BreaksRun : ℕ → ℕ → List Bool → CodeFault → Type 0 where
 -- The next span: its sample's word; its run; or a run no longer than that, and then the word of the sample that interrupts it.
 abbrev pub BreaksSpan : Plane → Span → Coding → List Bool → CodeFault → Type 0
 BreaksSpan plane (sample_span i j) state bits fault = BreaksSample state (around plane i j) bits fault
-BreaksSpan plane (run_span i j most broken) state bits fault =
+BreaksSpan plane (run_span i j most interrupted) state bits fault =
     BreaksRun state.run_index (plane.width - j) bits fault
     ⊎ ((count : ℕ) × (more : List Bool) × (count ≤ most) × (j + count < plane.width) × (bits ≡ run_bits state.run_index (run_of count true) ++ more)
     × BreaksInterruption (run_after state (run_of count true)) (around plane i (j + count)) more fault)

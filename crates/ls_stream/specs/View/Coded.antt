@@ -44,5 +44,5 @@ all_from plane bits state more = bits ++ bits_from plane more state
 pub record Written : Type 0 where
   pub state : Coding
   pub front : List ℕ
-  pub room : ℕ
+  pub capacity_left : ℕ
   pub bits : List Bool

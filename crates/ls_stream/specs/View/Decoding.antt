@@ -85,13 +85,13 @@ pub record BreaksFrom (maxval width : ℕ) (above : List ℕ) (one : Place) (fau
       → BreaksSpans plane (row_from plane i one.column ++ more) one.state one.bits fault
 
 -- From one place the row was read to another: what was read is of the planes that it may be of, whatever follows, and bits that break
--- later break all. The buffer has samples, its first place is as it was, and no run is broken.
+-- later break all. The buffer has samples, its first place is as it was, and no run is interrupted.
 pub record ReadsOn (width : ℕ) (above : List ℕ) (one other : Place) : Type 0 where
   pub same : AreSamePlanes one.state.parameters.maxval width above one other
   pub later : BreaksLater one.state.parameters.maxval width above one other
   pub lines : ArePadded other.state.parameters.maxval width above other.line
   pub first : slice_index other.line 0 ≡ slice_index one.line 0
-  pub whole : other.state.broken ≡ false
+  pub uninterrupted : other.state.interrupted ≡ false
   pub parameters : other.state.parameters ≡ one.state.parameters
 
 -- From there it can't be read on: what is left is of no plane, and breaks so.
@@ -129,10 +129,10 @@ half_context_in p above j = half_context p (slice_index above (j + 1)) (slice_in
 abbrev pub AreHalfContexts : Parameters → ℕ → ℕ → List ℕ → List ℤ → Type 0
 AreHalfContexts p start end above half_contexts = (j : ℕ) → start ≤ j → j < end → slice_index_or half_contexts j (pos 0) ≡ half_context_in p above j
 
--- a run of so many samples, with so many left in the line: one that ends with the line has all of them, one that is broken fewer
-pub record EndsInLine (left count : ℕ) (broken : Bool) : Type 0 where
-  pub full : broken ≡ false → count ≡ left
-  pub short : broken ≡ true → count < left
+-- a run of so many samples, with so many left in the line: one that ends with the line has all of them, one that is interrupted fewer
+pub record EndsInLine (left count : ℕ) (interrupted : Bool) : Type 0 where
+  pub full : interrupted ≡ false → count ≡ left
+  pub short : interrupted ≡ true → count < left
 
 -- what the fault of a scan says of its bits
 abbrev pub ScanBreaks : Parameters → ℕ → ℕ → List Bool → ScanFault → Type 0

@@ -1,5 +1,5 @@
 -- How far the codestream at the front of bytes goes by its markers alone, for a reader that takes one codestream at a time: what
--- the segments say, and which of them may stand where, isn't looked at. It is made of the pieces that the outline is made of.
+-- the segments say, and which of them may stand where, isn't looked at. It is made of the parts that the outline is made of.
 use Rattle.std.specs.Prelude.{◌≡◌, ◌≢◌, ◌⊎◌, ◌↔◌, ℕ, zero, suc, ◌<◌, ◌≤◌, Bool, true, false, List, [], ◌++◌, length, take, Result, Ok, Err, IfOk, IfErr, MatchResult}
 use Rattle.ls_frame.specs.Picture.{Picture}
 use Rattle.ls_bits.specs.Bits.{AreBytes}
@@ -62,7 +62,7 @@ pub record IsNext (bytes rest : List ℕ) : Type 0 where
   -- fewer of them show neither
   pub least : (count : ℕ) → count < length bytes → extent_at (take count bytes) ≡ Err Truncated
   -- they do, or the input ends with them
-  pub whole : (extent_at bytes ≢ Err Truncated) ⊎ (rest ≡ [])
+  pub enough : (extent_at bytes ≢ Err Truncated) ⊎ (rest ≡ [])
 
 -- what was read of a front of bytes, as of all of them: with what is left after the front
 abbrev pub with_left : {X : Type 0} → List ℕ → Take X → Take X
@@ -76,11 +76,11 @@ abbrev pub StopsWith : List ℕ → StreamFault → Type 0
 StopsWith bytes fault = (cause : StreamFault) × (fault ≡ fault_of bytes cause) × DecodingStops (take most_bytes bytes) cause
 
 -- What decoding bytes answers: the frame of the codestream at their front, with how many bytes that has; their first fault; or, after
--- a whole legal opening, that memory was refused.
+-- a complete legal opening, that memory was refused.
 pub record IsDecoding (bytes : List ℕ) (result : Result Decoded StreamFault) : Type 0 where
   pub ok : IfOk result (λ decoded. (decoded.used ≤ length bytes) × Spells (take decoded.used bytes) decoded.frame)
   pub first : IfErr result (λ fault. (fault ≡ stream_fault.NoMemory) ⊎ IsFirstFault bytes fault)
-  pub whole : (front rest : List ℕ) (f : Picture) → bytes ≡ front ++ rest → Spells front f
+  pub complete : (front rest : List ℕ) (f : Picture) → bytes ≡ front ++ rest → Spells front f
       → MatchResult result (λ decoded. (decoded.frame ≡ f) × (decoded.used ≡ length front)) (λ fault. fault ≡ stream_fault.NoMemory)
   pub memory : IfErr result (λ fault. fault ≡ stream_fault.NoMemory → BeginsWithOpening (take most_bytes bytes))
 

@@ -1,4 +1,4 @@
--- Reading markers and segments off a list of bytes, piece by piece: what is read and the bytes after it, or the first fault from
+-- Reading markers and segments off a list of bytes, part by part: what is read and the bytes after it, or the first fault from
 -- the left. What the bytes mean is in `Grammar`, and tied to this by laws.
 use Rattle.std.specs.Prelude.{◌≡◌, ℕ, zero, suc, ◌+◌, ◌-◌, ◌*◌, ◌&&◌, ◌==◌, Bool, true, false, not, nat_le, if◌then◌else◌, List, [], ◌∷◌, length, take, drop, slice_index, Option, None, Some, Result, Ok, Err}
 use Rattle.std.specs.List.{list_any}
@@ -139,22 +139,22 @@ scan_header_of id contents = do
 
 -- ---- miscellaneous segments
 
--- What is read where a marker is due: no marker if it is a miscellaneous segment, else the marker; the preset parameters that
--- were written last; the bytes that are left.
-abbrev pub Piece : Type 0
-Piece = Result (Option Marker × Parameters × List ℕ) StreamFault
+-- What is read of a part, where a marker is due: no marker if it is a miscellaneous segment, else the marker; the preset
+-- parameters that were written last; the bytes that are left.
+abbrev pub Part : Type 0
+Part = Result (Option Marker × Parameters × List ℕ) StreamFault
 
 -- a segment that is skipped
-abbrev pub skipped_at : Parameters → List ℕ → Piece
+abbrev pub skipped_at : Parameters → List ℕ → Part
 skipped_at written bytes = contents_at bytes >>= λ contents. Ok (None, written, contents.1)
 
 -- preset parameters, which may not come late: after the header of the first scan
-abbrev pub presets_at : Bool → List ℕ → Piece
+abbrev pub presets_at : Bool → List ℕ → Part
 presets_at true bytes = Err (Unsupported what.LseLate)
 presets_at false bytes = contents_at bytes >>= λ contents. preset_fields_of contents.0 >>= λ written. Ok (None, written, contents.1)
 
 -- what stands after a marker
-unfoldable pub after_marker : Bool → Parameters → Marker → List ℕ → Piece
+unfoldable pub after_marker : Bool → Parameters → Marker → List ℕ → Part
 after_marker late written StartOfImage bytes = Err (Unsupported (what.Marker (code_of StartOfImage)))
 after_marker late written EndOfImage bytes = Ok (Some EndOfImage, written, bytes)
 after_marker late written StartOfScan bytes = Ok (Some StartOfScan, written, bytes)
@@ -164,8 +164,8 @@ after_marker late written (Application code) bytes = skipped_at written bytes
 after_marker late written Comment bytes = skipped_at written bytes
 after_marker late written (Other code) bytes = Err (Unsupported (what.Marker code))
 
-unfoldable pub piece_at : Bool → Parameters → List ℕ → Piece
-piece_at late written bytes = do
+unfoldable pub part_at : Bool → Parameters → List ℕ → Part
+part_at late written bytes = do
   next ← marker_at bytes
   after_marker late written next.0 next.1
 
@@ -182,7 +182,7 @@ unless_marker again None written bytes = again written bytes
 unfoldable pub ahead_within : ℕ → Bool → Parameters → List ℕ → Ahead
 ahead_within zero late written bytes = Err Truncated
 ahead_within (suc most) late written bytes =
-    piece_at late written bytes >>= λ piece. unless_marker (λ w rest. ahead_within most late w rest) piece.0 piece.1 piece.2
+    part_at late written bytes >>= λ part. unless_marker (λ w rest. ahead_within most late w rest) part.0 part.1 part.2
 
 unfoldable pub ahead_at : Bool → Parameters → List ℕ → Ahead
 ahead_at late written bytes = ahead_within (length bytes) late written bytes

@@ -50,7 +50,7 @@ impl<'a> Model for Decoder<'a> {
 #[derive(Clone, Copy, Debug, PartialEq, Eq)]
 pub struct FoundRun {
     pub count: u32,
-    pub broken: bool,
+    pub interrupted: bool,
 }
 
 impl<'a> Decoder<'a> {
@@ -110,7 +110,7 @@ impl<'a> Decoder<'a> {
         requires context { context ≡ signed_context self.old.state.parameters neighbours.now }
         requires samples { AreSamples self.old.state.parameters.maxval neighbours.now }
         requires regular { is_run neighbours.now ≡ false }
-        requires whole { self.old.state.broken ≡ false }
+        requires uninterrupted { self.old.state.interrupted ≡ false }
         ensures within { IfOk result (λ sample. sample ≤ self.old.state.parameters.maxval) }
         ensures bits { IfOk result (λ sample. self.old.bits
             ≡ golomb_bits self.old.state.parameters (regular_word_in self.old.state neighbours.now sample) ++ self.new.bits) }
@@ -135,16 +135,16 @@ impl<'a> Decoder<'a> {
     /// the line; of none if this fails.
     pub fn decode_run(&mut self, left: u32) -> Result<FoundRun, CodeFault>
         requires some { 0 < left }
-        requires whole { self.old.state.broken ≡ false }
-        ensures within { IfOk result (λ run. EndsInLine left run.count run.broken) }
+        requires uninterrupted { self.old.state.interrupted ≡ false }
+        ensures within { IfOk result (λ run. EndsInLine left run.count run.interrupted) }
         ensures bits { IfOk result (λ run. self.old.bits
-            ≡ run_bits self.old.state.run_index (run_of run.count run.broken) ++ self.new.bits) }
-        ensures state { IfOk result (λ run. self.new.state ≡ run_after self.old.state (run_of run.count run.broken)) }
-        ensures only { IfOk result (λ run. (count : ℕ) (broken : Bool) (rest : List Bool) → EndsInLine left count broken
-            → self.old.bits ≡ run_bits self.old.state.run_index (run_of count broken) ++ rest
-            → (count ≡ run.count) × (broken ≡ run.broken) × (rest ≡ self.new.bits)) }
-        ensures none { IfErr result (λ fault. (count : ℕ) (broken : Bool) (rest : List Bool) → EndsInLine left count broken
-            → self.old.bits ≡ run_bits self.old.state.run_index (run_of count broken) ++ rest → ⊥) }
+            ≡ run_bits self.old.state.run_index (run_of run.count run.interrupted) ++ self.new.bits) }
+        ensures state { IfOk result (λ run. self.new.state ≡ run_after self.old.state (run_of run.count run.interrupted)) }
+        ensures only { IfOk result (λ run. (count : ℕ) (interrupted : Bool) (rest : List Bool) → EndsInLine left count interrupted
+            → self.old.bits ≡ run_bits self.old.state.run_index (run_of count interrupted) ++ rest
+            → (count ≡ run.count) × (interrupted ≡ run.interrupted) × (rest ≡ self.new.bits)) }
+        ensures none { IfErr result (λ fault. (count : ℕ) (interrupted : Bool) (rest : List Bool) → EndsInLine left count interrupted
+            → self.old.bits ≡ run_bits self.old.state.run_index (run_of count interrupted) ++ rest → ⊥) }
         ensures fault { IfErr result (λ fault. BreaksRun self.old.state.run_index left self.old.bits fault) }
     {
         let mut count = 0;
@@ -153,7 +153,7 @@ impl<'a> Decoder<'a> {
             if count == left {
                 return Ok(FoundRun {
                     count,
-                    broken: false,
+                    interrupted: false,
                 });
             }
         }
@@ -161,7 +161,7 @@ impl<'a> Decoder<'a> {
         self.state.accept_break(rest, left - count)?;
         Ok(FoundRun {
             count: count + rest,
-            broken: true,
+            interrupted: true,
         })
     }
 
@@ -169,7 +169,7 @@ impl<'a> Decoder<'a> {
     /// if this fails.
     pub fn decode_interruption(&mut self, neighbours: &Neighbours) -> Result<u16, CodeFault>
         requires samples { AreSamples self.old.state.parameters.maxval neighbours.now }
-        requires broken { self.old.state.broken ≡ true }
+        requires interrupted { self.old.state.interrupted ≡ true }
         ensures interrupts { IfOk result (λ sample. Interrupts self.old.state.parameters.maxval neighbours.now.a sample) }
         ensures bits { IfOk result (λ sample. self.old.bits
             ≡ golomb_bits self.old.state.parameters (interruption_word_in self.old.state neighbours.now sample) ++ self.new.bits) }

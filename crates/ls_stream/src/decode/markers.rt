@@ -5,7 +5,7 @@ ghost use Rattle.std.specs.Prelude.{◌≡◌, ◌<◌, ◌≤◌, length, take,
 ghost use Rattle.ls_frame.specs.Picture.{sample_count, most_samples};
 ghost use Rattle.ls_stream.specs.Grammar.{parameters_of, most_bytes};
 ghost use Rattle.ls_stream.specs.View.Outlines.{fault_of};
-ghost use Rattle.ls_stream.specs.View.Reading.{Gives, start_at, skipped_at, presets_at, after_marker, piece_at, ahead_at, frame_header_at, scan_header_at, next_scan_at, end_at, opening_at, fields_of};
+ghost use Rattle.ls_stream.specs.View.Reading.{Gives, start_at, skipped_at, presets_at, after_marker, part_at, ahead_at, frame_header_at, scan_header_at, next_scan_at, end_at, opening_at, fields_of};
 
 use crate::faults::{StreamFault, What};
 use crate::marker::Marker;
@@ -179,7 +179,7 @@ fn find_marker(
     let mut written = written;
     let mut rest = bytes;
     loop {
-        let (next, last, left) = read_piece(late, written, rest)?;
+        let (next, last, left) = read_part(late, written, rest)?;
         written = last;
         rest = left;
         if let Some(marker) = next {
@@ -189,13 +189,13 @@ fn find_marker(
 }
 
 /// A miscellaneous segment, or another marker that may stand before or after one.
-#[tactic(auto, unfolding(crate::specs::View::Reading::piece_at))]
-fn read_piece(
+#[tactic(auto, unfolding(crate::specs::View::Reading::part_at))]
+fn read_part(
     late: bool,
     written: PresetFields,
     bytes: &[u8],
 ) -> Result<(Option<Marker>, PresetFields, &[u8]), StreamFault>
-    ensures value { Gives (λ x. (x.0, fields_of x.1, x.2.now)) result (piece_at late (fields_of written) bytes.now) }
+    ensures value { Gives (λ x. (x.0, fields_of x.1, x.2.now)) result (part_at late (fields_of written) bytes.now) }
     ensures shorter { IfOk result (λ x. length x.2.now < length bytes.now) }
 {
     let (marker, rest) = read_marker(bytes)?;

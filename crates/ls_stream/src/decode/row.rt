@@ -25,7 +25,7 @@ pub fn decode_row(
     requires lines { ArePadded decoder.old.state.parameters.maxval width above.now line.old }
     requires half_contexts { length half_contexts.old ≡ width }
     requires narrow { width ≤ 65535 }
-    requires whole { decoder.old.state.broken ≡ false }
+    requires uninterrupted { decoder.old.state.interrupted ≡ false }
     ensures on { IfOk result (λ _. ReadsOn width above.now
         (place 0 line.old decoder.old.state decoder.old.bits) (place width line.new decoder.new.state decoder.new.bits)) }
     ensures stops { IfErr result (λ fault. ReadsNoFurther width above.now (place 0 line.old decoder.old.state decoder.old.bits) fault) }
@@ -77,7 +77,7 @@ fn decode_block(
     requires some { start < end }
     requires inside { end ≤ width }
     requires narrow { width ≤ 65535 }
-    requires whole { decoder.old.state.broken ≡ false }
+    requires uninterrupted { decoder.old.state.interrupted ≡ false }
     ensures next { IfOk result (λ next. (start < next) × (next ≤ width)) }
     ensures on { IfOk result (λ next. ReadsOn width above.now
         (place start line.old decoder.old.state decoder.old.bits) (place next line.new decoder.new.state decoder.new.bits)) }
@@ -103,7 +103,7 @@ fn decode_span(
     requires lines { ArePadded decoder.old.state.parameters.maxval width above.now line.old }
     requires inside { column < width }
     requires narrow { width ≤ 65535 }
-    requires whole { decoder.old.state.broken ≡ false }
+    requires uninterrupted { decoder.old.state.interrupted ≡ false }
     ensures next { IfOk result (λ next. (column < next) × (next ≤ width)) }
     ensures on { IfOk result (λ next. ReadsOn width above.now
         (place column line.old decoder.old.state decoder.old.bits) (place next line.new decoder.new.state decoder.new.bits)) }
@@ -130,7 +130,7 @@ fn decode_run_span(
     requires lines { ArePadded decoder.old.state.parameters.maxval width above.now line.old }
     requires inside { column < width }
     requires narrow { width ≤ 65535 }
-    requires whole { decoder.old.state.broken ≡ false }
+    requires uninterrupted { decoder.old.state.interrupted ≡ false }
     ensures next { IfOk result (λ next. (column < next) × (next ≤ width)) }
     ensures on { IfOk result (λ next. ReadsOn width above.now
         (place column line.old decoder.old.state decoder.old.bits) (place next line.new decoder.new.state decoder.new.bits)) }
@@ -139,7 +139,7 @@ fn decode_run_span(
     let run = decoder.decode_run((width - column) as u32)?;
     let end = column + run.count as usize;
     repeat_left(line, column, end);
-    if !run.broken {
+    if !run.interrupted {
         return Ok(end);
     }
     let around = neighbours_in(above, line, end);

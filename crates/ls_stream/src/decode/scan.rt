@@ -143,7 +143,7 @@ fn decode_rows(
     requires samples { length samples.old ≡ shape.height * shape.width * shape.components }
     requires small { (k : ℕ) → slice_index samples.old k ≤ decoder.old.state.parameters.maxval }
     requires component { component < shape.components }
-    requires whole { decoder.old.state.broken ≡ false }
+    requires uninterrupted { decoder.old.state.interrupted ≡ false }
     ensures rows { IfOk result (λ _. (plane : Plane) → IsSamplePlane decoder.old.state.parameters.maxval shape.width shape.height plane → (rest : List Bool)
         → RowsMayBeRead plane shape.height 0 shape.components component samples.old decoder.old.state decoder.old.bits rest
         ↔ RowsMayBeRead plane shape.height shape.height shape.components component samples.new decoder.new.state decoder.new.bits rest) }

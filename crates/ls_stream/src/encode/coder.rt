@@ -36,7 +36,7 @@ impl<'a> Model for Coder<'a> {
 
     ghost Value = { Written };
 
-    ghost view = { λ c. record { state = c.state.now; front = c.sink.front; room = c.sink.room; bits = c.sink.bits } };
+    ghost view = { λ c. record { state = c.state.now; front = c.sink.front; capacity_left = c.sink.capacity_left; bits = c.sink.bits } };
 
     ghost invariant = { λ c. (c.state.now.parameters ≡ c.presets) × (c.qbpp ≡ qbpp_of c.presets.maxval) };
 }
@@ -48,7 +48,7 @@ impl<'a> Coder<'a> {
         ensures parameters { result.state.parameters ≡ presets.now }
         ensures state { result.state ≡ state_of presets.now [] }
         ensures front { result.front ≡ bytes.items }
-        ensures room { result.room ≡ vec_capacity bytes - vec_len bytes }
+        ensures room { result.capacity_left ≡ vec_capacity bytes - vec_len bytes }
         ensures bits { result.bits ≡ [] }
     {
         Coder {
@@ -69,17 +69,17 @@ impl<'a> Coder<'a> {
     /// Codes a sample of regular mode, of which `mirror` was asked.
     pub fn code_sample(&mut self, mirrored: Mirrored)
         requires may { MayCodeMirrored self.old.state mirrored }
-        requires room { Fits (length self.old.bits + limit_of self.old.state.parameters.maxval) self.old.room }
+        requires room { Fits (length self.old.bits + limit_of self.old.state.parameters.maxval) self.old.capacity_left }
         ensures bits { (neighbours : Neighbours) (sample : ℕ) → IsMirrored self.old.state.parameters neighbours sample mirrored
             → self.new.bits ≡ self.old.bits ++ golomb_bits self.old.state.parameters (regular_word_in self.old.state neighbours sample) }
         ensures cost { length self.new.bits ≤ length self.old.bits + limit_of self.old.state.parameters.maxval }
         ensures state { (neighbours : Neighbours) (sample : ℕ) → IsMirrored self.old.state.parameters neighbours sample mirrored
             → self.new.state ≡ regular_after self.old.state (context_in self.old.state neighbours).number
             (regular_error_in self.old.state neighbours sample) }
-        ensures whole { self.new.state.broken ≡ false }
+        ensures uninterrupted { self.new.state.interrupted ≡ false }
         ensures parameters { self.new.state.parameters ≡ self.old.state.parameters }
         ensures front { self.new.front ≡ self.old.front }
-        ensures room { self.new.room ≡ self.old.room }
+        ensures room { self.new.capacity_left ≡ self.old.capacity_left }
     {
         let word = self.state.code_regular_at(mirrored);
         put_word(&mut self.sink, self.qbpp, word);
@@ -88,24 +88,24 @@ impl<'a> Coder<'a> {
     /// Codes a run up to the line's end.
     pub fn code_run_to_end(&mut self, count: u32)
         requires some { 0 < count }
-        requires whole { self.old.state.broken ≡ false }
-        requires room { Fits (length self.old.bits + limit_of self.old.state.parameters.maxval * count) self.old.room }
+        requires uninterrupted { self.old.state.interrupted ≡ false }
+        requires room { Fits (length self.old.bits + limit_of self.old.state.parameters.maxval * count) self.old.capacity_left }
         ensures bits { self.new.bits ≡ self.old.bits ++ run_bits self.old.state.run_index (run_of count false) }
         ensures cost { length self.new.bits ≤ length self.old.bits + limit_of self.old.state.parameters.maxval * count }
         ensures state { self.new.state ≡ run_after self.old.state (run_of count false) }
         ensures front { self.new.front ≡ self.old.front }
-        ensures room { self.new.room ≡ self.old.room }
+        ensures room { self.new.capacity_left ≡ self.old.capacity_left }
     {
         let word = self.state.code_run(count, true);
         put_run(&mut self.sink, word);
     }
 
     /// Codes a run and the sample that interrupts it.
-    pub fn code_broken_run(&mut self, count: u32, neighbours: &Neighbours, sample: u16)
+    pub fn code_interrupted_run(&mut self, count: u32, neighbours: &Neighbours, sample: u16)
         requires samples { AreSamples self.old.state.parameters.maxval neighbours.now }
         requires sample { Interrupts self.old.state.parameters.maxval neighbours.now.a sample }
-        requires whole { self.old.state.broken ≡ false }
-        requires room { Fits (length self.old.bits + limit_of self.old.state.parameters.maxval * (count + 1)) self.old.room }
+        requires uninterrupted { self.old.state.interrupted ≡ false }
+        requires room { Fits (length self.old.bits + limit_of self.old.state.parameters.maxval * (count + 1)) self.old.capacity_left }
         ensures bits { self.new.bits ≡ self.old.bits ++ (run_bits self.old.state.run_index (run_of count true)
             ++ golomb_bits self.old.state.parameters
             (interruption_word_in (run_after self.old.state (run_of count true)) neighbours.now sample)) }
@@ -113,7 +113,7 @@ impl<'a> Coder<'a> {
         ensures state { self.new.state ≡ interruption_after (run_after self.old.state (run_of count true)) (ri_type_of neighbours.now)
             (interruption_error self.old.state.parameters neighbours.now sample) }
         ensures front { self.new.front ≡ self.old.front }
-        ensures room { self.new.room ≡ self.old.room }
+        ensures room { self.new.capacity_left ≡ self.old.capacity_left }
     {
         let run = self.state.code_run(count, false);
         put_run(&mut self.sink, run);
@@ -124,7 +124,7 @@ impl<'a> Coder<'a> {
     /// The vector: the bytes that it had, and after them the bits of the scan, stuffed. Its capacity is what it was.
     pub fn finish(self) -> Vec<u8>
         ensures bytes { result.items ≡ self.entry.front ++ stuff self.entry.bits }
-        ensures capacity { vec_capacity result ≡ length self.entry.front + self.entry.room }
+        ensures capacity { vec_capacity result ≡ length self.entry.front + self.entry.capacity_left }
     {
         self.sink.finish()
     }
@@ -134,10 +134,10 @@ impl<'a> Coder<'a> {
 fn put_word(sink: &mut RoomSink, qbpp: u32, word: Word)
     requires golomb { IsGolomb word.k word.glimit qbpp }
     requires value { word.value ≤ most_value qbpp }
-    requires room { Fits (length sink.old.bits + length (code_word word.k word.glimit qbpp word.value)) sink.old.room }
+    requires room { Fits (length sink.old.bits + length (code_word word.k word.glimit qbpp word.value)) sink.old.capacity_left }
     ensures bits { sink.new.bits ≡ sink.old.bits ++ code_word word.k word.glimit qbpp word.value }
     ensures front { sink.new.front ≡ sink.old.front }
-    ensures room { sink.new.room ≡ sink.old.room }
+    ensures room { sink.new.capacity_left ≡ sink.old.capacity_left }
 {
     sink.put_golomb(word.k, word.glimit, qbpp, word.value);
 }
@@ -145,10 +145,10 @@ fn put_word(sink: &mut RoomSink, qbpp: u32, word: Word)
 /// The bits of a run, after those that are there.
 fn put_run(sink: &mut RoomSink, word: RunWord)
     requires tail { TailFits word.tail }
-    requires room { Fits (length sink.old.bits + length (word_bits word)) sink.old.room }
+    requires room { Fits (length sink.old.bits + length (word_bits word)) sink.old.capacity_left }
     ensures bits { sink.new.bits ≡ sink.old.bits ++ word_bits word }
     ensures front { sink.new.front ≡ sink.old.front }
-    ensures room { sink.new.room ≡ sink.old.room }
+    ensures room { sink.new.capacity_left ≡ sink.old.capacity_left }
 {
     put_ones(sink, word.ones);
     put_tail(sink, word.tail);
@@ -156,10 +156,10 @@ fn put_run(sink: &mut RoomSink, word: RunWord)
 
 /// So many bits 1.
 fn put_ones(sink: &mut RoomSink, count: u32)
-    requires { Fits (length sink.old.bits + count) sink.old.room }
+    requires { Fits (length sink.old.bits + count) sink.old.capacity_left }
     ensures bits { sink.new.bits ≡ sink.old.bits ++ replicate count true }
     ensures front { sink.new.front ≡ sink.old.front }
-    ensures room { sink.new.room ≡ sink.old.room }
+    ensures room { sink.new.capacity_left ≡ sink.old.capacity_left }
 {
     for done in 0..count {
         sink.put(1, 1);
@@ -169,15 +169,15 @@ fn put_ones(sink: &mut RoomSink, count: u32)
 /// How a run ends.
 fn put_tail(sink: &mut RoomSink, tail: Tail)
     requires tail { TailFits tail }
-    requires room { Fits (length sink.old.bits + length (tail_bits tail)) sink.old.room }
+    requires room { Fits (length sink.old.bits + length (tail_bits tail)) sink.old.capacity_left }
     ensures bits { sink.new.bits ≡ sink.old.bits ++ tail_bits tail }
     ensures front { sink.new.front ≡ sink.old.front }
-    ensures room { sink.new.room ≡ sink.old.room }
+    ensures room { sink.new.capacity_left ≡ sink.old.capacity_left }
 {
     match tail {
         Tail::LineFull => {}
         Tail::LinePart => sink.put(1, 1),
-        Tail::Broken { width, rest } => {
+        Tail::Interrupted { width, rest } => {
             sink.put(0, 1);
             sink.put(rest, width);
         }

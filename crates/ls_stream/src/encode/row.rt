@@ -32,16 +32,16 @@ pub struct Block {
 pub fn code_row(coder: &mut Coder, above: &[u16], line: &[u16], width: usize)
     requires lines { ArePadded coder.old.state.parameters.maxval width above.now line.now }
     requires narrow { width ≤ 65535 }
-    requires whole { coder.old.state.broken ≡ false }
-    requires room { Fits (length coder.old.bits + limit_of coder.old.state.parameters.maxval * width) coder.old.room }
+    requires uninterrupted { coder.old.state.interrupted ≡ false }
+    requires room { Fits (length coder.old.bits + limit_of coder.old.state.parameters.maxval * width) coder.old.capacity_left }
     ensures row { (plane : Plane) (i : ℕ) → plane.width ≡ width → AreLines plane i above.now line.now → (more : List Span)
         → all_from plane coder.new.bits coder.new.state more
         ≡ all_from plane coder.old.bits coder.old.state (row_from plane i 0 ++ more) }
     ensures cost { length coder.new.bits ≤ length coder.old.bits + limit_of coder.old.state.parameters.maxval * width }
-    ensures whole { coder.new.state.broken ≡ false }
+    ensures uninterrupted { coder.new.state.interrupted ≡ false }
     ensures parameters { coder.new.state.parameters ≡ coder.old.state.parameters }
     ensures front { coder.new.front ≡ coder.old.front }
-    ensures room { coder.new.room ≡ coder.old.room }
+    ensures room { coder.new.capacity_left ≡ coder.old.capacity_left }
 {
     let mut block = Block {
         contexts: [0; BLOCK],
@@ -74,18 +74,18 @@ fn code_block(
     requires some { start < end }
     requires inside { end ≤ width }
     requires narrow { width ≤ 65535 }
-    requires whole { coder.old.state.broken ≡ false }
-    requires room { Fits (length coder.old.bits + limit_of coder.old.state.parameters.maxval * (width - start)) coder.old.room }
+    requires uninterrupted { coder.old.state.interrupted ≡ false }
+    requires room { Fits (length coder.old.bits + limit_of coder.old.state.parameters.maxval * (width - start)) coder.old.capacity_left }
     ensures block { (plane : Plane) (i : ℕ) → plane.width ≡ width → AreLines plane i above.now line.now → (more : List Span)
         → all_from plane coder.new.bits coder.new.state (row_from plane i result ++ more)
         ≡ all_from plane coder.old.bits coder.old.state (row_from plane i start ++ more) }
     ensures next { start < result }
     ensures cost { length coder.new.bits + limit_of coder.old.state.parameters.maxval * (width - result)
         ≤ length coder.old.bits + limit_of coder.old.state.parameters.maxval * (width - start) }
-    ensures whole { coder.new.state.broken ≡ false }
+    ensures uninterrupted { coder.new.state.interrupted ≡ false }
     ensures parameters { coder.new.state.parameters ≡ coder.old.state.parameters }
     ensures front { coder.new.front ≡ coder.old.front }
-    ensures room { coder.new.room ≡ coder.old.room }
+    ensures room { coder.new.capacity_left ≡ coder.old.capacity_left }
 {
     let mut column = start;
     'spans: while column < end {
@@ -110,18 +110,18 @@ fn code_span(
     requires lines { ArePadded coder.old.state.parameters.maxval width above.now line.now }
     requires inside { column < width }
     requires narrow { width ≤ 65535 }
-    requires whole { coder.old.state.broken ≡ false }
-    requires room { Fits (length coder.old.bits + limit_of coder.old.state.parameters.maxval * (width - column)) coder.old.room }
+    requires uninterrupted { coder.old.state.interrupted ≡ false }
+    requires room { Fits (length coder.old.bits + limit_of coder.old.state.parameters.maxval * (width - column)) coder.old.capacity_left }
     ensures span { (plane : Plane) (i : ℕ) → plane.width ≡ width → AreLines plane i above.now line.now → (more : List Span)
         → all_from plane coder.new.bits coder.new.state (row_from plane i result ++ more)
         ≡ all_from plane coder.old.bits coder.old.state (row_from plane i column ++ more) }
     ensures next { column < result }
     ensures cost { length coder.new.bits + limit_of coder.old.state.parameters.maxval * (width - result)
         ≤ length coder.old.bits + limit_of coder.old.state.parameters.maxval * (width - column) }
-    ensures whole { coder.new.state.broken ≡ false }
+    ensures uninterrupted { coder.new.state.interrupted ≡ false }
     ensures parameters { coder.new.state.parameters ≡ coder.old.state.parameters }
     ensures front { coder.new.front ≡ coder.old.front }
-    ensures room { coder.new.room ≡ coder.old.room }
+    ensures room { coder.new.capacity_left ≡ coder.old.capacity_left }
 {
     if mirrored.context != 0 {
         coder.code_sample(mirrored);
@@ -134,7 +134,7 @@ fn code_span(
         return end + 1;
     }
     let around = neighbours_in(above, line, end);
-    coder.code_broken_run(count, &around, line[end + 1]);
+    coder.code_interrupted_run(count, &around, line[end + 1]);
     end + 1
 }
 

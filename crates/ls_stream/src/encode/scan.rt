@@ -61,11 +61,11 @@ fn code_plane(
     requires component { component < components frame.now.kind }
     requires state { coder.old.state ≡ state_of coder.old.state.parameters [] }
     requires empty { coder.old.bits ≡ [] }
-    requires room { Fits (limit_of coder.old.state.parameters.maxval * (frame.now.width * frame.now.height)) coder.old.room }
+    requires room { Fits (limit_of coder.old.state.parameters.maxval * (frame.now.width * frame.now.height)) coder.old.capacity_left }
     ensures bits { coder.new.bits ≡ plane_bits coder.old.state.parameters (plane_of frame.now component) }
     ensures cost { length coder.new.bits ≤ limit_of coder.old.state.parameters.maxval * (frame.now.width * frame.now.height) }
     ensures front { coder.new.front ≡ coder.old.front }
-    ensures room { coder.new.room ≡ coder.old.room }
+    ensures room { coder.new.capacity_left ≡ coder.old.capacity_left }
     ensures above { vec_len above.new ≡ vec_len above.old }
     ensures line { vec_len line.new ≡ vec_len line.old }
 {
@@ -98,14 +98,14 @@ fn code_rows(
     requires small { (k : ℕ) → slice_index samples.now k ≤ coder.old.state.parameters.maxval }
     requires component { component < shape.components }
     requires few { shape.width * shape.components < 2 ^ 32 }
-    requires whole { coder.old.state.broken ≡ false }
-    requires room { Fits (length coder.old.bits + limit_of coder.old.state.parameters.maxval * (shape.width * shape.height)) coder.old.room }
+    requires uninterrupted { coder.old.state.interrupted ≡ false }
+    requires room { Fits (length coder.old.bits + limit_of coder.old.state.parameters.maxval * (shape.width * shape.height)) coder.old.capacity_left }
     ensures rows { let plane = component_plane shape.width shape.components component samples.now in (more : List Span)
         → all_from plane coder.new.bits coder.new.state more
         ≡ all_from plane coder.old.bits coder.old.state (rows_from plane shape.height 0 ++ more) }
     ensures cost { length coder.new.bits ≤ length coder.old.bits + limit_of coder.old.state.parameters.maxval * (shape.width * shape.height) }
     ensures front { coder.new.front ≡ coder.old.front }
-    ensures room { coder.new.room ≡ coder.old.room }
+    ensures room { coder.new.capacity_left ≡ coder.old.capacity_left }
 {
     clear(above);
     for row in 0..shape.height {

@@ -10,5 +10,5 @@ returns-clause-part c = one_bit_left
 pub returns-clause-none : goal.returns-clause-none
 returns-clause-none c = no_bit_left
 
-pub returns-clause-broken : goal.returns-clause-broken
-returns-clause-broken c = bits_of_break
+pub returns-clause-interrupted : goal.returns-clause-interrupted
+returns-clause-interrupted c = bits_of_break

@@ -16,8 +16,8 @@ returns-in-Ok-clause-ok c =
     (are_bytes bytes (λ i. let fits : Fits w8 (get_or bytes i 0) = c.type_inv.bytes i in omega arith))
     (ap outline_at (sym c.first_bytes-first.ensures) ∙ found.2) found.3 found.4 (found.5 ∙ ap length c.first_bytes-first.ensures)
 
-pub returns-in-Ok-clause-whole : goal.returns-in-Ok-clause-whole
-returns-in-Ok-clause-whole c front rest f e spelled =
+pub returns-in-Ok-clause-complete : goal.returns-in-Ok-clause-complete
+returns-in-Ok-clause-complete c front rest f e spelled =
     let bytes = c.args.bytes.now in
     let found = c.in-Ok.ensures.ok in
     let there : IsFoundAt bytes front f = found_at bytes front rest f e spelled in
@@ -42,8 +42,8 @@ returns-in-Err-clause-fault c =
       | inr none ↦ inr (no_front c.args.bytes.now c.first_bytes-first.result.now c.first_bytes-first.ensures none)
     ]
 
-pub returns-in-Err-clause-whole : goal.returns-in-Err-clause-whole
-returns-in-Err-clause-whole c front rest f e spelled =
+pub returns-in-Err-clause-complete : goal.returns-in-Err-clause-complete
+returns-in-Err-clause-complete c front rest f e spelled =
     elim c.in-Err.ensures.none [
       | inl memory ↦ c.fault_of.ensures ∙ ap (fault_of c.args.bytes.now) memory ∙ no_memory_kept c.args.bytes.now
       | inr none ↦ absurd (no_front c.args.bytes.now c.first_bytes-first.result.now c.first_bytes-first.ensures none front rest f e spelled)

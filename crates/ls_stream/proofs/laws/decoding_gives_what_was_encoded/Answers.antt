@@ -7,5 +7,5 @@ pub returns : goal.returns
 returns c =
     let f = c.args.frame.now in
     let p = c.args.presets.now in
-    c.decode_frame.ensures.whole (codestream f p) [] f (c.deref.ensures.value ∙ c.in_ok-bytes.ensures.bytes ∙ sym (append-nil (codestream f p)))
+    c.decode_frame.ensures.complete (codestream f p) [] f (c.deref.ensures.value ∙ c.in_ok-bytes.ensures.bytes ∙ sym (append-nil (codestream f p)))
     (spells c.parameters_are_legal_or_at_fault.ensures.none f p c.maxval-2.ensures.lawful c.maxval.ensures.legal c.requires.maxval)

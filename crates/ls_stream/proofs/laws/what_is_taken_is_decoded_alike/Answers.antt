@@ -19,10 +19,10 @@ gave c =
     (read.2 ∙ ap (λ bs. bs ++ left) (sym is), subst (λ bs. IsNext bs left) (sym is) read.3.1)
 
 of_taken : (c : goal.After-drop-codestream) → IsDecoding c.deref.result.now c.decode_frame.result
-of_taken c = record { ok = c.decode_frame.ensures.ok; first = c.decode_frame.ensures.first; whole = c.decode_frame.ensures.whole; memory = c.decode_frame.ensures.memory }
+of_taken c = record { ok = c.decode_frame.ensures.ok; first = c.decode_frame.ensures.first; complete = c.decode_frame.ensures.complete; memory = c.decode_frame.ensures.memory }
 
 of_all : (c : goal.After-drop-codestream) → IsDecoding c.args.bytes.now c.decode_frame-in-Some.result
-of_all c = record { ok = c.decode_frame-in-Some.ensures.ok; first = c.decode_frame-in-Some.ensures.first; whole = c.decode_frame-in-Some.ensures.whole; memory = c.decode_frame-in-Some.ensures.memory }
+of_all c = record { ok = c.decode_frame-in-Some.ensures.ok; first = c.decode_frame-in-Some.ensures.first; complete = c.decode_frame-in-Some.ensures.complete; memory = c.decode_frame-in-Some.ensures.memory }
 
 pub returns-in-Some-clause-alike : goal.returns-in-Some-clause-alike
 returns-in-Some-clause-alike c =
@@ -33,7 +33,7 @@ returns-in-Some-clause-alike c =
     let faults = of_some c.in_ok-codestream.field-0 codestream (λ bytes. Tells (Some all) → AreBytes all → (fault : StreamFault) → IsFirstFault bytes.items fault ↔ IsFirstFault all fault)
     c.in-Some.is c.in_ok-codestream.ensures.fault refl are in
     decoded_alike c.parameters_are_legal_or_at_fault.ensures.legal c.deref.result.now c.next_stream.new.reader.now all (gave c).0 are
-    (λ front rest f e spelled. is ∙ match_some c.in_ok-codestream.field-0 codestream (λ bytes. bytes.items ≡ front) c.in-Some.is (c.in_ok-codestream.ensures.whole refl front rest f e spelled))
+    (λ front rest f e spelled. is ∙ match_some c.in_ok-codestream.field-0 codestream (λ bytes. bytes.items ≡ front) c.in-Some.is (c.in_ok-codestream.ensures.complete refl front rest f e spelled))
     (λ fault. subst (λ bs. IsFirstFault bs fault ↔ IsFirstFault all fault) (sym is) (faults fault))
     c.decode_frame.result c.decode_frame-in-Some.result (of_taken c) (of_all c)
 

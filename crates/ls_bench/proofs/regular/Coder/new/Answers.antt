@@ -6,5 +6,5 @@ pub invariant_of-result : goal.invariant_of-result
 unfolding state_of
 invariant_of-result c = record {
   samples = ap (λ (s : Coding). s.parameters.maxval) c.new.ensures ∙ c.default_of.ensures.maxval;
-  whole = ap (λ (s : Coding). s.broken) c.new.ensures;
+  uninterrupted = ap (λ (s : Coding). s.interrupted) c.new.ensures;
 }

@@ -14,7 +14,7 @@ push_reserved-requires c =
     let bits : 0 < length (packed_bits c.self.inside.start c.self.inside.bytes.items c.self.inside.word c.self.inside.held) = some_bits _ c.self.inside.word _ _ _ c.self.invariant some in
     let same : length (packed_bits c.self.inside.start c.self.inside.bytes.items c.self.inside.word c.self.inside.held) ≡ length c.args.self.bits =
     ap (λ (p : Packed). length p.bits) c.self.view_is ∙ ap length c.put_out_bytes.ensures.bits in
-    omega (arith, c.requires.room (omega arith), c.put_out_bytes.ensures.rest.room, ap (λ (p : Packed). p.room) c.self.view_is)
+    omega (arith, c.requires.room (omega arith), c.put_out_bytes.ensures.rest.room, ap (λ (p : Packed). p.capacity_left) c.self.view_is)
 
 pub returns-then-self-gt0-clause-bytes : goal.returns-then-self-gt0-clause-bytes
 returns-then-self-gt0-clause-bytes c =

@@ -21,7 +21,7 @@ accept_interruption-requires-clause-k c =
     let made : plan.the_view c.plan.inside ≡ interruption_plan (state.the_view s) c.plan.inside.neighbours =
     c.plan.view_is ∙ c.requires.plan ∙ ap (λ (t : Coding). interruption_plan t c.args.plan.neighbours) (sym c.self.view_is)
     ∙ ap (λ (x : Neighbours). interruption_plan (state.the_view s) x) (sym same) in
-    k_same s.counters.presets (contexts_of s.counters.a s.counters.b s.counters.c s.counters.n) s.counters.a s.counters.n s.counters.nn s.run_index s.broken c.plan.inside.neighbours (plan.the_view c.plan.inside) made
+    k_same s.counters.presets (contexts_of s.counters.a s.counters.b s.counters.c s.counters.n) s.counters.a s.counters.n s.counters.nn s.run_index s.interrupted c.plan.inside.neighbours (plan.the_view c.plan.inside) made
 
 pub accept_interruption-requires-clause-value : goal.accept_interruption-requires-clause-value
 accept_interruption-requires-clause-value c =
@@ -37,7 +37,7 @@ returns-in_err-sample-clause-none c =
     (subst (λ (x : Neighbours). NoSample (Interrupts c.args.self.now.parameters.maxval x.a) (λ one. (interruption_word_in c.args.self.now x one).value) c.args.value) same
     (subst (λ (t : Coding). NoSample (Interrupts t.parameters.maxval c.plan.inside.neighbours.a) (λ one. (interruption_word_in t c.plan.inside.neighbours one).value) c.args.value) c.self.view_is
     (no_sample_by _ _ _ c.args.value
-    (value_in_view s.counters.presets (contexts_of s.counters.a s.counters.b s.counters.c s.counters.n) s.counters.a s.counters.n s.counters.nn s.run_index s.broken c.plan.inside.neighbours)
+    (value_in_view s.counters.presets (contexts_of s.counters.a s.counters.b s.counters.c s.counters.n) s.counters.a s.counters.n s.counters.nn s.run_index s.interrupted c.plan.inside.neighbours)
     c.in_err-sample.ensures.none)))
 
 same_value : (c : goal.After-self-2-1) (one : ℕ)
@@ -45,7 +45,7 @@ same_value : (c : goal.After-self-2-1) (one : ℕ)
     ≡ (interruption_word_in (state.the_view c.self.inside) c.plan.inside.neighbours one).value
 same_value c one =
     let s = c.self.inside in
-    value_in_view s.counters.presets (contexts_of s.counters.a s.counters.b s.counters.c s.counters.n) s.counters.a s.counters.n s.counters.nn s.run_index s.broken c.plan.inside.neighbours one
+    value_in_view s.counters.presets (contexts_of s.counters.a s.counters.b s.counters.c s.counters.n) s.counters.a s.counters.n s.counters.nn s.run_index s.interrupted c.plan.inside.neighbours one
 
 pub returns-clause-ok : goal.returns-clause-ok
 returns-clause-ok c =

@@ -40,7 +40,7 @@ same_value : (c : goal.After-accept) (one : ℕ)
     ≡ (regular_word_in (state.the_view c.self.inside) c.args.plan.neighbours one).value
 same_value c one =
     let s = c.self.inside in
-    value_same s.counters.presets s.counters.a s.counters.n s.counters.b s.counters.c (counts_at s.counters.a s.counters.n s.counters.nn 0) (counts_at s.counters.a s.counters.n s.counters.nn 1) s.run_index s.broken
+    value_same s.counters.presets s.counters.a s.counters.n s.counters.b s.counters.c (counts_at s.counters.a s.counters.n s.counters.nn 0) (counts_at s.counters.a s.counters.n s.counters.nn 1) s.run_index s.interrupted
     c.args.plan.neighbours (plan.the_view c.plan.inside) (made_here c) one
 
 pub returns-clause-ok : goal.returns-clause-ok
@@ -60,7 +60,7 @@ returns-clause-state c =
     (λ sample h.
     alike_parameters _ _ _ _ _ _ _ c.accept.ensures.parameters
     ∙ alike s.counters.presets _ _ _ _ _ _ _ _ _ _
-    (h ∙ stepped_same s.counters.presets s.counters.a s.counters.n s.counters.b s.counters.c (counts_at s.counters.a s.counters.n s.counters.nn 0) (counts_at s.counters.a s.counters.n s.counters.nn 1) s.run_index s.broken
+    (h ∙ stepped_same s.counters.presets s.counters.a s.counters.n s.counters.b s.counters.c (counts_at s.counters.a s.counters.n s.counters.nn 0) (counts_at s.counters.a s.counters.n s.counters.nn 1) s.run_index s.interrupted
     c.args.plan.neighbours (plan.the_view c.plan.inside) (made_here c) sample)
     c.accept.ensures.ri_type_0 c.accept.ensures.ri_type_1 refl refl
     ∙ ap (λ (t : Coding). regular_after t (context_in t c.args.plan.neighbours).number (regular_error_in t c.args.plan.neighbours sample)) c.self.view_is)
@@ -71,6 +71,6 @@ returns-clause-events c events same =
     ok_map c.accept.result _ _
     (λ sample h. record {
       word_is = word_of_regular c.args.self.now c.args.plan.neighbours sample events same;
-      after_is = state_after_regular c.args.self.now _ c.args.plan.neighbours sample c.requires.whole h events same;
+      after_is = state_after_regular c.args.self.now _ c.args.plan.neighbours sample c.requires.uninterrupted h events same;
     })
     (returns-clause-state c)

@@ -15,7 +15,7 @@ pub returns-clause-word : goal.returns-clause-word
 returns-clause-word c =
     let s = c.self.inside in
     c.code_interruption-word.ensures.word
-    ∙ word_in_view s.counters.presets (contexts_of s.counters.a s.counters.b s.counters.c s.counters.n) s.counters.a s.counters.n s.counters.nn s.run_index s.broken c.args.neighbours.now c.args.sample
+    ∙ word_in_view s.counters.presets (contexts_of s.counters.a s.counters.b s.counters.c s.counters.n) s.counters.a s.counters.n s.counters.nn s.run_index s.interrupted c.args.neighbours.now c.args.sample
     ∙ ap (λ (t : Coding). interruption_word_in t c.args.neighbours.now c.args.sample) c.self.view_is
 
 pub returns-clause-cost : goal.returns-clause-cost

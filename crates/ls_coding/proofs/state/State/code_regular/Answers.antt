@@ -9,7 +9,7 @@ pub code_regular_at-requires : goal.code_regular_at-requires
 code_regular_at-requires c =
     let same = ap (λ (t : Coding). t.parameters) c.self.view_is in
     record {
-      may = may_code c.args.self.now c.args.neighbours.now c.args.sample c.mirror-mirrored.result c.requires.may.whole
+      may = may_code c.args.self.now c.args.neighbours.now c.args.sample c.mirror-mirrored.result c.requires.may.uninterrupted
           (subst (λ (p : Parameters). IsMirrored p c.args.neighbours.now c.args.sample c.mirror-mirrored.result) same c.mirror-mirrored.ensures.value);
     }
 

@@ -23,7 +23,7 @@ returns-clause-word c x sample is =
     let held = subst (λ (p : Parameters). IsMirrored p x sample c.args.mirrored) (sym (same c)) is in
     c.code.ensures.word
     ∙ word_is s.counters.presets s.counters.a s.counters.n s.counters.b s.counters.c x sample c.args.mirrored held
-    ∙ word_in_view s.counters.presets s.counters.a s.counters.n s.counters.b s.counters.c _ _ s.run_index s.broken x sample
+    ∙ word_in_view s.counters.presets s.counters.a s.counters.n s.counters.b s.counters.c _ _ s.run_index s.interrupted x sample
     ∙ ap (λ (t : Coding). regular_word_in t x sample) c.self.view_is
 
 pub returns-clause-state : goal.returns-clause-state
@@ -35,7 +35,7 @@ returns-clause-state c x sample is =
     (c.code.ensures.contexts
     ∙ step_is s.counters.presets s.counters.a s.counters.n s.counters.b s.counters.c x sample c.args.mirrored held
     ∙ ap (set (contexts_of s.counters.a s.counters.b s.counters.c s.counters.n) (context_of s.counters.presets x).number)
-    (step_in_view s.counters.presets s.counters.a s.counters.n s.counters.b s.counters.c _ _ s.run_index s.broken x sample))
+    (step_in_view s.counters.presets s.counters.a s.counters.n s.counters.b s.counters.c _ _ s.run_index s.interrupted x sample))
     c.code.ensures.ri_type_0 c.code.ensures.ri_type_1 refl refl
     ∙ ap (λ (t : Coding). regular_after t (context_in t x).number (regular_error_in t x sample)) c.self.view_is
 
@@ -49,5 +49,5 @@ returns-clause-cost c =
 pub returns-clause-events : goal.returns-clause-events
 returns-clause-events c x sample is events state = record {
   word_is = returns-clause-word c x sample is ∙ word_of_regular c.args.self.now x sample events state;
-  after_is = state_after_regular c.args.self.now _ x sample c.requires.may.whole (returns-clause-state c x sample is) events state;
+  after_is = state_after_regular c.args.self.now _ x sample c.requires.may.uninterrupted (returns-clause-state c x sample is) events state;
 }

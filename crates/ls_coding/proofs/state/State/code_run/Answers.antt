@@ -4,7 +4,7 @@ use Rattle.ls_frame.specs.Parameters.{qbpp_of, limit_of}
 use Rattle.ls_coding.specs.declared.run.RunWord.{RunWord}
 use Rattle.ls_coding.specs.Runs.{TailFits, order, run_of, run_word, word_bits, walked}
 use Rattle.ls_coding.specs.View.States.{Coding}
-use Rattle.ls_coding.proofs.RunLemmas.{full_cost, broken_cost, tail_fits}
+use Rattle.ls_coding.proofs.RunLemmas.{full_cost, interrupted_cost, tail_fits}
 use Rattle.ls_coding.proofs.StateLemmas.{word_is, state_after_run}
 use Rattle.ls_coding.proofs.WordLemmas.{limit_large}
 use Rattle.ls_coding.proofs.state.State.code_run.Goals as goal
@@ -22,8 +22,8 @@ returns-clause-full_cost c full =
     subst (λ (w : RunWord). length (word_bits w) ≤ limit * c.args.count) (sym (returns-clause-word c))
     (subst (λ (b : Bool). length (word_bits (run_word index (run_of c.args.count b))) ≤ limit * c.args.count) (sym (ap not full)) (full_cost index c.args.count limit (omega (arith, large))))
 
-pub returns-clause-broken_cost : goal.returns-clause-broken_cost
-returns-clause-broken_cost c broken =
+pub returns-clause-interrupted_cost : goal.returns-clause-interrupted_cost
+returns-clause-interrupted_cost c interrupted =
     let index : ℕ = c.args.self.now.run_index in
     let limit : ℕ = limit_of c.args.self.now.parameters.maxval in
     let large = limit_large c.args.self.now.parameters.maxval (qbpp_of c.args.self.now.parameters.maxval) refl in
@@ -31,8 +31,8 @@ returns-clause-broken_cost c broken =
     let word : RunWord = record { ones = c.walk-walked.result.ones; tail = c.tail.result } in
     subst (λ i. length (word_bits word) + (limit - order i - 1) ≤ limit * (c.args.count + 1)) (sym after)
     (subst (λ (w : RunWord). length (word_bits w) + (limit - order (walked index c.args.count).index - 1) ≤ limit * (c.args.count + 1)) (sym (returns-clause-word c))
-    (subst (λ (b : Bool). length (word_bits (run_word index (run_of c.args.count b))) + (limit - order (walked index c.args.count).index - 1) ≤ limit * (c.args.count + 1)) (sym broken)
-    (broken_cost index c.args.count limit (omega (arith, large)))))
+    (subst (λ (b : Bool). length (word_bits (run_word index (run_of c.args.count b))) + (limit - order (walked index c.args.count).index - 1) ≤ limit * (c.args.count + 1)) (sym interrupted)
+    (interrupted_cost index c.args.count limit (omega (arith, large)))))
 
 pub returns-clause-state : goal.returns-clause-state
 returns-clause-state c = search rules

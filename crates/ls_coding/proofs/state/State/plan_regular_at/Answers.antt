@@ -13,7 +13,7 @@ pub returns-clause-plan : goal.returns-clause-plan
 returns-clause-plan c =
     let s = c.self.inside in
     c.plan.ensures.plan
-    ∙ plan_in_view s.counters.presets s.counters.a s.counters.n s.counters.b s.counters.c (counts_at s.counters.a s.counters.n s.counters.nn 0) (counts_at s.counters.a s.counters.n s.counters.nn 1) s.run_index s.broken c.args.neighbours.now
+    ∙ plan_in_view s.counters.presets s.counters.a s.counters.n s.counters.b s.counters.c (counts_at s.counters.a s.counters.n s.counters.nn 0) (counts_at s.counters.a s.counters.n s.counters.nn 1) s.run_index s.interrupted c.args.neighbours.now
     ∙ ap (λ (t : Coding). regular_plan t c.args.neighbours.now) c.self.view_is
 
 pub returns-clause-word : goal.returns-clause-word

@@ -6,7 +6,7 @@ use Rattle.ls_film.proofs.playing.CodestreamsImages.next.Goals as goal
 
 pub returns-in-Err-TooLarge-clause-stops : goal.returns-in-Err-TooLarge-clause-stops
 returns-in-Err-TooLarge-clause-stops g c =
-    let whole = rw c.in-Err-TooLarge.field-0-is at c.in-Err-TooLarge.ensures.whole in
+    let whole = rw c.in-Err-TooLarge.field-0-is at c.in-Err-TooLarge.ensures.complete in
     let some = gave_some _ _ _ (c.in-Err-TooLarge.ensures.too_large c.in-Err-TooLarge.field-0-is) (λ bytes all. omega (arith, all)) in
     let most = gave_most _ _ (c.in-Err-TooLarge.ensures.too_large c.in-Err-TooLarge.field-0-is) in
     inr (λ told. (record { some = some told; none = λ front rest f split spells. too_large (whole told front rest f split spells) }, inr (refl, most told)))
@@ -14,7 +14,7 @@ returns-in-Err-TooLarge-clause-stops g c =
 pub returns-in-Ok-clause-frame : goal.returns-in-Ok-clause-frame
 returns-in-Ok-clause-frame g c =
     let gives = rw c.in-Ok-Some.field-0-is at c.in-Ok-Some.ensures.stream in
-    let only = rw c.in-Ok-Some.field-0-is at c.in-Ok-Some.ensures.whole in
+    let only = rw c.in-Ok-Some.field-0-is at c.in-Ok-Some.ensures.complete in
     let fitted = rw c.deref.ensures.value at c.in-Ok.ensures.ok.1 in
     let spells = rw c.shrink_to_fit.ensures.items at fitted in
     (spells.frame, gave_codestream _ _ c.in-Ok-Some.bytes.items c.in-Ok.decoded.used c.in-Ok.decoded.frame _ gives only spells)
@@ -25,7 +25,7 @@ returns-clause-stops g c =
     let none = rw c.shrink_to_fit.ensures.items at fitted in
     let first = first_alike (c.in-Err.fault ≡ stream.NoMemory) c.deref.result.now c.in-Ok-Some.bytes.items c.in-Err.fault (c.deref.ensures.value ∙ c.shrink_to_fit.ensures.items) c.in-Err.ensures.first in
     let alike = rw c.in-Ok-Some.field-0-is at c.in-Ok-Some.ensures.fault in
-    let only = rw c.in-Ok-Some.field-0-is at c.in-Ok-Some.ensures.whole in
+    let only = rw c.in-Ok-Some.field-0-is at c.in-Ok-Some.ensures.complete in
     let gives = rw c.in-Ok-Some.field-0-is at c.in-Ok-Some.ensures.stream in
     let some = gave_some _ _ _ gives (λ bytes next. next.1.some) in
     breaks_by (Tells (g.R.Read.remaining c.args.reader.now)) (c.in-Err.fault ≡ stream.NoMemory) _ c.in-Ok-Some.bytes.items c.in-Err.fault some only alike none first

@@ -1,7 +1,7 @@
 use Rattle.std.proofs.Common.{rules, ◌≡◌, ◌≢◌, ◌+◌, ◌-◌, Some, sym, subst, take, get_or, slice_range}
 use Rattle.std.specs.List.{AllByRecursion}
 use Rattle.ls_frame.specs.View.Known.{TakesUntil}
-use Rattle.ls_frame.proofs.MarkLemmas.{piece-until}
+use Rattle.ls_frame.proofs.MarkLemmas.{chunk-until}
 use Rattle.ls_frame.proofs.buffered.Buffered.append_until.Goals as goal
 
 pub returns-clause-taken : goal.returns-clause-taken
@@ -10,11 +10,11 @@ returns-clause-taken g c =
     let count = c.count_until-count in
     let before = c.args.bytes.now.items in
     let after = c.extend_from_slice.new.self.items in
-    let same : c.deref.result.now ≡ now.piece.items = search rules in
+    let same : c.deref.result.now ≡ now.chunk.items = search rules in
     let unmarked =
     subst (λ bs. AllByRecursion (λ byte. byte ≢ c.args.mark) (take (count.result - 1) (slice_range bs now.start now.end))) same count.ensures.unmarked in
     subst
-    (λ bs. TakesUntil c.args.mark c.args.most (Some (slice_range now.piece.items now.start now.end)) (Some (slice_range now.piece.items (now.start + count.result) now.end)) before after
+    (λ bs. TakesUntil c.args.mark c.args.most (Some (slice_range now.chunk.items now.start now.end)) (Some (slice_range now.chunk.items (now.start + count.result) now.end)) before after
     (get_or (slice_range bs now.start now.end) (count.result - 1) 0))
     (sym same)
-    (piece-until c.args.mark c.args.most now.piece.items now.start count.result now.end before after (search rules) count.ensures.some count.ensures.most (search rules) unmarked (search rules))
+    (chunk-until c.args.mark c.args.most now.chunk.items now.start count.result now.end before after (search rules) count.ensures.some count.ensures.most (search rules) unmarked (search rules))

@@ -10,7 +10,7 @@ invariant-loop-byte g l =
     (l.number ≤ 65536)
     × (g.R.Feed.failed_reads l.reader ≡ g.R.Feed.failed_reads l.fn.reader)
     × (IsSome (remaining l.fn.reader) → IsSome (remaining l.reader)
-    × (digits_at l.fn.number l.fn.room (known (remaining l.fn.reader)) ≡ digits_at l.number l.room (known (remaining l.reader))))
+    × (digits_at l.fn.number l.fn.allowed (known (remaining l.fn.reader)) ≡ digits_at l.number l.allowed (known (remaining l.reader))))
 
 abbrev pub decreases-loop-byte : goal.decreases-loop-byte
-decreases-loop-byte g l = l.room
+decreases-loop-byte g l = l.allowed

@@ -9,7 +9,7 @@ invariant-loop-byte g l =
     let remaining = g.R.Read.remaining in
     (g.R.Feed.failed_reads l.reader ≡ g.R.Feed.failed_reads l.fn.reader)
     × (IsSome (remaining l.fn.reader) → IsSome (remaining l.reader)
-    × (gap_at false l.fn.room (known (remaining l.fn.reader)) ≡ gap_at l.in_comment l.room (known (remaining l.reader))))
+    × (gap_at false l.fn.allowed (known (remaining l.fn.reader)) ≡ gap_at l.in_comment l.allowed (known (remaining l.reader))))
 
 abbrev pub decreases-loop-byte : goal.decreases-loop-byte
-decreases-loop-byte g l = l.room
+decreases-loop-byte g l = l.allowed

@@ -4,8 +4,8 @@ use Rattle.ls_frame.specs.View.Reading.{byte_count, are_within, with_front, samp
 use Rattle.ls_frame.proofs.netpbm.raster.read_samples.Given as goal
 
 -- the samples so far, and what is held and left to read after them, are what the whole is
-abbrev pub invariant-pieces : goal.invariant-pieces
-invariant-pieces g l =
+abbrev pub invariant-chunks : goal.invariant-chunks
+invariant-chunks g l =
     let remaining = g.R.Read.remaining in
     record {
       few : length l.samples.items ≤ l.count;
@@ -17,8 +17,8 @@ invariant-pieces g l =
       failures : g.R.Feed.failed_reads l.reader ≡ g.R.Feed.failed_reads l.fn.reader;
       said : IsSome (remaining l.fn.reader) → IsSome (remaining l.reader)
           × (samples_at l.wide l.maxval l.count (known (remaining l.fn.reader))
-          ≡ with_front l.samples.items (samples_at l.wide l.maxval (l.count - length l.samples.items) (take l.held l.piece ++ known (remaining l.reader))));
+          ≡ with_front l.samples.items (samples_at l.wide l.maxval (l.count - length l.samples.items) (take l.held l.chunk ++ known (remaining l.reader))));
     }
 
-abbrev pub decreases-pieces : goal.decreases-pieces
-decreases-pieces g l = byte_count l.wide (l.count - length l.samples.items) - l.held
+abbrev pub decreases-chunks : goal.decreases-chunks
+decreases-chunks g l = byte_count l.wide (l.count - length l.samples.items) - l.held

@@ -7,7 +7,7 @@ use Rattle.ls_coding.specs.View.States.{Coding}
 use Rattle.ls_stream.specs.View.LineBuffers.{ArePadded}
 use Rattle.ls_stream.proofs.ContextLemmas.{regular_by}
 use Rattle.std.proofs.lemmas.Result.{err_from_is_err_and}
-use Rattle.ls_stream.proofs.RowBreakLemmas.{sample_broken, sample_later}
+use Rattle.ls_stream.proofs.RowBreakLemmas.{sample_malformed, sample_later}
 use Rattle.ls_stream.proofs.DecodingLemmas.{sample_read, no_sample, is_longer, small_more}
 use Rattle.ls_stream.proofs.decode.row.decode_span.Goals as goal
 
@@ -20,7 +20,7 @@ returns-in_err-line-clause-stops c =
     rw (fault.1, fault.2) (record {
       none = no_sample maxval c.args.width c.args.column c.args.above.now c.args.line.now c.args.decoder.now.state c.args.decoder.now.bits n
           c.requires.inside c.neighbours_in-neighbours.ensures regular c.in_err-line.ensures.none;
-      breaks = sample_broken maxval c.args.width c.args.column c.args.above.now c.args.line.now c.args.decoder.now.state c.args.decoder.now.bits n _
+      breaks = sample_malformed maxval c.args.width c.args.column c.args.above.now c.args.line.now c.args.decoder.now.state c.args.decoder.now.bits n _
           c.requires.inside c.neighbours_in-neighbours.ensures regular c.requires.lines.line_small c.in_err-line.ensures.fault;
     })
 
@@ -49,6 +49,6 @@ returns-then-context-ne0-clause-on c =
         line_small = small_more maxval (column + 1) x line c.requires.lines.line_small c.in_ok-line.ensures.within inside;
       });
       first = longer.before 0 (omega arith);
-      whole = ap (λ (t : Coding). t.broken) c.in_ok-line.ensures.state ∙ c.requires.whole;
+      uninterrupted = ap (λ (t : Coding). t.interrupted) c.in_ok-line.ensures.state ∙ c.requires.uninterrupted;
       parameters = parameters;
     }

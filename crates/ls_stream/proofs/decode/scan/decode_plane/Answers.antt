@@ -5,12 +5,12 @@ use Rattle.ls_frame.specs.Parameters.{Parameters}
 use Rattle.ls_stream.specs.View.BitFaults.{BreaksSpans}
 use Rattle.ls_stream.specs.Planes.{Plane, spans}
 use Rattle.ls_stream.specs.Components.{component_plane}
-use Rattle.ls_stream.proofs.CodedLemmas.{whole_of}
+use Rattle.ls_stream.proofs.CodedLemmas.{uninterrupted_of}
 use Rattle.ls_stream.proofs.ScanReadingLemmas.{starts, started, ended, ends, all_rows_are, rows_of_component, is_sample_plane}
 use Rattle.ls_stream.proofs.decode.scan.decode_plane.Goals as goal
 
-pub decode_rows-requires-clause-whole : goal.decode_rows-requires-clause-whole
-decode_rows-requires-clause-whole c = ap (λ (s : Coding). s.broken) c.requires.state ∙ whole_of c.args.decoder.now.state.parameters [] refl
+pub decode_rows-requires-clause-uninterrupted : goal.decode_rows-requires-clause-uninterrupted
+decode_rows-requires-clause-uninterrupted c = ap (λ (s : Coding). s.interrupted) c.requires.state ∙ uninterrupted_of c.args.decoder.now.state.parameters [] refl
 
 pub returns-clause-plane : goal.returns-clause-plane
 returns-clause-plane c =
@@ -63,9 +63,9 @@ pub returns-clause-breaks : goal.returns-clause-breaks
 returns-clause-breaks c =
     let p : Parameters = c.args.decoder.now.state.parameters in
     err_map c.decode_rows.result _ _
-    (λ fault broken. record {
-      plane = broken.0;
-      is_plane = broken.1;
-      breaks = subst (λ (s : Coding). BreaksSpans broken.0 (spans broken.0) s c.args.decoder.now.bits fault) c.requires.state broken.2;
+    (λ fault malformed. record {
+      plane = malformed.0;
+      is_plane = malformed.1;
+      breaks = subst (λ (s : Coding). BreaksSpans malformed.0 (spans malformed.0) s c.args.decoder.now.bits fault) c.requires.state malformed.2;
     })
     c.decode_rows.ensures.breaks

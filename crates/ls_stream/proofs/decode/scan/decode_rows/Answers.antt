@@ -7,7 +7,7 @@ use Rattle.ls_stream.specs.View.LineBuffers.{HoldsLine}
 use Rattle.ls_stream.specs.View.Decoding.{place, AreSamePlanes, IsNoPlane}
 use Rattle.ls_stream.proofs.DecodingLemmas.{small_more}
 use Rattle.std.proofs.lemmas.Result.{err_from_is_err_and}
-use Rattle.ls_stream.proofs.ScanBreakLemmas.{rows_later, row_broken, rows_broken}
+use Rattle.ls_stream.proofs.ScanBreakLemmas.{rows_later, row_malformed, rows_malformed}
 use Rattle.ls_stream.proofs.ScanReadingLemmas.{IsStored, row_read, no_row, line_held}
 use Rattle.ls_stream.proofs.StoringLemmas.{other_row, other_component, small_stored}
 use Rattle.ls_stream.proofs.decode.scan.decode_rows.Goals as goal
@@ -57,10 +57,10 @@ loop-row-preserved c =
           subst (λ xs. HoldsLine plane (row + 1) xs) (sym c.copy_from_slice.ensures.after)
           (line_held maxval width height count component row c.loop-row.above line read c.loop-row.samples c.store_row.new.samples plane
           inside c.requires.some is (c.loop-row.invariant.held plane is) first c.in_ok-decode_row.ensures.on.first read_length stored rows);
-      breaks = λ plane is rows fault broken.
+      breaks = λ plane is rows fault malformed.
           let before = rows_later c.args.decoder.now.state.parameters c.loop-row.decoder.state.parameters width height count component row c.loop-row.above line read c.loop-row.samples c.store_row.new.samples
           c.loop-row.decoder.state c.decode_row.new.decoder.state c.loop-row.decoder.bits c.decode_row.new.decoder.bits plane fault c.loop-row.invariant.parameters
-          inside c.requires.some is (c.loop-row.invariant.held plane is) c.in_ok-decode_row.ensures.on.later first c.in_ok-decode_row.ensures.on.first stored rows broken in
+          inside c.requires.some is (c.loop-row.invariant.held plane is) c.in_ok-decode_row.ensures.on.later first c.in_ok-decode_row.ensures.on.first stored rows malformed in
           c.loop-row.invariant.breaks plane is before.0 fault before.1;
       others = λ k other h differs.
           c.store_row.ensures.kept (k * count + other) (λ j l. other_component k other (row * width + j) count component h c.requires.component differs)
@@ -72,7 +72,7 @@ loop-row-preserved c =
       line_length = length-set read (width + 1) (get_or read width 0) ∙ read_length;
       half_contexts = c.decode_row.auto.half_contexts ∙ c.loop-row.invariant.half_contexts;
       len = c.store_row.ensures.len ∙ c.loop-row.invariant.len;
-      whole = c.in_ok-decode_row.ensures.on.whole;
+      uninterrupted = c.in_ok-decode_row.ensures.on.uninterrupted;
       parameters = c.in_ok-decode_row.ensures.on.parameters ∙ c.loop-row.invariant.parameters;
     }
 
@@ -85,7 +85,7 @@ returns-in_err-decode_row-clause-breaks c =
     let first : get_or line 0 0 ≡ get_or c.loop-row.above 1 0 = get_or-set_same c.loop-row.line 0 (get_or c.loop-row.above 1 0) 0 (omega (arith, c.loop-row.invariant.line_length)) in
     let fault = err_from_is_err_and c.from_residual.result c.from_residual.ensures.1 in
     rw (fault.1, fault.2)
-    (rows_broken p width height c.args.shape.components c.args.component c.loop-row.row c.loop-row.samples c.args.decoder.now.state c.loop-row.decoder.state c.args.decoder.now.bits c.loop-row.decoder.bits _
+    (rows_malformed p width height c.args.shape.components c.args.component c.loop-row.row c.loop-row.samples c.args.decoder.now.state c.loop-row.decoder.state c.args.decoder.now.bits c.loop-row.decoder.bits _
     c.requires.some c.loop-row.invariant.breaks
-    (row_broken p c.loop-row.decoder.state.parameters width height c.args.shape.components c.args.component c.loop-row.row c.loop-row.above line c.loop-row.samples c.loop-row.decoder.state c.loop-row.decoder.bits _
+    (row_malformed p c.loop-row.decoder.state.parameters width height c.args.shape.components c.args.component c.loop-row.row c.loop-row.above line c.loop-row.samples c.loop-row.decoder.state c.loop-row.decoder.bits _
     c.loop-row.invariant.parameters c.loop-row-test.true c.requires.some c.loop-row.invariant.held c.loop-row.invariant.small first c.in_err-decode_row.ensures.stops.breaks))

@@ -24,6 +24,6 @@ invariant-loop-row l = record {
   line_length : length l.line ≡ l.shape.width + 2;
   half_contexts : length l.half_contexts ≡ l.shape.width;
   len : length l.samples ≡ length l.fn.samples;
-  whole : l.decoder.state.broken ≡ false;
+  uninterrupted : l.decoder.state.interrupted ≡ false;
   parameters : l.decoder.state.parameters ≡ l.fn.decoder.state.parameters;
 }

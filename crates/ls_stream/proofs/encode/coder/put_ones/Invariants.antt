@@ -3,4 +3,4 @@ use Rattle.ls_stream.proofs.encode.coder.put_ones.Given as goal
 
 abbrev pub invariant-loop-done : goal.invariant-loop-done
 invariant-loop-done l =
-    (l.sink.bits ≡ l.fn.sink.bits ++ replicate l.done true) × (l.sink.front ≡ l.fn.sink.front) × (l.sink.room ≡ l.fn.sink.room)
+    (l.sink.bits ≡ l.fn.sink.bits ++ replicate l.done true) × (l.sink.front ≡ l.fn.sink.front) × (l.sink.capacity_left ≡ l.fn.sink.capacity_left)

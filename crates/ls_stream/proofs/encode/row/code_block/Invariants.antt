@@ -11,10 +11,10 @@ invariant-spans l = record {
       → all_from plane l.coder.bits l.coder.state (row_from plane i l.column ++ more) ≡ all_from plane l.fn.coder.bits l.fn.coder.state (row_from plane i l.start ++ more);
   cost : length l.coder.bits + limit_of l.fn.coder.state.parameters.maxval * (l.width - l.column) ≤ length l.fn.coder.bits + limit_of l.fn.coder.state.parameters.maxval * (l.width - l.start);
   next : l.start ≤ l.column;
-  whole : l.coder.state.broken ≡ false;
+  uninterrupted : l.coder.state.interrupted ≡ false;
   parameters : l.coder.state.parameters ≡ l.fn.coder.state.parameters;
   front : l.coder.front ≡ l.fn.coder.front;
-  room : l.coder.room ≡ l.fn.coder.room;
+  room : l.coder.capacity_left ≡ l.fn.coder.capacity_left;
 }
 
 abbrev pub decreases-spans : goal.decreases-spans

@@ -12,10 +12,10 @@ invariant-columns l = record {
   cost : length l.coder.bits + limit_of l.fn.coder.state.parameters.maxval * (l.width - l.column) ≤ length l.fn.coder.bits + limit_of l.fn.coder.state.parameters.maxval * l.width;
   some : 1 ≤ l.size;
   few : l.size ≤ 64;
-  whole : l.coder.state.broken ≡ false;
+  uninterrupted : l.coder.state.interrupted ≡ false;
   parameters : l.coder.state.parameters ≡ l.fn.coder.state.parameters;
   front : l.coder.front ≡ l.fn.coder.front;
-  room : l.coder.room ≡ l.fn.coder.room;
+  room : l.coder.capacity_left ≡ l.fn.coder.capacity_left;
 }
 
 abbrev pub decreases-columns : goal.decreases-columns

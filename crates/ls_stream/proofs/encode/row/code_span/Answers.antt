@@ -9,7 +9,7 @@ use Rattle.ls_stream.proofs.encode.row.code_span.Goals as goal
 
 pub code_sample-requires-clause-may : goal.code_sample-requires-clause-may
 code_sample-requires-clause-may c =
-    may_code c.args.coder.now.state (neighbours_in c.args.above.now c.args.line.now c.args.column) (get_or c.args.line.now (c.args.column + 1) 0) c.args.mirrored c.requires.whole c.requires.mirrored
+    may_code c.args.coder.now.state (neighbours_in c.args.above.now c.args.line.now c.args.column) (get_or c.args.line.now (c.args.column + 1) 0) c.args.mirrored c.requires.uninterrupted c.requires.mirrored
 
 pub returns-then-mirrored-ne0-clause-span : goal.returns-then-mirrored-ne0-clause-span
 returns-then-mirrored-ne0-clause-span c plane i same lines more =
@@ -25,8 +25,8 @@ returns-then-end-width-clause-span c plane i same lines more =
     row_to_end plane i c.args.column c.run_end-end.result c.args.above.now c.args.line.now _ _ c.args.coder.now.state _ (neighbours_in c.args.above.now c.args.line.now c.args.column) c.args.width same lines
     c.requires.inside c.run_end-end.ensures c.if-end-width.true refl (sym c.requires.mode ∙ eq-eqb c.args.mirrored.context 0 c.if-mirrored-ne0.false) c.code_run_to_end.ensures.bits c.code_run_to_end.ensures.state more
 
-pub code_broken_run-requires-clause-sample : goal.code_broken_run-requires-clause-sample
-code_broken_run-requires-clause-sample c =
+pub code_interrupted_run-requires-clause-sample : goal.code_interrupted_run-requires-clause-sample
+code_interrupted_run-requires-clause-sample c =
     let neighbours_in : c.run_end-end.result < c.args.width = omega (arith, c.run_end-end.ensures.high) in
     let left : c.neighbours_in-around.result.a ≡ get_or c.args.line.now c.run_end-end.result 0 = ap (λ (n : Neighbours). n.a) c.neighbours_in-around.ensures in
     record {
@@ -37,7 +37,7 @@ code_broken_run-requires-clause-sample c =
 pub returns-clause-span : goal.returns-clause-span
 returns-clause-span c plane i same lines more =
     row_to_break plane i c.args.column c.run_end-end.result c.args.above.now c.args.line.now _ _ c.args.coder.now.state _ (neighbours_in c.args.above.now c.args.line.now c.args.column) c.neighbours_in-around.result c.args.width same lines
-    c.requires.inside c.run_end-end.ensures (omega (arith, c.run_end-end.ensures.high)) refl (sym c.requires.mode ∙ eq-eqb c.args.mirrored.context 0 c.if-mirrored-ne0.false) c.neighbours_in-around.ensures c.code_broken_run.ensures.bits c.code_broken_run.ensures.state more
+    c.requires.inside c.run_end-end.ensures (omega (arith, c.run_end-end.ensures.high)) refl (sym c.requires.mode ∙ eq-eqb c.args.mirrored.context 0 c.if-mirrored-ne0.false) c.neighbours_in-around.ensures c.code_interrupted_run.ensures.bits c.code_interrupted_run.ensures.state more
 
 pub returns-clause-cost : goal.returns-clause-cost
 returns-clause-cost c =
@@ -45,4 +45,4 @@ returns-clause-cost c =
     let column = c.args.column in
     let end = c.run_end-end.result in
     let neighbours_in : end < c.args.width = omega (arith, c.run_end-end.ensures.high) in
-    omega (arith, c.code_broken_run.ensures.cost, spent limit (end - column + 1) (c.args.width - (end + 1)) (c.args.width - column) (omega (arith, c.run_end-end.ensures.low)))
+    omega (arith, c.code_interrupted_run.ensures.cost, spent limit (end - column + 1) (c.args.width - (end + 1)) (c.args.width - column) (omega (arith, c.run_end-end.ensures.low)))

@@ -1,6 +1,6 @@
 use Rattle.std.proofs.Common.{[], refl, ap, ◌∙◌}
 use Rattle.ls_coding.specs.View.States.{Coding}
-use Rattle.ls_stream.proofs.CodedLemmas.{whole_of}
+use Rattle.ls_stream.proofs.CodedLemmas.{uninterrupted_of}
 use Rattle.ls_stream.proofs.FrameLemmas.{length_of, small_of, room_of, cost_of, bits_of}
 use Rattle.ls_stream.proofs.encode.scan.code_plane.Goals as goal
 
@@ -10,8 +10,8 @@ code_rows-requires-clause-samples c = length_of c.args.frame.now c.shape_of-shap
 pub code_rows-requires-clause-small : goal.code_rows-requires-clause-small
 code_rows-requires-clause-small c = small_of c.args.frame.now _ c.args.coder.now.state.parameters _ c.samples.ensures.lawful c.samples.ensures.value c.requires.state c.requires.maxval
 
-pub code_rows-requires-clause-whole : goal.code_rows-requires-clause-whole
-code_rows-requires-clause-whole c = ap (λ (s : Coding). s.broken) c.requires.state ∙ whole_of c.args.coder.now.state.parameters [] refl
+pub code_rows-requires-clause-uninterrupted : goal.code_rows-requires-clause-uninterrupted
+code_rows-requires-clause-uninterrupted c = ap (λ (s : Coding). s.interrupted) c.requires.state ∙ uninterrupted_of c.args.coder.now.state.parameters [] refl
 
 pub code_rows-requires-clause-room : goal.code_rows-requires-clause-room
 code_rows-requires-clause-room c =

@@ -24,7 +24,7 @@ code_row-requires-clause-room c =
     let limit = limit_of c.args.coder.now.state.parameters.maxval in
     let rows : c.args.shape.width * 1 ≤ c.args.shape.width * (c.args.shape.height - c.loop-row.row) = mul-le c.args.shape.width 1 c.args.shape.width (c.args.shape.height - c.loop-row.row) (omega arith) (omega arith) in
     let one : limit * (c.args.shape.width * 1) ≤ limit * (c.args.shape.width * (c.args.shape.height - c.loop-row.row)) = mul-le limit (c.args.shape.width * 1) limit (c.args.shape.width * (c.args.shape.height - c.loop-row.row)) (omega arith) rows in
-    subst (λ (q : Parameters). Fits (length c.loop-row.coder.bits + limit_of q.maxval * c.args.shape.width) c.loop-row.coder.room) (sym c.loop-row.invariant.parameters)
+    subst (λ (q : Parameters). Fits (length c.loop-row.coder.bits + limit_of q.maxval * c.args.shape.width) c.loop-row.coder.capacity_left) (sym c.loop-row.invariant.parameters)
     (omega (arith, c.loop-row.invariant.cost, c.loop-row.invariant.room, c.requires.room))
 
 pub loop-row-preserved : goal.loop-row-preserved
@@ -68,7 +68,7 @@ loop-row-preserved c =
           spent limit c.args.shape.width (c.args.shape.width * (c.args.shape.height - (row + 1))) (c.args.shape.width * (c.args.shape.height - row)) left in
           let same_limit : limit_of c.loop-row.coder.state.parameters.maxval * c.args.shape.width ≡ limit * c.args.shape.width = ap (λ (q : Parameters). limit_of q.maxval * c.args.shape.width) c.loop-row.invariant.parameters in
           omega (arith, c.code_row.ensures.cost, c.loop-row.invariant.cost);
-      whole = c.code_row.ensures.whole;
+      uninterrupted = c.code_row.ensures.uninterrupted;
       parameters = c.code_row.ensures.parameters ∙ c.loop-row.invariant.parameters;
       front = c.code_row.ensures.front ∙ c.loop-row.invariant.front;
       room = c.code_row.ensures.room ∙ c.loop-row.invariant.room;

@@ -15,8 +15,8 @@ invariant-loop-row l = record {
   above_length : length l.above ≡ l.shape.width + 2;
   line_length : length l.line ≡ l.shape.width + 2;
   cost : length l.coder.bits + limit_of l.fn.coder.state.parameters.maxval * (l.shape.width * (l.shape.height - l.row)) ≤ length l.fn.coder.bits + limit_of l.fn.coder.state.parameters.maxval * (l.shape.width * l.shape.height);
-  whole : l.coder.state.broken ≡ false;
+  uninterrupted : l.coder.state.interrupted ≡ false;
   parameters : l.coder.state.parameters ≡ l.fn.coder.state.parameters;
   front : l.coder.front ≡ l.fn.coder.front;
-  room : l.coder.room ≡ l.fn.coder.room;
+  room : l.coder.capacity_left ≡ l.fn.coder.capacity_left;
 }

@@ -16,8 +16,8 @@ code_plane-requires-clause-state c = c.new-coder.ensures.state ∙ ap (λ p. sta
 
 pub code_plane-requires-clause-room : goal.code_plane-requires-clause-room
 code_plane-requires-clause-room c =
-    let most : limit_of c.args.presets.now.maxval * (c.args.frame.now.width * c.args.frame.now.height) / 7 + 1 ≤ c.new-coder.result.room = omega (arith, c.new-coder.ensures.room, c.requires.room) in
-    subst (λ (p : Parameters). Fits (limit_of p.maxval * (c.args.frame.now.width * c.args.frame.now.height)) c.new-coder.result.room) (sym c.new-coder.ensures.parameters) most
+    let most : limit_of c.args.presets.now.maxval * (c.args.frame.now.width * c.args.frame.now.height) / 7 + 1 ≤ c.new-coder.result.capacity_left = omega (arith, c.new-coder.ensures.room, c.requires.room) in
+    subst (λ (p : Parameters). Fits (limit_of p.maxval * (c.args.frame.now.width * c.args.frame.now.height)) c.new-coder.result.capacity_left) (sym c.new-coder.ensures.parameters) most
 
 pub returns-clause-bytes : goal.returns-clause-bytes
 returns-clause-bytes c =

@@ -13,7 +13,7 @@ use Rattle.ls_stream.proofs.decode.decoder.Decoder.decode_run.Goals as goal
 pub returns-in_err-bit-clause-none : goal.returns-in_err-bit-clause-none
 returns-in_err-bit-clause-none c =
     err_always c.from_residual.result _
-    (λ count broken rest ends e. no_bit c.args.left c.ones.count c.args.self.now.state.run_index c.ones.self-inside.state.now.run_index count broken c.args.self.now.bits c.ones.self-inside.source rest
+    (λ count interrupted rest ends e. no_bit c.args.left c.ones.count c.args.self.now.state.run_index c.ones.self-inside.state.now.run_index count interrupted c.args.self.now.bits c.ones.self-inside.source rest
     c.ones.invariant.in_run c.ones.invariant.short c.in_err-bit.ensures.fault.1 ends e)
 
 pub returns-then-count-left-clause-bits : goal.returns-then-count-left-clause-bits
@@ -26,9 +26,9 @@ pub returns-then-count-left-clause-state : goal.returns-then-count-left-clause-s
 returns-then-count-left-clause-state c = c.accept_one.ensures.state ∙ c.ones.invariant.states c.accept_one.result false
 
 pub returns-then-count-left-clause-only : goal.returns-then-count-left-clause-only
-returns-then-count-left-clause-only c count broken rest ends e =
+returns-then-count-left-clause-only c count interrupted rest ends e =
     let part = of_one c.ones.self-inside.state.now.run_index (c.args.left - c.ones.count) c.accept_one.result c.accept_one.ensures.count (omega (arith, c.ones.invariant.short)) in
-    only_to_end c.args.left c.ones.count c.args.self.now.state.run_index c.ones.self-inside.state.now.run_index c.accept_one.result count broken c.args.self.now.bits c.ones.self-inside.source c.bit.new.self rest
+    only_to_end c.args.left c.ones.count c.args.self.now.state.run_index c.ones.self-inside.state.now.run_index c.accept_one.result count interrupted c.args.self.now.bits c.ones.self-inside.source c.bit.new.self rest
     c.ones.invariant.in_run c.ones.invariant.short (bit_is_one _ _ _ c.in_ok-bit.ensures.ok c.if-branch-eq1.true) (omega (arith, c.if-count-left.true)) part.1 ends e
 
 pub ones-preserved : goal.ones-preserved
@@ -43,16 +43,16 @@ ones-preserved c =
     ] in
     record {
       short = more;
-      whole = ap (λ (s : Coding). s.broken) c.accept_one.ensures.state;
+      uninterrupted = ap (λ (s : Coding). s.interrupted) c.accept_one.ensures.state;
       parameters = ap (λ (s : Coding). s.parameters) c.accept_one.ensures.state ∙ c.ones.invariant.parameters;
       qbpp = c.ones.invariant.qbpp;
       legal = c.ones.invariant.legal;
       regions = c.ones.invariant.regions;
       words = c.ones.invariant.words;
-      breaks = λ fault broken. c.ones.invariant.breaks fault
+      breaks = λ fault malformed. c.ones.invariant.breaks fault
           (run_later c.ones.self-inside.state.now.run_index c.accept_one.new.self.run_index (c.args.left - c.ones.count) (c.args.left - (c.ones.count + c.accept_one.result)) c.ones.self-inside.source c.bit.new.self fault
           (bit_is_one _ _ _ c.in_ok-bit.ensures.ok c.if-branch-eq1.true) (next_index c.ones.self-inside.state.now c.accept_one.new.self c.accept_one.result c.accept_one.ensures.state whole)
-          (omega (arith, whole, more)) (omega (arith, whole, more)) broken);
+          (omega (arith, whole, more)) (omega (arith, whole, more)) malformed);
       in_run = one_read c.args.left c.ones.count c.args.self.now.state.run_index c.ones.self-inside.state.now.run_index c.accept_one.result c.accept_one.new.self.run_index c.args.self.now.bits c.ones.self-inside.source c.bit.new.self
           c.ones.invariant.in_run c.ones.invariant.short (bit_is_one _ _ _ c.in_ok-bit.ensures.ok c.if-branch-eq1.true) whole
           (next_index c.ones.self-inside.state.now c.accept_one.new.self c.accept_one.result c.accept_one.ensures.state whole) more;
@@ -62,18 +62,18 @@ ones-preserved c =
 pub returns-in_err-rest-clause-none : goal.returns-in_err-rest-clause-none
 returns-in_err-rest-clause-none c =
     err_always c.from_residual-in_err-rest.result _
-    (λ count broken rest ends e. few_bits c.args.left c.ones.count c.args.self.now.state.run_index c.ones.self-inside.state.now.run_index count broken c.args.self.now.bits c.ones.self-inside.source c.bit.new.self rest
+    (λ count interrupted rest ends e. few_bits c.args.left c.ones.count c.args.self.now.state.run_index c.ones.self-inside.state.now.run_index count interrupted c.args.self.now.bits c.ones.self-inside.source c.bit.new.self rest
     c.ones.invariant.in_run c.ones.invariant.short (bit_is_zero _ _ _ c.in_ok-bit.ensures.ok c.in_ok-bit.ensures.value c.if-branch-eq1.false)
     (omega (arith, c.in_err-rest.ensures.fault.1, c.break_width.ensures.value)) ends e)
 
 pub returns-in_err-accept_break-clause-none : goal.returns-in_err-accept_break-clause-none
 returns-in_err-accept_break-clause-none c =
     err_always c.from_residual-in_err-accept_break.result _
-    (λ count broken rest ends e.
+    (λ count interrupted rest ends e.
     let width : ℕ = order c.ones.self-inside.state.now.run_index in
     let mid = subst (λ n. c.bit.new.self ≡ bits_of n c.in_ok-rest.rest ++ c.bits.new.self) c.break_width.ensures.value c.in_ok-rest.ensures.ok in
     let small : c.in_ok-rest.rest < 2 ^ width = subst (λ n. c.in_ok-rest.rest < 2 ^ n) c.break_width.ensures.value c.in_ok-rest.ensures.value in
-    let same = only_break c.args.left c.ones.count c.args.self.now.state.run_index c.ones.self-inside.state.now.run_index c.in_ok-rest.rest count broken c.args.self.now.bits c.ones.self-inside.source c.bit.new.self c.bits.new.self rest
+    let same = only_break c.args.left c.ones.count c.args.self.now.state.run_index c.ones.self-inside.state.now.run_index c.in_ok-rest.rest count interrupted c.args.self.now.bits c.ones.self-inside.source c.bit.new.self c.bits.new.self rest
     c.ones.invariant.in_run c.ones.invariant.short (bit_is_zero _ _ _ c.in_ok-bit.ensures.ok c.in_ok-bit.ensures.value c.if-branch-eq1.false) mid small ends e in
     absurd (omega (arith, same.3, c.in_err-accept_break.ensures.fault.1)))
 
@@ -89,11 +89,11 @@ pub returns-clause-state : goal.returns-clause-state
 returns-clause-state c = c.in_ok-accept_break.ensures.state ∙ c.ones.invariant.states c.in_ok-rest.rest true
 
 pub returns-clause-only : goal.returns-clause-only
-returns-clause-only c count broken rest ends e =
+returns-clause-only c count interrupted rest ends e =
     let width : ℕ = order c.ones.self-inside.state.now.run_index in
     let mid = subst (λ n. c.bit.new.self ≡ bits_of n c.in_ok-rest.rest ++ c.bits.new.self) c.break_width.ensures.value c.in_ok-rest.ensures.ok in
     let small : c.in_ok-rest.rest < 2 ^ width = subst (λ n. c.in_ok-rest.rest < 2 ^ n) c.break_width.ensures.value c.in_ok-rest.ensures.value in
-    let same = only_break c.args.left c.ones.count c.args.self.now.state.run_index c.ones.self-inside.state.now.run_index c.in_ok-rest.rest count broken c.args.self.now.bits c.ones.self-inside.source c.bit.new.self c.bits.new.self rest
+    let same = only_break c.args.left c.ones.count c.args.self.now.state.run_index c.ones.self-inside.state.now.run_index c.in_ok-rest.rest count interrupted c.args.self.now.bits c.ones.self-inside.source c.bit.new.self c.bits.new.self rest
     c.ones.invariant.in_run c.ones.invariant.short (bit_is_zero _ _ _ c.in_ok-bit.ensures.ok c.in_ok-bit.ensures.value c.if-branch-eq1.false) mid small ends e in
     (same.0, same.1, same.2)
 

@@ -10,7 +10,7 @@ use Rattle.ls_stream.proofs.decode.decoder.Decoder.decode_run.Given as goal
 abbrev pub invariant-ones : goal.invariant-ones
 invariant-ones l = record {
   short : l.count < l.left;
-  whole : l.self-inside.state.now.broken ≡ false;
+  uninterrupted : l.self-inside.state.now.interrupted ≡ false;
   parameters : l.self-inside.state.now.parameters ≡ l.self-inside.presets;
   qbpp : l.self-inside.qbpp ≡ qbpp_of l.self-inside.presets.maxval;
   legal : IsLegal l.self-inside.presets;
@@ -18,7 +18,7 @@ invariant-ones l = record {
   words : l.self-inside.words.now ≡ record { glimit = limit_of l.self-inside.presets.maxval; qbpp = qbpp_of l.self-inside.presets.maxval };
   breaks : (fault : CodeFault) → BreaksRun l.self-inside.state.now.run_index (l.left - l.count) l.self-inside.source fault → BreaksRun l.fn.self.state.run_index l.left l.fn.self.bits fault;
   in_run : IsInRun l.left l.count l.fn.self.state.run_index l.self-inside.state.now.run_index l.fn.self.bits l.self-inside.source;
-  states : (count : ℕ) (broken : Bool) → run_after l.self-inside.state.now (run_of count broken) ≡ run_after l.fn.self.state (run_of (l.count + count) broken);
+  states : (count : ℕ) (interrupted : Bool) → run_after l.self-inside.state.now (run_of count interrupted) ≡ run_after l.fn.self.state (run_of (l.count + count) interrupted);
 }
 
 abbrev pub decreases-ones : goal.decreases-ones

@@ -1,4 +1,4 @@
--- Pieces of a text that go out one after the other, and the bytes of samples in pieces.
+-- Chunks of a text that go out one after the other, and the bytes of samples in chunks.
 use Rattle.std.proofs.Common.{◌≡◌, ℕ, ◌+◌, ◌-◌, ◌*◌, ◌/◌, ◌%◌, ◌<◌, ◌≤◌, Bool, true, false, List, [], ◌∷◌, ◌++◌, length, take, drop, get_or, set, Option, refl, sym, ap, subst, ◌∙◌, arith, append_assoc, append-nil}
 use Rattle.std.proofs.KnownBytes.{Appends-trans}
 use Rattle.std.proofs.Math.Seq.{take-append-add, take-add}
@@ -46,17 +46,17 @@ raster_bytes-more wide samples i within =
     ∙ ap (λ bs. raster_bytes wide (take i samples) ++ bs) (raster_bytes-one wide (get_or samples i 0))
 
 -- laid after those before
-pub wide-more : (piece samples : List ℕ) (i : ℕ) → i < length samples → 2 * length samples ≤ length piece → take (2 * i) piece ≡ raster_bytes true (take i samples)
-    → take (2 * (i + 1)) (set (set piece (2 * i) (get_or samples i 0 / 256)) (2 * i + 1) (get_or samples i 0 % 256)) ≡ raster_bytes true (take (i + 1) samples)
-wide-more piece samples i within room before =
+pub wide-more : (chunk samples : List ℕ) (i : ℕ) → i < length samples → 2 * length samples ≤ length chunk → take (2 * i) chunk ≡ raster_bytes true (take i samples)
+    → take (2 * (i + 1)) (set (set chunk (2 * i) (get_or samples i 0 / 256)) (2 * i + 1) (get_or samples i 0 % 256)) ≡ raster_bytes true (take (i + 1) samples)
+wide-more chunk samples i within room before =
     let high = get_or samples i 0 / 256 in
     let low = get_or samples i 0 % 256 in
     let count : 2 * (i + 1) ≡ (2 * i + 1) + 1 = omega arith in
-    let size = length-set piece (2 * i) high in
-    ap (λ n. take n (set (set piece (2 * i) high) (2 * i + 1) low)) count
-    ∙ take_more_set (set piece (2 * i) high) (2 * i + 1) low (omega arith)
-    ∙ ap (λ bs. bs ++ low ∷ []) (take_more_set piece (2 * i) high (omega arith))
-    ∙ append_assoc (take (2 * i) piece) (high ∷ []) (low ∷ [])
+    let size = length-set chunk (2 * i) high in
+    ap (λ n. take n (set (set chunk (2 * i) high) (2 * i + 1) low)) count
+    ∙ take_more_set (set chunk (2 * i) high) (2 * i + 1) low (omega arith)
+    ∙ ap (λ bs. bs ++ low ∷ []) (take_more_set chunk (2 * i) high (omega arith))
+    ∙ append_assoc (take (2 * i) chunk) (high ∷ []) (low ∷ [])
     ∙ ap (λ bs. bs ++ high ∷ low ∷ []) before
     ∙ sym (raster_bytes-more true samples i within)
 
@@ -69,16 +69,16 @@ pub narrow-each : (f : Picture) (samples : List ℕ) (wide : Bool) → IsFrame f
 narrow-each f samples wide lawful wide_is samples_is narrow =
     rw samples_is (each-below f.maxval f.samples (leb-false 256 f.maxval (sym wide_is ∙ narrow)) lawful.each)
 
--- ---- samples in pieces
+-- ---- samples in chunks
 
 -- those from a place on
 abbrev part : List ℕ → ℕ → ℕ → List ℕ
 part samples done end = take (end - done) (drop done samples)
 
 -- the bytes so far and those of a part
-pub samples-more : (wide : Bool) (samples piece : List ℕ) (done end : ℕ) → done ≤ end → piece ≡ raster_bytes wide (part samples done end)
-    → raster_bytes wide (take end samples) ≡ raster_bytes wide (take done samples) ++ piece
-samples-more wide samples piece done end order is =
+pub samples-more : (wide : Bool) (samples chunk : List ℕ) (done end : ℕ) → done ≤ end → chunk ≡ raster_bytes wide (part samples done end)
+    → raster_bytes wide (take end samples) ≡ raster_bytes wide (take done samples) ++ chunk
+samples-more wide samples chunk done end order is =
     let count : end ≡ done + (end - done) = omega arith in
     ap (λ n. raster_bytes wide (take n samples)) count
     ∙ ap (raster_bytes wide) (take-add done (end - done) samples)
@@ -89,9 +89,9 @@ samples-more wide samples piece done end order is =
 abbrev after : Bool → List ℕ → ℕ → ℕ → List ℕ
 after wide samples done end = raster_bytes wide (drop (end - done) (drop done samples))
 
-samples-split : (wide : Bool) (samples piece : List ℕ) (done end : ℕ) → piece ≡ raster_bytes wide (part samples done end)
-    → raster_bytes wide samples ≡ raster_bytes wide (take done samples) ++ (piece ++ after wide samples done end)
-samples-split wide samples piece done end is =
+samples-split : (wide : Bool) (samples chunk : List ℕ) (done end : ℕ) → chunk ≡ raster_bytes wide (part samples done end)
+    → raster_bytes wide samples ≡ raster_bytes wide (take done samples) ++ (chunk ++ after wide samples done end)
+samples-split wide samples chunk done end is =
     let rest = drop done samples in
     ap (raster_bytes wide) (sym (take-append-drop done samples))
     ∙ raster_bytes-append wide (take done samples) rest
@@ -100,35 +100,35 @@ samples-split wide samples piece done end is =
     ∙ ap (λ bs. raster_bytes wide (take done samples) ++ (bs ++ after wide samples done end)) (sym is)
 
 -- no more than all
-pub samples-few : (wide : Bool) (samples piece : List ℕ) (done end : ℕ) → piece ≡ raster_bytes wide (part samples done end)
-    → length (raster_bytes wide (take done samples)) + length piece ≤ length (raster_bytes wide samples)
-samples-few wide samples piece done end is =
+pub samples-few : (wide : Bool) (samples chunk : List ℕ) (done end : ℕ) → chunk ≡ raster_bytes wide (part samples done end)
+    → length (raster_bytes wide (take done samples)) + length chunk ≤ length (raster_bytes wide samples)
+samples-few wide samples chunk done end is =
     let front = raster_bytes wide (take done samples) in
-    let all = ap length (samples-split wide samples piece done end is) in
-    omega (arith, all, length-append front (piece ++ after wide samples done end), length-append piece (after wide samples done end))
+    let all = ap length (samples-split wide samples chunk done end is) in
+    omega (arith, all, length-append front (chunk ++ after wide samples done end), length-append chunk (after wide samples done end))
 
--- ---- pieces
+-- ---- chunks
 
--- a piece went out in part, after others
-pub appends-part : (a b c : Option (List ℕ)) (front piece rest : List ℕ) (before mid written : ℕ) → mid ≡ before + length front → mid ≤ written → written < mid + length piece
-    → Appends a b front → Appends b c (take (written - mid) piece) → Appends a c (take (written - before) (front ++ (piece ++ rest)))
-appends-part a b c front piece rest before mid written is low part out more =
-    let within : written - mid ≤ length piece = omega arith in
+-- a chunk went out in part, after others
+pub appends-part : (a b c : Option (List ℕ)) (front chunk rest : List ℕ) (before mid written : ℕ) → mid ≡ before + length front → mid ≤ written → written < mid + length chunk
+    → Appends a b front → Appends b c (take (written - mid) chunk) → Appends a c (take (written - before) (front ++ (chunk ++ rest)))
+appends-part a b c front chunk rest before mid written is low part out more =
+    let within : written - mid ≤ length chunk = omega arith in
     let count : written - before ≡ length front + (written - mid) = omega arith in
-    let all : take (written - before) (front ++ (piece ++ rest)) ≡ front ++ take (written - mid) piece =
-    ap (λ n. take n (front ++ (piece ++ rest))) count ∙ take-append-add front (piece ++ rest) (written - mid)
-    ∙ ap (λ s. front ++ s) (take-append-le (written - mid) piece rest within) in
-    subst (Appends a c) (sym all) (Appends-trans a b c front (take (written - mid) piece) out more)
+    let all : take (written - before) (front ++ (chunk ++ rest)) ≡ front ++ take (written - mid) chunk =
+    ap (λ n. take n (front ++ (chunk ++ rest))) count ∙ take-append-add front (chunk ++ rest) (written - mid)
+    ∙ ap (λ s. front ++ s) (take-append-le (written - mid) chunk rest within) in
+    subst (Appends a c) (sym all) (Appends-trans a b c front (take (written - mid) chunk) out more)
 
 -- the same of a part of samples
-pub samples-part : (wide : Bool) (samples piece : List ℕ) (done end : ℕ) (a b c : Option (List ℕ)) (before mid written : ℕ) → piece ≡ raster_bytes wide (part samples done end)
-    → mid ≡ before + length (raster_bytes wide (take done samples)) → mid ≤ written → written < mid + length piece
-    → Appends a b (raster_bytes wide (take done samples)) → Appends b c (take (written - mid) piece) → Appends a c (take (written - before) (raster_bytes wide samples))
-samples-part wide samples piece done end a b c before mid written is count low less out more =
-    rw (samples-split wide samples piece done end is)
-    (appends-part a b c (raster_bytes wide (take done samples)) piece (after wide samples done end) before mid written count low less out more)
+pub samples-part : (wide : Bool) (samples chunk : List ℕ) (done end : ℕ) (a b c : Option (List ℕ)) (before mid written : ℕ) → chunk ≡ raster_bytes wide (part samples done end)
+    → mid ≡ before + length (raster_bytes wide (take done samples)) → mid ≤ written → written < mid + length chunk
+    → Appends a b (raster_bytes wide (take done samples)) → Appends b c (take (written - mid) chunk) → Appends a c (take (written - before) (raster_bytes wide samples))
+samples-part wide samples chunk done end a b c before mid written is count low less out more =
+    rw (samples-split wide samples chunk done end is)
+    (appends-part a b c (raster_bytes wide (take done samples)) chunk (after wide samples done end) before mid written count low less out more)
 
--- ---- a text of two pieces
+-- ---- a text of two chunks
 
 -- the first went out in part
 pub front-part : (text front back : List ℕ) (a c : Option (List ℕ)) (written : ℕ) → text ≡ front ++ back → written < 0 + length front
@@ -147,10 +147,10 @@ back-part text front back a b c mid written is count low less out more =
     subst (Appends a c) whole (appends-part a b c front back [] 0 mid written count low less out more)
 
 -- the canonical text is a header and a raster
-pub canonical-pieces : (f : Picture) (heading samples : List ℕ) (wide : Bool) → heading ≡ canonical_heading f → wide ≡ is_wide f.maxval → samples ≡ f.samples
+pub canonical-chunks : (f : Picture) (heading samples : List ℕ) (wide : Bool) → heading ≡ canonical_heading f → wide ≡ is_wide f.maxval → samples ≡ f.samples
     → canonical f ≡ heading ++ raster_bytes wide samples
 unfolding canonical
-canonical-pieces f heading samples wide heading_is wide_is samples_is =
+canonical-chunks f heading samples wide heading_is wide_is samples_is =
     ap (λ h. h ++ raster_bytes (is_wide f.maxval) f.samples) (sym heading_is)
     ∙ ap (λ w. heading ++ raster_bytes w f.samples) (sym wide_is)
     ∙ ap (λ s. heading ++ raster_bytes wide s) (sym samples_is)

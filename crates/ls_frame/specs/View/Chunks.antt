@@ -1,4 +1,4 @@
--- A reader that takes the bytes of another in pieces and hands them out.
+-- A reader that takes the bytes of another in chunks and hands them out.
 use Rattle.std.specs.Prelude.{ℕ, List, Option, slice_range}
 use Rattle.std.specs.Io.KnownBytes.{prepend_known}
 use Rattle.ls_frame.specs.declared.buffered.Buffered.{Buffered}
@@ -9,9 +9,9 @@ module _ {X : Type 0} where
   inner_reader b = b.inner
 
   -- those that it took and didn't hand out yet
-  abbrev pub in_piece : Buffered X → List ℕ
-  in_piece b = slice_range b.piece.items b.start b.end
+  abbrev pub in_chunk : Buffered X → List ℕ
+  in_chunk b = slice_range b.chunk.items b.start b.end
 
   -- what is left of it: those, and what is left of the other
   abbrev pub left_in : (X → Option (List ℕ)) → Buffered X → Option (List ℕ)
-  left_in remaining b = prepend_known (in_piece b) (remaining (inner_reader b))
+  left_in remaining b = prepend_known (in_chunk b) (remaining (inner_reader b))
