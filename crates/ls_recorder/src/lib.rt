@@ -1,32 +1,42 @@
 //! Recording films side by side, each as the codestreams of its frames, joined.
 //!
-//! Each film has a lane of its own (`record`), and workers code the frames of all. What came of each film, and what the account counts,
-//! says `specs/View/Recordings.antt`; what a lane does for its film, `specs/View/Lanes.antt`; whose the boxes are in which answers come
-//! from workers to lanes, `specs/View/Boxes.antt`.
+//! Each film has a lane of its own (`record`), and workers code the frames of all. What came of each film, and what the
+//! account counts, says `specs/View/Recordings.antt`; what a lane does for its film, `specs/View/Lanes.antt`, and what
+//! each of its two halves does, `specs/View/Halves.antt`; whose the boxes are in which answers come from workers to
+//! lanes, `specs/View/Boxes.antt`.
 //!
 //! ```
 //! use ls_frame::{Counted, Tuning};
 //! use ls_recorder::{OpenGate, record};
+//! use std::alloc::Global;
+//! use std::sync::Wait;
+//! use std::thread::Threads;
 //!
-//! let defaults = Tuning { t1: 0, t2: 0, t3: 0, reset: 0 };
-//! let films = vec![in alloc; (film, Counted::new(Vec::new(alloc)), defaults)]?;
-//! let recording = match record(rt, alloc, films, 2, 8, 4, &OpenGate) {
-//!     Ok(recording) => recording,
-//!     Err((fault, films)) => return Err(fault),
-//! };
-//! for track in recording.tracks.iter() {
-//!     match track.result {
-//!         Ok(frames) => ..,
-//!         Err(fault) => ..,
-//!     }
+//! /// The recording of a film in memory, coded by four workers. `None` if memory or threads are refused, or the film is
+//! /// at fault.
+//! fn record_film<R: Threads + Wait + Sync>(rt: &R, alloc: Global, film: &[u8]) -> Option<Vec<u8>> {
+//!     let defaults = Tuning {
+//!         t1: 0,
+//!         t2: 0,
+//!         t3: 0,
+//!         reset: 0,
+//!     };
+//!     let writer = Counted::new(Vec::new(alloc));
+//!     let mut films = Vec::with_capacity(alloc, 1).ok()?;
+//!     films.push_reserved((Counted::new(film), writer, defaults));
+//!     let mut recording = record(rt, alloc, films, 4, 8, 4, &OpenGate).ok()?;
+//!     let track = recording.tracks.pop()?;
+//!     let _frames = track.result.ok()?;
+//!     Some(track.writer.into_inner())
 //! }
 //! ```
 //!
-//! With playing (of `ls_film`, handed on by name): films that are recorded come back (`record_and_play`, `specs/View/Headline.antt`).
-//! Orders, pieces and the collector are those of `ls_pieces`, handed on too.
+//! With playing (of `ls_film`, handed on by name): films that are recorded come back (`record_and_play`,
+//! `specs/View/Headline.antt`). Orders, pieces and the collector are those of `ls_pieces`, handed on too.
 //!
-//! In reading order: `sizes` (how many threads, how much room), `delivery` (how pieces come to their lane), `lane` (a film's way from its reader to its writer), `working` (what a
-//! worker does), `recording` with its threads, `faults` (why a recording isn't begun); `headline`, `laws`.
+//! In reading order: `sizes` (how many threads, how many places), `delivery` (how pieces come to their lane), `lane` (a
+//! film's way from its reader to its writer, `docs/LANE.md`), `working` (what a worker does), `gate` (what can be seen
+//! meanwhile), `recording` with its threads, `faults` (why a recording isn't begun); `headline`, `laws`.
 #![tactic(auto)]
 
 pub mod delivery;

@@ -12,6 +12,8 @@ mod headline;
 #[cfg(test)]
 mod lane;
 #[cfg(test)]
+mod page;
+#[cfg(test)]
 mod recording;
 #[cfg(test)]
 mod testing;
