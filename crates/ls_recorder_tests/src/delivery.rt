@@ -114,6 +114,6 @@ fn answers_go_through_a_box_with_ample_memory(rt: HostRuntime) {
 }
 
 #[test]
-fn answers_go_through_a_box_or_memory_is_wanting(rt: HostRuntime) {
+fn answers_go_through_a_box_or_memory_is_refused(rt: HostRuntime) {
     check_box(&rt, rt.alloc(), false);
 }

@@ -50,6 +50,6 @@ fn films_come_back_with_ample_memory(rt: HostRuntime) {
 }
 
 #[test]
-fn films_come_back_or_memory_is_wanting(rt: HostRuntime) {
+fn films_come_back_or_memory_is_refused(rt: HostRuntime) {
     check_films(&rt, rt.alloc(), false);
 }

@@ -110,7 +110,7 @@ fn films_are_recorded_with_ample_memory(rt: HostRuntime) {
 }
 
 #[test]
-fn films_are_recorded_or_memory_is_wanting(rt: HostRuntime) {
+fn films_are_recorded_or_memory_is_refused(rt: HostRuntime) {
     check_recordings(&rt, rt.alloc(), false);
 }
 
@@ -324,7 +324,7 @@ impl Gate for Counts {
     fn notice(&self, _source: u8, notice: Notice) {
         let (counter, amount) = match notice {
             Notice::Began => (&self.began, 1),
-            Notice::Reading(_) => return,
+            Notice::Reading(_) | Notice::Stops(_) => return,
             Notice::Read { bytes, .. } => {
                 self.bytes.fetch_add(bytes, Ordering::SeqCst);
                 (&self.read, 1)
