@@ -11,7 +11,8 @@ pub enum Moment {
 }
 
 /// What has come of a film. Of one film, `Reading`, `Read` and `Put` of a frame come in this order, and after those of the frame before;
-/// `Written` comes after that of the frame before; `Began` comes first and `Ended` last.
+/// `Written` of a frame comes after that of the frame before; `Began` comes first and `Ended` last. `Stops` comes only for a fault that is
+/// none of reading.
 #[derive(Clone, Copy, Debug, Drop, PartialEq, Eq)]
 pub enum Notice {
     /// Its lane runs, and waits for a place in the window.
@@ -25,6 +26,8 @@ pub enum Notice {
     Put(u64),
     /// The codestream of the frame of this number was written, so many bytes.
     Written { number: u64, bytes: u64 },
+    /// Its lane stops for this fault, and ends with it as soon as a read that goes on has ended.
+    Stops(LaneFault),
     /// Its lane has ended: so many frames were recorded, or why it stopped.
     Ended(Result<u64, LaneFault>),
 }

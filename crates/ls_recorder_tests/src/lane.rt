@@ -8,6 +8,7 @@ use ls_testing::films::{BLACK, FIRST_CODESTREAM, TWO_CODESTREAMS, TWO_IMAGES};
 use ls_testing::{Mishap, Pieces, Sink};
 use std::alloc::Global;
 use std::sync::Wait;
+use std::thread::Threads;
 
 /// What lies in a lane's box: the piece of this number, of a pixel of this sample; or that it couldn't be coded.
 #[derive(Clone, Copy, Drop)]
@@ -171,7 +172,7 @@ fn answer_of(alloc: Global, sent: Sent) -> Option<Answer> {
 }
 
 /// Whether a lane goes as it should. `None` if memory is refused.
-fn is_right<R: Wait>(rt: &R, alloc: Global, case: &Case) -> Option<bool> {
+fn is_right<R: Threads + Wait + Sync>(rt: &R, alloc: Global, case: &Case) -> Option<bool> {
     let (queue, seats, _workers, _closer) = match open::<Order, R>(rt, alloc, 1, 1, 8) {
         Ok(opened) => opened,
         Err(_) => return None,

@@ -2,14 +2,16 @@ ghost use Rattle.std.specs.Prelude.{◌≡◌, length, IfSome};
 
 use crate::testing::{DEFAULTS, MEANS, RUNS, RUNS_CODED, THREE, THREE_CODED, check};
 use ls_frame::{Counted, NetpbmFault, Tuning};
-use ls_recorder::{Gate, LaneFault, Moment, OpenGate, RecordFault, Recording, Track, record};
+use ls_recorder::{
+    Gate, LaneFault, Moment, Notice, OpenGate, RecordFault, Recording, Track, record,
+};
 use ls_testing::films::{ANNEX_H, BLACK, FIRST_CODESTREAM, TWO_CODESTREAMS, TWO_IMAGES};
 use ls_testing::{Mishap, Pieces, Sink};
 use std::alloc::Global;
 use std::hint::spin_loop;
 use std::process::Abort;
 use std::sync::Wait;
-use std::sync::atomic::{AtomicBool, Ordering};
+use std::sync::atomic::{AtomicBool, AtomicU64, Ordering};
 use std::thread::Threads;
 
 /// The image of Annex H.3, and then one whose sample is over its maxval.
@@ -219,17 +221,15 @@ struct SideBySide {
     late: AtomicBool,
 }
 
-impl SideBySide {
-    /// Waits for this for so many turns.
-    fn wait_for(&self, flag: &AtomicBool) {
-        for _turn in 0..200_000_000u32 {
-            if flag.load(Ordering::SeqCst) {
-                return;
-            }
-            spin_loop();
+/// Waits for a flag for so many turns; if it isn't set by then, it is late.
+fn wait_for(flag: &AtomicBool, late: &AtomicBool) {
+    for _turn in 0..200_000_000u32 {
+        if flag.load(Ordering::SeqCst) {
+            return;
         }
-        self.late.store(true, Ordering::SeqCst);
+        spin_loop();
     }
+    late.store(true, Ordering::SeqCst);
 }
 
 impl Gate for SideBySide {
@@ -237,34 +237,131 @@ impl Gate for SideBySide {
         match (number, moment) {
             (0, Moment::Before) => {
                 self.begun.store(true, Ordering::SeqCst);
-                self.wait_for(&self.done);
+                wait_for(&self.done, &self.late);
             }
-            (1, Moment::Before) => self.wait_for(&self.begun),
+            (1, Moment::Before) => wait_for(&self.begun, &self.late),
             (1, Moment::After) => self.done.store(true, Ordering::SeqCst),
             _ => {}
         }
     }
 }
 
-/// Whether two frames of a film are coded side by side. `None` if memory is refused.
-fn coded_side_by_side<R: Threads + Wait + Sync>(rt: &R, alloc: Global) -> Option<bool> {
+/// Whether a film of two frames is recorded through this gate, with this window. `None` if memory is refused.
+fn records_through<R: Threads + Wait + Sync, G: Gate>(
+    rt: &R,
+    alloc: Global,
+    window: usize,
+    gate: &G,
+) -> Option<bool> {
+    let mut films = Vec::with_capacity(alloc, 1).ok()?;
+    films.push_reserved(film_of(TWO_IMAGES, 4096, None, Mishap::Nothing));
+    let Ok(recording) = record(rt, alloc, films, 2, 8, window, gate) else {
+        return None;
+    };
+    let mut tracks = recording.tracks;
+    Some(ended(tracks.pop()?, (Ok(2), TWO_CODESTREAMS), true))
+}
+
+#[test]
+fn frames_are_coded_side_by_side_with_ample_memory(rt: HostRuntime) {
     let gate = SideBySide {
         begun: AtomicBool::new(false),
         done: AtomicBool::new(false),
         late: AtomicBool::new(false),
     };
-    let mut films = Vec::with_capacity(alloc, 1).ok()?;
-    films.push_reserved(film_of(TWO_IMAGES, 4096, None, Mishap::Nothing));
-    let Ok(recording) = record(rt, alloc, films, 2, 8, 2, &gate) else {
-        return None;
-    };
-    let mut tracks = recording.tracks;
-    let right = ended(tracks.pop()?, (Ok(2), TWO_CODESTREAMS), true);
-    Some(right && !gate.late.into_inner())
+    let right = records_through(&rt, rt.alloc(), 2, &gate);
+    check(&rt, "side by side", right, true);
+    check(&rt, "in time", Some(!gate.late.into_inner()), true);
+}
+
+/// A gate that lets the second frame be read only once the first one is written.
+#[derive(Drop)]
+struct OneByOne {
+    written: AtomicBool,
+    late: AtomicBool,
+}
+
+impl Gate for OneByOne {
+    fn pass(&self, _source: u8, _number: u64, _moment: Moment) {}
+
+    fn notice(&self, _source: u8, notice: Notice) {
+        match notice {
+            Notice::Reading(1) => wait_for(&self.written, &self.late),
+            Notice::Written { number: 0, .. } => self.written.store(true, Ordering::SeqCst),
+            _ => {}
+        }
+    }
 }
 
 #[test]
-fn frames_are_coded_side_by_side_with_ample_memory(rt: HostRuntime) {
-    let right = coded_side_by_side(&rt, rt.alloc());
-    check(&rt, "side by side", right, true);
+fn a_frame_is_written_whatever_its_reader_does_next_with_ample_memory(rt: HostRuntime) {
+    for window in [1, 4, 16, 64] {
+        let gate = OneByOne {
+            written: AtomicBool::new(false),
+            late: AtomicBool::new(false),
+        };
+        let right = records_through(&rt, rt.alloc(), window, &gate);
+        check(&rt, "one by one", right, true);
+        check(&rt, "in time", Some(!gate.late.into_inner()), true);
+    }
+}
+
+/// A gate that counts what comes of a film.
+#[derive(Drop)]
+struct Counts {
+    began: AtomicU64,
+    read: AtomicU64,
+    bytes: AtomicU64,
+    put: AtomicU64,
+    written: AtomicU64,
+    coded: AtomicU64,
+    ended: AtomicU64,
+}
+
+impl Gate for Counts {
+    fn pass(&self, _source: u8, _number: u64, _moment: Moment) {}
+
+    fn notice(&self, _source: u8, notice: Notice) {
+        let (counter, amount) = match notice {
+            Notice::Began => (&self.began, 1),
+            Notice::Reading(_) => return,
+            Notice::Read { bytes, .. } => {
+                self.bytes.fetch_add(bytes, Ordering::SeqCst);
+                (&self.read, 1)
+            }
+            Notice::Put(_) => (&self.put, 1),
+            Notice::Written { bytes, .. } => {
+                self.coded.fetch_add(bytes, Ordering::SeqCst);
+                (&self.written, 1)
+            }
+            Notice::Ended(Ok(2)) => (&self.ended, 1),
+            Notice::Ended(_) => return,
+        };
+        counter.fetch_add(amount, Ordering::SeqCst);
+    }
+}
+
+#[test]
+fn a_gate_is_shown_what_comes_of_a_film_with_ample_memory(rt: HostRuntime) {
+    let gate = Counts {
+        began: AtomicU64::new(0),
+        read: AtomicU64::new(0),
+        bytes: AtomicU64::new(0),
+        put: AtomicU64::new(0),
+        written: AtomicU64::new(0),
+        coded: AtomicU64::new(0),
+        ended: AtomicU64::new(0),
+    };
+    let right = records_through(&rt, rt.alloc(), 4, &gate);
+    check(&rt, "counted", right, true);
+    let frames = [
+        gate.began.into_inner(),
+        gate.read.into_inner(),
+        gate.put.into_inner(),
+        gate.written.into_inner(),
+        gate.ended.into_inner(),
+    ];
+    check(&rt, "frames", Some(frames == [1, 2, 2, 2, 1]), true);
+    let bytes = [gate.bytes.into_inner(), gate.coded.into_inner()];
+    check(&rt, "bytes", Some(bytes == [2, 56]), true);
 }

@@ -13,9 +13,9 @@ use std::sync::Wait;
 /// What a worker answers to a job: its piece, or that it couldn't be coded.
 pub type Answer = Result<Coded, Uncoded>;
 
-/// How often a lane looks into its box before it sleeps: for about as long as a small frame takes to code, since to be woken takes
-/// longer, and costs the worker that wakes it as much.
-const LOOKS: usize = 400;
+/// How often a lane looks into its box, or for a place in its window, before it sleeps: for about as long as a small frame takes to
+/// code, since to be woken takes longer, and costs who wakes it as much.
+pub const LOOKS: usize = 400;
 
 /// A pass of a box says nothing, and so does each pass that is made of it.
 pub struct Another;

@@ -3,10 +3,11 @@ ghost use Rattle.std.specs.Prelude.{◌≡◌, ◌<◌, ◌+◌, ◌-◌, ◌^�
 ghost use Rattle.crossbeam_channel.specs.Claims.{IsSeatAt};
 ghost use Rattle.crossbeam_channel.specs.Ends.{sends_on, receives_on};
 
-use crate::delivery::Another;
+use crate::delivery::{Another, LOOKS};
 use crossbeam_channel::protocol::Free;
 use crossbeam_channel::{Pass, RuledReceiver, RuledSender, TryRecvError, bounded_with};
 use std::alloc::{AllocError, Global};
+use std::hint::spin_loop;
 use std::sync::Wait;
 
 /// The places that are free, where the frames are read.
@@ -50,21 +51,32 @@ impl Places {
         Ok((places, returns))
     }
 
-    /// Takes a place, and waits for one; whether there is one. There is none any more if nobody is left to give any back, even if some
-    /// are free.
+    /// Takes a place, and waits for one; whether there is one. There is none any more once nobody is left to give any back, even if
+    /// some are free.
     pub fn take<R: Wait>(&mut self, rt: &R) -> bool {
+        for _look in 0..LOOKS {
+            if !self.count_returned(rt) {
+                return false;
+            }
+            if self.free > 0 {
+                self.free -= 1;
+                return true;
+            }
+            spin_loop();
+        }
+        self.exit.recv_as::<Free, R>(rt, &mut self.pass).is_ok()
+    }
+
+    /// Counts the places that were given back; whether more may be.
+    fn count_returned<R: Wait>(&mut self, rt: &R) -> bool {
         for _ in rt.forever() {
             match self.exit.try_recv_as::<Free, R>(rt, &mut self.pass) {
                 Ok(()) => self.free = self.free.saturating_add(1),
+                Err(TryRecvError::Empty) => return true,
                 Err(TryRecvError::Disconnected) => return false,
-                Err(TryRecvError::Empty) => break,
             }
         }
-        if self.free > 0 {
-            self.free -= 1;
-            return true;
-        }
-        self.exit.recv_as::<Free, R>(rt, &mut self.pass).is_ok()
+        unreachable!()
     }
 }
 

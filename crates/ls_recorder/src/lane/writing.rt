@@ -97,6 +97,7 @@ fn take_the_rest<R: Wait, G: Gate>(
     let bookings = setting.bookings;
     match halt {
         Halt::Fault(fault) => {
+            setting.notice(Notice::Stops(fault));
             let _more = drain(rt, bookings, seat, 0);
             fault
         }
