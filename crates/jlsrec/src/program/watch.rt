@@ -23,7 +23,7 @@ pub struct Watch<'r, R> {
     /// Whether the recording has ended, and when it did.
     over: AtomicBool,
     lasted: AtomicU64,
-    /// Wakes who waits when a film or the recording ends.
+    /// Wakes who waits when a film stops or ends, and when the recording does.
     bell: Parker,
 }
 
@@ -77,7 +77,7 @@ impl<'r, R: Clock> Watch<'r, R> {
         self.coding.load(Ordering::SeqCst)
     }
 
-    /// Waits so long at most, and less if a film or the recording ends.
+    /// Waits so long at most, and less if a film stops or ends, or the recording does.
     pub fn wait(&self, longest: Duration)
     where
         R: Wait,
@@ -116,7 +116,7 @@ impl<'r, R: Clock + Sync> Gate for Watch<'r, R> {
         if let Some(film) = self.films.get(usize::from(source)) {
             film.take(notice, self.now());
         }
-        if let Notice::Ended(_) = notice {
+        if let Notice::Ended(_) | Notice::Stops(_) = notice {
             self.bell.unpark();
         }
     }

@@ -13,7 +13,7 @@ pub enum Doing {
     Reads,
     /// It waits for a place in the queue.
     AwaitsQueue,
-    /// It has ended: so many frames were recorded, or why it stopped.
+    /// It has ended, and so many frames were recorded; or why it stops.
     Ended(Result<u64, LaneFault>),
 }
 
@@ -101,11 +101,17 @@ impl FilmWatch {
                 add(&self.put, 1);
             }
             Notice::Written { number, bytes } => self.take_written(number, bytes, now),
+            Notice::Stops(fault) => self.end_so(Err(fault)),
             Notice::Ended(result) => {
                 let _since = self.turn(now);
-                let _ended = self.end.try_set(result);
+                self.end_so(result);
             }
         }
+    }
+
+    /// Takes in how the film ends, unless that was known before.
+    fn end_so(&self, outcome: Result<u64, LaneFault>) {
+        let _known = self.end.try_set(outcome);
     }
 
     /// Takes in that a frame was read.
