@@ -1,5 +1,5 @@
-/* Holds threads of the program that it is preloaded into: HOLD_THREADS=N has the first N that are made begin only once the file
-   HOLD_UNTIL=FILE is there. */
+/* Holds threads of the program that it is preloaded into: HOLD_THREADS=N has the first N that are made, or with HOLD_AFTER=M the
+   first N after M others, begin only once the file HOLD_UNTIL=FILE is there. */
 #define _GNU_SOURCE
 #include <dlfcn.h>
 #include <pthread.h>
@@ -28,9 +28,12 @@ int pthread_create(pthread_t *thread, const pthread_attr_t *attributes, void *(*
 {
 	int (*create)(pthread_t *, const pthread_attr_t *, void *(*)(void *), void *) = dlsym(RTLD_NEXT, "pthread_create");
 	const char *held = getenv("HOLD_THREADS");
+	const char *after = getenv("HOLD_AFTER");
+	unsigned long number = atomic_fetch_add(&threads, 1);
+	unsigned long first = after ? strtoul(after, NULL, 10) : 0;
 	struct work *work;
 
-	if (!held || atomic_fetch_add(&threads, 1) + 1 > strtoul(held, NULL, 10))
+	if (!held || number < first || number >= first + strtoul(held, NULL, 10))
 		return create(thread, attributes, start, argument);
 	work = malloc(sizeof *work);
 	if (!work)

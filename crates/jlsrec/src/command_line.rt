@@ -29,6 +29,10 @@ pub enum Request<'a> {
         into: Option<&'a str>,
         /// Whether recordings that are there are emptied.
         replace: bool,
+        /// Whether it is said meanwhile how far they are.
+        progress: bool,
+        /// The file for a report.
+        report: Option<&'a str>,
         files: Vec<&'a str>,
     },
     /// The replies of a queue to the steps of a file.
@@ -88,10 +92,10 @@ const RECORD_HELP: &str = "\
 Records the films FILE.. side by side: writes beside each FILE a file FILE.jls, of a codestream of JPEG-LS
 (ITU-T T.87) for each of its frames. A FILE may be a named pipe that a camera writes to.
 
-Each film has a lane of its own, which reads its frames and writes their codestreams in order, up to
---window frames behind; the workers code the frames of all films. A film that ends early or breaks ends
-its own lane, and no other. Once all have ended, a line tells of each FILE that was recorded whole,
-in their order:
+Each film has a lane of its own, which reads its frames and writes their codestreams in order, each
+as soon as it is coded and its turn has come; the workers code the frames of all films. A film that ends
+early or breaks ends its own lane, and no other. Once all have ended, a line tells of each FILE that was
+recorded whole, in their order:
   FILE: N frames
 
 All FILEs are opened first, and only then each FILE.jls is made. Nothing that was recorded before is
@@ -118,6 +122,14 @@ The folder for the recordings, which are called as the last parts of their FILEs
 [default: beside each FILE]";
 
 const REPLACE_HELP: &str = "Empty a FILE.jls that is there, in place of renaming it";
+
+const PROGRESS_HELP: &str = "\
+Say on standard error how far each film is, twice a second, and at once if one stops;
+on a terminal that is always said, in one line";
+
+const REPORT_HELP: &str = "\
+The file for a report, made before anything is recorded and written at the end: of each film its frames, bytes,
+speed and longest delay, and how busy the workers were";
 
 const REASONS_HELP: &str = "\
 Say on standard error also what the system says of a fault, and what a file of another kind seems to be;
@@ -211,6 +223,8 @@ fn record_command<'a>(alloc: Global) -> Result<Command<'a>, AllocError> {
         .arg(option(alloc, "preset", "T1,T2,T3,RESET", PRESET_HELP))?
         .arg(option(alloc, "into", "FOLDER", INTO_HELP))?
         .arg(flag(alloc, "replace", REPLACE_HELP))?
+        .arg(progress_flag(alloc))?
+        .arg(report_option(alloc))?
         .arg(reasons_flag(alloc))?
         .arg(file_argument(alloc, FILMS_HELP).num_args(1..))
 }
@@ -258,6 +272,16 @@ fn flag<'a>(alloc: Global, name: &'a str, help: &'a str) -> Arg<'a> {
 /// The option of every command that has it told why a device failed.
 fn reasons_flag<'a>(alloc: Global) -> Arg<'a> {
     flag(alloc, "reasons", REASONS_HELP)
+}
+
+/// The option of `record` that has it told how far it is.
+fn progress_flag<'a>(alloc: Global) -> Arg<'a> {
+    flag(alloc, "progress", PROGRESS_HELP)
+}
+
+/// The option of `record` that names the file for a report.
+fn report_option<'a>(alloc: Global) -> Arg<'a> {
+    option(alloc, "report", "REPORT", REPORT_HELP)
 }
 
 /// An option whose value is a count, `usual` if the option is left out.
@@ -317,6 +341,8 @@ fn recording_of<'a>(words: &ArgMatches<'a>, files: Vec<&'a str>) -> Option<Reque
         preset: words.get_str("preset"),
         into: words.get_str("into"),
         replace: words.get_flag("replace"),
+        progress: words.get_flag("progress"),
+        report: words.get_str("report"),
         files,
     })
 }

@@ -4,6 +4,13 @@ use std::alloc::{AllocError, Global};
 use std::fmt::Display;
 use std::io;
 
+/// How many characters a line in its place has: one less than the terminals that have fewest.
+pub const COLUMNS: usize = 79;
+
+/// What clears a line in its place, whatever it was, and leaves the place to another.
+pub const CLEARED: &str =
+    "\r                                                                               \r";
+
 /// Standard error, and how much is said there.
 #[derive(Drop)]
 pub struct Console<'e, E> {
@@ -13,6 +20,8 @@ pub struct Console<'e, E> {
     is_terminal: bool,
     /// Whether it is told why a device failed.
     reasons: bool,
+    /// Whether a line in its place is shown.
+    is_shown: bool,
 }
 
 impl<'e, E: Outlet> Console<'e, E> {
@@ -22,6 +31,7 @@ impl<'e, E: Outlet> Console<'e, E> {
             errors,
             is_terminal,
             reasons: is_terminal,
+            is_shown: false,
         }
     }
 
@@ -47,9 +57,29 @@ impl<'e, E: Outlet> Console<'e, E> {
         }
     }
 
-    /// Writes a text as it is. That it is refused changes nothing.
+    /// Writes a text as it is, after what is cleared of a line in its place. That it is refused changes nothing.
     pub fn write(&mut self, text: &[u8]) {
+        self.clear();
         let _refused = write_bytes(self.errors, text);
+    }
+
+    /// Shows a line in its place, as far as it has room there: the next one is shown over it. Of a terminal only.
+    pub fn show(&mut self, line: &str) {
+        let cut: Result<String, AllocError> = line.chars().take(COLUMNS).collect(self.alloc);
+        if let Ok(cut) = cut {
+            if let Ok(text) = format!(in self.alloc; "\r{cut:<79}") {
+                self.is_shown = true;
+                let _refused = write_bytes(self.errors, text.as_bytes());
+            }
+        }
+    }
+
+    /// Clears the line in its place, if one is shown.
+    pub fn clear(&mut self) {
+        if self.is_shown {
+            self.is_shown = false;
+            let _refused = write_bytes(self.errors, CLEARED.as_bytes());
+        }
     }
 
     /// Says that memory was refused before there was anything to say it of.

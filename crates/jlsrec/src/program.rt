@@ -1,5 +1,8 @@
 //! The whole program over its words, its files and its two streams.
+mod progress;
 mod recording;
+mod report;
+mod watch;
 
 use crate::cause::{Cause, Caused};
 use crate::command_line::{Request, read_words, usage_fault};
@@ -19,6 +22,7 @@ use std::io::{BufWriter, Write};
 use std::rt::{Env, Files};
 use std::sync::Wait;
 use std::thread::Threads;
+use std::time::Clock;
 use std::{env, io};
 
 /// The statuses that the program ends with.
@@ -41,11 +45,11 @@ pub fn start<R, O, W, E>(
     console: &mut Console<'_, E>,
 ) -> u8
 where
-    R: Env + Eprint + Files + AllocGlobal + Threads + Wait + Sync,
+    R: Env + Eprint + Files + AllocGlobal + Clock + Threads + Wait + Sync,
     O: Opens<File = R::File> + Copy + Send,
     R::File: Send,
     W: Write,
-    E: Outlet,
+    E: Outlet + Send,
 {
     let alloc = rt.alloc();
     let status = match words(rt) {
@@ -72,11 +76,11 @@ pub fn run<R, O, W, E>(
     console: &mut Console<'_, E>,
 ) -> u8
 where
-    R: Eprint + Files + AllocGlobal + Threads + Wait + Sync,
+    R: Eprint + Files + AllocGlobal + Clock + Threads + Wait + Sync,
     O: Opens<File = R::File> + Copy + Send,
     R::File: Send,
     W: Write,
-    E: Outlet,
+    E: Outlet + Send,
 {
     let alloc = rt.alloc();
     keep_blocks(alloc);
@@ -98,11 +102,11 @@ fn do_request<R, O, W, E>(
     console: &mut Console<'_, E>,
 ) -> u8
 where
-    R: Eprint + Files + AllocGlobal + Threads + Wait + Sync,
+    R: Eprint + Files + AllocGlobal + Clock + Threads + Wait + Sync,
     O: Opens<File = R::File> + Copy + Send,
     R::File: Send,
     W: Write,
-    E: Outlet,
+    E: Outlet + Send,
 {
     match request {
         Request::List { file } => list(rt, file, output, console),
@@ -115,6 +119,8 @@ where
             preset,
             into,
             replace,
+            progress,
+            report,
             files,
         } => {
             let task = Task {
@@ -124,6 +130,8 @@ where
                 preset,
                 into,
                 replace,
+                progress: progress || console.is_terminal(),
+                report,
                 files,
             };
             record_films(rt, opener, &task, output, console)

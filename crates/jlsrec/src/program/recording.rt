@@ -1,18 +1,23 @@
 //! The command `record`: films are opened, their recordings made, and what came of each is said.
 use crate::cause::Caused;
-use crate::console::Console;
+use crate::console::{CLEARED, Console};
+use crate::program::progress::tell_progress;
+use crate::program::report::{Report, write_report};
+use crate::program::watch::Watch;
 use crate::program::{
     DONE, FAILED, Reader, USAGE, buffered, explain, misused, no_memory, write_text,
 };
 use ls_files::identity::last_part;
 use ls_files::{Identity, Opens, Place, Source, Spot, Target};
-use ls_frame::{Counted, Failed, Outlet, Tuning};
-use ls_recorder::{OpenGate, Track, record};
+use ls_frame::{Counted, Failed, Feed, Outlet, Tuning};
+use ls_recorder::{Gate, OpenGate, RecordFault, Recording, Track, record};
 use std::alloc::{AllocError, Global};
 use std::io::Write;
 use std::rt::Files;
 use std::sync::Wait;
+use std::thread;
 use std::thread::Threads;
+use std::time::Clock;
 
 /// The most films of a recording.
 const MOST_FILES: usize = 16;
@@ -29,7 +34,29 @@ pub struct Task<'a> {
     pub into: Option<&'a str>,
     /// Whether a recording that is there is emptied, in place of being renamed.
     pub replace: bool,
+    /// Whether it is said meanwhile how far the films are.
+    pub progress: bool,
+    /// The file for a report.
+    pub report: Option<&'a str>,
     pub files: Vec<&'a str>,
+}
+
+/// How many workers code, how many frames may wait for one, and how many of a film may be read and not written.
+#[derive(Clone, Copy)]
+struct Sizes {
+    workers: usize,
+    queue: usize,
+    window: usize,
+}
+
+impl<'a> Task<'a> {
+    fn sizes(&self) -> Sizes {
+        Sizes {
+            workers: self.workers,
+            queue: self.queue,
+            window: self.window,
+        }
+    }
 }
 
 /// A film: what it is read by, the file that its codestreams are written to, and its tuning.
@@ -37,6 +64,16 @@ type Film<'a, O> = (Reader<'a, O>, Counted<Target<'a, O>>, Tuning);
 
 /// What came of a film.
 type FilmTrack<'a, O> = Track<Reader<'a, O>, Counted<Target<'a, O>>>;
+
+/// What came of all films; or why nothing did.
+type Recorded<R, W> = Result<Recording<R, W>, (RecordFault, Vec<(R, W, Tuning)>)>;
+
+/// The films, and where the report goes, if there is to be one.
+#[derive(Drop)]
+struct Opened<'a, O: Opens> {
+    films: Vec<Film<'a, O>>,
+    report: Option<Report<'a, O>>,
+}
 
 /// A film that is given: which file it is, where its name stands, and where its recording is to be made.
 #[derive(Clone, Copy)]
@@ -56,11 +93,11 @@ pub fn record_films<R, O, W, E>(
     console: &mut Console<'_, E>,
 ) -> u8
 where
-    R: Files + AllocGlobal + Threads + Wait + Sync,
+    R: Files + AllocGlobal + Clock + Threads + Wait + Sync,
     O: Opens<File = R::File> + Copy + Send,
     R::File: Send,
     W: Write,
-    E: Outlet,
+    E: Outlet + Send,
 {
     let alloc = rt.alloc();
     let Some(tuning) = tuning_of(task.preset) else {
@@ -76,8 +113,11 @@ where
     ) else {
         return no_memory(console);
     };
-    match named_twice(files, &names) {
-        Some(file) => given_twice(file, console),
+    if let Some(file) = named_twice(files, &names) {
+        return given_twice(file, console);
+    }
+    match named_as_report(files, &names, task.report) {
+        Some(report) => given_twice(report, console),
         None => record_named(rt, opener, task, tuning, &names, &notices, output, console),
     }
 }
@@ -94,26 +134,212 @@ fn record_named<'a, R, O, W, E>(
     console: &mut Console<'_, E>,
 ) -> u8
 where
-    R: Files + AllocGlobal + Threads + Wait + Sync,
+    R: Files + AllocGlobal + Clock + Threads + Wait + Sync,
     O: Opens<File = R::File> + Copy + Send,
     R::File: Send,
     W: Write,
-    E: Outlet,
+    E: Outlet + Send,
 {
-    let alloc = rt.alloc();
-    let films = match open_films(rt, opener, task, names, notices, tuning, console) {
-        Ok(films) => films,
+    let Opened { films, report } = match open_films(
+        rt, opener, task, names, notices, tuning, console,
+    ) {
+        Ok(opened) => opened,
         Err(status) => return status,
     };
-    let (workers, capacity, window) = (task.workers, task.queue, task.window);
-    match record(rt, alloc, films, workers, capacity, window, &OpenGate) {
-        Ok(recording) => say_tracks(
+    if task.progress || report.is_some() {
+        record_watched(rt, task, films, report, output, console)
+    } else {
+        let alloc = rt.alloc();
+        let recorded = record_through(rt, alloc, films, task.sizes(), &OpenGate);
+        say_recorded(
             alloc,
-            task.files.as_slice(),
-            recording.tracks,
+            &task.files,
+            recorded,
+            &[false; MOST_FILES],
             output,
             console,
-        ),
+        )
+    }
+}
+
+/// Records films that are watched, says how far they are if that is asked for, says what came of each, and writes the report; answers the status.
+fn record_watched<'a, R, O, W, E>(
+    rt: &R,
+    task: &Task<'a>,
+    films: Vec<Film<'a, O>>,
+    report: Option<Report<'a, O>>,
+    output: &mut Counted<W>,
+    console: &mut Console<'_, E>,
+) -> u8
+where
+    R: AllocGlobal + Clock + Threads + Wait + Sync,
+    O: Opens + Copy + Send,
+    O::File: Send,
+    W: Write,
+    E: Outlet + Send,
+{
+    let alloc = rt.alloc();
+    let Ok(watch) = Watch::new(rt, alloc, films.len()) else {
+        return no_memory(console);
+    };
+    let (files, sizes) = (task.files.as_slice(), task.sizes());
+    let recorded = record_seen(
+        rt,
+        alloc,
+        films,
+        sizes,
+        task.progress,
+        files,
+        &watch,
+        console,
+    );
+    let Ok(told) = watch.told(alloc) else {
+        return no_memory(console);
+    };
+    let status = say_recorded(alloc, files, recorded, &told, output, console);
+    let reported = match report {
+        Some(report) => write_report(alloc, report, &watch, files, task.workers, console),
+        None => DONE,
+    };
+    status.max(reported)
+}
+
+/// Records films that are watched, and says how far they are if that is asked for.
+fn record_seen<Rt, R, W, E>(
+    rt: &Rt,
+    alloc: Global,
+    films: Vec<(R, W, Tuning)>,
+    sizes: Sizes,
+    progress: bool,
+    files: &[&str],
+    watch: &Watch<'_, Rt>,
+    console: &mut Console<'_, E>,
+) -> Recorded<R, W>
+where
+    Rt: Clock + Threads + Wait + Sync,
+    R: Feed + Send + Drop,
+    W: Outlet + Send + Drop,
+    E: Outlet + Send,
+{
+    if progress {
+        record_telling(rt, alloc, films, sizes, files, watch, console)
+    } else {
+        record_watching(rt, alloc, films, sizes, watch)
+    }
+}
+
+/// Who says how far films are, and where.
+#[derive(Drop)]
+struct Teller<'s, 'e, R, E> {
+    rt: &'s R,
+    alloc: Global,
+    watch: &'s Watch<'s, R>,
+    files: &'s [&'s str],
+    console: &'s mut Console<'e, E>,
+}
+
+impl<'s, 'e, R: Wait + Clock, E: Outlet> Teller<'s, 'e, R, E> {
+    /// Says how far the films are, until their recording ends.
+    fn tell(self) {
+        let Teller {
+            rt,
+            alloc,
+            watch,
+            files,
+            console,
+        } = self;
+        tell_progress(rt, alloc, watch, files, console);
+    }
+}
+
+/// Records films; meanwhile another thread says how far they are. If none can be made for that, it isn't said.
+fn record_telling<'s, 'e, Rt, R, W, E>(
+    rt: &'s Rt,
+    alloc: Global,
+    films: Vec<(R, W, Tuning)>,
+    sizes: Sizes,
+    files: &'s [&'s str],
+    watch: &'s Watch<'s, Rt>,
+    console: &'s mut Console<'e, E>,
+) -> Recorded<R, W>
+where
+    Rt: Clock + Threads + Wait + Sync,
+    R: Feed + Send + Drop,
+    W: Outlet + Send + Drop,
+    E: Outlet + Send,
+{
+    let teller = Teller {
+        rt,
+        alloc,
+        watch: &*watch,
+        files,
+        console,
+    };
+    // The first of the two is called in a thread of its own, or else after the second: then it has nothing left to say.
+    let ((), recorded) = thread::join(
+        rt,
+        move || teller.tell(),
+        move || record_watching(rt, alloc, films, sizes, watch),
+    );
+    recorded
+}
+
+/// Records films that are watched, and lets those know that wait for the end.
+fn record_watching<Rt, R, W>(
+    rt: &Rt,
+    alloc: Global,
+    films: Vec<(R, W, Tuning)>,
+    sizes: Sizes,
+    watch: &Watch<'_, Rt>,
+) -> Recorded<R, W>
+where
+    Rt: Clock + Threads + Wait + Sync,
+    R: Feed + Send + Drop,
+    W: Outlet + Send + Drop,
+{
+    let recorded = record_through(rt, alloc, films, sizes, watch);
+    watch.end();
+    recorded
+}
+
+/// Records films through a gate.
+fn record_through<Rt, R, W, G>(
+    rt: &Rt,
+    alloc: Global,
+    films: Vec<(R, W, Tuning)>,
+    sizes: Sizes,
+    gate: &G,
+) -> Recorded<R, W>
+where
+    Rt: Threads + Wait + Sync,
+    R: Feed + Send + Drop,
+    W: Outlet + Send + Drop,
+    G: Gate,
+{
+    let Sizes {
+        workers,
+        queue,
+        window,
+    } = sizes;
+    record(rt, alloc, films, workers, queue, window, gate)
+}
+
+/// Says what came of each film, or why nothing did; answers the status.
+fn say_recorded<O, W, E>(
+    alloc: Global,
+    files: &[&str],
+    recorded: Recorded<Reader<'_, O>, Counted<Target<'_, O>>>,
+    told: &[bool],
+    output: &mut Counted<W>,
+    console: &mut Console<'_, E>,
+) -> u8
+where
+    O: Opens + Copy,
+    W: Write,
+    E: Outlet,
+{
+    match recorded {
+        Ok(recording) => say_tracks(alloc, files, recording.tracks, told, output, console),
         Err((fault, _films)) => {
             console.say(fault);
             FAILED
@@ -151,17 +377,17 @@ fn recording_name(alloc: Global, file: &str, into: Option<&str>) -> Result<Strin
     }
 }
 
-/// What is said of each film once its pipe is open.
+/// What is said of each film on a terminal once its pipe is open: over the line in its place that may be shown by then.
 fn notices(alloc: Global, files: &[&str]) -> Result<Vec<String>, AllocError> {
     let mut notices = Vec::new(alloc);
     for file in files {
-        notices.push(format!(in alloc; "jlsrec: {file}: opened")?)?;
+        notices.push(format!(in alloc; "{CLEARED}jlsrec: {file}: opened")?)?;
     }
     Ok(notices)
 }
 
-/// Opens each film but the named pipes, and only then makes a file for the recording of each, once none is given twice; or says why not, and
-/// gives the status.
+/// Opens each film but the named pipes, and only then makes a file for the report and for the recording of each, once none is given twice; or
+/// says why not, and gives the status.
 fn open_films<'a, R, O, E>(
     rt: &R,
     opener: O,
@@ -170,7 +396,7 @@ fn open_films<'a, R, O, E>(
     notices: &'a [String],
     tuning: Tuning,
     console: &mut Console<'_, E>,
-) -> Result<Vec<Film<'a, O>>, u8>
+) -> Result<Opened<'a, O>, u8>
 where
     R: Files + AllocGlobal,
     O: Opens<File = R::File> + Copy,
@@ -184,6 +410,10 @@ where
     if let Some(file) = written_twice(&given, task.replace) {
         return Err(given_twice(file, console));
     }
+    let report = match task.report {
+        Some(path) => Some(make_report(rt, opener, path, &given, task.replace, console)?),
+        None => None,
+    };
     let targets = make_targets(rt, opener, &given, task.replace, console)?;
     let readers = buffered_sources(rt.alloc(), &task.files, sources, notices, console)?;
     let mut films = Vec::new(rt.alloc());
@@ -192,7 +422,7 @@ where
             return Err(no_memory(console));
         }
     }
-    Ok(films)
+    Ok(Opened { films, report })
 }
 
 /// Opens the films; or says of the first that can't be opened, and gives the status.
@@ -247,6 +477,28 @@ where
     Ok(given)
 }
 
+/// Makes the file of the report; or says that it is given twice, or why it can't be made, and gives the status.
+fn make_report<'a, R, O, E>(
+    rt: &R,
+    opener: O,
+    path: &'a str,
+    given: &[Given<'a>],
+    replace: bool,
+    console: &mut Console<'_, E>,
+) -> Result<Report<'a, O>, u8>
+where
+    R: Files + AllocGlobal,
+    O: Opens<File = R::File> + Copy,
+    E: Outlet,
+{
+    let place = Place::of(rt, path);
+    if given.iter().any(|film| is_met(film, &place, replace)) {
+        return Err(given_twice(path, console));
+    }
+    let target = make_target(rt, opener, &place, given, replace, console)?;
+    Ok(Report { path, target })
+}
+
 /// Makes the file of each recording; or says of the first that can't be made, and gives the status.
 fn make_targets<'a, R, O, E>(
     rt: &R,
@@ -262,7 +514,7 @@ where
 {
     let mut targets = Vec::new(rt.alloc());
     for film in given {
-        let target = make_target(rt, opener, film, given, replace, console)?;
+        let target = make_target(rt, opener, &film.place, given, replace, console)?;
         if targets.push(target).is_err() {
             return Err(no_memory(console));
         }
@@ -270,11 +522,11 @@ where
     Ok(targets)
 }
 
-/// Makes the file of a recording, and says how what stood there is called now, if that is told; or says why it can't be made, and gives the status.
+/// Makes the file of a recording, or of the report, and says how what stood there is called now, if that is told; or says why it can't be made, and gives the status.
 fn make_target<'a, R, O, E>(
     rt: &R,
     opener: O,
-    film: &Given<'a>,
+    place: &Place<'a>,
     given: &[Given<'a>],
     replace: bool,
     console: &mut Console<'_, E>,
@@ -284,17 +536,17 @@ where
     O: Opens<File = R::File> + Copy,
     E: Outlet,
 {
-    let is_film = given.iter().any(|other| other.identity.is_some()
-        && other.identity == film.place.identity());
-    match film.place.make(rt, rt.alloc(), opener, replace, is_film) {
+    let is_film = given.iter().any(|film| film.identity.is_some()
+        && film.identity == place.identity());
+    match place.make(rt, rt.alloc(), opener, replace, is_film) {
         Ok(made) => {
             if let Some(kept) = &made.kept {
-                console.mention(film.place.path(), kept);
+                console.mention(place.path(), kept);
             }
             Ok(made.target)
         }
         Err(fault) => {
-            console.say_unopened(film.place.path(), &fault);
+            console.say_unopened(place.path(), &fault);
             Err(FAILED)
         }
     }
@@ -333,12 +585,13 @@ struct Ended<'a, O: Opens> {
     target: Target<'a, O>,
 }
 
-/// Syncs each recording and says of each film whose recording stopped why it did, then of each other film how many frames were
-/// recorded; answers the status.
+/// Syncs each recording and says of each film whose recording stopped why it did, unless that was told, then of each other film how many frames
+/// were recorded; answers the status.
 fn say_tracks<O, W, E>(
     alloc: Global,
     files: &[&str],
     tracks: Vec<FilmTrack<'_, O>>,
+    told: &[bool],
     output: &mut Counted<W>,
     console: &mut Console<'_, E>,
 ) -> u8
@@ -349,7 +602,11 @@ where
 {
     let mut recordings = Vec::new(alloc);
     for (file, track) in files.iter().zip(tracks) {
-        if recordings.push(say_end(*file, track, console)).is_err() {
+        let was_told = is_told(told, recordings.len());
+        if recordings
+            .push(say_end(*file, track, was_told, console))
+            .is_err()
+        {
             return no_memory(console);
         }
     }
@@ -360,10 +617,19 @@ where
     status
 }
 
-/// Brings what was written of a film onto the disk, and says why its recording stopped, if it did.
+/// Whether it was told why the recording of the film of this number stopped.
+fn is_told(told: &[bool], film: usize) -> bool {
+    match told.get(film) {
+        Some(was_told) => *was_told,
+        None => false,
+    }
+}
+
+/// Brings what was written of a film onto the disk, and says why its recording stopped, if it did and that wasn't told.
 fn say_end<'a, O, E>(
     file: &str,
     track: FilmTrack<'a, O>,
+    was_told: bool,
     console: &mut Console<'_, E>,
 ) -> Ended<'a, O>
 where
@@ -381,7 +647,9 @@ where
             None
         }
         (Err(fault), _) => {
-            console.say(format_args!("{file}: {fault}"));
+            if !was_told {
+                console.say(format_args!("{file}: {fault}"));
+            }
             explain(file, fault.cause(), &track.reader, written, console);
             None
         }
@@ -466,6 +734,22 @@ fn named_twice<'a>(files: &[&'a str], names: &[String]) -> Option<&'a str> {
     None
 }
 
+/// The report's name, if it is that of a film or of a recording.
+fn named_as_report<'a>(
+    files: &[&str],
+    names: &[String],
+    report: Option<&'a str>,
+) -> Option<&'a str> {
+    let report = report?;
+    if files.iter().any(|file| *file == report)
+        || names.iter().any(|name| name.as_str() == report)
+    {
+        Some(report)
+    } else {
+        None
+    }
+}
+
 /// The first film whose recording would be one file with another's, or that is another's recording, or that a recording would be written
 /// into.
 fn written_twice<'a>(given: &[Given<'a>], replace: bool) -> Option<&'a str> {
@@ -490,4 +774,13 @@ fn is_overwritten(film: &Given<'_>, other: &Given<'_>, replace: bool) -> bool {
 /// Whether two films have one recording, or the first is where the other's is to be made.
 fn are_one(film: &Given<'_>, other: &Given<'_>) -> bool {
     film.place.is_one_with(&other.place) || (film.spot.is_some() && film.spot == other.place.spot())
+}
+
+/// Whether the report would be one file with a film's recording, is where the film stands, or would be written into the film.
+fn is_met(film: &Given<'_>, report: &Place<'_>, replace: bool) -> bool {
+    film.place.is_one_with(report)
+        || (film.spot.is_some() && film.spot == report.spot())
+        || film
+            .identity
+            .is_some_and(|identity| report.would_write_into(identity, replace))
 }

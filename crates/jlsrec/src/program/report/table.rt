@@ -1,0 +1,95 @@
+//! The lines of a report.
+use crate::program::watch::{Doing, Seen, Watch};
+use std::alloc::{AllocError, Global};
+use std::time::Clock;
+
+/// The columns' names, with their units. Each name ends where its numbers do, but for the last.
+const HEAD: &str =
+    "    frames         bytes-in        bytes-out    ratio      seconds   frames/s   delay-ms   window-s    queue-s film\n";
+
+/// A line for each film, by its name, and one of the workers.
+pub fn table_of<R: Clock>(
+    alloc: Global,
+    watch: &Watch<'_, R>,
+    files: &[&str],
+    workers: usize,
+) -> Result<String, AllocError> {
+    let mut table = HEAD.to_string(alloc)?;
+    for (film, file) in files.iter().enumerate() {
+        if let Some(seen) = watch.seen(film) {
+            add_film(alloc, &mut table, &seen)?;
+            add_name(alloc, &mut table, *file, &seen)?;
+        }
+    }
+    let busy = busy_text(alloc, watch.coding(), watch.lasted(), workers)?;
+    table.push_str(&busy)?;
+    Ok(table)
+}
+
+/// Adds the numbers of a film.
+fn add_film(alloc: Global, table: &mut String, seen: &Seen) -> Result<(), AllocError> {
+    let frames = seen.written;
+    let (bytes_in, bytes_out) = (seen.bytes_in, seen.bytes_out);
+    let time = if seen.read == 0 {
+        0
+    } else {
+        seen.since.saturating_sub(seen.first)
+    };
+    let ratio = hundredths(alloc, bytes_in, bytes_out)?;
+    let sizes = format!(in alloc; "{frames:>10} {bytes_in:>16} {bytes_out:>16} {ratio:>8}")?;
+    table.push_str(&sizes)?;
+    add_times(alloc, table, seen, time)
+}
+
+/// Adds the times of a film, which took so many nanoseconds.
+fn add_times(alloc: Global, table: &mut String, seen: &Seen, time: u64) -> Result<(), AllocError> {
+    let seconds = seconds_text(alloc, time)?;
+    let speed = hundredths(alloc, seen.written.saturating_mul(1_000_000), time / 1000)?;
+    let (milliseconds, tenth) = (seen.delay / 1_000_000, seen.delay / 100_000 % 10);
+    let delay = format!(in alloc; "{milliseconds}.{tenth}")?;
+    let times = format!(in alloc; " {seconds:>12} {speed:>10} {delay:>10}")?;
+    table.push_str(&times)?;
+    let window = seconds_text(alloc, seen.window_wait)?;
+    let queue = seconds_text(alloc, seen.queue_wait)?;
+    let waits = format!(in alloc; " {window:>10} {queue:>10}")?;
+    table.push_str(&waits)
+}
+
+/// Adds the name of a film, and why its recording stopped, if it did.
+fn add_name(alloc: Global, table: &mut String, file: &str, seen: &Seen) -> Result<(), AllocError> {
+    let name = match seen.doing {
+        Doing::Ended(Err(fault)) => format!(in alloc; " {file}: {fault}\n"),
+        _ => format!(in alloc; " {file}\n"),
+    }?;
+    table.push_str(&name)
+}
+
+/// A quotient with two decimals, rounded down; `-` if there is none.
+fn hundredths(alloc: Global, dividend: u64, divisor: u64) -> Result<String, AllocError> {
+    match dividend.saturating_mul(100).checked_div(divisor) {
+        None => "-".to_string(alloc),
+        Some(quotient) => {
+            let (whole, hundredth) = (quotient / 100, quotient % 100);
+            format!(in alloc; "{whole}.{hundredth:02}")
+        }
+    }
+}
+
+/// So many nanoseconds, in seconds with three decimals, rounded down.
+fn seconds_text(alloc: Global, time: u64) -> Result<String, AllocError> {
+    let (seconds, thousandth) = (time / 1_000_000_000, time / 1_000_000 % 1000);
+    format!(in alloc; "{seconds}.{thousandth:03}")
+}
+
+/// The line of the workers, who coded for so long together, each for as long as the recording lasted at most.
+fn busy_text(
+    alloc: Global,
+    coding: u64,
+    lasted: u64,
+    workers: usize,
+) -> Result<String, AllocError> {
+    let whole = lasted.saturating_mul(workers as u64) / 1000;
+    let thousandths = coding.checked_div(whole).unwrap_or(0);
+    let (percent, tenth) = (thousandths / 10, thousandths % 10);
+    format!(in alloc; "workers: {workers}, busy {percent}.{tenth} % of the time\n")
+}

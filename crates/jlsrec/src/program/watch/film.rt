@@ -1,0 +1,205 @@
+//! What is seen of one film.
+use ls_recorder::{LaneFault, MOST_WINDOW, Notice};
+use std::alloc::{AllocError, Global};
+use std::sync::OnceLock;
+use std::sync::atomic::{AtomicBool, AtomicU64, Ordering};
+
+/// What a film's lane does.
+#[derive(Clone, Copy, Debug, Drop, PartialEq, Eq)]
+pub enum Doing {
+    /// It waits for a place in the window, or hasn't begun.
+    AwaitsWindow,
+    /// It reads a frame.
+    Reads,
+    /// It waits for a place in the queue.
+    AwaitsQueue,
+    /// It has ended, and so many frames were recorded; or why it stops.
+    Ended(Result<u64, LaneFault>),
+}
+
+/// What was seen of a film at a moment.
+#[derive(Clone, Copy, Debug, Drop, PartialEq, Eq)]
+pub struct Seen {
+    pub doing: Doing,
+    /// When it began to do that.
+    pub since: u64,
+    /// How many frames were read, and how many written.
+    pub read: u64,
+    pub written: u64,
+    /// How many bytes of samples were read, and how many bytes of codestreams written.
+    pub bytes_in: u64,
+    pub bytes_out: u64,
+    /// When the first frame was read.
+    pub first: u64,
+    /// The longest that a frame took from being read to being written.
+    pub delay: u64,
+    /// How long it waited for places in the window, and in the queue.
+    pub window_wait: u64,
+    pub queue_wait: u64,
+}
+
+/// What is seen of a film. Each word is written by one thread at a time: `bytes_out`, `written` and `delay` by the half of its lane that writes, all
+/// others by the half that reads.
+#[derive(Drop)]
+pub struct FilmWatch {
+    /// How many frames the reader was asked for, how many it read, and how many are in the queue.
+    asked: AtomicU64,
+    read: AtomicU64,
+    put: AtomicU64,
+    written: AtomicU64,
+    bytes_in: AtomicU64,
+    bytes_out: AtomicU64,
+    first: AtomicU64,
+    /// When the lane began to do what it does.
+    since: AtomicU64,
+    delay: AtomicU64,
+    window_wait: AtomicU64,
+    queue_wait: AtomicU64,
+    /// When each frame that isn't written was read, by its number modulo the widest window.
+    read_at: Vec<AtomicU64>,
+    end: OnceLock<Result<u64, LaneFault>>,
+    /// Whether it was told why its recording stopped.
+    told: AtomicBool,
+}
+
+impl FilmWatch {
+    /// What is seen of a film before anything has come of it.
+    pub fn new(alloc: Global) -> Result<FilmWatch, AllocError> {
+        let mut read_at = Vec::new(alloc);
+        for _place in 0..MOST_WINDOW {
+            read_at.push(zero())?;
+        }
+        Ok(FilmWatch {
+            asked: zero(),
+            read: zero(),
+            put: zero(),
+            written: zero(),
+            bytes_in: zero(),
+            bytes_out: zero(),
+            first: zero(),
+            since: zero(),
+            delay: zero(),
+            window_wait: zero(),
+            queue_wait: zero(),
+            read_at,
+            end: OnceLock::new(),
+            told: AtomicBool::new(false),
+        })
+    }
+
+    /// Takes in what has come of the film by now.
+    pub fn take(&self, notice: Notice, now: u64) {
+        match notice {
+            Notice::Began => self.since.store(now, Ordering::SeqCst),
+            Notice::Reading(_) => {
+                add(&self.window_wait, self.turn(now));
+                add(&self.asked, 1);
+            }
+            Notice::Read { number, bytes } => self.take_read(number, bytes, now),
+            Notice::Put(_) => {
+                add(&self.queue_wait, self.turn(now));
+                add(&self.put, 1);
+            }
+            Notice::Written { number, bytes } => self.take_written(number, bytes, now),
+            Notice::Stops(fault) => self.end_so(Err(fault)),
+            Notice::Ended(result) => {
+                let _since = self.turn(now);
+                self.end_so(result);
+            }
+        }
+    }
+
+    /// Takes in how the film ends, unless that was known before.
+    fn end_so(&self, outcome: Result<u64, LaneFault>) {
+        let _known = self.end.try_set(outcome);
+    }
+
+    /// Takes in that a frame was read.
+    fn take_read(&self, number: u64, bytes: u64, now: u64) {
+        let _since = self.turn(now);
+        if number == 0 {
+            self.first.store(now, Ordering::SeqCst);
+        }
+        if let Some(read_at) = self.place_of(number) {
+            read_at.store(now, Ordering::SeqCst);
+        }
+        add(&self.bytes_in, bytes);
+        add(&self.read, 1);
+    }
+
+    /// Takes in that a frame was written.
+    fn take_written(&self, number: u64, bytes: u64, now: u64) {
+        if let Some(read_at) = self.place_of(number) {
+            let delay = now.saturating_sub(read_at.load(Ordering::SeqCst));
+            self.delay.fetch_max(delay, Ordering::SeqCst);
+        }
+        add(&self.bytes_out, bytes);
+        add(&self.written, 1);
+    }
+
+    /// Where it stands when the frame of this number was read.
+    fn place_of(&self, number: u64) -> Option<&AtomicU64> {
+        self.read_at.get((number % MOST_WINDOW as u64) as usize)
+    }
+
+    /// Has the lane begin to do something else, and says how long it did what it did before.
+    fn turn(&self, now: u64) -> u64 {
+        now.saturating_sub(self.since.swap(now, Ordering::SeqCst))
+    }
+
+    /// What is seen of it now.
+    pub fn seen(&self) -> Seen {
+        // What is written was read before: in this order no frame is seen as written that isn't seen as read.
+        let written = self.written.load(Ordering::SeqCst);
+        let bytes_out = self.bytes_out.load(Ordering::SeqCst);
+        Seen {
+            doing: self.doing(),
+            since: self.since.load(Ordering::SeqCst),
+            read: self.read.load(Ordering::SeqCst),
+            written,
+            bytes_in: self.bytes_in.load(Ordering::SeqCst),
+            bytes_out,
+            first: self.first.load(Ordering::SeqCst),
+            delay: self.delay.load(Ordering::SeqCst),
+            window_wait: self.window_wait.load(Ordering::SeqCst),
+            queue_wait: self.queue_wait.load(Ordering::SeqCst),
+        }
+    }
+
+    fn doing(&self) -> Doing {
+        if let Some(result) = self.end.get() {
+            return Doing::Ended(*result);
+        }
+        // In this order, since no count goes back: what is seen as less is less.
+        let asked = self.asked.load(Ordering::SeqCst);
+        let read = self.read.load(Ordering::SeqCst);
+        if self.put.load(Ordering::SeqCst) < read {
+            Doing::AwaitsQueue
+        } else if read < asked {
+            Doing::Reads
+        } else {
+            Doing::AwaitsWindow
+        }
+    }
+
+    /// Why its recording stopped, if it did and no call has answered that before.
+    pub fn news(&self) -> Option<LaneFault> {
+        match self.end.get() {
+            Some(Err(fault)) if !self.told.swap(true, Ordering::SeqCst) => Some(*fault),
+            _ => None,
+        }
+    }
+
+    /// Whether `news` has told why its recording stopped.
+    pub fn was_told(&self) -> bool {
+        self.told.load(Ordering::SeqCst)
+    }
+}
+
+fn zero() -> AtomicU64 {
+    AtomicU64::new(0)
+}
+
+fn add(sum: &AtomicU64, more: u64) {
+    sum.fetch_add(more, Ordering::SeqCst);
+}
