@@ -193,9 +193,8 @@ where
         &watch,
         console,
     );
-    let Ok(told) = watch.told(alloc) else {
-        return no_memory(console);
-    };
+    let mut told = [false; MOST_FILES];
+    watch.told(&mut told);
     let status = say_recorded(alloc, files, recorded, &told, output, console);
     let reported = match report {
         Some(report) => write_report(alloc, report, &watch, files, task.workers, console),

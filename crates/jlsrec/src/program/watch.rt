@@ -63,13 +63,11 @@ impl<'r, R: Clock> Watch<'r, R> {
         self.films.get(film)?.news()
     }
 
-    /// Of each film whether `news` has told why its recording stopped.
-    pub fn told(&self, alloc: Global) -> Result<Vec<bool>, AllocError> {
-        let mut told = Vec::new(alloc);
-        for film in &self.films {
-            told.push(film.was_told())?;
+    /// Puts into `told`, of each film in order, whether `news` has told why its recording stopped.
+    pub fn told(&self, told: &mut [bool]) {
+        for (film, told) in self.films.iter().zip(told.iter_mut()) {
+            *told = film.was_told();
         }
-        Ok(told)
     }
 
     /// How long all codings took together. Of one that goes on nothing can be said.
