@@ -1,10 +1,11 @@
 //! The lane of a source: a film's way from its reader to its writer.
 //!
-//! It has two halves, each in a thread of its own, so that a piece is written when its turn comes, whatever the film's reader does. The reading half
-//! (`reading`) reads a frame once there is a place for it in the window (`places`), books its order for the writing half, and puts it into
-//! the queue. The writing half (`writing`) takes the orders that were booked, receives their pieces out of the source's box, and
-//! writes each when its turn comes, which gives its place back. The bookings are a queue of one source and one worker: so what was
-//! booked is what was taken, in order, as its account says.
+//! It has two halves, each in a thread of its own, so that a piece is written when its turn comes, whatever the film's
+//! reader does. The reading half (`reading`) reads a frame once there is a place for it in the window (`places`), books
+//! its order for the writing half, and puts it into the queue. The writing half (`writing`) takes the orders that were
+//! booked, receives their pieces out of the source's box, and writes each when its turn comes, which gives its place
+//! back. The bookings are a queue of one source and one worker: so what was booked is what was taken, in order, as its
+//! account says.
 mod places;
 mod reading;
 mod writing;
@@ -35,8 +36,8 @@ use writing::{Writing, WritingEnd, write_film};
 /// Why a lane stopped.
 #[derive(Clone, Copy, Debug, Drop, PartialEq, Eq, Error)]
 pub enum LaneFault {
-    /// The frame of this number, from 0, can't be read; the fault is never `NetpbmFault::NoMemory`. The codestreams of exactly the
-    /// frames before it were written.
+    /// The frame of this number, from 0, can't be read; the fault is never `NetpbmFault::NoMemory`. The codestreams of
+    /// exactly the frames before it were written.
     #[error("frame {0}: {1}")]
     Input(u64, NetpbmFault),
     /// A write failed when exactly so many bytes of the codestreams had gone out.
@@ -57,8 +58,8 @@ pub enum LaneFault {
     /// A frame numbered 4,294,967,295. The codestreams of exactly the frames before it were written.
     #[error("too many frames")]
     TooMany,
-    /// The tuning gives no parameters for the maxval of the frame of this number, from 0. The codestreams of exactly the frames
-    /// before it were written.
+    /// The tuning gives no parameters for the maxval of the frame of this number, from 0. The codestreams of exactly
+    /// the frames before it were written.
     #[error("frame {0}: bad presets: {1}")]
     Tuning(u64, PresetFault),
 }
@@ -72,17 +73,18 @@ pub struct LaneEnd<F, W> {
     pub result: Result<u64, LaneFault>,
 }
 
-/// Records the film of a source: reads its frames, orders each with the parameters that the tuning gives for it, puts them into
-/// the queue, and writes the codestreams that come out of the inbox, each as soon as it is its turn. At most `window` frames, 1 to
-/// 64, were read and not written. The seat has put nothing before; the inbox is of the seat's source.
+/// Records the film of a source: reads its frames, orders each with the parameters that the tuning gives for it, puts
+/// them into the queue, and writes the codestreams that come out of the inbox, each as soon as it is its turn. At most
+/// `window` frames, 1 to 64, were read and not written. The seat has put nothing before; the inbox is of the seat's
+/// source.
 ///
-/// However it ends, the source is ended, and reader and writer come back. If their bytes are known (as in memory), the clauses say
-/// which were read and written, and of which frames. What is put before the frame at fault is written before the fault is answered;
-/// a fault met meanwhile is answered in its place, once the read that goes on by then has ended. After a fault nothing is said of the
-/// reader's place.
+/// However it ends, the source is ended, and reader and writer come back. If their bytes are known (as in memory), the
+/// clauses say which were read and written, and of which frames. What is put before the frame at fault is written
+/// before the fault is answered; a fault met meanwhile is answered in its place, once the read that goes on by then has
+/// ended. After a fault nothing is said of the reader's place.
 ///
-/// It writes in a thread of its own; if none can be made, it answers `NotStarted`, with nothing read or written. It waits for that
-/// thread, for the queue and for workers; nothing is proved of when an answer comes.
+/// It writes in a thread of its own; if none can be made, it answers `NotStarted`, with nothing read or written. It
+/// waits for that thread, for the queue and for workers; nothing is proved of when an answer comes.
 pub fn lane<F: Feed + Drop, W: Outlet + Send + Drop, R: Threads + Wait + Sync>(
     rt: &R,
     alloc: Global,
@@ -257,7 +259,8 @@ pub struct Parts {
     pub seats: Vec<WorkerSeat<Order>>,
 }
 
-/// A queue for the bookings of a source, with its seats, and what else the halves of its lane need. Fails only if an allocation fails.
+/// A queue for the bookings of a source, with its seats, and what else the halves of its lane need. Fails only if an
+/// allocation fails.
 fn parts_for<R: Wait>(
     rt: &R,
     alloc: Global,
@@ -326,7 +329,8 @@ fn run_in_scope<F: Feed + Drop, W: Outlet + Send + Drop, R: Threads + Wait + Syn
     )
 }
 
-/// Runs both halves to their ends. If no thread can be made for the writing half, nothing is read, and it has nothing to write.
+/// Runs both halves to their ends. If no thread can be made for the writing half, nothing is read, and it has nothing
+/// to write.
 fn run_halves<
     's,
     E,

@@ -6,7 +6,8 @@ use crate::faults::RecordFault;
 use ls_pieces::MOST_WINDOW;
 use ls_queue::{MOST_CAPACITY, MOST_SOURCES, MOST_WORKERS};
 
-/// How many workers there are, how many frames may wait for one, and how many of each film may be on their way to its file.
+/// How many workers there are, how many frames may wait for one, and how many of each film may be on their way to its
+/// file.
 #[derive(Clone, Copy)]
 pub struct Sizes {
     pub workers: usize,

@@ -1,4 +1,5 @@
-//! The progress of a recording, said on standard error while it goes on: on a terminal as a line in its place, elsewhere as lines.
+//! The progress of a recording, said on standard error while it goes on: on a terminal as a line in its place,
+//! elsewhere as lines.
 mod text;
 
 use crate::console::Console;
@@ -12,7 +13,8 @@ use text::{Pace, line_of};
 /// After so many nanoseconds progress is said again: a little less than the wait, which may end a little early.
 const DUE: u64 = 450_000_000;
 
-/// Until the recording ends, says twice a second how far each film is, by its name, and of each whose recording stops why, at once.
+/// Until the recording ends, says twice a second how far each film is, by its name, and of each whose recording stops
+/// why, at once.
 ///
 /// What memory is refused for isn't said that time.
 pub fn tell_progress<R: Wait + Clock, E: Outlet>(
@@ -68,8 +70,8 @@ fn tell_news<R: Clock, E: Outlet>(
     }
 }
 
-/// Looks how far each film is, `time` nanoseconds after the last look; and says it, where there is no terminal, if it is something else than was
-/// said last.
+/// Looks how far each film is, `time` nanoseconds after the last look; and says it, where there is no terminal, if it
+/// is something else than was said last.
 fn tell_paces<R: Clock, E: Outlet>(
     alloc: Global,
     watch: &Watch<'_, R>,

@@ -162,7 +162,8 @@ where
     }
 }
 
-/// Records films that are watched, says how far they are if that is asked for, says what came of each, and writes the report; answers the status.
+/// Records films that are watched, says how far they are if that is asked for, says what came of each, and writes the
+/// report; answers the status.
 fn record_watched<'a, R, O, W, E>(
     rt: &R,
     task: &Task<'a>,
@@ -385,8 +386,8 @@ fn notices(alloc: Global, files: &[&str]) -> Result<Vec<String>, AllocError> {
     Ok(notices)
 }
 
-/// Opens each film but the named pipes, and only then makes a file for the report and for the recording of each, once none is given twice; or
-/// says why not, and gives the status.
+/// Opens each film but the named pipes, and only then makes a file for the report and for the recording of each, once
+/// none is given twice; or says why not, and gives the status.
 fn open_films<'a, R, O, E>(
     rt: &R,
     opener: O,
@@ -521,7 +522,8 @@ where
     Ok(targets)
 }
 
-/// Makes the file of a recording, or of the report, and says how what stood there is called now, if that is told; or says why it can't be made, and gives the status.
+/// Makes the file of a recording, or of the report, and says how what stood there is called now, if that is told; or
+/// says why it can't be made, and gives the status.
 fn make_target<'a, R, O, E>(
     rt: &R,
     opener: O,
@@ -584,8 +586,8 @@ struct Ended<'a, O: Opens> {
     target: Target<'a, O>,
 }
 
-/// Syncs each recording and says of each film whose recording stopped why it did, unless that was told, then of each other film how many frames
-/// were recorded; answers the status.
+/// Syncs each recording and says of each film whose recording stopped why it did, unless that was told, then of each
+/// other film how many frames were recorded; answers the status.
 fn say_tracks<O, W, E>(
     alloc: Global,
     files: &[&str],
@@ -721,7 +723,8 @@ fn number_of(text: &str) -> Option<u16> {
     text.parse().ok()
 }
 
-/// The first name that is given twice, or is the name of another film's recording, or has a recording of a name with another's.
+/// The first name that is given twice, or is the name of another film's recording, or has a recording of a name with
+/// another's.
 fn named_twice<'a>(files: &[&'a str], names: &[String]) -> Option<&'a str> {
     for (place, (file, recording)) in files.iter().zip(names).enumerate() {
         for (other, (name, made)) in files.iter().zip(names).enumerate() {
@@ -749,8 +752,8 @@ fn named_as_report<'a>(
     }
 }
 
-/// The first film whose recording would be one file with another's, or that is another's recording, or that a recording would be written
-/// into.
+/// The first film whose recording would be one file with another's, or that is another's recording, or that a recording
+/// would be written into.
 fn written_twice<'a>(given: &[Given<'a>], replace: bool) -> Option<&'a str> {
     for (place, film) in given.iter().enumerate() {
         for (other, one) in given.iter().enumerate() {
@@ -775,7 +778,8 @@ fn are_one(film: &Given<'_>, other: &Given<'_>) -> bool {
     film.place.is_one_with(&other.place) || (film.spot.is_some() && film.spot == other.place.spot())
 }
 
-/// Whether the report would be one file with a film's recording, is where the film stands, or would be written into the film.
+/// Whether the report would be one file with a film's recording, is where the film stands, or would be written into the
+/// film.
 fn is_met(film: &Given<'_>, report: &Place<'_>, replace: bool) -> bool {
     film.place.is_one_with(report)
         || (film.spot.is_some() && film.spot == report.spot())

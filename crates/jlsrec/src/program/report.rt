@@ -17,7 +17,8 @@ pub struct Report<'a, O: Opens> {
     pub target: Target<'a, O>,
 }
 
-/// Writes the report of a recording that has ended, of films by their names, and brings it onto the disk; or says that it can't. Answers the status.
+/// Writes the report of a recording that has ended, of films by their names, and brings it onto the disk; or says that
+/// it can't. Answers the status.
 pub fn write_report<R, O, E>(
     alloc: Global,
     report: Report<'_, O>,

@@ -18,7 +18,8 @@ pub struct Watch<'r, R> {
     clock: &'r R,
     made: Option<Instant>,
     films: Vec<FilmWatch>,
-    /// The times at which codings ended, less those at which they began, modulo 2^64: once none goes on, how long all took.
+    /// The times at which codings ended, less those at which they began, modulo 2^64: once none goes on, how long all
+    /// took.
     coding: AtomicU64,
     /// Whether the recording has ended, and when it did.
     over: AtomicBool,
@@ -58,7 +59,8 @@ impl<'r, R: Clock> Watch<'r, R> {
         Some(self.films.get(film)?.seen())
     }
 
-    /// Why the recording of the film of this number stopped, if it did and no call has answered that before: so it is told once.
+    /// Why the recording of the film of this number stopped, if it did and no call has answered that before: so it is
+    /// told once.
     pub fn news(&self, film: usize) -> Option<LaneFault> {
         self.films.get(film)?.news()
     }

@@ -13,8 +13,8 @@ use std::sync::Wait;
 /// What a worker answers to a job: its piece, or that it couldn't be coded.
 pub type Answer = Result<Coded, Uncoded>;
 
-/// How often a lane looks into its box, or for a place in its window, before it sleeps: for about as long as a small frame takes to
-/// code, since to be woken takes longer, and costs who wakes it as much.
+/// How often a lane looks into its box, or for a place in its window, before it sleeps: for about as long as a small
+/// frame takes to code, since to be woken takes longer, and costs who wakes it as much.
 pub const LOOKS: usize = 400;
 
 /// A pass of a box says nothing, and so does each pass that is made of it.
@@ -89,8 +89,9 @@ impl Outbox {
         self.doors.len()
     }
 
-    /// Puts an answer into the box of a source, which has to be one of those that the boxes were made for. Waits while there is
-    /// no room. The answer comes back if the lane that takes from the box is gone. All doors lead where they led.
+    /// Puts an answer into the box of a source, which has to be one of those that the boxes were made for. Waits while
+    /// there is no room. The answer comes back if the lane that takes from the box is gone. All doors lead where they
+    /// led.
     pub fn send<R: Wait>(&mut self, rt: &R, source: u8, answer: Answer) -> Result<(), Answer>
         requires { source < length self.old.doors.items }
         ensures refused { IfErr result (λ back. back ≡ answer) }

@@ -1,4 +1,5 @@
-//! The places of a lane's window: each frame takes one before it is read, and gives it back when its codestream is written.
+//! The places of a lane's window: each frame takes one before it is read, and gives it back when its codestream is
+//! written.
 ghost use Rattle.std.specs.Prelude.{◌≡◌, ◌<◌, ◌+◌, ◌-◌, ◌^◌, IfOk};
 ghost use Rattle.crossbeam_channel.specs.Claims.{IsSeatAt};
 ghost use Rattle.crossbeam_channel.specs.Ends.{sends_on, receives_on};
@@ -51,8 +52,8 @@ impl Places {
         Ok((places, returns))
     }
 
-    /// Takes a place, and waits for one; whether there is one. There is none any more once nobody is left to give any back, even if
-    /// some are free.
+    /// Takes a place, and waits for one; whether there is one. There is none any more once nobody is left to give any
+    /// back, even if some are free.
     pub fn take<R: Wait>(&mut self, rt: &R) -> bool {
         for _look in 0..LOOKS {
             if !self.count_returned(rt) {

@@ -1,4 +1,5 @@
-//! The reading half of a lane: it reads the frames of a film, books each for the writing half, and puts it into the queue.
+//! The reading half of a lane: it reads the frames of a film, books each for the writing half, and puts it into the
+//! queue.
 ghost use Rattle.std.specs.Prelude.{◌≡◌, ◌<◌, ◌≤◌, ◌++◌, ◌∷◌, ◌⊎◌, [], ℕ, length, Ok, IfOk, IfErr, OnOk, IfSome, IfNone, MatchResult};
 ghost use Rattle.ls_frame.specs.Netpbm.{IsImageOf};
 ghost use Rattle.ls_frame.specs.Picture.{IsFrame};
@@ -21,8 +22,8 @@ use ls_queue::{Closer, Ended, Finished, Queue, SourceSeat};
 use std::alloc::Global;
 use std::sync::{Arc, Wait};
 
-/// What the reading half begins with: its seats at the queue and at the bookings, what ends the bookings, the free places, room for one end,
-/// and the reader.
+/// What the reading half begins with: its seats at the queue and at the bookings, what ends the bookings, the free
+/// places, room for one end, and the reader.
 #[derive(Drop)]
 pub struct Reading<F> {
     pub seat: SourceSeat<Order>,
@@ -33,8 +34,8 @@ pub struct Reading<F> {
     pub reader: F,
 }
 
-/// What the reading half answers: its seat at the queue, the bookings as they were finished, the reader, and how many frames there were, or why it
-/// stopped.
+/// What the reading half answers: its seat at the queue, the bookings as they were finished, the reader, and how many
+/// frames there were, or why it stopped.
 #[derive(Drop)]
 pub struct ReadingEnd<F> {
     pub seat: SourceSeat<Order>,
@@ -80,8 +81,8 @@ pub fn read_booked<F: Feed, R: Wait, G: Gate>(
 
 /// Reads the film, each frame once there is a place for it in the window; `booked` and `seat` get the same orders.
 ///
-/// Ok: so many frames, and the reader is at its end. A fault is that of the next frame; or NoMemory, if an allocation failed or if
-/// nobody is left to give places back.
+/// Ok: so many frames, and the reader is at its end. A fault is that of the next frame; or NoMemory, if an allocation
+/// failed or if nobody is left to give places back.
 fn read_film<F: Feed, R: Wait, G: Gate>(
     setting: &Setting<'_, R, G>,
     seat: &mut SourceSeat<Order>,
@@ -133,7 +134,8 @@ fn sample_bytes(frame: &Frame) -> u64 {
     }
 }
 
-/// Reads the frame of this number, and orders it with the parameters that the tuning gives for it; `None` exactly at the end.
+/// Reads the frame of this number, and orders it with the parameters that the tuning gives for it; `None` exactly at
+/// the end.
 fn next_order<F: Feed>(
     alloc: Global,
     reader: &mut F,

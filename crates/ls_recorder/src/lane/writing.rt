@@ -1,4 +1,5 @@
-//! The writing half of a lane: it takes the orders that were booked, receives their pieces, and writes each when its turn comes.
+//! The writing half of a lane: it takes the orders that were booked, receives their pieces, and writes each when its
+//! turn comes.
 ghost use Rattle.std.specs.Prelude.{◌≡◌, ◌<◌, ◌≤◌, ◌+◌, ◌*◌, ◌^◌, ◌++◌, ◌⊎◌, [], ℕ, None, List, Option, true, false, length, take, IfOk, IfErr, OnOk};
 ghost use Rattle.std.specs.Io.KnownBytes.{Appends};
 ghost use Rattle.ls_frame.specs.View.Devices.{count_after};
@@ -20,8 +21,8 @@ use ls_pieces::{Coded, Collector, Misfit, Order};
 use ls_queue::{Queue, Taken, WorkerSeat};
 use std::sync::Wait;
 
-/// What the writing half begins with: its seat at the bookings, its source's box, a collector with nothing booked, where places are
-/// given back, and the writer.
+/// What the writing half begins with: its seat at the bookings, its source's box, a collector with nothing booked,
+/// where places are given back, and the writer.
 #[derive(Drop)]
 pub struct Writing<W> {
     pub seat: WorkerSeat<Order>,
@@ -47,8 +48,8 @@ pub enum Halt {
     NotBooked(u64),
 }
 
-/// Writes the codestreams of the orders that are booked, in order, until the bookings are done. After a fault it takes the bookings that are
-/// left, and writes nothing of them.
+/// Writes the codestreams of the orders that are booked, in order, until the bookings are done. After a fault it takes
+/// the bookings that are left, and writes nothing of them.
 pub fn write_film<W: Outlet, R: Wait, G: Gate>(
     setting: &Setting<'_, R, G>,
     start: Writing<W>,
@@ -112,7 +113,8 @@ fn take_the_rest<R: Wait, G: Gate>(
     }
 }
 
-/// Writes until the bookings are done, or until it has to stop. Then the box and the places are given up, and nobody waits for them.
+/// Writes until the bookings are done, or until it has to stop. Then the box and the places are given up, and nobody
+/// waits for them.
 fn write_booked<W: Outlet, R: Wait, G: Gate>(
     setting: &Setting<'_, R, G>,
     seat: &mut WorkerSeat<Order>,
@@ -170,7 +172,8 @@ fn some_waits<R: Wait, G: Gate>(
     book_next(setting, seat, collector)
 }
 
-/// Takes the next order, if the bookings aren't done, and books it in the collector, which has room for it; whether there was one.
+/// Takes the next order, if the bookings aren't done, and books it in the collector, which has room for it; whether
+/// there was one.
 fn book_next<R: Wait, G: Gate>(
     setting: &Setting<'_, R, G>,
     seat: &mut WorkerSeat<Order>,
@@ -248,8 +251,8 @@ fn accept(collector: &mut Collector, piece: Coded) -> Result<(), Halt>
     }
 }
 
-/// Writes the pieces that are there, in order, up to the first that isn't, after `written` bytes; and says how many there are then. Each gives
-/// its place back.
+/// Writes the pieces that are there, in order, up to the first that isn't, after `written` bytes; and says how many
+/// there are then. Each gives its place back.
 fn write_ready<W: Outlet, R: Wait, G: Gate>(
     setting: &Setting<'_, R, G>,
     collector: &mut Collector,

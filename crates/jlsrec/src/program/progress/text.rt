@@ -58,7 +58,8 @@ impl Pace {
     }
 }
 
-/// The speed after so many bytes in so many nanoseconds: it goes a quarter of the way to theirs, or all of it if there was none.
+/// The speed after so many bytes in so many nanoseconds: it goes a quarter of the way to theirs, or all of it if there
+/// was none.
 fn speed_after(speed: u64, bytes: u64, time: u64) -> u64 {
     let milliseconds = time / 1_000_000;
     let now = bytes
@@ -124,7 +125,8 @@ fn speeds_text(alloc: Global, speed_in: u64, speed_out: u64) -> Result<String, A
     format!(in alloc; "{whole_in}.{tenth_in} MB/s in, {whole_out}.{tenth_out} out")
 }
 
-/// All films in a line, after so many lines before. If they have no room in one, each line goes round from another film on, the same for some lines.
+/// All films in a line, after so many lines before. If they have no room in one, each line goes round from another film
+/// on, the same for some lines.
 pub fn line_of(
     alloc: Global,
     files: &[&str],

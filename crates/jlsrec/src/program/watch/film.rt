@@ -38,8 +38,8 @@ pub struct Seen {
     pub queue_wait: u64,
 }
 
-/// What is seen of a film. Each word is written by one thread at a time: `bytes_out`, `written` and `delay` by the half of its lane that writes, all
-/// others by the half that reads.
+/// What is seen of a film. Each word is written by one thread at a time: `bytes_out`, `written` and `delay` by the half
+/// of its lane that writes, all others by the half that reads.
 #[derive(Drop)]
 pub struct FilmWatch {
     /// How many frames the reader was asked for, how many it read, and how many are in the queue.
