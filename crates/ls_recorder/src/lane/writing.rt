@@ -277,6 +277,8 @@ fn write_ready<W: Outlet, R: Wait, G: Gate>(
             number: piece.number(),
             bytes: piece.bytes().len() as u64,
         });
+        // Its memory goes before another frame may take its place.
+        drop(piece);
         returns.give(setting.rt);
     }
     Ok(written)
