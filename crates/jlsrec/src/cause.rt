@@ -5,7 +5,7 @@ use ls_recorder::LaneFault;
 use ls_stream::StreamFault;
 
 /// What a fault comes of.
-#[derive(Clone, Copy, Debug, PartialEq, Eq)]
+#[derive(Clone, Copy)]
 pub enum Cause {
     /// A read failed.
     Reading,

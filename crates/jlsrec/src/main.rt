@@ -1,16 +1,13 @@
 //! `jlsrec`: a lossless recorder of image sequences.
 //!
-//! In reading order: `command_line` (the words, by `clap`), `console` (what is said on standard error), `cause` (what faults come of),
-//! `steps_file` and `replies` (what `replay` reads and writes), `program` (the whole program over words, files and its two streams). What is
-//! read and written of films is in `ls_film`, files as files are in `ls_files`, the queue in `ls_queue`.
+//! In reading order: `console` (what is said on standard error), `cause` (what faults come of), `program` (the whole program over words,
+//! files and its two streams). The words of the command line are read in `ls_command`, films are read and written in `ls_film`, files as
+//! files are in `ls_files`, and what `replay` reads and writes is in `ls_replay`.
 #![tactic(auto)]
 
 mod cause;
-mod command_line;
 mod console;
 mod program;
-mod replies;
-mod steps_file;
 
 use console::Console;
 use ls_files::Opener;

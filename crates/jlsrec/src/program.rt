@@ -5,17 +5,14 @@ mod report;
 mod watch;
 
 use crate::cause::{Cause, Caused};
-use crate::command_line::{Request, read_words, usage_fault};
 use crate::console::Console;
 use crate::program::recording::{Task, record_films};
-use crate::replies::print_replies;
-use crate::steps_file::{read_steps, read_text};
-use clap::Error;
-use clap::error::ErrorKind;
+use ls_command::{Answer, Request, misuse, read_words};
 use ls_files::{Opener, Opens, Source, likeness_of};
 use ls_film::{PlayFault, code_film, list_film, play};
 use ls_frame::{Buffered, Counted, Failed, Feed, Outlet, keep_blocks, write_bytes};
 use ls_queue::{QueueFault, Reply, replay};
+use ls_replay::{print_replies, read_steps, read_text};
 use std::alloc::Global;
 use std::fmt::Display;
 use std::io::{BufWriter, Write};
@@ -55,10 +52,7 @@ where
     let status = match words(rt) {
         Ok(words) => run(rt, opener, &words, output, console),
         Err(fault) if fault.kind() == io::ErrorKind::OutOfMemory => no_memory(console),
-        Err(_) => match usage_fault(alloc, "a word isn't UTF-8") {
-            Ok(error) => answer(alloc, &error, output, console),
-            Err(_) => no_memory(console),
-        },
+        Err(_) => answer(misuse(alloc, "a word isn't UTF-8"), output, console),
     };
     finish(status, output, console)
 }
@@ -89,7 +83,7 @@ where
             console.tell_reasons(reasons);
             do_request(rt, opener, request, output, console)
         }
-        Err(error) => answer(alloc, &error, output, console),
+        Err(other) => answer(other, output, console),
     }
 }
 
@@ -388,24 +382,20 @@ where
     status
 }
 
-/// Shows what `clap` answers in place of a request.
+/// Shows what is answered in place of a request, and answers the status.
 fn answer<W: Write, E: Outlet>(
-    alloc: Global,
-    error: &Error,
+    other: Answer,
     output: &mut Counted<W>,
     console: &mut Console<'_, E>,
 ) -> u8 {
-    if error.kind() == ErrorKind::OutOfMemory {
-        return no_memory(console);
+    match other {
+        Answer::Shown(text) => write_text(text.as_bytes(), output, console),
+        Answer::Misused(text) => {
+            console.write(text.as_bytes());
+            USAGE
+        }
+        Answer::NoMemory => no_memory(console),
     }
-    let Ok(text) = error.to_string(alloc) else {
-        return no_memory(console);
-    };
-    if error.use_stderr() {
-        console.write(text.as_bytes());
-        return USAGE;
-    }
-    write_text(text.as_bytes(), output, console)
 }
 
 /// Writes a text to standard output, or says that it can't; answers the status.

@@ -4,7 +4,7 @@ use std::fs::{Files, Metadata};
 use std::os::unix::fs::MetadataExt;
 
 /// A file by its device and its inode.
-#[derive(Clone, Copy, Debug, PartialEq, Eq)]
+#[derive(Clone, Copy, PartialEq, Eq)]
 pub struct Identity {
     device: u64,
     inode: u64,
@@ -21,7 +21,7 @@ impl Identity {
 }
 
 /// A name in a folder, however the folder is spelled.
-#[derive(Clone, Copy, Debug, PartialEq, Eq)]
+#[derive(Clone, Copy, PartialEq, Eq)]
 pub struct Spot<'a> {
     folder: Identity,
     name: &'a str,

@@ -8,7 +8,7 @@ use std::os::unix::fs::FileTypeExt;
 use std::{fs, io};
 
 /// What stands where a recording is to be made.
-#[derive(Clone, Copy, Debug, PartialEq, Eq)]
+#[derive(Clone, Copy)]
 enum Standing {
     /// Nothing, as far as can be seen.
     Nothing,

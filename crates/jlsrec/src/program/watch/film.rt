@@ -5,7 +5,7 @@ use std::sync::OnceLock;
 use std::sync::atomic::{AtomicBool, AtomicU64, Ordering};
 
 /// What a film's lane does.
-#[derive(Clone, Copy, Debug, Drop, PartialEq, Eq)]
+#[derive(Clone, Copy, Drop)]
 pub enum Doing {
     /// It waits for a place in the window, or hasn't begun.
     AwaitsWindow,
@@ -18,7 +18,7 @@ pub enum Doing {
 }
 
 /// What was seen of a film at a moment.
-#[derive(Clone, Copy, Debug, Drop, PartialEq, Eq)]
+#[derive(Clone, Copy, Drop)]
 pub struct Seen {
     pub doing: Doing,
     /// When it began to do that.

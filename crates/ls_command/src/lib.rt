@@ -1,0 +1,172 @@
+//! The words of the command line: what they ask for, or what is answered in its place.
+//!
+//! ```
+//! use ls_command::{Request, read_words};
+//! use std::alloc::Global;
+//!
+//! /// The recording that is to be played, if the words ask for that.
+//! pub fn played<'a>(alloc: Global, words: &'a [String]) -> Option<&'a str> {
+//!     match read_words(alloc, words) {
+//!         Ok((Request::Play { file }, _reasons)) => Some(file),
+//!         _ => None,
+//!     }
+//! }
+//! ```
+//!
+//! The words are read by `clap`, of which nothing is seen outside: `commands` tells it the commands and options, and
+//! `texts` holds what `--help` says of them. The tests of the whole program show which words are taken and what is
+//! answered to the others.
+#![tactic(auto)]
+
+mod commands;
+mod draft;
+mod texts;
+
+use clap::error::ErrorKind;
+use clap::{ArgMatches, Error};
+use commands::command;
+use std::alloc::{AllocError, Global};
+
+/// What the words ask for.
+#[derive(Drop)]
+pub enum Request<'a> {
+    /// The lines of a film's frames.
+    List {
+        file: &'a str,
+    },
+    /// The codestreams of a film's frames.
+    Code {
+        file: &'a str,
+    },
+    /// The frames of a recording.
+    Play {
+        file: &'a str,
+    },
+    /// Recordings of films, side by side.
+    Record {
+        workers: u8,
+        queue: u16,
+        window: u8,
+        /// The coding parameters that were chosen, as they were written.
+        preset: Option<&'a str>,
+        /// The folder for the recordings.
+        into: Option<&'a str>,
+        /// Whether recordings that are there are emptied.
+        replace: bool,
+        /// Whether it is said meanwhile how far they are.
+        progress: bool,
+        /// The file for a report.
+        report: Option<&'a str>,
+        files: Vec<&'a str>,
+    },
+    /// The replies of a queue to the steps of a file.
+    Replay {
+        sources: u8,
+        capacity: u32,
+        file: &'a str,
+    },
+}
+
+/// What is answered to words that ask for nothing that the program does.
+#[derive(Drop)]
+pub enum Answer {
+    /// The help or the version that was asked for, for standard output.
+    Shown(String),
+    /// What is wrong with the words, for standard error.
+    Misused(String),
+    /// An allocation failed.
+    NoMemory,
+}
+
+/// What the words after the program's name ask for, and whether they ask that it is told why a device failed.
+pub fn read_words<'a>(alloc: Global, words: &'a [String]) -> Result<(Request<'a>, bool), Answer> {
+    match parse(alloc, words) {
+        Ok(read) => Ok(read),
+        Err(error) => Err(answer_of(alloc, &error)),
+    }
+}
+
+/// The answer to words that can't be read at all, for the reason `message`.
+pub fn misuse(alloc: Global, message: &str) -> Answer {
+    match usage_fault(alloc, message) {
+        Ok(error) => answer_of(alloc, &error),
+        Err(AllocError) => Answer::NoMemory,
+    }
+}
+
+/// The same, by `clap`'s errors.
+fn parse<'a>(alloc: Global, words: &'a [String]) -> Result<(Request<'a>, bool), Error> {
+    let matches = command(alloc)?.try_get_matches_from(words)?;
+    if let Some((name, words)) = matches.subcommand() {
+        if let Some(request) = request_of(alloc, name, words)? {
+            return Ok((request, words.get_flag("reasons")));
+        }
+    }
+    Err(usage_fault(alloc, "a command is wanted")?)
+}
+
+/// What is answered where `clap` has an error.
+fn answer_of(alloc: Global, error: &Error) -> Answer {
+    if error.kind() == ErrorKind::OutOfMemory {
+        return Answer::NoMemory;
+    }
+    match error.to_string(alloc) {
+        Ok(text) if error.use_stderr() => Answer::Misused(text),
+        Ok(text) => Answer::Shown(text),
+        Err(_) => Answer::NoMemory,
+    }
+}
+
+/// What the words of a command ask for, which `clap` has looked at.
+fn request_of<'a>(
+    alloc: Global,
+    name: &str,
+    words: &ArgMatches<'a>,
+) -> Result<Option<Request<'a>>, AllocError> {
+    match name {
+        "list" => Ok(words.get_str("FILE").map(|file| Request::List { file })),
+        "code" => Ok(words.get_str("FILE").map(|file| Request::Code { file })),
+        "play" => Ok(words.get_str("FILE").map(|file| Request::Play { file })),
+        "record" => record_request(alloc, words),
+        "replay" => Ok(replay_request(words)),
+        _ => Ok(None),
+    }
+}
+
+/// What the words of `record` ask for, which `clap` has looked at.
+fn record_request<'a>(
+    alloc: Global,
+    words: &ArgMatches<'a>,
+) -> Result<Option<Request<'a>>, AllocError> {
+    let files = words.get_strs("FILE").unwrap_or(&[]).to_vec(alloc)?;
+    Ok(recording_of(words, files))
+}
+
+/// The same, of the films that the words name.
+fn recording_of<'a>(words: &ArgMatches<'a>, files: Vec<&'a str>) -> Option<Request<'a>> {
+    Some(Request::Record {
+        workers: words.get_one("workers")?,
+        queue: words.get_one("queue")?,
+        window: words.get_one("window")?,
+        preset: words.get_str("preset"),
+        into: words.get_str("into"),
+        replace: words.get_flag("replace"),
+        progress: words.get_flag("progress"),
+        report: words.get_str("report"),
+        files,
+    })
+}
+
+/// What the words of `replay` ask for, which `clap` has looked at.
+fn replay_request<'a>(words: &ArgMatches<'a>) -> Option<Request<'a>> {
+    Some(Request::Replay {
+        sources: words.get_one("sources")?,
+        capacity: words.get_one("capacity")?,
+        file: words.get_str("FILE")?,
+    })
+}
+
+/// A usage fault that `clap` doesn't find by itself.
+fn usage_fault(alloc: Global, message: &str) -> Result<Error, AllocError> {
+    command(alloc)?.error(ErrorKind::InvalidValue, message)
+}

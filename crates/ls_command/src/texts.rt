@@ -1,0 +1,138 @@
+//! What `--help` says.
+
+pub const LIST_HELP: &str = "\
+Writes a line for each frame of FILE to standard output.
+
+The eleven columns of a line, one blank between:
+  number   of the frame, from 0
+  kind     gray or color
+  width    in pixels
+  height   in pixels
+  maxval   the greatest value of a sample
+  P        bits a sample (bpp of T.87)
+  T1       the first threshold of T.87 for this maxval
+  T2       the second
+  T3       the third
+  RESET    samples until a context's counters are halved
+  LIMIT    the most bits of a sample's code word";
+
+pub const CODE_HELP: &str = "\
+Writes a codestream of JPEG-LS (ITU-T T.87) for each frame of FILE to standard output.
+
+The codestreams are lossless and have the default parameters of the frame's maxval.
+They are joined with nothing between, and each is written as soon as it is done. If a frame is at
+fault, the codestreams of exactly the good frames before it are written.
+
+CharLS and the tools on it read a codestream only if the maxval of its frame is 2^P - 1 with P bits a
+sample: 3, 7, 15, .., 255, 1023, 4095, .., 65535; ffmpeg reads few others. Codestreams of other
+maxvals are right by T.87 all the same. If one of these tools is to read them, first scale the film
+to such a maxval, as with Netpbm's pamdepth.";
+
+pub const PLAY_HELP: &str = "\
+Writes the frames of FILE to standard output: of each codestream of JPEG-LS (ITU-T T.87) its frame as a
+binary Netpbm image, PGM or PPM.
+
+FILE is codestreams that follow one another with nothing between, as `code` writes them. The images
+follow one another likewise, and each is written before the next codestream is read. If a codestream
+is at fault, the images of exactly the frames before it are written.
+
+  jlsrec code film.pgm > film.jls
+  jlsrec play film.jls | cmp - film.pgm
+
+The film comes back byte for byte if its headers are as play writes them: P5 or P6, width and height,
+and maxval, each on a line of its own, with no comment. Other programs take the images from a pipe, as
+in `jlsrec play film.jls | ffmpeg -f image2pipe -i - film.mkv`.
+
+A codestream of another program is read if it is lossless, and each component has a scan of its own.";
+
+pub const RECORD_HELP: &str = "\
+Records the films FILE.. side by side: writes beside each FILE a file FILE.jls, of a codestream of JPEG-LS
+(ITU-T T.87) for each of its frames. A FILE may be a named pipe that a camera writes to.
+
+Each film has a lane of its own, which reads its frames and writes their codestreams in order, each
+as soon as it is coded and its turn has come; the workers code the frames of all films. A film that ends
+early or breaks ends its own lane, and no other. Once all have ended, a line tells of each FILE that was
+recorded whole, in their order:
+  FILE: N frames
+
+All FILEs are opened first, and only then each FILE.jls is made. Nothing that was recorded before is
+lost: a FILE.jls that is there and isn't empty is first renamed to FILE.jls.1, or to the next number
+that is free, unless --replace is given. A named pipe is opened by its own lane, so a camera that
+hasn't started keeps none of the others waiting. A line is written only once its recording is on the disk.
+
+  $ jlsrec record left.pgm right.pgm
+  left.pgm: 250 frames
+  right.pgm: 250 frames
+  $ jlsrec play left.pgm.jls | cmp - left.pgm";
+
+pub const WORKERS_HELP: &str = "How many workers code frames, 1 to 16";
+
+pub const QUEUE_HELP: &str = "How many frames may wait for a worker, 1 to 256";
+
+pub const WINDOW_HELP: &str = "How many frames of a film may be read and not written, 1 to 64";
+
+pub const PRESET_HELP: &str = "\
+The coding parameters of all films, each 0 for the default of a frame's maxval";
+
+pub const INTO_HELP: &str = "\
+The folder for the recordings, which are called as the last parts of their FILEs, with .jls added
+[default: beside each FILE]";
+
+pub const REPLACE_HELP: &str = "Empty a FILE.jls that is there, in place of renaming it";
+
+pub const PROGRESS_HELP: &str = "\
+Say on standard error how far each film is, twice a second, and at once if one stops;
+on a terminal that is always said, in one line";
+
+pub const REPORT_HELP: &str = "\
+The file for a report, made before anything is recorded and written at the end: of each film its frames, bytes,
+speed and longest delay, and how busy the workers were";
+
+pub const REASONS_HELP: &str = "\
+Say on standard error also what the system says of a fault, and what a file of another kind seems to be;
+on a terminal that is always said";
+
+pub const FILMS_HELP: &str =
+    "The films to read, 1 to 16: binary Netpbm images (PGM, PPM) one after the other";
+
+pub const RECORDING_HELP: &str = "\
+The recording to read: lossless codestreams of JPEG-LS one after the other";
+
+pub const REPLAY_HELP: &str = "\
+Writes the replies of a bounded queue to the steps of FILE to standard output, a line a step.
+
+The lines of FILE, in which S is a source (0 to 255) and ITEM a number (0 to 2^64 - 1):
+  put S ITEM   source S puts ITEM
+  close S      source S closes
+  take         the job that was held longest is taken
+There are one or more blanks between words. Blanks at either end of a line, and lines without words,
+are skipped. Lines end with LF, which the last one may lack. FILE has at most 16,777,216 bytes.
+
+The lines that are written:
+  taken N        the item was taken in; it is number N of its source
+  closed         it wasn't: its source was closed before
+  spent          it wasn't: its source has no number left
+  full           it wasn't: as many jobs are held as the capacity
+  now N          the source is closed from now on; N of its items were taken in
+  already N      the source was closed before
+  job S N ITEM   the job that was held longest: item number N of source S
+  empty          no job is held, and some source is open
+  done           no job is held, and all sources are closed
+
+Nothing is written if a line is no step or a step names a source that isn't there.
+
+  $ printf 'put 0 7\\nput 1 8\\nclose 0\\ntake\\n' > steps.txt
+  $ jlsrec replay --sources 2 --capacity 1 steps.txt
+  taken 0
+  full
+  now 1
+  job 0 0 7";
+
+pub const SOURCES_HELP: &str = "How many sources the queue has, 1 to 16";
+
+pub const CAPACITY_HELP: &str = "How many jobs it may hold, 1 to 256";
+
+pub const STEPS_HELP: &str = "The steps file to read";
+
+pub const FILM_HELP: &str = "\
+The film to read: binary Netpbm images (PGM, PPM; 1 to 16 bits a sample) one after the other";
