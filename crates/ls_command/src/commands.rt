@@ -1,5 +1,4 @@
 //! The commands and options, as `clap` is told of them.
-use crate::draft::Draft;
 use crate::texts::{
     CAPACITY_HELP, CODE_HELP, FILM_HELP, FILMS_HELP, INTO_HELP, LIST_HELP, PLAY_HELP, PRESET_HELP,
     PROGRESS_HELP, QUEUE_HELP, REASONS_HELP, RECORD_HELP, RECORDING_HELP, REPLACE_HELP,
@@ -13,13 +12,17 @@ pub fn command<'a>(alloc: Global) -> Result<Command<'a>, AllocError> {
     let list = "Lists the frames of a film";
     let code = "Codes the frames of a film";
     let play = "Plays a recording";
-    let program = Draft::program(alloc, "jlsrec")?
-        .with_command(file_command(alloc, "list", list, LIST_HELP, FILM_HELP)?)?
-        .with_command(file_command(alloc, "code", code, CODE_HELP, FILM_HELP)?)?
-        .with_command(record_command(alloc)?)?
-        .with_command(file_command(alloc, "play", play, PLAY_HELP, RECORDING_HELP)?)?
-        .with_command(replay_command(alloc)?)?;
-    Ok(program.command)
+    Command::new(alloc, "jlsrec")
+        .version("0.1.0")
+        .about("A lossless recorder of image sequences: JPEG-LS, ITU-T T.87")
+        .bin_name("jlsrec")?
+        .no_binary_name(true)
+        .subcommand_required(true)
+        .subcommand(file_command(alloc, "list", list, LIST_HELP, FILM_HELP)?)?
+        .subcommand(file_command(alloc, "code", code, CODE_HELP, FILM_HELP)?)?
+        .subcommand(record_command(alloc)?)?
+        .subcommand(file_command(alloc, "play", play, PLAY_HELP, RECORDING_HELP)?)?
+        .subcommand(replay_command(alloc)?)
 }
 
 /// A command that reads a file.
@@ -29,37 +32,47 @@ fn file_command<'a>(
     about: &'a str,
     help: &'a str,
     file_help: &'a str,
-) -> Result<Draft<'a>, AllocError> {
-    Draft::new(alloc, name, about, help)
-        .with(reasons_flag(alloc))?
-        .with(file_argument(alloc, file_help))
+) -> Result<Command<'a>, AllocError> {
+    command_with_help(alloc, name, about, help)
+        .arg(reasons_flag(alloc))?
+        .arg(file_argument(alloc, file_help))
 }
 
 /// The command that records films.
-fn record_command<'a>(alloc: Global) -> Result<Draft<'a>, AllocError> {
+fn record_command<'a>(alloc: Global) -> Result<Command<'a>, AllocError> {
     let workers = value_parser!(u8).range(1..=16);
     let queue = value_parser!(u16).range(1..=256);
     let window = value_parser!(u8).range(1..=64);
-    Draft::new(alloc, "record", "Records films side by side", RECORD_HELP)
-        .with(optional_count(alloc, "workers", "2", WORKERS_HELP).value_parser(workers))?
-        .with(optional_count(alloc, "queue", "8", QUEUE_HELP).value_parser(queue))?
-        .with(optional_count(alloc, "window", "4", WINDOW_HELP).value_parser(window))?
-        .with(option(alloc, "preset", "T1,T2,T3,RESET", PRESET_HELP))?
-        .with(option(alloc, "into", "FOLDER", INTO_HELP))?
-        .with(flag(alloc, "replace", REPLACE_HELP))?
-        .with(progress_flag(alloc))?
-        .with(report_option(alloc))?
-        .with(reasons_flag(alloc))?
-        .with(file_argument(alloc, FILMS_HELP).num_args(1..))
+    command_with_help(alloc, "record", "Records films side by side", RECORD_HELP)
+        .arg(optional_count(alloc, "workers", "2", WORKERS_HELP).value_parser(workers))?
+        .arg(optional_count(alloc, "queue", "8", QUEUE_HELP).value_parser(queue))?
+        .arg(optional_count(alloc, "window", "4", WINDOW_HELP).value_parser(window))?
+        .arg(option(alloc, "preset", "T1,T2,T3,RESET", PRESET_HELP))?
+        .arg(option(alloc, "into", "FOLDER", INTO_HELP))?
+        .arg(flag(alloc, "replace", REPLACE_HELP))?
+        .arg(progress_flag(alloc))?
+        .arg(report_option(alloc))?
+        .arg(reasons_flag(alloc))?
+        .arg(file_argument(alloc, FILMS_HELP).num_args(1..))
 }
 
 /// The command that replays steps.
-fn replay_command<'a>(alloc: Global) -> Result<Draft<'a>, AllocError> {
-    Draft::new(alloc, "replay", "Replays the steps of a queue", REPLAY_HELP)
-        .with(required_count(alloc, "sources", SOURCES_HELP).value_parser(value_parser!(u8)))?
-        .with(required_count(alloc, "capacity", CAPACITY_HELP).value_parser(value_parser!(u32)))?
-        .with(reasons_flag(alloc))?
-        .with(file_argument(alloc, STEPS_HELP))
+fn replay_command<'a>(alloc: Global) -> Result<Command<'a>, AllocError> {
+    command_with_help(alloc, "replay", "Replays the steps of a queue", REPLAY_HELP)
+        .arg(required_count(alloc, "sources", SOURCES_HELP).value_parser(value_parser!(u8)))?
+        .arg(required_count(alloc, "capacity", CAPACITY_HELP).value_parser(value_parser!(u32)))?
+        .arg(reasons_flag(alloc))?
+        .arg(file_argument(alloc, STEPS_HELP))
+}
+
+/// A command of this name, with its help in a line and at length.
+fn command_with_help<'a>(
+    alloc: Global,
+    name: &'a str,
+    about: &'a str,
+    help: &'a str,
+) -> Command<'a> {
+    Command::new(alloc, name).about(about).long_about(help)
 }
 
 /// The argument that names a file.

@@ -19,7 +19,6 @@
 #![tactic(auto)]
 
 mod commands;
-mod draft;
 mod texts;
 
 use clap::error::ErrorKind;
