@@ -25,6 +25,7 @@ use clap::error::ErrorKind;
 use clap::{ArgMatches, Error};
 use commands::command;
 use std::alloc::{AllocError, Global};
+use texts::BEGINNING;
 
 /// What the words ask for.
 #[derive(Drop)]
@@ -77,11 +78,23 @@ pub enum Answer {
     NoMemory,
 }
 
-/// What the words after the program's name ask for, and whether they ask that it is told why a device failed.
+/// What the words after the program's name ask for, and whether they ask that it is told why a device failed. Without
+/// words it is answered what the program is and how to begin.
 pub fn read_words<'a>(alloc: Global, words: &'a [String]) -> Result<(Request<'a>, bool), Answer> {
+    if words.is_empty() {
+        return Err(beginning(alloc));
+    }
     match parse(alloc, words) {
         Ok(read) => Ok(read),
         Err(error) => Err(answer_of(alloc, &error)),
+    }
+}
+
+/// What the program is and how to begin.
+fn beginning(alloc: Global) -> Answer {
+    match BEGINNING.to_string(alloc) {
+        Ok(text) => Answer::Misused(text),
+        Err(_) => Answer::NoMemory,
     }
 }
 

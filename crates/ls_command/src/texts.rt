@@ -1,4 +1,16 @@
-//! What `--help` says.
+//! What `--help` says, and what is said where there are no words.
+
+pub const BEGINNING: &str = "\
+jlsrec records films without loss, several side by side, as JPEG-LS (ITU-T T.87), and plays them back.
+
+  jlsrec record left.pgm right.pgm           records two films: left.pgm.jls, right.pgm.jls
+  jlsrec play left.pgm.jls > again.pgm       plays a recording: again.pgm is left.pgm
+  jlsrec code left.pgm > left.jls            codes a film to standard output
+  jlsrec list left.pgm                       writes a line for each frame of a film
+
+A film is binary Netpbm images (PGM or PPM, 1 to 16 bits a sample), one after the other.
+All commands: jlsrec --help. The options of one: jlsrec record --help.
+";
 
 pub const LIST_HELP: &str = "\
 Writes a line for each frame of FILE to standard output.
