@@ -15,6 +15,3 @@ returns-in-Err-clause-doors g c =
     let at : c.index_mut-door.result.now ≡ get_or c.args.self.now.doors.items c.args.source c.index_mut-door.result.now = search rules in
     channel-set (λ (door : Door). sends_on door.entrance) c.args.self.now.doors.items _ c.args.source _ c.index_mut-door.result.now refl
     (ap (λ (door : Door). sends_on door.entrance) at)
-
-pub returns-in-Err-clause-refused : goal.returns-in-Err-clause-refused
-returns-in-Err-clause-refused g c = search rules

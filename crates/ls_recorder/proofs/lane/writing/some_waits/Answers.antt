@@ -1,5 +1,0 @@
-use Rattle.std.proofs.Common.{true≢false}
-use Rattle.ls_recorder.proofs.lane.writing.some_waits.Goals as goal
-
-pub returns-then-waiting-gt0-clause-done : goal.returns-then-waiting-gt0-clause-done
-returns-then-waiting-gt0-clause-done g c = λ none. absurd (true≢false none)
