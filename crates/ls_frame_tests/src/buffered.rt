@@ -12,11 +12,11 @@ fn buffered<R: Read + Drop>(rt: &impl Abort, alloc: Global, inner: R) -> Buffere
     Buffered::new(alloc, inner).expect(rt, "memory for a chunk")
 }
 
-/// Reads so, by calls with room for so many: what each gives, its bytes, how many bytes were taken then, and how many calls failed.
-type Steps = [(usize, Result<usize, Failed>, &'static [u8], u64); 9];
+/// A call of `feed` with room for so many: what it gives, its bytes, and how many calls failed by then.
+type Step = (usize, Result<usize, Failed>, &'static [u8], u64);
 
 /// Of five bytes three are taken at once; the second chunk fails twice, and the third time gives the others.
-const STEPS: Steps = [
+const STEPS: [Step; 9] = [
     (1, Ok(1), b"a", 0),
     (0, Ok(0), b"", 0),
     (2, Ok(2), b"bc", 0),
@@ -29,34 +29,34 @@ const STEPS: Steps = [
 ];
 
 /// That the calls of `feed` give this.
-fn check_feeds(rt: &impl Abort, reader: &mut impl Feed, steps: Steps) {
-    for (at, (room, want, bytes, failures)) in steps.into_iter().enumerate() {
-        let mut buf = [0u8; 4];
-        let got = reader.feed(buf.get_mut(..room).unwrap_or(&mut []));
-        check(rt, "a feed", at, &got, &want);
-        check_items(
-            rt,
-            "its bytes",
-            at,
-            buf.get(..bytes.len()).unwrap_or(&[]),
-            bytes,
-        );
-        check(rt, "failures", at, &reader.failures(), &failures);
+fn check_feeds(rt: &impl Abort, reader: &mut impl Feed, steps: &[Step]) {
+    for (at, step) in steps.iter().enumerate() {
+        check_feed(rt, reader, at, step);
     }
+}
+
+fn check_feed(rt: &impl Abort, reader: &mut impl Feed, at: usize, step: &Step) {
+    let (room, want, bytes, failures) = *step;
+    let mut buf = [0u8; 4];
+    let got = reader.feed(buf.get_mut(..room).unwrap_or(&mut []));
+    let got = (got, reader.failures());
+    check(rt, "a feed, and failures", at, &got, &(want, failures));
+    let got = buf.get(..bytes.len()).unwrap_or(&[]);
+    check_items(rt, "its bytes", at, got, bytes);
 }
 
 #[test]
 fn bytes_go_out_before_a_failure_shows_with_ample_memory(rt: HostRuntime) {
     let chunks = Chunks::new(b"abcde", 3, &[1, 2]);
     let mut reader = Counted::new(buffered(&rt, rt.alloc(), chunks));
-    check_feeds(&rt, &mut reader, STEPS);
+    check_feeds(&rt, &mut reader, &STEPS);
 }
 
 #[test]
 fn failures_below_are_counted_with_ample_memory(rt: HostRuntime) {
     let counted = Counted::new(Chunks::new(b"abcde", 3, &[1, 2]));
     let mut reader = buffered(&rt, rt.alloc(), counted);
-    check_feeds(&rt, &mut reader, STEPS);
+    check_feeds(&rt, &mut reader, &STEPS);
     let last = reader.get_ref().last_failure();
     check(&rt, "the last failure", 0, &last, &Some(BROKEN));
 }
@@ -88,8 +88,7 @@ const MARKED: [Take<'static>; 6] = [
 fn bytes_are_taken_up_to_a_mark_or_memory_is_refused(rt: HostRuntime) {
     let counted = Counted::new(Chunks::new(b"abcde", 3, &[1, 2]));
     if let Ok(mut reader) = Buffered::new(rt.alloc(), counted) {
-        let mut bytes = Vec::new(rt.alloc());
-        check_takes(&rt, &mut reader, &mut bytes, &TAKES);
+        check_takes(&rt, rt.alloc(), &mut reader, &TAKES);
     }
 }
 
@@ -97,8 +96,7 @@ fn bytes_are_taken_up_to_a_mark_or_memory_is_refused(rt: HostRuntime) {
 fn bytes_are_taken_up_to_a_mark_with_ample_memory(rt: HostRuntime) {
     let counted = Counted::new(Chunks::new(b"abcde", 3, &[1, 2]));
     let mut reader = buffered(&rt, rt.alloc(), counted);
-    let mut bytes = Vec::new(rt.alloc());
-    let all = check_takes(&rt, &mut reader, &mut bytes, &TAKES);
+    let all = check_takes(&rt, rt.alloc(), &mut reader, &TAKES);
     check_so(&rt, "memory", 0, all);
 }
 
@@ -107,8 +105,7 @@ fn bytes_are_taken_up_to_a_mark_with_ample_memory(rt: HostRuntime) {
 fn a_lent_reader_takes_as_much_with_ample_memory(rt: HostRuntime) {
     let counted = Counted::new(Chunks::new(b"abcdef", 3, &[]));
     let mut reader = buffered(&rt, rt.alloc(), counted);
-    let mut bytes = Vec::new(rt.alloc());
-    let all = check_takes(&rt, &mut &mut reader, &mut bytes, &MARKED);
+    let all = check_takes(&rt, rt.alloc(), &mut &mut reader, &MARKED);
     check_so(&rt, "memory", 1, all);
 }
 
@@ -121,23 +118,25 @@ fn numbered() -> [u8; 3 * CHUNK] {
     bytes
 }
 
+/// That a call with room for so many gives the first of these bytes; how many.
+fn check_read(rt: &impl Abort, reader: &mut impl Read, rest: &[u8], room: usize) -> usize {
+    let mut buf = [0u8; 1000];
+    let Ok(count) = reader.read(buf.get_mut(..room).unwrap_or(&mut [])) else {
+        panic!(rt; "a read failed");
+    };
+    let want = rest.get(..count).unwrap_or(&[]);
+    check_items(rt, "bytes", room, buf.get(..count).unwrap_or(&[]), want);
+    count
+}
+
 /// That a reader gives all of these bytes and no more, by calls with room for so many.
 fn check_all(rt: &impl Abort, reader: &mut impl Read, bytes: &[u8], room: usize) {
-    let mut given = 0;
+    let mut rest = bytes;
     for _ in 0..bytes.len() {
-        let mut buf = [0u8; 1000];
-        let Ok(count) = reader.read(buf.get_mut(..room).unwrap_or(&mut [])) else {
-            return check(rt, "a failure", given, &true, &false);
-        };
-        if count == 0 {
-            break;
-        }
-        let end = given.saturating_add(count);
-        let want = bytes.get(given..end).unwrap_or(&[]);
-        check_items(rt, "bytes", given, buf.get(..count).unwrap_or(&[]), want);
-        given = end;
+        let count = check_read(rt, reader, rest, room);
+        rest = rest.get(count..).unwrap_or(&[]);
     }
-    check(rt, "all bytes", room, &given, &bytes.len());
+    check(rt, "bytes left", room, &rest.len(), &0);
 }
 
 #[test]
@@ -168,13 +167,17 @@ fn count_takes<R: Feed>(reader: &mut R, mark: u8, bytes: &mut Vec<u8>) -> usize 
 fn chunks_join_by_marks_with_ample_memory(rt: HostRuntime) {
     let numbered = numbered();
     for (count, calls) in [(0, 0), (251, 1), (252, 2), (CHUNK, 262), (CHUNK + 251, 264)] {
-        let want = &numbered[..count];
-        let mut reader = buffered(&rt, rt.alloc(), Counted::new(want));
-        let mut bytes = Vec::new(rt.alloc());
-        let got = count_takes(&mut reader, 250, &mut bytes);
-        check(&rt, "calls", count, &got, &calls);
-        check_items(&rt, "bytes", count, &bytes, want);
+        check_marks(&rt, rt.alloc(), &numbered[..count], calls);
     }
+}
+
+/// That so many calls take all of these bytes.
+fn check_marks(rt: &impl Abort, alloc: Global, want: &[u8], calls: usize) {
+    let mut reader = buffered(rt, alloc, Counted::new(want));
+    let mut bytes = Vec::new(alloc);
+    let got = count_takes(&mut reader, 250, &mut bytes);
+    check(rt, "calls", want.len(), &got, &calls);
+    check_items(rt, "bytes", want.len(), &bytes, want);
 }
 
 /// A chunk is asked for whole, and none before its bytes are wanted.
@@ -189,41 +192,58 @@ fn chunks_are_asked_for_when_they_are_wanted_with_ample_memory(rt: HostRuntime) 
         (4, CHUNK),
         (5, CHUNK + 4),
     ];
-    for (reads, (given, furthest)) in taken.into_iter().enumerate() {
+    for (reads, (given, furthest)) in taken.iter().enumerate() {
         let mut chunks = Chunks::new(b"abcde", 4, &[]);
-        let mut reader = buffered(&rt, rt.alloc(), &mut chunks);
-        let mut buf = [0u8; 1];
-        for at in 0..reads {
-            check(&rt, "a read", at, &reader.read(&mut buf).ok(), &Some(1));
-        }
-        drop(reader);
-        check(&rt, "bytes taken", reads, &chunks.given, &given);
-        check(&rt, "room", reads, &chunks.furthest, &furthest);
+        check_bytes(&rt, &mut buffered(&rt, rt.alloc(), &mut chunks), reads);
+        let got = (chunks.given, chunks.furthest);
+        check(
+            &rt,
+            "bytes taken, and room",
+            reads,
+            &got,
+            &(*given, *furthest),
+        );
+    }
+}
+
+/// That so many reads of a byte give one each.
+fn check_bytes(rt: &impl Abort, reader: &mut impl Read, reads: usize) {
+    let mut buf = [0u8; 1];
+    for at in 0..reads {
+        check(rt, "a read", at, &reader.read(&mut buf).ok(), &Some(1));
+    }
+}
+
+/// Reads with room for a whole chunk, after that of a byte: how many bytes each gives, and which.
+const READS: [(usize, &[u8]); 4] = [(2, b"bc"), (3, b"def"), (1, b"g"), (0, b"")];
+
+/// That a reader gives a byte, and then this by reads with room for a whole chunk.
+fn check_reads(rt: &impl Abort, reader: &mut impl Read, reads: &[(usize, &[u8])]) {
+    let mut room = [0u8; CHUNK];
+    check_bytes(rt, reader, 1);
+    for (at, (count, bytes)) in reads.iter().enumerate() {
+        check(
+            rt,
+            "a read",
+            at,
+            &reader.read(&mut room).ok(),
+            &Some(*count),
+        );
+        check_items(rt, "bytes", at, room.get(..*count).unwrap_or(&[]), bytes);
     }
 }
 
 /// Room for a whole chunk is handed on, once the chunk before was handed out.
 #[test]
 fn room_for_a_chunk_is_handed_on_with_ample_memory(rt: HostRuntime) {
-    let mut room = [0u8; CHUNK];
-    let steps: [(usize, &[u8]); 4] = [(2, b"bc"), (3, b"def"), (1, b"g"), (0, b"")];
-    // By the number of these steps that are done: the bytes handed out then, with the one before, which are all that were taken.
+    // By the number of these reads that are done: the bytes handed out then, with the one before, which are all that were taken.
     for (done, handed_out) in [(1, 3), (2, 6), (3, 7), (4, 7)] {
         let mut chunks = Chunks::new(b"abcdefg", 3, &[]);
-        let mut reader = buffered(&rt, rt.alloc(), &mut chunks);
-        let mut byte = [0u8; 1];
-        check(&rt, "a byte", done, &reader.read(&mut byte).ok(), &Some(1));
-        for (at, (count, bytes)) in steps.into_iter().take(done).enumerate() {
-            check(
-                &rt,
-                "a read",
-                at,
-                &reader.read(&mut room).ok(),
-                &Some(count),
-            );
-            check_items(&rt, "bytes", at, room.get(..count).unwrap_or(&[]), bytes);
-        }
-        drop(reader);
+        check_reads(
+            &rt,
+            &mut buffered(&rt, rt.alloc(), &mut chunks),
+            &READS[..done],
+        );
         check(&rt, "bytes taken", done, &chunks.given, &handed_out);
     }
 }

@@ -22,25 +22,36 @@ fn a_failure_keeps_its_kind_and_the_number_of_the_system(rt: HostRuntime) {
     check(&rt, "ENOSPC", 0, &failed, &full);
 }
 
+/// What a feed answers, the first bytes of the buffer then, how many feeds failed by then, and the last failure.
+type Fed = (Result<usize, Failed>, [u8; 2], u64, Option<Failed>);
+
+const FEEDS: [Fed; 7] = [
+    (Ok(2), [b'a', b'b'], 0, None),
+    (Err(BROKEN), [b'a', b'b'], 1, Some(BROKEN)),
+    (Err(BROKEN), [b'a', b'b'], 2, Some(BROKEN)),
+    (Ok(1), [b'c', b'b'], 2, Some(BROKEN)),
+    (Err(BROKEN), [b'c', b'b'], 3, Some(BROKEN)),
+    (Ok(0), [b'c', b'b'], 3, Some(BROKEN)),
+    (Ok(0), [b'c', b'b'], 3, Some(BROKEN)),
+];
+
+/// A feed into this buffer.
+fn fed(reader: &mut Counted<Chunks<'_>>, buf: &mut [u8; 3]) -> Fed {
+    let answer = reader.feed(buf);
+    (
+        answer,
+        [buf[0], buf[1]],
+        Feed::failures(reader),
+        reader.last_failure(),
+    )
+}
+
 #[test]
 fn failed_feeds_are_counted_one_by_one_and_the_last_is_kept(rt: HostRuntime) {
     let mut reader = Counted::new(Chunks::new(b"abc", 2, &[1, 2, 4]));
     let mut buf = [0u8; 3];
-    let steps: [(Result<usize, Failed>, &[u8], u64); 7] = [
-        (Ok(2), b"ab", 0),
-        (Err(BROKEN), b"ab", 1),
-        (Err(BROKEN), b"ab", 2),
-        (Ok(1), b"cb", 2),
-        (Err(BROKEN), b"cb", 3),
-        (Ok(0), b"cb", 3),
-        (Ok(0), b"cb", 3),
-    ];
-    for (i, (want, bytes, failures)) in steps.into_iter().enumerate() {
-        check(&rt, "a feed", i, &reader.feed(&mut buf), &want);
-        check_items(&rt, "its bytes", i, &buf[..2], bytes);
-        check(&rt, "failures", i, &Feed::failures(&reader), &failures);
-        let last = if i == 0 { None } else { Some(BROKEN) };
-        check(&rt, "the last failure", i, &reader.last_failure(), &last);
+    for (i, want) in FEEDS.iter().enumerate() {
+        check(&rt, "a feed", i, &fed(&mut reader, &mut buf), want);
     }
     check(&rt, "bytes given", 0, &reader.get_ref().given, &3);
     check(&rt, "bytes given", 1, &reader.into_inner().given, &3);
@@ -59,35 +70,40 @@ const TAKES: [Take<'static>; 6] = [
 #[test]
 fn bytes_are_taken_one_by_one_or_memory_is_refused(rt: HostRuntime) {
     let mut reader = Counted::new(Chunks::new(b"abc", 2, &[1]));
-    let mut bytes = Vec::new(rt.alloc());
-    check_takes(&rt, &mut reader, &mut bytes, &TAKES);
+    check_takes(&rt, rt.alloc(), &mut reader, &TAKES);
 }
 
 #[test]
 fn bytes_are_taken_one_by_one_with_ample_memory(rt: HostRuntime) {
     let mut reader = Counted::new(Chunks::new(b"abc", 2, &[1]));
-    let mut bytes = Vec::new(rt.alloc());
-    let all = check_takes(&rt, &mut reader, &mut bytes, &TAKES);
+    let all = check_takes(&rt, rt.alloc(), &mut reader, &TAKES);
     check_so(&rt, "memory", 0, all);
+}
+
+/// What a give answers, how many gives failed by then, and the last failure.
+type Given = (Result<usize, Failed>, u64, Option<Failed>);
+
+/// A give of these bytes.
+fn given(writer: &mut Counted<Sink<'_>>, bytes: &[u8]) -> Given {
+    let answer = writer.give(bytes);
+    (answer, Outlet::failures(writer), writer.last_failure())
 }
 
 /// Steps of a writer that takes two bytes a call, and whose calls 1, 2 and 4 go wrong.
 fn check_gives(rt: &impl Abort, mishap: Mishap, failed: Failed) {
     let mut writer = Counted::new(Sink::new(2, &[1, 2, 4], mishap));
-    let steps: [(&[u8], Result<usize, Failed>, u64); 7] = [
-        (b"abc", Ok(2), 0),
-        (b"c", Err(failed), 1),
-        (b"cde", Err(failed), 2),
-        (b"c", Ok(1), 2),
-        (b"d", Err(failed), 3),
-        (b"", Ok(0), 3),
-        (b"de", Ok(2), 3),
+    let last = Some(failed);
+    let steps: [(&[u8], Given); 7] = [
+        (b"abc", (Ok(2), 0, None)),
+        (b"c", (Err(failed), 1, last)),
+        (b"cde", (Err(failed), 2, last)),
+        (b"c", (Ok(1), 2, last)),
+        (b"d", (Err(failed), 3, last)),
+        (b"", (Ok(0), 3, last)),
+        (b"de", (Ok(2), 3, last)),
     ];
-    for (i, (bytes, want, failures)) in steps.into_iter().enumerate() {
-        check(rt, "a give", i, &writer.give(bytes), &want);
-        check(rt, "failures", i, &Outlet::failures(&writer), &failures);
-        let last = if i == 0 { None } else { Some(failed) };
-        check(rt, "the last failure", i, &writer.last_failure(), &last);
+    for (i, (bytes, want)) in steps.iter().enumerate() {
+        check(rt, "a give", i, &given(&mut writer, bytes), want);
     }
     let sink = writer.into_inner();
     check_items(rt, "all bytes", 0, sink.written(), b"abcde");

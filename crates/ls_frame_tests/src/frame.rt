@@ -1,23 +1,9 @@
-use crate::testing::{check, check_items};
+use crate::testing::{Parts, check, check_items, frame_of};
 use ls_frame::{Frame, FrameFault, Kind};
-use std::alloc::Global;
+use std::alloc::{AllocError, Global};
 use std::process::Abort;
 
-/// Kind, width, height, maxval, samples.
-type Parts = (Kind, u16, u16, u16, &'static [u16]);
-
-/// A frame of these parts, or nothing if memory is refused.
-fn frame_of(rt: &impl Abort, alloc: Global, parts: Parts) -> Option<Frame> {
-    let (kind, width, height, maxval, samples) = parts;
-    let samples = samples.to_vec(alloc).ok()?;
-    let made = Frame::new(kind, width, height, maxval, samples);
-    Some(
-        made.map_err(|refused| refused.0)
-            .expect(rt, "these parts make a frame"),
-    )
-}
-
-const REFUSED: [(Parts, FrameFault); 10] = [
+const REFUSED: [(Parts<'static>, FrameFault); 10] = [
     ((Kind::Gray, 0, 1, 0, &[]), FrameFault::ZeroSize),
     ((Kind::Gray, 1, 0, 0, &[]), FrameFault::ZeroSize),
     (
@@ -42,43 +28,58 @@ const REFUSED: [(Parts, FrameFault); 10] = [
     ),
 ];
 
-#[test]
-fn the_first_fault_is_named_and_the_samples_come_back(rt: HostRuntime) {
-    for (i, (parts, want)) in REFUSED.into_iter().enumerate() {
-        let (kind, width, height, maxval, samples) = parts;
-        let Ok(given) = samples.to_vec(rt.alloc()) else {
-            return;
-        };
-        let refused = Frame::new(kind, width, height, maxval, given).err();
-        let (fault, returned) = refused.expect(&rt, "these parts make no frame");
-        check(&rt, "a fault", i, &fault, &want);
-        check_items(&rt, "the samples", i, &returned, samples);
+/// That parts make no frame for this reason, and that their samples come back.
+fn check_refused(rt: &impl Abort, alloc: Global, i: usize, parts: &Parts<'_>, want: FrameFault) {
+    let (kind, width, height, maxval, samples) = *parts;
+    let Ok(given) = samples.to_vec(alloc) else {
+        return;
+    };
+    match Frame::new(kind, width, height, maxval, given) {
+        Ok(_) => panic!(rt; "parts {i} make a frame"),
+        Err((fault, returned)) => check(
+            rt,
+            "a fault, and the samples",
+            i,
+            &(fault, returned.as_slice()),
+            &(want, samples),
+        ),
     }
 }
 
-const FRAMES: [Parts; 4] = [
+#[test]
+fn the_first_fault_is_named_and_the_samples_come_back(rt: HostRuntime) {
+    for (i, (parts, want)) in REFUSED.iter().enumerate() {
+        check_refused(&rt, rt.alloc(), i, parts, *want);
+    }
+}
+
+const FRAMES: [Parts<'static>; 4] = [
     (Kind::Gray, 1, 1, 1, &[0]),
     (Kind::Gray, 2, 1, 7, &[7, 7]),
     (Kind::Gray, 2, 3, 65535, &[0, 1, 255, 256, 65534, 65535]),
     (Kind::Color, 2, 1, 9, &[1, 2, 3, 4, 5, 6]),
 ];
 
+/// That a frame has these parts.
+fn check_parts(rt: &impl Abort, i: usize, frame: &Frame, parts: &Parts<'_>) {
+    let (kind, width, height, maxval, samples) = *parts;
+    check(rt, "the kind", i, &frame.kind(), &kind);
+    check(rt, "the width", i, &frame.width(), &width);
+    check(rt, "the height", i, &frame.height(), &height);
+    check(rt, "maxval", i, &frame.maxval(), &maxval);
+    check_items(rt, "the samples", i, frame.samples(), samples);
+}
+
 #[test]
 fn a_frame_has_the_parts_that_it_was_made_of(rt: HostRuntime) {
-    for (i, parts) in FRAMES.into_iter().enumerate() {
-        let Some(frame) = frame_of(&rt, rt.alloc(), parts) else {
-            return;
-        };
-        let (kind, width, height, maxval, samples) = parts;
-        check(&rt, "the kind", i, &frame.kind(), &kind);
-        check(&rt, "the width", i, &frame.width(), &width);
-        check(&rt, "the height", i, &frame.height(), &height);
-        check(&rt, "maxval", i, &frame.maxval(), &maxval);
-        check_items(&rt, "the samples", i, frame.samples(), samples);
+    for (i, parts) in FRAMES.iter().enumerate() {
+        if let Ok(frame) = frame_of(&rt, rt.alloc(), parts) {
+            check_parts(&rt, i, &frame, parts);
+        }
     }
 }
 
-const PAIRS: [(Parts, Parts, bool); 7] = [
+const PAIRS: [(Parts<'static>, Parts<'static>, bool); 7] = [
     (
         (Kind::Gray, 2, 1, 7, &[1, 2]),
         (Kind::Gray, 2, 1, 7, &[1, 2]),
@@ -116,17 +117,24 @@ const PAIRS: [(Parts, Parts, bool); 7] = [
     ),
 ];
 
+/// Whether the left frame equals the right one, and the right one the left.
+fn are_equal(
+    rt: &impl Abort,
+    alloc: Global,
+    left: &Parts<'_>,
+    right: &Parts<'_>,
+) -> Result<(bool, bool), AllocError> {
+    let left = frame_of(rt, alloc, left)?;
+    let right = frame_of(rt, alloc, right)?;
+    Ok((left == right, right == left))
+}
+
 #[test]
 fn frames_are_equal_if_they_are_alike_in_all(rt: HostRuntime) {
-    for (i, (left, right, alike)) in PAIRS.into_iter().enumerate() {
-        let Some(first) = frame_of(&rt, rt.alloc(), left) else {
-            return;
-        };
-        let Some(second) = frame_of(&rt, rt.alloc(), right) else {
-            return;
-        };
-        check(&rt, "left and right", i, &(first == second), &alike);
-        check(&rt, "right and left", i, &(second == first), &alike);
+    for (i, (left, right, alike)) in PAIRS.iter().enumerate() {
+        if let Ok(got) = are_equal(&rt, rt.alloc(), left, right) {
+            check(&rt, "equal both ways", i, &got, &(*alike, *alike));
+        }
     }
 }
 

@@ -1,15 +1,12 @@
 mod failures;
 mod long;
 
-use crate::testing::{Chunks, check, check_items, check_so};
+use crate::testing::{Chunks, Parts, check, check_items, check_so};
 use ls_frame::{Counted, Feed, Frame, Kind, NetpbmFault, first_frame, next_frame};
 use std::alloc::{AllocError, Global};
 use std::io;
 use std::io::Read;
 use std::process::Abort;
-
-/// Kind, width, height, maxval, samples.
-type Parts<'a> = (Kind, u16, u16, u16, &'a [u16]);
 
 /// If memory may be refused, running out of it is an answer too.
 #[derive(Clone, Copy, Debug, PartialEq, Eq)]
@@ -101,16 +98,21 @@ const BAD_HEADERS: [(&str, &[u8], NetpbmFault); 15] = [
     ),
 ];
 
+/// That a header has this fault, at once and byte by byte.
+fn check_bad_header(rt: &impl Abort, alloc: Global, case: &str, bytes: &[u8], want: NetpbmFault) {
+    let mut rest = bytes;
+    let got = next_frame(alloc, &mut rest).err();
+    check(rt, case, 0, &got, &Some(want));
+    let mut reader = Counted::new(Chunks::new(bytes, 1, &[]));
+    let got = next_frame(alloc, &mut reader).err();
+    let failures = Feed::failures(&reader);
+    check(rt, case, 1, &(got, failures), &(Some(want), 0));
+}
+
 #[test]
 fn bad_headers_are_named_without_memory(rt: HostRuntime) {
-    for (case, bytes, want) in BAD_HEADERS {
-        let mut rest = bytes;
-        let got = next_frame(rt.alloc(), &mut rest);
-        check(&rt, case, 0, &seen(&got), &Err(want));
-        let mut reader = Counted::new(Chunks::new(bytes, 1, &[]));
-        let got = next_frame(rt.alloc(), &mut reader);
-        check(&rt, case, 1, &seen(&got), &Err(want));
-        check(&rt, case, 1, &Feed::failures(&reader), &0);
+    for (case, bytes, want) in &BAD_HEADERS {
+        check_bad_header(&rt, rt.alloc(), case, bytes, *want);
     }
 }
 
@@ -315,51 +317,80 @@ const LONG_HEADERS: [(&str, u64, &[u8], Result<Parts<'static>, NetpbmFault>); 4]
     ),
 ];
 
+/// That a header of so many blanks, and then these bytes, is read so.
+fn check_long_header(
+    rt: &impl Abort,
+    alloc: Global,
+    case: &str,
+    blanks: u64,
+    tail: &[u8],
+    want: Result<Parts<'_>, NetpbmFault>,
+) {
+    let front = b"P5".as_slice().chain(io::repeat(b' ').take(blanks));
+    let mut reader = Counted::new(front.chain(tail));
+    // A bad header takes no memory.
+    let memory = match want {
+        Ok(_) => Memory::Refusable,
+        Err(_) => Memory::Ample,
+    };
+    is_refused(rt, memory, &next_frame(alloc, &mut reader), want, case);
+}
+
 #[test]
 fn a_header_has_65536_bytes_at_most(rt: HostRuntime) {
-    for (case, blanks, tail, want) in LONG_HEADERS {
-        let front = b"P5".as_slice().chain(io::repeat(b' ').take(blanks));
-        let mut reader = Counted::new(front.chain(tail));
-        let got = next_frame(rt.alloc(), &mut reader);
-        // A bad header takes no memory.
-        let memory = match want {
-            Ok(_) => Memory::Refusable,
-            Err(_) => Memory::Ample,
-        };
-        is_refused(&rt, memory, &got, want, case);
+    for (case, blanks, tail, want) in &LONG_HEADERS {
+        check_long_header(&rt, rt.alloc(), case, *blanks, tail, *want);
+    }
+}
+
+/// Two images, and their bytes.
+const FIRST: Parts<'static> = (Kind::Gray, 3, 1, 255, &[7, 8, 9]);
+
+const SECOND: Parts<'static> = (Kind::Color, 1, 1, 255, &[1, 2, 3]);
+
+const BOTH: &[u8] = b"P5 3 1 255\n\x07\x08\x09P6 1 1 255\n\x01\x02\x03";
+
+#[test]
+fn not_a_byte_after_an_image_is_taken(rt: HostRuntime) {
+    let mut rest = BOTH;
+    let got = next_frame(rt.alloc(), &mut rest);
+    if is_refused(&rt, Memory::Refusable, &got, Ok(FIRST), "the first image") {
+        return;
+    }
+    check_items(&rt, "the rest", 0, rest, b"P6 1 1 255\n\x01\x02\x03");
+    let got = next_frame(rt.alloc(), &mut rest);
+    if is_refused(&rt, Memory::Refusable, &got, Ok(SECOND), "the second image") {
+        return;
+    }
+    check_so(&rt, "the end", 0, rest.is_empty());
+    check_end(&rt, &next_frame(rt.alloc(), &mut rest));
+}
+
+/// Reads the first of the images from chunks of at most so many bytes.
+fn check_first_of_chunks(rt: &impl Abort, alloc: Global, most: usize) {
+    let mut reader = Counted::new(Chunks::new(BOTH, most, &[]));
+    let got = next_frame(alloc, &mut reader);
+    let chunks = reader.into_inner();
+    if is_refused(rt, Memory::Refusable, &got, Ok(FIRST), "the chunks") {
+        // The room for the raster is made before its first byte is asked for.
+        check(rt, "bytes of a header", most, &chunks.given, &11);
+    } else {
+        check(rt, "bytes one by one", most, &chunks.singly, &Some(11));
+        let asked = (chunks.given, chunks.furthest);
+        check(
+            rt,
+            "bytes of an image, and the farthest",
+            most,
+            &asked,
+            &(14, 14),
+        );
     }
 }
 
 #[test]
 fn not_a_byte_after_an_image_is_asked_for(rt: HostRuntime) {
-    let first: Parts<'static> = (Kind::Gray, 3, 1, 255, &[7, 8, 9]);
-    let second: Parts<'static> = (Kind::Color, 1, 1, 255, &[1, 2, 3]);
-    let bytes = b"P5 3 1 255\n\x07\x08\x09P6 1 1 255\n\x01\x02\x03";
-    let mut rest = bytes.as_slice();
-    let got = next_frame(rt.alloc(), &mut rest);
-    if is_refused(&rt, Memory::Refusable, &got, Ok(first), "the first image") {
-        return;
-    }
-    check_items(&rt, "the rest", 0, rest, b"P6 1 1 255\n\x01\x02\x03");
-    let got = next_frame(rt.alloc(), &mut rest);
-    if is_refused(&rt, Memory::Refusable, &got, Ok(second), "the second image") {
-        return;
-    }
-    check_so(&rt, "the end", 0, rest.is_empty());
-    check_end(&rt, &next_frame(rt.alloc(), &mut rest));
     for most in [1, 2, 7, 100] {
-        let mut reader = Counted::new(Chunks::new(bytes, most, &[]));
-        let got = next_frame(rt.alloc(), &mut reader);
-        let is_refused = is_refused(&rt, Memory::Refusable, &got, Ok(first), "the chunks");
-        let chunks = reader.into_inner();
-        if is_refused {
-            // The room for the raster is made before its first byte is asked for.
-            check(&rt, "bytes of a header", most, &chunks.given, &11);
-        } else {
-            check(&rt, "bytes one by one", most, &chunks.singly, &Some(11));
-            check(&rt, "bytes of an image", most, &chunks.given, &14);
-            check(&rt, "the farthest byte", most, &chunks.furthest, &14);
-        }
+        check_first_of_chunks(&rt, rt.alloc(), most);
     }
 }
 

@@ -1,6 +1,7 @@
 use crate::testing::{Mishap, Sink, check, check_items, check_so};
 use ls_frame::{PresetFault, Presets};
 use std::io::Write;
+use std::process::Abort;
 
 /// MAXVAL, bpp, qbpp, LIMIT, T1, T2, T3.
 type Row = (u16, u32, u32, u32, u16, u16, u16);
@@ -68,17 +69,18 @@ fn explicit_parameters_are_kept(rt: HostRuntime) {
     check(&rt, "RESET", 0, &presets.reset(), &255);
 }
 
+/// That a fault is written so.
+fn check_text(rt: &impl Abort, fault: PresetFault, text: &str) {
+    let mut sink = Sink::new(16, &[], Mishap::Fails);
+    check_so(rt, text, 0, write!(sink, "{fault}").is_ok());
+    check_items(rt, text, 0, sink.written(), text.as_bytes());
+}
+
 #[test]
 fn faults_have_their_texts(rt: HostRuntime) {
-    for (fault, text) in [
-        (PresetFault::MaxvalRange, "maxval"),
-        (PresetFault::T1Range, "T1"),
-        (PresetFault::T2Range, "T2"),
-        (PresetFault::T3Range, "T3"),
-        (PresetFault::ResetRange, "RESET"),
-    ] {
-        let mut sink = Sink::new(16, &[], Mishap::Fails);
-        check_so(&rt, text, 0, write!(sink, "{fault}").is_ok());
-        check_items(&rt, text, 0, sink.written(), text.as_bytes());
-    }
+    check_text(&rt, PresetFault::MaxvalRange, "maxval");
+    check_text(&rt, PresetFault::T1Range, "T1");
+    check_text(&rt, PresetFault::T2Range, "T2");
+    check_text(&rt, PresetFault::T3Range, "T3");
+    check_text(&rt, PresetFault::ResetRange, "RESET");
 }

@@ -1,8 +1,9 @@
-//! Readers, writers and checks for the tests. They take no memory.
+//! Frames, readers, writers and checks for the tests. The readers and the writers take no memory.
 ghost use Rattle.std.specs.Prelude.{◌≤◌};
 ghost use Rattle.ls_frame_tests.specs.declared.testing.TheConstants.{ROOM};
 
-use ls_frame::{Failed, Feed, FeedFault};
+use ls_frame::{Failed, Feed, FeedFault, Frame, Kind};
+use std::alloc::{AllocError, Global};
 use std::fmt::Debug;
 use std::io;
 use std::io::{Read, Write};
@@ -35,6 +36,18 @@ pub fn check_so(rt: &impl Abort, case: &str, at: usize, holds: bool) {
     assert!(rt; holds, "{case}, at {at}");
 }
 
+/// Kind, width, height, maxval, samples.
+pub type Parts<'a> = (Kind, u16, u16, u16, &'a [u16]);
+
+/// A frame of these parts.
+pub fn frame_of(rt: &impl Abort, alloc: Global, parts: &Parts<'_>) -> Result<Frame, AllocError> {
+    let (kind, width, height, maxval, samples) = *parts;
+    match Frame::new(kind, width, height, maxval, samples.to_vec(alloc)?) {
+        Ok(frame) => Ok(frame),
+        Err((fault, _)) => panic!(rt; "these parts make no frame: {fault:?}"),
+    }
+}
+
 /// A call of `feed_until` by its mark and how many bytes it may take, what it answers, the bytes taken by it and those before it, and how
 /// many reads failed by then.
 pub type Take<'a> = (u8, usize, Result<Option<u8>, FeedFault>, &'a [u8], u64);
@@ -42,21 +55,43 @@ pub type Take<'a> = (u8, usize, Result<Option<u8>, FeedFault>, &'a [u8], u64);
 /// That calls of `feed_until` take this, up to a call for which memory is refused; whether none was.
 pub fn check_takes<R: Feed>(
     rt: &impl Abort,
+    alloc: Global,
     reader: &mut R,
-    bytes: &mut Vec<u8>,
     takes: &[Take<'_>],
 ) -> bool {
-    for (at, (mark, most, want, taken, failures)) in takes.iter().enumerate() {
-        let before = bytes.len();
-        let got = reader.feed_until(*mark, (*most).max(1), bytes);
-        if got == Err(FeedFault::NoMemory) {
-            check(rt, "bytes without memory", at, &bytes.len(), &before);
+    let mut bytes = Vec::new(alloc);
+    for (at, take) in takes.iter().enumerate() {
+        if !is_taken(rt, reader, &mut bytes, at, take) {
             return false;
         }
-        check(rt, "the last byte", at, &got, want);
-        check_items(rt, "bytes taken", at, bytes, taken);
-        check(rt, "failures", at, &Feed::failures(reader), failures);
     }
+    true
+}
+
+/// That a call of `feed_until` takes this, after the bytes before it; or that memory is refused and no byte taken.
+fn is_taken<R: Feed>(
+    rt: &impl Abort,
+    reader: &mut R,
+    bytes: &mut Vec<u8>,
+    at: usize,
+    take: &Take<'_>,
+) -> bool {
+    let (mark, most, want, taken, failures) = *take;
+    let before = bytes.len();
+    let got = reader.feed_until(mark, most.max(1), bytes);
+    if got == Err(FeedFault::NoMemory) {
+        check(rt, "bytes without memory", at, &bytes.len(), &before);
+        return false;
+    }
+    let got = (got, reader.failures());
+    check(
+        rt,
+        "the last byte, and failures",
+        at,
+        &got,
+        &(want, failures),
+    );
+    check_items(rt, "bytes taken", at, bytes, taken);
     true
 }
 

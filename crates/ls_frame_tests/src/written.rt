@@ -1,23 +1,9 @@
-use crate::testing::{Mishap, Sink, check, check_items, check_so};
+use crate::testing::{Mishap, Parts, Sink, check, check_items, check_so, frame_of};
 use ls_frame::{Counted, Frame, Kind, Outlet, WriteFault, first_frame, write_frame};
 use std::alloc::{AllocError, Global};
 use std::process::Abort;
 
-/// Kind, width, height, maxval, samples.
-type Parts = (Kind, u16, u16, u16, &'static [u16]);
-
-/// A frame of these samples, or nothing if memory was refused.
-fn frame_of(rt: &impl Abort, alloc: Global, parts: Parts) -> Option<Frame> {
-    let (kind, width, height, maxval, samples) = parts;
-    let samples = samples.to_vec(alloc).ok()?;
-    let made = Frame::new(kind, width, height, maxval, samples);
-    Some(
-        made.map_err(|refused| refused.0)
-            .expect(rt, "these parts make a frame"),
-    )
-}
-
-const TEXTS: [(Parts, &[u8]); 6] = [
+const TEXTS: [(Parts<'static>, &[u8]); 6] = [
     ((Kind::Gray, 1, 1, 255, &[255]), b"P5\n1 1\n255\n\xFF"),
     ((Kind::Gray, 1, 2, 1, &[1, 0]), b"P5\n1 2\n1\n\x01\x00"),
     (
@@ -32,75 +18,106 @@ const TEXTS: [(Parts, &[u8]); 6] = [
     ),
 ];
 
+/// That a frame is written as this text.
+fn check_text(rt: &impl Abort, i: usize, frame: &Frame, want: &[u8]) {
+    let mut writer = Counted::new(Sink::new(16, &[], Mishap::Fails));
+    let got = write_frame(&mut writer, frame);
+    let failures = Outlet::failures(&writer);
+    check(
+        rt,
+        "a text, and failures",
+        i,
+        &(got, failures),
+        &(Ok(()), 0),
+    );
+    check_items(rt, "its bytes", i, writer.into_inner().written(), want);
+}
+
 #[test]
 fn a_frame_has_one_text(rt: HostRuntime) {
-    for (i, (parts, want)) in TEXTS.into_iter().enumerate() {
-        let Some(frame) = frame_of(&rt, rt.alloc(), parts) else {
-            return;
-        };
-        let mut writer = Counted::new(Sink::new(16, &[], Mishap::Fails));
-        check(&rt, "a text", i, &write_frame(&mut writer, &frame), &Ok(()));
-        check(&rt, "failures", i, &Outlet::failures(&writer), &0);
-        let sink = writer.into_inner();
-        check_items(&rt, "its bytes", i, sink.written(), want);
+    for (i, (parts, want)) in TEXTS.iter().enumerate() {
+        if let Ok(frame) = frame_of(&rt, rt.alloc(), parts) {
+            check_text(&rt, i, &frame, want);
+        }
     }
+}
+
+/// Writes a frame to a writer of one byte a call, whose call after these bytes goes wrong.
+fn check_fault(rt: &impl Abort, frame: &Frame, before: &[u8], mishap: Mishap) {
+    let call = before.len();
+    let failing = [call];
+    let mut writer = Counted::new(Sink::new(1, &failing, mishap));
+    let got = write_frame(&mut writer, frame);
+    let got = (got, Outlet::failures(&writer));
+    let want = (Err(WriteFault { written: call }), 1);
+    check(rt, "a fault, and failures", call, &got, &want);
+    check_items(
+        rt,
+        "the bytes before",
+        call,
+        writer.into_inner().written(),
+        before,
+    );
 }
 
 #[test]
 fn a_fault_says_how_much_of_the_text_went_out(rt: HostRuntime) {
     let (parts, text) = TEXTS[0];
-    let Some(frame) = frame_of(&rt, rt.alloc(), parts) else {
+    let Ok(frame) = frame_of(&rt, rt.alloc(), &parts) else {
         return;
     };
-    for mishap in [Mishap::Fails, Mishap::TakesNothing] {
-        for i in 0..text.len() {
-            let failing = [i];
-            let mut writer = Counted::new(Sink::new(1, &failing, mishap));
-            let got = write_frame(&mut writer, &frame);
-            check(&rt, "a fault", i, &got, &Err(WriteFault { written: i }));
-            check(&rt, "failures", i, &Outlet::failures(&writer), &1);
-            let sink = writer.into_inner();
-            check_items(&rt, "the bytes before", i, sink.written(), &text[..i]);
-        }
+    for i in 0..text.len() {
+        check_fault(&rt, &frame, &text[..i], Mishap::Fails);
+        check_fault(&rt, &frame, &text[..i], Mishap::TakesNothing);
     }
 }
 
-/// A frame of 100 by 90 samples, each 7 more than the one before, and from 0 on again past maxval.
-fn long_frame(rt: &impl Abort, alloc: Global, maxval: u16) -> Result<Frame, AllocError> {
+/// 9000 samples, each 7 more than the one before, and from 0 on again past maxval.
+fn long_samples(alloc: Global, maxval: u16) -> Result<Vec<u16>, AllocError> {
     let mut samples = Vec::with_capacity(alloc, 9000)?;
     let mut sample = 0u16;
     for _ in 0..9000 {
         samples.push(sample & maxval)?;
         sample = sample.wrapping_add(7);
     }
-    let made = Frame::new(Kind::Gray, 100, 90, maxval, samples);
-    Ok(
-        made.map_err(|refused| refused.0)
-            .expect(rt, "these samples make a frame"),
-    )
+    Ok(samples)
+}
+
+/// A frame's text.
+fn text_of(rt: &impl Abort, alloc: Global, frame: &Frame) -> Vec<u8> {
+    let mut writer = Counted::new(Vec::new(alloc));
+    check(rt, "a text", 0, &write_frame(&mut writer, frame), &Ok(()));
+    writer.into_inner()
+}
+
+/// That a text is of this size and is read back as this frame.
+fn check_read_back(rt: &impl Abort, alloc: Global, text: &[u8], size: usize, frame: &Frame) {
+    check(rt, "the length of a text", size, &text.len(), &size);
+    let Ok(Some((read, taken))) = first_frame(alloc, text) else {
+        panic!(rt; "no image in {size} bytes");
+    };
+    check(rt, "what is read", size, &taken, &size);
+    check_so(rt, "the frame", size, read == *frame);
+}
+
+/// Writes a frame of 100 by 90 samples as a text of this size, and reads it back.
+fn check_long_frame(
+    rt: &impl Abort,
+    alloc: Global,
+    maxval: u16,
+    size: usize,
+) -> Result<(), AllocError> {
+    let samples = long_samples(alloc, maxval)?;
+    let frame = frame_of(rt, alloc, &(Kind::Gray, 100, 90, maxval, &samples))?;
+    let text = text_of(rt, alloc, &frame);
+    check_read_back(rt, alloc, &text, size, &frame);
+    Ok(())
 }
 
 #[test]
-fn a_frame_of_several_chunks_is_read_back_with_ample_memory(rt: HostRuntime) {
-    for (maxval, size) in [(255, 9014), (65535, 18016)] {
-        let Ok(frame) = long_frame(&rt, rt.alloc(), maxval) else {
-            panic!(rt; "no memory");
-        };
-        let mut writer = Counted::new(Vec::new(rt.alloc()));
-        let at = usize::from(maxval);
-        check(
-            &rt,
-            "a text",
-            at,
-            &write_frame(&mut writer, &frame),
-            &Ok(()),
-        );
-        let text = writer.into_inner();
-        check(&rt, "its length", at, &text.len(), &size);
-        let Ok(Some((read, taken))) = first_frame(rt.alloc(), &text) else {
-            panic!(rt; "no image up to {maxval}");
-        };
-        check(&rt, "what is read", at, &taken, &size);
-        check_so(&rt, "the frame", at, read == frame);
-    }
+fn a_frame_of_several_chunks_is_read_back_with_ample_memory(
+    rt: HostRuntime,
+) -> Result<(), AllocError> {
+    check_long_frame(&rt, rt.alloc(), 255, 9014)?;
+    check_long_frame(&rt, rt.alloc(), 65535, 18016)
 }
