@@ -1,4 +1,4 @@
-use Rattle.std.proofs.Common.{rules, ◌≡◌, ◌≤◌, refl, true, length}
+use Rattle.std.proofs.Common.{rules, ◌≡◌, ◌≤◌, refl, true, length, arith}
 use Rattle.ls_queue.specs.View.Running.{all_done}
 use Rattle.ls_queue.proofs.SettleLemmas.{last_learns, last_settled}
 use Rattle.ls_queue.proofs.running.settle.Goals as goal
@@ -26,3 +26,7 @@ returns g c =
         counted = c.requires.finished.counted;
       },
     )
+
+pub returns-then-len-queue : goal.returns-then-len-queue
+returns-then-len-queue g c =
+    (omega (arith, c.if-len-queue.true, c.len.ensures, c.args.seats.ok), refl, refl, refl)
