@@ -7,13 +7,15 @@ pub learn_as-requires-clause-rule : goal.learn_as-requires-clause-rule
 learn_as-requires-clause-rule g c =
     let enough : c.args.queue.channel.workers ≤ length c.args.seats.items = search rules in
     let done : all_done c.args.seats.items ≡ true = search rules in
-    last_learns _ _ _ _ _ _ _ c.args.seats.items c.requires.finished.known c.join_seats.ensures.known c.requires.finished.left c.args.queue.channel.some_worker enough done
+    last_learns _ _ _ _ _ _ _ c.args.seats.items c.requires.finished.known
+    c.join_seats.ensures.known c.requires.finished.left c.args.queue.channel.some_worker enough done
 
 pub returns : goal.returns
 returns g c =
     let enough : c.args.queue.channel.workers ≤ length c.args.seats.items = search rules in
     let done : all_done c.args.seats.items ≡ true = search rules in
-    let settled = last_settled _ _ _ _ _ _ c.args.seats.items _ c.requires.finished.known c.join_seats.ensures.known c.learn_as.ensures.rule.1 in (
+    let settled = last_settled _ _ _ _ _ _ c.args.seats.items _ c.requires.finished.known
+    c.join_seats.ensures.known c.learn_as.ensures.rule.1 in (
       enough,
       done,
       refl,
