@@ -1,13 +1,17 @@
-use crate::testing::codestreams::{CODESTREAMS, PLANES, TUNINGS, around_scan, head};
-use crate::testing::{Chance, PICTURES, Parts, Picture, Shape, drawn_frame, frame_of};
+use crate::testing::codestreams::{
+    CODESTREAMS, PLANES, Plane, TUNINGS, around_scan, head, height_of,
+};
+use crate::testing::{
+    Chance, PICTURES, Parts, Picture, Shape, drawn_frame, frame_of, longest_line, parts_of,
+};
 use ls_frame::{Frame, Kind, PresetFault, Presets, Tuning};
 use ls_stream::{Decoded, StreamFault, What, decode_frame, encode_with};
 use std::alloc::{AllocError, Global};
 use std::process::Abort;
 use std::test::Fail;
 
-/// The frame that bytes are decoded to, and how many of them are its codestream's; or the fault.
-type Answer<'a> = Result<(Kind, u16, u16, u16, &'a [u16], usize), StreamFault>;
+/// The parts of the frame that bytes are decoded to, and how many of them are its codestream's; or the fault.
+type Answer<'a> = Result<(Parts<'a>, usize), StreamFault>;
 
 /// That this is what was decoded.
 fn check_answer(
@@ -17,14 +21,7 @@ fn check_answer(
     want: Answer<'_>,
 ) {
     let got = match decoded {
-        Ok(Decoded { frame, used }) => Ok((
-            frame.kind(),
-            frame.width(),
-            frame.height(),
-            frame.maxval(),
-            frame.samples(),
-            *used,
-        )),
+        Ok(Decoded { frame, used }) => Ok((parts_of(frame), *used)),
         Err(fault) => Err(*fault),
     };
     assert_eq!(rt; got, want, "{name}");
@@ -45,78 +42,100 @@ fn check_codestream(
     rt: &impl Abort,
     alloc: Global,
     name: &str,
-    parts: Parts,
-    mut bytes: Vec<u8>,
+    parts: &Parts<'_>,
+    bytes: &[u8],
 ) -> Result<(), AllocError> {
-    let (kind, width, height, maxval, samples) = parts;
-    let want = (kind, width, height, maxval, samples, bytes.len());
-    check_decoded(rt, alloc, name, &bytes, Ok(want));
-    bytes.push(0x41)?;
-    check_decoded(rt, alloc, name, &bytes, Ok(want));
+    check_decoded(rt, alloc, name, bytes, Ok((*parts, bytes.len())));
+    let mut longer = bytes.to_vec(alloc)?;
+    longer.push(0x41)?;
+    check_decoded(rt, alloc, name, &longer, Ok((*parts, bytes.len())));
     Ok(())
 }
 
+/// That a plane is decoded from its scan, if its maxval is 255.
+fn check_plane(rt: &impl Abort, alloc: Global, plane: &Plane) -> Result<(), AllocError> {
+    let (name, maxval, width, samples, scan) = *plane;
+    if maxval != 255 {
+        return Ok(());
+    }
+    let height = height_of(width, samples);
+    let bytes = around_scan(alloc, width, height, &[], scan)?;
+    let parts = (Kind::Gray, width, height, maxval, samples);
+    check_codestream(rt, alloc, name, &parts, &bytes)
+}
+
 #[test]
-fn planes_are_decoded_from_their_scans_with_ample_memory(rt: HostRuntime) -> Result<(), Fail> {
-    for (name, maxval, width, samples, scan) in PLANES {
-        if maxval == 255 {
-            let height = (samples.len() / usize::from(width).max(1)) as u16;
-            let bytes = around_scan(rt.alloc(), width, height, &[], scan)?;
-            let parts = (Kind::Gray, width, height, maxval, samples);
-            check_codestream(&rt, rt.alloc(), name, parts, bytes)?;
-        }
+fn planes_are_decoded_from_their_scans_with_ample_memory(
+    rt: HostRuntime,
+) -> Result<(), AllocError> {
+    for plane in &PLANES {
+        check_plane(&rt, rt.alloc(), plane)?;
     }
     Ok(())
 }
 
 #[test]
-fn codestreams_are_decoded_to_their_frames_with_ample_memory(rt: HostRuntime) -> Result<(), Fail> {
-    for (parts, bytes, _) in CODESTREAMS {
-        check_codestream(&rt, rt.alloc(), "whole", parts, bytes.to_vec(rt.alloc())?)?;
+fn codestreams_are_decoded_to_their_frames_with_ample_memory(
+    rt: HostRuntime,
+) -> Result<(), AllocError> {
+    for (parts, bytes, _) in &CODESTREAMS {
+        check_codestream(&rt, rt.alloc(), "whole", parts, bytes)?;
     }
     Ok(())
 }
 
-/// The answer is that memory was refused, or what it is with ample memory.
+/// That the answer is that memory was refused, or what it is with ample memory.
+fn check_or_refused(rt: &impl Abort, alloc: Global, parts: &Parts<'_>, bytes: &[u8]) {
+    let decoded = decode_frame(alloc, bytes);
+    let want = match decoded {
+        Err(StreamFault::NoMemory) => Err(StreamFault::NoMemory),
+        _ => Ok((*parts, bytes.len())),
+    };
+    check_answer(rt, "memory", &decoded, want);
+}
+
 #[test]
 fn codestreams_are_decoded_or_memory_is_refused(rt: HostRuntime) {
-    for ((kind, width, height, maxval, samples), bytes, _) in CODESTREAMS {
-        let decoded = decode_frame(rt.alloc(), bytes);
-        let want = match decoded {
-            Err(StreamFault::NoMemory) => Err(StreamFault::NoMemory),
-            _ => Ok((kind, width, height, maxval, samples, bytes.len())),
-        };
-        check_answer(&rt, "memory", &decoded, want);
+    for (parts, bytes, _) in &CODESTREAMS {
+        check_or_refused(&rt, rt.alloc(), parts, bytes);
     }
 }
 
+/// That a codestream of a gray line with this segment before its scan is decoded to these samples.
+fn check_tuned(
+    rt: &impl Abort,
+    alloc: Global,
+    lse: &[u8],
+    scan: &[u8],
+    width: u16,
+    samples: &[u16],
+) -> Result<(), AllocError> {
+    let bytes = around_scan(alloc, width, 1, lse, scan)?;
+    let parts = (Kind::Gray, width, 1, 255, samples);
+    check_codestream(rt, alloc, "tuned", &parts, &bytes)
+}
+
+/// The default parameters but for RESET, which is 3.
+const EARLY_RESET: [u8; 15] = [
+    0xff, 0xf8, 0x00, 0x0d, 0x01, 0x00, 0xff, 0x00, 0x03, 0x00, 0x07, 0x00, 0x15, 0x00, 0x03,
+];
+
 #[test]
-fn parameters_are_read_with_ample_memory(rt: HostRuntime) -> Result<(), Fail> {
-    for (_, lse) in TUNINGS {
-        let bytes = around_scan(rt.alloc(), 1, 1, lse, &[0x80])?;
-        check_codestream(
-            &rt,
-            rt.alloc(),
-            "tuned",
-            (Kind::Gray, 1, 1, 255, &[0]),
-            bytes,
-        )?;
+fn parameters_are_read_with_ample_memory(rt: HostRuntime) -> Result<(), AllocError> {
+    for (_, lse) in &TUNINGS {
+        check_tuned(&rt, rt.alloc(), lse, &[0x80], 1, &[0])?;
     }
-    let early: [u8; 15] = [
-        0xff, 0xf8, 0x00, 0x0d, 0x01, 0x00, 0xff, 0x00, 0x03, 0x00, 0x07, 0x00, 0x15, 0x00, 0x03,
-    ];
-    let bytes = around_scan(rt.alloc(), 7, 1, &early, &[0x2c, 0xa4, 0x48])?;
-    let parts: Parts = (Kind::Gray, 7, 1, 255, &[3, 3, 3, 3, 4, 6, 6]);
-    check_codestream(&rt, rt.alloc(), "early reset", parts, bytes)?;
-    Ok(())
+    let scan = [0x2c, 0xa4, 0x48];
+    let samples = [3, 3, 3, 3, 4, 6, 6];
+    check_tuned(&rt, rt.alloc(), &EARLY_RESET, &scan, 7, &samples)
 }
 
 /// A change of a codestream: its place in the table, the first byte that goes, how many go, and what stands there.
 type Change = (usize, usize, usize, &'static [u8]);
 
 /// The changed codestream.
-fn changed(alloc: Global, change: Change) -> Result<Vec<u8>, AllocError> {
-    let (codestream, place, gone, others) = change;
+fn changed(alloc: Global, change: &Change) -> Result<Vec<u8>, AllocError> {
+    let (codestream, place, gone, others) = *change;
     let bytes: &[u8] = match CODESTREAMS.get(codestream) {
         Some((_, bytes, _)) => bytes,
         None => &[],
@@ -125,6 +144,18 @@ fn changed(alloc: Global, change: Change) -> Result<Vec<u8>, AllocError> {
     made.extend_from_slice(others)?;
     made.extend_from_slice(bytes.get(place.saturating_add(gone)..).unwrap_or(&[]))?;
     Ok(made)
+}
+
+/// That the changed codestream is decoded to this.
+fn check_changed(
+    rt: &impl Abort,
+    alloc: Global,
+    change: &Change,
+    want: Answer<'_>,
+) -> Result<(), AllocError> {
+    let bytes = changed(alloc, change)?;
+    check_decoded(rt, alloc, "changed", &bytes, want);
+    Ok(())
 }
 
 /// A changed codestream of a gray frame of one pixel, its MAXVAL, its sample, and how many bytes of it are read.
@@ -192,24 +223,21 @@ const LONE: [(Change, u16, u16, usize); 13] = [
 #[test]
 fn frames_are_decoded_from_codestreams_of_others_with_ample_memory(
     rt: HostRuntime,
-) -> Result<(), Fail> {
-    for (change, maxval, sample, used) in LONE {
-        let bytes = changed(rt.alloc(), change)?;
-        let want = Ok((Kind::Gray, 1, 1, maxval, &[sample] as &[u16], used));
-        check_decoded(&rt, rt.alloc(), "changed", &bytes, want);
+) -> Result<(), AllocError> {
+    for (change, maxval, sample, used) in &LONE {
+        let samples = [*sample];
+        let parts: Parts<'_> = (Kind::Gray, 1, 1, *maxval, &samples);
+        check_changed(&rt, rt.alloc(), change, Ok((parts, *used)))?;
     }
     Ok(())
 }
 
 /// A comment and a segment of an application stand after the start of the image.
 #[test]
-fn segments_of_others_are_passed_over_with_ample_memory(rt: HostRuntime) -> Result<(), Fail> {
-    let ((kind, width, height, maxval, samples), _, _) = CODESTREAMS[0];
+fn segments_of_others_are_passed_over_with_ample_memory(rt: HostRuntime) -> Result<(), AllocError> {
+    let (parts, _, _) = CODESTREAMS[0];
     let others = &[0xff, 0xfe, 0x00, 0x03, 0x41, 0xff, 0xe8, 0x00, 0x02];
-    let bytes = changed(rt.alloc(), (0, 2, 0, others))?;
-    let want = Ok((kind, width, height, maxval, samples, 66));
-    check_decoded(&rt, rt.alloc(), "others", &bytes, want);
-    Ok(())
+    check_changed(&rt, rt.alloc(), &(0, 2, 0, others), Ok((parts, 66)))
 }
 
 /// Changed codestreams that spell no frame: in their headers, and after the first of them.
@@ -281,10 +309,11 @@ const FAULTY: [(Change, StreamFault); 27] = [
 ];
 
 #[test]
-fn changed_codestreams_have_these_faults_with_ample_memory(rt: HostRuntime) -> Result<(), Fail> {
-    for (change, fault) in FAULTY {
-        let bytes = changed(rt.alloc(), change)?;
-        check_fault(&rt, rt.alloc(), "changed", &bytes, fault);
+fn changed_codestreams_have_these_faults_with_ample_memory(
+    rt: HostRuntime,
+) -> Result<(), AllocError> {
+    for (change, fault) in &FAULTY {
+        check_changed(&rt, rt.alloc(), change, Err(*fault))?;
     }
     Ok(())
 }
@@ -371,23 +400,41 @@ const MALFORMED_SCANS: [(&str, u16, u16, &[u8], StreamFault); 12] = [
     ),
 ];
 
-#[test]
-fn malformed_scans_have_these_faults_with_ample_memory(rt: HostRuntime) -> Result<(), Fail> {
-    for (name, width, height, rest, fault) in MALFORMED_SCANS {
-        let mut bytes = head(width, height).to_vec(rt.alloc())?;
-        bytes.extend_from_slice(rest)?;
-        check_fault(&rt, rt.alloc(), name, &bytes, fault);
-    }
+/// That a scan of this data and what follows it has this fault.
+fn check_scan(
+    rt: &impl Abort,
+    alloc: Global,
+    name: &str,
+    head: &[u8],
+    rest: &[u8],
+    fault: StreamFault,
+) -> Result<(), AllocError> {
+    let mut bytes = head.to_vec(alloc)?;
+    bytes.extend_from_slice(rest)?;
+    check_fault(rt, alloc, name, &bytes, fault);
     Ok(())
 }
 
 #[test]
+fn malformed_scans_have_these_faults_with_ample_memory(rt: HostRuntime) -> Result<(), AllocError> {
+    for (name, width, height, rest, fault) in &MALFORMED_SCANS {
+        let head = head(*width, *height);
+        check_scan(&rt, rt.alloc(), name, &head, rest, *fault)?;
+    }
+    Ok(())
+}
+
+/// That each beginning of a codestream is truncated.
+fn check_fronts(rt: &impl Abort, alloc: Global, bytes: &[u8]) {
+    for len in 0..bytes.len() {
+        check_fault(rt, alloc, "front", &bytes[..len], StreamFault::Truncated);
+    }
+}
+
+#[test]
 fn fronts_of_codestreams_are_truncated_with_ample_memory(rt: HostRuntime) {
-    for (_, bytes, _) in CODESTREAMS {
-        for len in 0..bytes.len() {
-            let front = &bytes[..len];
-            check_fault(&rt, rt.alloc(), "front", front, StreamFault::Truncated);
-        }
+    for (_, bytes, _) in &CODESTREAMS {
+        check_fronts(&rt, rt.alloc(), bytes);
     }
 }
 
@@ -404,16 +451,34 @@ fn check_round_trip(
     let [t1, t2, t3, reset] = chosen;
     let presets = Tuning { t1, t2, t3, reset }.presets(frame.maxval())?;
     let bytes = encode_with(alloc, frame, &presets)?;
-    let want = (
-        frame.kind(),
-        frame.width(),
-        frame.height(),
-        frame.maxval(),
-        frame.samples(),
-        bytes.len(),
-    );
-    check_decoded(rt, alloc, name, &bytes, Ok(want));
+    let want = Ok((parts_of(frame), bytes.len()));
+    check_decoded(rt, alloc, name, &bytes, want);
     Ok(())
+}
+
+/// That a picture comes back, drawn so and coded by these parameters.
+fn check_picture(
+    rt: &impl Abort,
+    alloc: Global,
+    chance: &mut Chance,
+    shape: Shape,
+    picture: Picture,
+    chosen: [u16; 4],
+) -> Result<(), Fail> {
+    let frame = drawn_frame(rt, alloc, chance, shape, picture)?;
+    check_round_trip(rt, alloc, "a picture", &frame, chosen)
+}
+
+/// That gray samples of maxval 255 come back.
+fn check_samples(
+    rt: &impl Abort,
+    alloc: Global,
+    width: u16,
+    height: u16,
+    samples: &[u16],
+) -> Result<(), Fail> {
+    let frame = frame_of(rt, alloc, Kind::Gray, width, height, 255, samples)?;
+    check_round_trip(rt, alloc, "samples", &frame, [0; 4])
 }
 
 /// MAXVAL and a choice of T1, T2, T3 and RESET, each 0 for its default.
@@ -432,21 +497,35 @@ const CHOICES: [(u16, [u16; 4]); 12] = [
     (65535, [1, 32768, 65535, 65535]),
 ];
 
+const SMALL: [(Kind, u16, u16); 4] = [
+    (Kind::Gray, 1, 9),
+    (Kind::Gray, 13, 1),
+    (Kind::Gray, 23, 11),
+    (Kind::Color, 9, 7),
+];
+
+/// That small pictures of each size come back.
+fn check_small(
+    rt: &impl Abort,
+    alloc: Global,
+    chance: &mut Chance,
+    maxval: u16,
+    picture: Picture,
+    chosen: [u16; 4],
+) -> Result<(), Fail> {
+    for (kind, width, height) in &SMALL {
+        let shape = (*kind, *width, *height, maxval);
+        check_picture(rt, alloc, chance, shape, picture, chosen)?;
+    }
+    Ok(())
+}
+
 #[test]
 fn small_pictures_come_back_with_ample_memory(rt: HostRuntime) -> Result<(), Fail> {
     let mut chance = Chance { state: 3 };
-    for (maxval, chosen) in CHOICES {
-        for picture in PICTURES {
-            for (kind, width, height) in [
-                (Kind::Gray, 1, 9),
-                (Kind::Gray, 13, 1),
-                (Kind::Gray, 23, 11),
-                (Kind::Color, 9, 7),
-            ] {
-                let shape = (kind, width, height, maxval);
-                let frame = drawn_frame(&rt, rt.alloc(), &mut chance, shape, picture)?;
-                check_round_trip(&rt, rt.alloc(), "small", &frame, chosen)?;
-            }
+    for (maxval, chosen) in &CHOICES {
+        for picture in &PICTURES {
+            check_small(&rt, rt.alloc(), &mut chance, *maxval, *picture, *chosen)?;
         }
     }
     Ok(())
@@ -462,34 +541,35 @@ const LARGE: [(Shape, Picture); 4] = [
 
 #[test]
 fn large_pictures_come_back_with_ample_memory(rt: HostRuntime) -> Result<(), Fail> {
-    for (shape, picture) in LARGE {
+    for (shape, picture) in &LARGE {
         let mut chance = Chance { state: 4 };
-        let frame = drawn_frame(&rt, rt.alloc(), &mut chance, shape, picture)?;
-        check_round_trip(&rt, rt.alloc(), "large", &frame, [0; 4])?;
+        check_picture(&rt, rt.alloc(), &mut chance, *shape, *picture, [0; 4])?;
     }
     Ok(())
 }
 
-/// All but a few of them 0.
-#[test]
-fn a_million_samples_come_back_with_ample_memory(rt: HostRuntime) -> Result<(), Fail> {
-    let mut samples = vec![in rt.alloc(); 0u16; 1025 * 1024]?;
+/// A million samples, all but a few of them 0.
+fn million_samples(alloc: Global) -> Result<Vec<u16>, AllocError> {
+    let mut samples = vec![in alloc; 0u16; 1025 * 1024]?;
     for place in [1024, 5000, 5001, 524_288, 1_049_599] {
         if let Some(sample) = samples.get_mut(place) {
             *sample = 200;
         }
     }
-    let frame = frame_of(&rt, rt.alloc(), Kind::Gray, 1024, 1025, 255, &samples)?;
-    check_round_trip(&rt, rt.alloc(), "a million samples", &frame, [0; 4])
+    Ok(samples)
+}
+
+#[test]
+fn a_million_samples_come_back_with_ample_memory(rt: HostRuntime) -> Result<(), Fail> {
+    let samples = million_samples(rt.alloc())?;
+    check_samples(&rt, rt.alloc(), 1024, 1025, &samples)
 }
 
 #[test]
 fn the_longest_runs_come_back_with_ample_memory(rt: HostRuntime) -> Result<(), Fail> {
     for last in [0, 7] {
-        let mut samples = vec![in rt.alloc(); 0u16; 65535]?;
-        samples[65534] = last;
-        let frame = frame_of(&rt, rt.alloc(), Kind::Gray, 65535, 1, 255, &samples)?;
-        check_round_trip(&rt, rt.alloc(), "the longest runs", &frame, [0; 4])?;
+        let samples = longest_line(rt.alloc(), last)?;
+        check_samples(&rt, rt.alloc(), 65535, 1, &samples)?;
     }
     Ok(())
 }

@@ -1,9 +1,9 @@
 mod sums;
 
-use crate::testing::codestreams::{CODESTREAMS, PLANES, TUNINGS, around_scan};
+use crate::testing::codestreams::{CODESTREAMS, PLANES, Plane, TUNINGS, around_scan, height_of};
 use crate::testing::{
-    Chance, PICTURES, Picture, Shape, Sum, check_bytes, check_number, check_sum, drawn_frame,
-    frame_of, frame_of_parts,
+    Chance, PICTURES, Parts, Picture, Shape, Sum, check_bytes, check_number, check_sum,
+    drawn_frame, frame_of, frame_of_parts, longest_line,
 };
 use ls_frame::{Frame, Kind, Presets, Tuning};
 use ls_stream::{Lines, code_bound, encode_frame, encode_with, encode_within};
@@ -12,32 +12,63 @@ use std::process::Abort;
 use std::test::Fail;
 use sums::{LARGE, LONGEST_RUNS, SMALL};
 
+/// That a frame has this codestream with the default parameters.
+fn check_coded(
+    rt: &impl Abort,
+    alloc: Global,
+    name: &str,
+    frame: &Frame,
+    want: &[u8],
+) -> Result<(), AllocError> {
+    check_bytes(rt, name, &encode_frame(alloc, frame)?, want);
+    Ok(())
+}
+
+/// That the codestream of a plane has its scan, if its maxval is 255.
+fn check_plane(rt: &impl Abort, alloc: Global, plane: &Plane) -> Result<(), AllocError> {
+    let (name, maxval, width, samples, scan) = *plane;
+    if maxval != 255 {
+        return Ok(());
+    }
+    let height = height_of(width, samples);
+    let frame = frame_of(rt, alloc, Kind::Gray, width, height, maxval, samples)?;
+    let want = around_scan(alloc, width, height, &[], scan)?;
+    check_coded(rt, alloc, name, &frame, &want)
+}
+
 #[test]
-fn gray_frames_have_their_planes_scans_with_ample_memory(rt: HostRuntime) -> Result<(), Fail> {
-    for (name, maxval, width, samples, scan) in PLANES {
-        if maxval == 255 {
-            let height = (samples.len() / usize::from(width).max(1)) as u16;
-            let frame = frame_of(&rt, rt.alloc(), Kind::Gray, width, height, maxval, samples)?;
-            let want = around_scan(rt.alloc(), width, height, &[], scan)?;
-            check_bytes(&rt, name, &encode_frame(rt.alloc(), &frame)?, &want);
-        }
+fn gray_frames_have_their_planes_scans_with_ample_memory(
+    rt: HostRuntime,
+) -> Result<(), AllocError> {
+    for plane in &PLANES {
+        check_plane(&rt, rt.alloc(), plane)?;
     }
     Ok(())
 }
 
+/// That a frame of these parts has this codestream, by default and with explicit defaults, and this bound.
+fn check_codestream(
+    rt: &impl Abort,
+    alloc: Global,
+    parts: &Parts<'_>,
+    want: &[u8],
+    bound: u64,
+) -> Result<(), AllocError> {
+    let frame = frame_of_parts(rt, alloc, parts)?;
+    let presets = Presets::default_of(frame.maxval());
+    check_coded(rt, alloc, "by default", &frame, want)?;
+    let explicit = encode_with(alloc, &frame, &presets)?;
+    check_bytes(rt, "explicit", &explicit, want);
+    check_number(rt, "bound", code_bound(&frame, &presets), bound);
+    Ok(())
+}
+
 #[test]
-fn frames_have_these_codestreams_and_bounds_with_ample_memory(rt: HostRuntime) -> Result<(), Fail> {
-    for ((kind, width, height, maxval, samples), want, bound) in CODESTREAMS {
-        let frame = frame_of(&rt, rt.alloc(), kind, width, height, maxval, samples)?;
-        let presets = Presets::default_of(frame.maxval());
-        check_bytes(&rt, "by default", &encode_frame(rt.alloc(), &frame)?, want);
-        check_bytes(
-            &rt,
-            "explicit",
-            &encode_with(rt.alloc(), &frame, &presets)?,
-            want,
-        );
-        check_number(&rt, "bound", code_bound(&frame, &presets), bound);
+fn frames_have_these_codestreams_and_bounds_with_ample_memory(
+    rt: HostRuntime,
+) -> Result<(), AllocError> {
+    for (parts, want, bound) in &CODESTREAMS {
+        check_codestream(&rt, rt.alloc(), parts, want, *bound)?;
     }
     Ok(())
 }
@@ -45,9 +76,9 @@ fn frames_have_these_codestreams_and_bounds_with_ample_memory(rt: HostRuntime) -
 /// Once its room and its lines are there, encoding asks for no memory: this passes whichever allocation fails.
 #[test]
 fn codestreams_go_after_bytes_without_memory(rt: HostRuntime) {
-    for (parts, want, bound) in CODESTREAMS {
+    for (parts, want, bound) in &CODESTREAMS {
         if let Ok(frame) = frame_of_parts(&rt, rt.alloc(), parts) {
-            let _refused = encode_after_a_byte(&rt, rt.alloc(), &frame, want, bound);
+            let _refused = encode_after_a_byte(&rt, rt.alloc(), &frame, want, *bound);
         }
     }
 }
@@ -62,21 +93,38 @@ fn encode_after_a_byte(
 ) -> Result<(), AllocError> {
     let presets = Presets::default_of(frame.maxval());
     let room = code_bound(frame, &presets) as usize;
+    check_number(rt, "bound", room as u64, bound);
     let mut bytes = Vec::with_capacity(alloc, room + 1)?;
     let mut lines = Lines::new(alloc, frame.width())?;
     bytes.push_reserved(0x07);
     let capacity = bytes.capacity();
     let bytes = encode_within(frame, &presets, &mut lines, bytes);
-    check_bytes(rt, "before", &bytes[..1], &[0x07]);
-    check_bytes(rt, "after", &bytes[1..], want);
-    check_number(rt, "bound", room as u64, bound);
+    check_after_a_byte(rt, &bytes, want);
     check_number(rt, "capacity", bytes.capacity() as u64, capacity as u64);
-    check_number(
-        rt,
-        "width",
-        u64::from(lines.width()),
-        u64::from(frame.width()),
-    );
+    let width = u64::from(frame.width());
+    check_number(rt, "width", u64::from(lines.width()), width);
+    Ok(())
+}
+
+/// That a byte 07 stands before these bytes.
+fn check_after_a_byte(rt: &impl Abort, got: &[u8], want: &[u8]) {
+    check_bytes(rt, "before", got.get(..1).unwrap_or(&[]), &[0x07]);
+    check_bytes(rt, "after", got.get(1..).unwrap_or(&[]), want);
+}
+
+/// That these T1, T2, T3 and RESET make this segment before the scan of a frame, a lone zero.
+fn check_tuning(
+    rt: &impl Abort,
+    alloc: Global,
+    frame: &Frame,
+    chosen: [u16; 4],
+    lse: &[u8],
+) -> Result<(), Fail> {
+    let [t1, t2, t3, reset] = chosen;
+    let presets = Tuning { t1, t2, t3, reset }.presets(frame.maxval())?;
+    let got = encode_with(alloc, frame, &presets)?;
+    let want = around_scan(alloc, 1, 1, lse, &[0x80])?;
+    check_bytes(rt, "tuned", &got, &want);
     Ok(())
 }
 
@@ -85,16 +133,8 @@ fn parameters_are_written_where_they_are_not_the_default_with_ample_memory(
     rt: HostRuntime,
 ) -> Result<(), Fail> {
     let frame = frame_of(&rt, rt.alloc(), Kind::Gray, 1, 1, 255, &[0])?;
-    for ([t1, t2, t3, reset], lse) in TUNINGS {
-        let tuning = Tuning { t1, t2, t3, reset };
-        let presets = tuning.presets(frame.maxval())?;
-        let want = around_scan(rt.alloc(), 1, 1, lse, &[0x80])?;
-        check_bytes(
-            &rt,
-            "tuned",
-            &encode_with(rt.alloc(), &frame, &presets)?,
-            &want,
-        );
+    for (chosen, lse) in &TUNINGS {
+        check_tuning(&rt, rt.alloc(), &frame, *chosen, lse)?;
     }
     Ok(())
 }
@@ -114,67 +154,91 @@ fn counters_are_halved_as_reset_says_with_ample_memory(rt: HostRuntime) -> Resul
 
 const SIZES: [(u16, u16); 4] = [(1, 1), (1, 9), (13, 1), (23, 11)];
 
-/// What a picture is coded as by parameters of its maxval, all of them 0 for the defaults.
-fn drawn_codestream(
+/// Adds what a picture is coded as by parameters of its maxval, all of them 0 for the defaults.
+fn add_picture(
     rt: &impl Abort,
     alloc: Global,
+    sum: &mut Sum,
     chance: &mut Chance,
     shape: Shape,
     picture: Picture,
     chosen: [u16; 4],
-) -> Result<Vec<u8>, Fail> {
+) -> Result<(), Fail> {
     let frame = drawn_frame(rt, alloc, chance, shape, picture)?;
     let [t1, t2, t3, reset] = chosen;
     let presets = Tuning { t1, t2, t3, reset }.presets(frame.maxval())?;
-    Ok(encode_with(alloc, &frame, &presets)?)
+    sum.add(&encode_with(alloc, &frame, &presets)?);
+    Ok(())
 }
 
-/// Of small pictures of each kind and size by each set of parameters.
+/// The sum of small pictures of each kind and size by these parameters.
+fn small_sum(
+    rt: &impl Abort,
+    alloc: Global,
+    chance: &mut Chance,
+    maxval: u16,
+    chosen: [u16; 4],
+) -> Result<Sum, Fail> {
+    let mut sum = Sum::new();
+    for picture in &PICTURES {
+        for (width, height) in &SIZES {
+            let shape = (Kind::Gray, *width, *height, maxval);
+            add_picture(rt, alloc, &mut sum, chance, shape, *picture, chosen)?;
+        }
+    }
+    Ok(sum)
+}
+
+/// By each set of parameters.
 #[test]
 fn small_pictures_are_coded_as_charls_does_with_ample_memory(rt: HostRuntime) -> Result<(), Fail> {
     let mut chance = Chance { state: 1 };
-    for (maxval, chosen, bytes, fnv) in SMALL {
-        let mut sum = Sum::new();
-        for picture in PICTURES {
-            for (width, height) in SIZES {
-                let shape = (Kind::Gray, width, height, maxval);
-                sum.add(&drawn_codestream(&rt, rt.alloc(), &mut chance, shape, picture, chosen)?);
-            }
-        }
-        check_sum(&rt, "small pictures", sum, (bytes, fnv));
+    for (maxval, chosen, bytes, fnv) in &SMALL {
+        let sum = small_sum(&rt, rt.alloc(), &mut chance, *maxval, *chosen)?;
+        check_sum(&rt, "small pictures", sum, (*bytes, *fnv));
     }
     Ok(())
+}
+
+/// The sum of a larger picture with the default parameters.
+fn large_sum(rt: &impl Abort, alloc: Global, shape: Shape, picture: Picture) -> Result<Sum, Fail> {
+    let mut chance = Chance { state: 2 };
+    let mut sum = Sum::new();
+    add_picture(rt, alloc, &mut sum, &mut chance, shape, picture, [0; 4])?;
+    Ok(sum)
 }
 
 /// Enough samples for counters to be halved many times, in three components; one column; more than a million samples.
 #[test]
 fn large_pictures_are_coded_as_charls_does_with_ample_memory(rt: HostRuntime) -> Result<(), Fail> {
-    for (components, width, height, maxval, picture, bytes, fnv) in LARGE {
-        let kind = if components == 3 {
-            Kind::Color
-        } else {
-            Kind::Gray
+    for (components, width, height, maxval, picture, bytes, fnv) in &LARGE {
+        let kind = match components {
+            3 => Kind::Color,
+            _ => Kind::Gray,
         };
-        let shape = (kind, width, height, maxval);
-        let mut chance = Chance { state: 2 };
-        let mut sum = Sum::new();
-        sum.add(&drawn_codestream(&rt, rt.alloc(), &mut chance, shape, picture, [0; 4])?);
-        check_sum(&rt, "large pictures", sum, (bytes, fnv));
+        let shape = (kind, *width, *height, *maxval);
+        let sum = large_sum(&rt, rt.alloc(), shape, *picture)?;
+        check_sum(&rt, "large pictures", sum, (*bytes, *fnv));
     }
     Ok(())
+}
+
+/// The sum of a line of 65,535 samples, all of them 0 but the last.
+fn longest_sum(rt: &impl Abort, alloc: Global, last: u16) -> Result<Sum, AllocError> {
+    let samples = longest_line(alloc, last)?;
+    let frame = frame_of(rt, alloc, Kind::Gray, 65535, 1, 255, &samples)?;
+    let mut sum = Sum::new();
+    sum.add(&encode_frame(alloc, &frame)?);
+    Ok(sum)
 }
 
 #[test]
 fn the_longest_runs_are_coded_as_charls_does_with_ample_memory(
     rt: HostRuntime,
-) -> Result<(), Fail> {
-    for (last, bytes, fnv) in LONGEST_RUNS {
-        let mut samples = vec![in rt.alloc(); 0u16; 65535]?;
-        samples[65534] = last;
-        let frame = frame_of(&rt, rt.alloc(), Kind::Gray, 65535, 1, 255, &samples)?;
-        let mut sum = Sum::new();
-        sum.add(&encode_frame(rt.alloc(), &frame)?);
-        check_sum(&rt, "the longest runs", sum, (bytes, fnv));
+) -> Result<(), AllocError> {
+    for (last, bytes, fnv) in &LONGEST_RUNS {
+        let sum = longest_sum(&rt, rt.alloc(), *last)?;
+        check_sum(&rt, "the longest runs", sum, (*bytes, *fnv));
     }
     Ok(())
 }

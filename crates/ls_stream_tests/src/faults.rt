@@ -35,8 +35,8 @@ fn faults_have_their_texts(rt: HostRuntime) {
         (StreamFault::LeftoverBits(1), "leftover bits in component 1"),
         (StreamFault::NoMemory, "no memory"),
     ];
-    for (fault, text) in table {
-        check_text(&rt, rt.alloc(), fault, text);
+    for (fault, text) in &table {
+        check_text(&rt, rt.alloc(), *fault, text);
     }
 }
 
@@ -56,7 +56,7 @@ fn what_is_unsupported_has_its_text(rt: HostRuntime) {
         (What::LseLate, "unsupported: LSE after a scan"),
         (What::ScanOrder, "unsupported: scan order"),
     ];
-    for (what, text) in table {
-        check_text(&rt, rt.alloc(), StreamFault::Unsupported(what), text);
+    for (what, text) in &table {
+        check_text(&rt, rt.alloc(), StreamFault::Unsupported(*what), text);
     }
 }

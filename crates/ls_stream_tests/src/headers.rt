@@ -4,7 +4,6 @@ use ls_frame::PresetFault;
 use ls_stream::{StreamFault, What, decode_frame};
 use std::alloc::{AllocError, Global};
 use std::process::Abort;
-use std::test::Fail;
 
 /// A gray frame of one pixel, its sample 0 of 8 bits.
 const LONE: [u8; 28] = [
@@ -58,67 +57,85 @@ fn check_after(
     Ok(())
 }
 
+/// A place in `LONE`, the byte that stands there, and the fault.
+const CHANGED_HEADERS: [(usize, u8, StreamFault); 31] = [
+    (0, 0x00, StreamFault::NotSoi),
+    (1, 0xD9, StreamFault::NotSoi),
+    (2, 0x00, StreamFault::BadSegment),
+    (3, 0x00, StreamFault::BadSegment),
+    (3, 0xDA, StreamFault::BadSegment),
+    (3, 0xD9, StreamFault::BadSegment),
+    (3, 0xC0, StreamFault::Unsupported(What::Marker(0xC0))),
+    (3, 0xD8, StreamFault::Unsupported(What::Marker(0xD8))),
+    (3, 0xF8, StreamFault::Unsupported(What::LseId(8))),
+    (4, 0xFF, StreamFault::Truncated),
+    (5, 0x01, StreamFault::BadSegment),
+    (5, 0x07, StreamFault::BadSegment),
+    (5, 0x0C, StreamFault::BadSegment),
+    (6, 0x01, StreamFault::BadSegment),
+    (6, 0x11, StreamFault::BadSegment),
+    (10, 0x00, StreamFault::BadSegment),
+    (11, 0x03, StreamFault::BadSegment),
+    (8, 0x00, StreamFault::Unsupported(What::HeightZero)),
+    (11, 0x02, StreamFault::Unsupported(What::Components(2))),
+    (13, 0x21, StreamFault::Unsupported(What::Sampling)),
+    (16, 0xD9, StreamFault::BadSegment),
+    (16, 0xF7, StreamFault::BadSegment),
+    (18, 0x05, StreamFault::BadSegment),
+    (18, 0x07, StreamFault::BadSegment),
+    (16, 0xDD, StreamFault::Unsupported(What::Marker(0xDD))),
+    (19, 0x02, StreamFault::Unsupported(What::Interleave)),
+    (23, 0x01, StreamFault::Unsupported(What::Interleave)),
+    (20, 0x02, StreamFault::Unsupported(What::ScanOrder)),
+    (21, 0x01, StreamFault::Unsupported(What::Mapping)),
+    (22, 0x01, StreamFault::Unsupported(What::Near)),
+    (24, 0x01, StreamFault::Unsupported(What::PointTransform)),
+];
+
+/// That the lone pixel is decoded so after a byte is changed.
+fn check_lone(rt: &impl Abort, alloc: Global, place: usize, byte: u8, want: Option<StreamFault>) {
+    let mut bytes = LONE;
+    check_changed(rt, alloc, &mut bytes, place, byte, want);
+}
+
 #[test]
 fn changed_headers_have_these_faults_with_ample_memory(rt: HostRuntime) {
-    let bad = StreamFault::BadSegment;
-    let table = [
-        (0, 0x00, StreamFault::NotSoi),
-        (1, 0xD9, StreamFault::NotSoi),
-        (2, 0x00, bad),
-        (3, 0x00, bad),
-        (3, 0xDA, bad),
-        (3, 0xD9, bad),
-        (3, 0xC0, StreamFault::Unsupported(What::Marker(0xC0))),
-        (3, 0xD8, StreamFault::Unsupported(What::Marker(0xD8))),
-        (3, 0xF8, StreamFault::Unsupported(What::LseId(8))),
-        (4, 0xFF, StreamFault::Truncated),
-        (5, 0x01, bad),
-        (5, 0x07, bad),
-        (5, 0x0C, bad),
-        (6, 0x01, bad),
-        (6, 0x11, bad),
-        (10, 0x00, bad),
-        (11, 0x03, bad),
-        (8, 0x00, StreamFault::Unsupported(What::HeightZero)),
-        (11, 0x02, StreamFault::Unsupported(What::Components(2))),
-        (13, 0x21, StreamFault::Unsupported(What::Sampling)),
-        (16, 0xD9, bad),
-        (16, 0xF7, bad),
-        (18, 0x05, bad),
-        (18, 0x07, bad),
-        (16, 0xDD, StreamFault::Unsupported(What::Marker(0xDD))),
-        (19, 0x02, StreamFault::Unsupported(What::Interleave)),
-        (23, 0x01, StreamFault::Unsupported(What::Interleave)),
-        (20, 0x02, StreamFault::Unsupported(What::ScanOrder)),
-        (21, 0x01, StreamFault::Unsupported(What::Mapping)),
-        (22, 0x01, StreamFault::Unsupported(What::Near)),
-        (24, 0x01, StreamFault::Unsupported(What::PointTransform)),
-    ];
-    for (place, byte, fault) in table {
-        let mut bytes = LONE;
-        check_changed(&rt, rt.alloc(), &mut bytes, place, byte, Some(fault));
+    for (place, byte, fault) in &CHANGED_HEADERS {
+        check_lone(&rt, rt.alloc(), *place, *byte, Some(*fault));
     }
-    let mut bytes = LONE;
-    check_changed(&rt, rt.alloc(), &mut bytes, 14, 0x05, None);
+    check_lone(&rt, rt.alloc(), 14, 0x05, None);
+}
+
+/// A place in `WITH_PRESETS`, the byte that stands there, and the fault, if there is one.
+const CHANGED_PRESETS: [(usize, u8, Option<PresetFault>); 6] = [
+    (21, 0x04, Some(PresetFault::MaxvalRange)),
+    (23, 0x02, Some(PresetFault::T1Range)),
+    (25, 0x02, Some(PresetFault::T2Range)),
+    (27, 0x02, Some(PresetFault::T3Range)),
+    (29, 0x02, Some(PresetFault::ResetRange)),
+    (21, 0x00, None),
+];
+
+/// That the pixel with presets is decoded so after a byte is changed.
+fn check_presets(
+    rt: &impl Abort,
+    alloc: Global,
+    place: usize,
+    byte: u8,
+    fault: Option<PresetFault>,
+) {
+    let mut bytes = WITH_PRESETS;
+    let want = match fault {
+        Some(fault) => Some(StreamFault::BadPresets(fault)),
+        None => None,
+    };
+    check_changed(rt, alloc, &mut bytes, place, byte, want);
 }
 
 #[test]
 fn changed_presets_have_these_faults_with_ample_memory(rt: HostRuntime) {
-    let table = [
-        (21, 0x04, Some(PresetFault::MaxvalRange)),
-        (23, 0x02, Some(PresetFault::T1Range)),
-        (25, 0x02, Some(PresetFault::T2Range)),
-        (27, 0x02, Some(PresetFault::T3Range)),
-        (29, 0x02, Some(PresetFault::ResetRange)),
-        (21, 0x00, None),
-    ];
-    for (place, byte, fault) in table {
-        let mut bytes = WITH_PRESETS;
-        let want = match fault {
-            Some(fault) => Some(StreamFault::BadPresets(fault)),
-            None => None,
-        };
-        check_changed(&rt, rt.alloc(), &mut bytes, place, byte, want);
+    for (place, byte, fault) in &CHANGED_PRESETS {
+        check_presets(&rt, rt.alloc(), *place, *byte, *fault);
     }
 }
 
@@ -130,39 +147,45 @@ fn a_front_of_a_codestream_is_truncated_with_ample_memory(rt: HostRuntime) {
     check_fault(&rt, rt.alloc(), &LONE, None);
 }
 
+const COMMENT: [u8; 5] = [0xFF, 0xFE, 0x00, 0x03, 0x41];
+
+const FILLED_EOI: [u8; 4] = [0xFF, 0xFF, 0xFF, 0xD9];
+
+const SCAN: [u8; 10] = [0xFF, 0xDA, 0x00, 0x08, 0x01, 0x01, 0x00, 0x00, 0x00, 0x00];
+
+const OTHER: [u8; 2] = [0xFF, 0xC0];
+
+const LSE: [u8; 2] = [0xFF, 0xF8];
+
+/// What stands after the only scan, and the fault.
+const AFTER_THE_ONLY: [(&[u8], Option<StreamFault>); 5] = [
+    (&FILLED_EOI, None),
+    (&COMMENT, Some(StreamFault::Truncated)),
+    (&OTHER, Some(StreamFault::Unsupported(What::Marker(0xC0)))),
+    (&LSE, Some(StreamFault::Unsupported(What::LseLate))),
+    (&SCAN, Some(StreamFault::BadSegment)),
+];
+
+/// What stands after the first of three scans, where that of component 2 is due, and the fault.
+const AFTER_THE_FIRST: [(&[u8], Option<StreamFault>); 4] = [
+    (&FILLED_EOI, Some(StreamFault::BadSegment)),
+    (&COMMENT, Some(StreamFault::Truncated)),
+    (&LSE, Some(StreamFault::Unsupported(What::LseLate))),
+    (&SCAN, Some(StreamFault::Unsupported(What::ScanOrder))),
+];
+
 #[test]
-fn what_follows_a_scan_has_these_faults_with_ample_memory(rt: HostRuntime) -> Result<(), Fail> {
-    let comment: [u8; 5] = [0xFF, 0xFE, 0x00, 0x03, 0x41];
-    let filled: [u8; 4] = [0xFF, 0xFF, 0xFF, 0xD9];
-    let scan: [u8; 10] = [0xFF, 0xDA, 0x00, 0x08, 0x01, 0x01, 0x00, 0x00, 0x00, 0x00];
-    let other: [u8; 2] = [0xFF, 0xC0];
-    let presets: [u8; 2] = [0xFF, 0xF8];
-    let bad = Some(StreamFault::BadSegment);
-    let truncated = Some(StreamFault::Truncated);
-    let unsupported = Some(StreamFault::Unsupported(What::Marker(0xC0)));
-    let late = Some(StreamFault::Unsupported(What::LseLate));
-    let order = Some(StreamFault::Unsupported(What::ScanOrder));
-    // After the only scan.
-    for (bytes, want) in [
-        (&filled as &[u8], None),
-        (&comment, truncated),
-        (&other, unsupported),
-        (&presets, late),
-        (&scan, bad),
-    ] {
-        check_after(&rt, rt.alloc(), &LONE, 26, bytes, want)?;
+fn what_follows_a_scan_has_these_faults_with_ample_memory(
+    rt: HostRuntime,
+) -> Result<(), AllocError> {
+    for (bytes, want) in &AFTER_THE_ONLY {
+        check_after(&rt, rt.alloc(), &LONE, 26, bytes, *want)?;
     }
-    // After the first of three, where the scan of component 2 is due.
     let (_, colour, _) = CODESTREAMS[4];
     let rest = colour.get(32..).unwrap_or(&[]);
-    for (bytes, want) in [
-        (rest, None),
-        (&filled as &[u8], bad),
-        (&comment, truncated),
-        (&presets, late),
-        (&scan, order),
-    ] {
-        check_after(&rt, rt.alloc(), colour, 32, bytes, want)?;
+    check_after(&rt, rt.alloc(), colour, 32, rest, None)?;
+    for (bytes, want) in &AFTER_THE_FIRST {
+        check_after(&rt, rt.alloc(), colour, 32, bytes, *want)?;
     }
     Ok(())
 }

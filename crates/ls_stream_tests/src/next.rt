@@ -57,12 +57,23 @@ fn check_first(
     check_taken(rt, "the next codestream", at, &next, Ok(Some(first)));
     let left = bytes.len().saturating_sub(count);
     check_count(rt, "bytes left", at, rest.len(), left);
+    check_decoded(rt, alloc, at, bytes, want);
+}
+
+/// That what is taken of bytes is decoded with this fault or none, and all of them too.
+fn check_decoded(
+    rt: &impl Abort,
+    alloc: Global,
+    at: usize,
+    bytes: &[u8],
+    want: Option<StreamFault>,
+) {
     match what_is_taken_is_decoded_alike(alloc, bytes) {
         Ok(Some(both)) => {
             check_fault(rt, at, &both.taken, want);
             check_fault(rt, at, &both.all, want);
         }
-        Ok(None) | Err(_) => check_count(rt, "decoded", at, 0, 1),
+        Ok(None) | Err(_) => panic!(rt; "codestream {at} isn't decoded"),
     }
 }
 
@@ -93,9 +104,14 @@ fn check_chunks(
     let first = bytes.get(..count).unwrap_or(bytes);
     check_taken(rt, "off chunks", at, &next, Ok(Some(first)));
     let left = bytes.len().saturating_sub(count);
-    check_count(rt, "left", at, count_left(&mut reader), left);
-    check_count(rt, "failures", at, Feed::failures(&reader) as usize, 0);
+    check_left(rt, at, &mut reader, left);
     Ok(())
+}
+
+/// That a reader has so many bytes left, and that none of its reads failed.
+fn check_left<R: Feed>(rt: &impl Abort, at: usize, reader: &mut R, left: usize) {
+    check_count(rt, "left", at, count_left(reader), left);
+    check_count(rt, "failures", at, Feed::failures(reader) as usize, 0);
 }
 
 /// Bytes, how many of them the next codestream has, and the fault of decoding them.
@@ -184,8 +200,8 @@ const MALFORMED: [(&[u8], usize, StreamFault); 22] = [
 
 #[test]
 fn bytes_are_taken_up_to_what_breaks_them_with_ample_memory(rt: HostRuntime) {
-    for (at, (bytes, count, fault)) in MALFORMED.into_iter().enumerate() {
-        check_first(&rt, rt.alloc(), at, bytes, count, Some(fault));
+    for (at, (bytes, count, fault)) in MALFORMED.iter().enumerate() {
+        check_first(&rt, rt.alloc(), at, bytes, *count, Some(*fault));
     }
 }
 
@@ -194,37 +210,56 @@ fn bytes_are_taken_up_to_what_breaks_them_with_ample_memory(rt: HostRuntime) {
 fn malformed_bytes_are_taken_off_chunks_with_ample_memory(
     rt: HostRuntime,
 ) -> Result<(), AllocError> {
-    for (at, (bytes, count, _)) in MALFORMED.into_iter().enumerate() {
-        for most in [1, 5] {
-            check_chunks(&rt, rt.alloc(), at, bytes, count, most)?;
-        }
+    for (at, (bytes, count, _)) in MALFORMED.iter().enumerate() {
+        check_chunks(&rt, rt.alloc(), at, bytes, *count, 1)?;
+        check_chunks(&rt, rt.alloc(), at, bytes, *count, 5)?;
     }
     Ok(())
 }
 
+/// That the first of two equal codestreams is taken off chunks.
+fn check_doubled(
+    rt: &impl Abort,
+    alloc: Global,
+    at: usize,
+    codestream: &[u8],
+) -> Result<(), AllocError> {
+    let mut bytes = codestream.to_vec(alloc)?;
+    bytes.extend_from_slice(codestream)?;
+    check_chunks(rt, alloc, at, &bytes, codestream.len(), 7)?;
+    check_chunks(rt, alloc, at, &bytes, codestream.len(), 1000)
+}
+
 #[test]
-fn codestreams_are_taken_off_chunks_with_ample_memory(rt: HostRuntime) -> Result<(), Fail> {
-    for (at, (_, codestream, _)) in CODESTREAMS.into_iter().enumerate() {
-        let mut bytes = codestream.to_vec(rt.alloc())?;
-        bytes.extend_from_slice(codestream)?;
-        check_chunks(&rt, rt.alloc(), at, &bytes, codestream.len(), 7)?;
-        check_chunks(&rt, rt.alloc(), at, &bytes, codestream.len(), 1000)?;
+fn codestreams_are_taken_off_chunks_with_ample_memory(rt: HostRuntime) -> Result<(), AllocError> {
+    for (at, (_, codestream, _)) in CODESTREAMS.iter().enumerate() {
+        check_doubled(&rt, rt.alloc(), at, codestream)?;
     }
     Ok(())
 }
 
+/// That a codestream is taken whole, with a byte behind it too, and without EOI as far as it goes.
+fn check_whole(
+    rt: &impl Abort,
+    alloc: Global,
+    at: usize,
+    codestream: &[u8],
+) -> Result<(), AllocError> {
+    check_first(rt, alloc, at, codestream, codestream.len(), None);
+    let end = codestream.len().saturating_sub(2);
+    let cut = codestream.get(..end).unwrap_or(codestream);
+    let truncated = Some(StreamFault::Truncated);
+    check_first(rt, alloc, at, cut, cut.len(), truncated);
+    let mut longer = codestream.to_vec(alloc)?;
+    longer.push(0x41)?;
+    check_first(rt, alloc, at, &longer, codestream.len(), None);
+    Ok(())
+}
+
 #[test]
-fn codestreams_are_taken_whole_with_ample_memory(rt: HostRuntime) -> Result<(), Fail> {
-    for (at, (_, codestream, _)) in CODESTREAMS.into_iter().enumerate() {
-        let mut bytes = codestream.to_vec(rt.alloc())?;
-        check_first(&rt, rt.alloc(), at, &bytes, codestream.len(), None);
-        bytes.push(0x41)?;
-        check_first(&rt, rt.alloc(), at, &bytes, codestream.len(), None);
-        let cut = codestream
-            .get(..codestream.len().saturating_sub(2))
-            .unwrap_or(codestream);
-        let truncated = Some(StreamFault::Truncated);
-        check_first(&rt, rt.alloc(), at, cut, cut.len(), truncated);
+fn codestreams_are_taken_whole_with_ample_memory(rt: HostRuntime) -> Result<(), AllocError> {
+    for (at, (_, codestream, _)) in CODESTREAMS.iter().enumerate() {
+        check_whole(&rt, rt.alloc(), at, codestream)?;
     }
     Ok(())
 }
@@ -240,26 +275,39 @@ fn a_fill_byte_before_eoi_is_taken_with_ample_memory(rt: HostRuntime) -> Result<
 
 /// Takes two codestreams that stand behind one another, and then the end.
 fn check_two<R: Feed>(rt: &impl Abort, alloc: Global, reader: &mut R, most: usize) {
-    for (at, codestream) in BLACK_AND_WHITE.into_iter().enumerate() {
+    for (at, codestream) in BLACK_AND_WHITE.iter().enumerate() {
         let next = next_stream(alloc, reader);
-        check_taken(rt, "one of two", at, &next, Ok(Some(codestream)));
+        check_taken(rt, "one of two", at, &next, Ok(Some(*codestream)));
     }
     let next = next_stream(alloc, reader);
     check_taken(rt, "the end", most, &next, Ok(None));
     check_count(rt, "failures", most, Feed::failures(reader) as usize, 0);
 }
 
+/// Takes two codestreams off chunks of so many bytes, and off a buffered reader of them.
+fn check_joined(
+    rt: &impl Abort,
+    alloc: Global,
+    joined: &[u8],
+    most: usize,
+) -> Result<(), AllocError> {
+    let mut reader = Counted::new(Pieces::new(joined, most, None));
+    check_two(rt, alloc, &mut reader, most);
+    let counted = Counted::new(Pieces::new(joined, most, None));
+    let mut reader = Buffered::new(alloc, counted)?;
+    check_two(rt, alloc, &mut reader, most);
+    Ok(())
+}
+
 #[test]
-fn joined_codestreams_are_taken_one_by_one_with_ample_memory(rt: HostRuntime) -> Result<(), Fail> {
+fn joined_codestreams_are_taken_one_by_one_with_ample_memory(
+    rt: HostRuntime,
+) -> Result<(), AllocError> {
     let [black, white] = BLACK_AND_WHITE;
     let mut joined = black.to_vec(rt.alloc())?;
     joined.extend_from_slice(white)?;
     for most in [1, 2, 56, 100] {
-        let mut reader = Counted::new(Pieces::new(&joined, most, None));
-        check_two(&rt, rt.alloc(), &mut reader, most);
-        let counted = Counted::new(Pieces::new(&joined, most, None));
-        let mut reader = Buffered::new(rt.alloc(), counted)?;
-        check_two(&rt, rt.alloc(), &mut reader, most);
+        check_joined(&rt, rt.alloc(), &joined, most)?;
     }
     Ok(())
 }
@@ -272,32 +320,42 @@ fn check_failed<R: Feed>(rt: &impl Abort, alloc: Global, reader: &mut R, failing
     check_count(rt, "failures", failing, failures, 1);
 }
 
+/// That the read of this number is the one that fails, of a reader and of a buffered one.
+fn check_failing(rt: &impl Abort, alloc: Global, failing: usize) -> Result<(), AllocError> {
+    let [black, _] = BLACK_AND_WHITE;
+    let mut reader = Counted::new(Pieces::new(black, 1, Some(failing)));
+    check_failed(rt, alloc, &mut reader, failing);
+    let counted = Counted::new(Pieces::new(black, 1, Some(failing)));
+    let mut reader = Buffered::new(alloc, counted)?;
+    check_failed(rt, alloc, &mut reader, failing);
+    Ok(())
+}
+
 #[test]
 fn a_failed_read_is_named_and_counted_once_with_ample_memory(
     rt: HostRuntime,
 ) -> Result<(), AllocError> {
-    let [black, _] = BLACK_AND_WHITE;
-    for failing in 0..black.len() {
-        let mut reader = Counted::new(Pieces::new(black, 1, Some(failing)));
-        check_failed(&rt, rt.alloc(), &mut reader, failing);
-        let counted = Counted::new(Pieces::new(black, 1, Some(failing)));
-        let mut reader = Buffered::new(rt.alloc(), counted)?;
-        check_failed(&rt, rt.alloc(), &mut reader, failing);
+    for failing in 0..BLACK_AND_WHITE[0].len() {
+        check_failing(&rt, rt.alloc(), failing)?;
     }
     Ok(())
 }
 
-/// The answer is that memory was refused, or what it is with ample memory.
+/// That the answer is that memory was refused, or what it is with ample memory.
+fn check_or_refused(rt: &impl Abort, alloc: Global, at: usize, codestream: &[u8]) {
+    let mut rest = codestream;
+    let next = next_stream(alloc, &mut rest);
+    let want = match next {
+        Err(NextFault::NoMemory) => Err(NextFault::NoMemory),
+        _ => Ok(Some(codestream)),
+    };
+    check_taken(rt, "memory", at, &next, want);
+}
+
 #[test]
 fn codestreams_are_taken_or_memory_is_refused(rt: HostRuntime) {
-    for (at, (_, codestream, _)) in CODESTREAMS.into_iter().enumerate() {
-        let mut rest = codestream;
-        let next = next_stream(rt.alloc(), &mut rest);
-        let want = match next {
-            Err(NextFault::NoMemory) => Err(NextFault::NoMemory),
-            _ => Ok(Some(codestream)),
-        };
-        check_taken(&rt, "memory", at, &next, want);
+    for (at, (_, codestream, _)) in CODESTREAMS.iter().enumerate() {
+        check_or_refused(&rt, rt.alloc(), at, codestream);
     }
 }
 
@@ -319,15 +377,17 @@ const TEXTS: [(NextFault, &str); 3] = [
     (NextFault::NoMemory, "no memory"),
 ];
 
-/// That this is the text.
-fn check_text(rt: &impl Abort, got: &str, want: &str) {
-    assert_eq!(rt; got, want);
+/// That this is the fault's text.
+fn check_text(rt: &impl Abort, alloc: Global, fault: NextFault, want: &str) -> Result<(), Fail> {
+    let got = format!(in alloc; "{fault}")?;
+    assert_eq!(rt; got.as_str(), want);
+    Ok(())
 }
 
 #[test]
 fn faults_have_texts_with_ample_memory(rt: HostRuntime) -> Result<(), Fail> {
-    for (fault, text) in TEXTS {
-        check_text(&rt, &format!(in rt.alloc(); "{fault}")?, text);
+    for (fault, text) in &TEXTS {
+        check_text(&rt, rt.alloc(), *fault, text)?;
     }
     Ok(())
 }

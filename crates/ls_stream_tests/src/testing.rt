@@ -16,7 +16,18 @@ pub fn check_number(rt: &impl Abort, name: &str, got: u64, want: u64) {
 }
 
 /// Kind, width, height, maxval, samples.
-pub type Parts = (Kind, u16, u16, u16, &'static [u16]);
+pub type Parts<'a> = (Kind, u16, u16, u16, &'a [u16]);
+
+/// The parts of a frame.
+pub fn parts_of(frame: &Frame) -> Parts<'_> {
+    (
+        frame.kind(),
+        frame.width(),
+        frame.height(),
+        frame.maxval(),
+        frame.samples(),
+    )
+}
 
 /// A frame of these parts.
 pub fn frame_of(
@@ -28,17 +39,27 @@ pub fn frame_of(
     maxval: u16,
     samples: &[u16],
 ) -> Result<Frame, AllocError> {
-    let made = Frame::new(kind, width, height, maxval, samples.to_vec(alloc)?);
-    Ok(
-        made.map_err(|refused| refused.0)
-            .expect(rt, "these parts make a frame"),
-    )
+    match Frame::new(kind, width, height, maxval, samples.to_vec(alloc)?) {
+        Ok(frame) => Ok(frame),
+        Err((fault, _)) => panic!(rt; "these parts make no frame: {fault:?}"),
+    }
 }
 
 /// A frame of these parts.
-pub fn frame_of_parts(rt: &impl Abort, alloc: Global, parts: Parts) -> Result<Frame, AllocError> {
-    let (kind, width, height, maxval, samples) = parts;
+pub fn frame_of_parts(
+    rt: &impl Abort,
+    alloc: Global,
+    parts: &Parts<'_>,
+) -> Result<Frame, AllocError> {
+    let (kind, width, height, maxval, samples) = *parts;
     frame_of(rt, alloc, kind, width, height, maxval, samples)
+}
+
+/// The longest line there is, of zeros and this last sample.
+pub fn longest_line(alloc: Global, last: u16) -> Result<Vec<u16>, AllocError> {
+    let mut samples = vec![in alloc; 0u16; 65535]?;
+    samples[65534] = last;
+    Ok(samples)
 }
 
 /// Numbers that look like chance, the same in each run (splitmix64).

@@ -16,7 +16,9 @@ pub fn head(width: u16, height: u16) -> [u8; 25] {
 pub const END: [u8; 2] = [0xff, 0xd9];
 
 /// What a plane shows, its maxval, its width, its samples, and its scan with the default parameters.
-pub const PLANES: [(&str, u16, u16, &[u16], &[u8]); 12] = [
+pub type Plane = (&'static str, u16, u16, &'static [u16], &'static [u8]);
+
+pub const PLANES: [Plane; 12] = [
     (
         "the picture of T.87's Annex H.3",
         255,
@@ -61,6 +63,11 @@ pub const PLANES: [(&str, u16, u16, &[u16], &[u8]); 12] = [
     ("one column", 255, 1, &[5, 5, 6], &[0x16, 0x24]),
 ];
 
+/// How many lines of this width these samples are. All planes here have fewer than 65536.
+pub fn height_of(width: u16, samples: &[u16]) -> u16 {
+    (samples.len() / usize::from(width).max(1) % 65536) as u16
+}
+
 /// The codestream of a gray frame of maxval 255 with this scan, and with this between the frame header and the scan.
 pub fn around_scan(
     alloc: Global,
@@ -79,7 +86,7 @@ pub fn around_scan(
 }
 
 /// Frames, their codestreams with the default parameters, and the bound of these.
-pub const CODESTREAMS: [(Parts, &[u8], u64); 5] = [
+pub const CODESTREAMS: [(Parts<'static>, &[u8], u64); 5] = [
     (
         (
             Kind::Gray,
