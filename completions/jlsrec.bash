@@ -1,0 +1,30 @@
+# Completion of jlsrec's words in bash.
+_jlsrec() {
+    local word=${COMP_WORDS[COMP_CWORD]} before=${COMP_WORDS[COMP_CWORD - 1]} command=
+    ((COMP_CWORD < 2)) || command=${COMP_WORDS[1]}
+    local options='--reasons --help'
+    case $command in
+    '')
+        mapfile -t COMPREPLY < <(compgen -W 'list code record play replay help --help --version' -- "$word")
+        return
+        ;;
+    help)
+        mapfile -t COMPREPLY < <(compgen -W 'list code record play replay' -- "$word")
+        return
+        ;;
+    record) options+=' --workers --queue --window --preset --into --replace --progress --report' ;;
+    replay) options+=' --sources --capacity' ;;
+    esac
+    case $before in
+    --workers | --queue | --window | --sources | --capacity | --preset) COMPREPLY=() ;;
+    --into) mapfile -t COMPREPLY < <(compgen -d -- "$word") ;;
+    *)
+        if [[ $word == -* ]]; then
+            mapfile -t COMPREPLY < <(compgen -W "$options" -- "$word")
+        else
+            mapfile -t COMPREPLY < <(compgen -f -- "$word")
+        fi
+        ;;
+    esac
+}
+complete -o filenames -F _jlsrec jlsrec
