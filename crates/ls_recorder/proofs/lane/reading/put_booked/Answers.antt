@@ -1,4 +1,0 @@
-use Rattle.ls_recorder.proofs.lane.reading.put_booked.Goals as goal
-
-pub returns-clause-put : goal.returns-clause-put
-returns-clause-put g c = c.in-Ok.ensures.put.2
