@@ -1,7 +1,6 @@
 -- What a table of short words lists, and what taking a listed word leaves.
 use Rattle.std.proofs.Common.{◌≡◌, ℕ, ◌+◌, ◌-◌, ◌*◌, ◌/◌, ◌%◌, ◌^◌, ◌<◌, ◌≤◌, Bool, false, List, [], ◌++◌, refl, sym, ◌∙◌, ap, subst, arith, append_assoc}
 use Rattle.std.proofs.lemmas.List.{append-nil}
-use Rattle.std.specs.Prelude.{length, slice_index, get_or, set}
 use Rattle.ls_bits.specs.Bits.{bits_of}
 use Rattle.ls_bits.specs.Golomb.{short_word, escape_zeros, most_value}
 use Rattle.ls_bits.specs.View.Packing.{bits_left}

@@ -23,22 +23,26 @@
 //! }
 //! ```
 //!
-//! In reading order: `sink` (into memory of its own), `room_sink` (into a vector of the caller's, with no allocation),
-//! `packer` (what both hold), `data`, `source`, `window` (what a source holds), `word_table`, `laws` (what follows from
+//! In reading order: `sink` (into memory of its own), `room` and `slice_room` (memory of the caller's), `room_sink` (into
+//! such memory, with no allocation), `packer` (what both sinks hold), `data`, `source`, `window` (what a source holds), `word_table`, `laws` (what follows from
 //! the definitions alone).
 #![tactic(auto)]
 
 pub mod data;
 pub mod laws;
 mod packer;
+pub mod room;
 pub mod room_sink;
 pub mod sink;
+pub mod slice_room;
 pub mod source;
 mod window;
 pub mod word_table;
 
 pub use data::{Data, Stop, data_of};
+pub use room::{Room, take_room};
 pub use room_sink::RoomSink;
 pub use sink::BitSink;
+pub use slice_room::SliceRoom;
 pub use source::{BitSource, CodeFault};
 pub use word_table::WordTable;

@@ -1,10 +1,11 @@
-//! Packing bits into stuffed bytes, after the bytes that a vector already has (T.87 C.1).
-ghost use Rattle.std.specs.Prelude.{◌≡◌, ◌+◌, ◌-◌, ◌*◌, ◌/◌, ◌%◌, ◌^◌, ◌<◌, ◌≤◌, [], ◌∷◌, ◌++◌, true, false, length, take, drop, vec_len, vec_capacity, OnOk};
+//! Packing bits into stuffed bytes, after the bytes that a room already has (T.87 C.1).
+ghost use Rattle.std.specs.Prelude.{◌≡◌, ◌+◌, ◌-◌, ◌*◌, ◌%◌, ◌^◌, ◌<◌, ◌≤◌, [], ◌∷◌, ◌++◌, true, false, length, OnOk};
 ghost use Rattle.ls_bits.specs.Bits.{bits_of, zeros as zero_bits};
 ghost use Rattle.ls_bits.specs.Stuffing.{stuff};
 ghost use Rattle.ls_bits.specs.Golomb.{IsGolomb, code_word, most_value};
-ghost use Rattle.ls_bits.specs.View.Packing.{byte_bits, HasRoom, KeepsRest, HasNoFf, with_word};
+ghost use Rattle.ls_bits.specs.View.Packing.{byte_bits, HasRoom, KeepsRest, HasNoFf};
 
+use crate::room::Room;
 use std::alloc::AllocError;
 use std::marker::Model;
 use std::mem;
@@ -14,9 +15,9 @@ const MOST_BYTES: usize = 20;
 
 /// Stuffed bytes, and the bits after them that aren't a whole byte yet.
 #[derive(Drop)]
-pub struct Packer {
-    /// The vector that the bytes go into.
-    bytes: Vec<u8>,
+pub struct Packer<R: Room> {
+    /// The room that the bytes go into.
+    bytes: R,
     /// Where in it the stuffed bytes begin.
     start: usize,
     /// Its lowest `held` bits come after the stuffed bytes. Those above them mean nothing.
@@ -26,31 +27,46 @@ pub struct Packer {
     after_ff: bool,
 }
 
-impl Model for Packer {
-    ghost use Rattle.std.specs.Prelude.{◌-◌, take, vec_len, vec_capacity};
+impl<R: Room> Model for Packer<R> {
+    ghost use Rattle.std.specs.Prelude.{◌-◌, take, length};
     ghost use Rattle.ls_bits.specs.View.Packing.{Packed, packed_bits, IsPacked};
 
-    ghost Value = { Packed };
+    ghost Value = { Packed R };
 
     ghost view = { λ p. record {
-      front = take p.start p.bytes.items;
-      bits = packed_bits p.start p.bytes.items p.word p.held;
+      room = p.bytes;
+      front = take p.start (R.items p.bytes);
+      bits = packed_bits p.start (R.items p.bytes) p.word p.held;
       held = p.held;
-      capacity_left = vec_capacity p.bytes - vec_len p.bytes;
-      capacity = vec_capacity p.bytes;
+      capacity_left = R.capacity p.bytes - length (R.items p.bytes);
+      capacity = R.capacity p.bytes;
     } };
 
-    ghost invariant = { λ p. IsPacked p.start p.bytes.items p.held p.after_ff };
+    ghost invariant = { λ p. IsPacked p.start (R.items p.bytes) p.held p.after_ff };
 }
 
-impl Packer {
-    /// No bits yet, after the bytes of the vector.
-    pub fn new(bytes: Vec<u8>) -> Packer
-        ensures front { result.front ≡ bytes.items }
+impl Packer<Vec<u8>> {
+    /// Takes room for any one put, or for the last byte. Fails only if an allocation fails.
+    #[inline(always)]
+    pub fn reserve(&mut self) -> Result<(), AllocError>
+        ensures left { OnOk result (HasRoom self.new 64) }
+        ensures bits { self.new.bits ≡ self.old.bits }
+        ensures front { self.new.front ≡ self.old.front }
+    {
+        self.bytes.reserve(MOST_BYTES)
+    }
+}
+
+impl<R: Room> Packer<R> {
+    /// No bits yet, after the bytes of the room.
+    pub fn new(bytes: R) -> Packer<R>
+        ensures grown { R.Grown bytes result.room }
+        ensures front { result.front ≡ R.items bytes }
         ensures bits { result.bits ≡ [] }
         ensures held { result.held ≡ 0 }
-        ensures room { result.capacity_left ≡ vec_capacity bytes - vec_len bytes }
-        ensures capacity { result.capacity ≡ vec_capacity bytes }
+        ensures left { result.capacity_left ≡ R.capacity bytes - length (R.items bytes) }
+        ensures capacity { result.capacity ≡ R.capacity bytes }
+        ensures within { length (R.items bytes) ≤ R.capacity bytes }
     {
         let start = bytes.len();
         Packer {
@@ -62,16 +78,6 @@ impl Packer {
         }
     }
 
-    /// Takes room for any one put, or for the last byte. Fails only if an allocation fails.
-    #[inline(always)]
-    pub fn reserve(&mut self) -> Result<(), AllocError>
-        ensures room { OnOk result (HasRoom self.new 64) }
-        ensures bits { self.new.bits ≡ self.old.bits }
-        ensures front { self.new.front ≡ self.old.front }
-    {
-        self.bytes.reserve(MOST_BYTES)
-    }
-
     /// Appends `value` in `count` bits.
     #[inline(always)]
     pub fn put(&mut self, value: u32, count: u32)
@@ -79,7 +85,7 @@ impl Packer {
         requires count { count ≤ 64 }
         requires value { value < 2 ^ count }
         ensures bits { self.new.bits ≡ self.old.bits ++ bits_of count value }
-        ensures rest { KeepsRest self.old self.new count }
+        ensures rest { KeepsRest R.Grown self.old self.new count }
     {
         let total = self.held + count;
         if total < 64 {
@@ -92,7 +98,7 @@ impl Packer {
             self.put_by_bytes(value, count);
             return;
         }
-        push_word(&mut self.bytes, full);
+        self.bytes.put_word(full);
         self.word = u64::from(value);
         self.held = waiting;
     }
@@ -104,7 +110,7 @@ impl Packer {
         requires code { IsGolomb k glimit qbpp }
         requires value { v ≤ most_value qbpp }
         ensures bits { self.new.bits ≡ self.old.bits ++ code_word k glimit qbpp v }
-        ensures rest { KeepsRest self.old self.new (length (code_word k glimit qbpp v)) }
+        ensures rest { KeepsRest R.Grown self.old self.new (length (code_word k glimit qbpp v)) }
     {
         let escape = glimit - qbpp - 1;
         let small = v >> k;
@@ -115,16 +121,17 @@ impl Packer {
         }
     }
 
-    /// The vector: the bytes that it had, and after them the bits, stuffed.
-    pub fn finish(mut self) -> Vec<u8>
+    /// The room: the bytes that it had, and after them the bits, stuffed.
+    pub fn finish(mut self) -> R
         requires room { 0 < length self.bits → HasRoom self 7 }
-        ensures bytes { result.items ≡ self.front ++ stuff self.bits }
-        ensures capacity { vec_capacity result ≡ self.capacity }
+        ensures bytes { R.items result ≡ self.front ++ stuff self.bits }
+        ensures capacity { R.capacity result ≡ self.capacity }
+        ensures grown { R.Grown self.room result }
     {
         self.put_out_bytes();
         if self.held > 0 || self.after_ff {
             self.bytes
-                .push_reserved(last_group(self.word, self.held, self.after_ff));
+                .put_byte(last_group(self.word, self.held, self.after_ff));
         }
         self.bytes
     }
@@ -137,7 +144,7 @@ impl Packer {
         requires total { zeros + 1 + count ≤ 64 }
         requires rest { rest < 2 ^ count }
         ensures bits { self.new.bits ≡ self.old.bits ++ (zero_bits zeros ++ true ∷ bits_of count rest) }
-        ensures rest { KeepsRest self.old self.new (zeros + 1 + count) }
+        ensures rest { KeepsRest R.Grown self.old self.new (zeros + 1 + count) }
     {
         self.put(led_by_one(rest, count), zeros + 1 + count);
     }
@@ -150,7 +157,7 @@ impl Packer {
         requires total { zeros + 1 + count ≤ 64 }
         requires rest { rest < 2 ^ count }
         ensures bits { self.new.bits ≡ self.old.bits ++ (zero_bits zeros ++ true ∷ bits_of count rest) }
-        ensures rest { KeepsRest self.old self.new (zeros + 1 + count) }
+        ensures rest { KeepsRest R.Grown self.old self.new (zeros + 1 + count) }
     {
         self.put_by_bytes(led_by_one(rest, count), zeros + 1 + count);
     }
@@ -161,7 +168,7 @@ impl Packer {
         requires held { self.old.held + count < 64 }
         requires value { value < 2 ^ count }
         ensures bits { self.new.bits ≡ self.old.bits ++ bits_of count value }
-        ensures rest { KeepsRest self.old self.new count }
+        ensures rest { KeepsRest R.Grown self.old self.new count }
     {
         self.word = (self.word << count) | u64::from(value);
         self.held += count;
@@ -174,18 +181,18 @@ impl Packer {
         requires count { count ≤ 64 }
         requires value { value < 2 ^ count }
         ensures bits { self.new.bits ≡ self.old.bits ++ bits_of count value }
-        ensures rest { KeepsRest self.old self.new count }
+        ensures rest { KeepsRest R.Grown self.old self.new count }
     {
         let packer = self.take();
         *self = put_apart(packer, value, count);
     }
 
-    /// Takes the packer out of its place, and leaves one without memory there.
+    /// Takes the packer out of its place, and leaves one without places there.
     #[inline(always)]
-    fn take(&mut self) -> Packer
+    fn take(&mut self) -> Packer<R>
         ensures { result ≡ self.old }
     {
-        let empty = Packer::new(Vec::new(*self.bytes.allocator()));
+        let empty = Packer::new(self.bytes.empty());
         mem::replace(self, empty)
     }
 
@@ -194,7 +201,7 @@ impl Packer {
         requires room { HasRoom self.old 0 }
         ensures bits { self.new.bits ≡ self.old.bits }
         ensures held { self.new.held < 8 }
-        ensures rest { KeepsRest self.old self.new 0 }
+        ensures rest { KeepsRest R.Grown self.old self.new 0 }
     {
         while self.held >= 8 {
             self.put_out_byte();
@@ -207,11 +214,11 @@ impl Packer {
         requires held { 8 ≤ self.old.held }
         ensures bits { self.new.bits ≡ self.old.bits }
         ensures held { self.new.held < self.old.held }
-        ensures rest { KeepsRest self.old self.new 0 }
+        ensures rest { KeepsRest R.Grown self.old self.new 0 }
     {
         let waiting = self.held - byte_bits(self.after_ff);
         let byte = group(self.word >> waiting, self.after_ff);
-        self.bytes.push_reserved(byte);
+        self.bytes.put_byte(byte);
         self.held = waiting;
         self.after_ff = byte == 0xff;
     }
@@ -220,12 +227,12 @@ impl Packer {
 /// As `put`, byte by byte.
 #[cold]
 #[inline(never)]
-fn put_apart(mut packer: Packer, value: u32, count: u32) -> Packer
+fn put_apart<R: Room>(mut packer: Packer<R>, value: u32, count: u32) -> Packer<R>
     requires room { HasRoom packer count }
     requires count { count ≤ 64 }
     requires value { value < 2 ^ count }
     ensures bits { result.bits ≡ packer.bits ++ bits_of count value }
-    ensures rest { KeepsRest packer result count }
+    ensures rest { KeepsRest R.Grown packer result count }
 {
     packer.put_out_bytes();
     if count > 32 {
@@ -236,24 +243,6 @@ fn put_apart(mut packer: Packer, value: u32, count: u32) -> Packer
         packer.append(value, count);
     }
     packer
-}
-
-/// Appends the eight bytes of a word.
-#[inline(always)]
-fn push_word(bytes: &mut Vec<u8>, word: u64)
-    requires { vec_len bytes.old + 8 ≤ vec_capacity bytes.old }
-    ensures bytes { bytes.new.items ≡ with_word bytes.old.items word }
-    ensures len { vec_len bytes.new ≡ vec_len bytes.old + 8 }
-    ensures capacity { vec_capacity bytes.new ≡ vec_capacity bytes.old }
-{
-    bytes.push_reserved(byte_at(word, 56));
-    bytes.push_reserved(byte_at(word, 48));
-    bytes.push_reserved(byte_at(word, 40));
-    bytes.push_reserved(byte_at(word, 32));
-    bytes.push_reserved(byte_at(word, 24));
-    bytes.push_reserved(byte_at(word, 16));
-    bytes.push_reserved(byte_at(word, 8));
-    bytes.push_reserved(byte_at(word, 0));
 }
 
 /// The lowest `count` bits of `value`.
@@ -308,12 +297,4 @@ fn has_ff(word: u64) -> bool
     let fours = pairs & (pairs >> 2);
     let eights = fours & (fours >> 4);
     eights & 0x0101_0101_0101_0101 != 0
-}
-
-/// The byte whose lowest bit is bit `shift` of `word`.
-fn byte_at(word: u64, shift: u32) -> u8
-    requires { shift < 64 }
-    ensures { result ≡ word / 2 ^ shift % 256 }
-{
-    ((word >> shift) & 0xff) as u8
 }

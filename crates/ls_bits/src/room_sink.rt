@@ -1,27 +1,29 @@
-//! A sink of bits into a vector of the caller's that has room for them. It allocates nothing and cannot fail.
-ghost use Rattle.std.specs.Prelude.{◌≡◌, ◌+◌, ◌-◌, ◌^◌, ◌<◌, ◌≤◌, ◌++◌, [], length, vec_len, vec_capacity};
+//! A sink of bits into a room of the caller's that has places for them. It allocates nothing and cannot fail.
+ghost use Rattle.std.specs.Prelude.{◌≡◌, ◌+◌, ◌-◌, ◌^◌, ◌<◌, ◌≤◌, ◌++◌, [], length};
 ghost use Rattle.ls_bits.specs.Bits.{bits_of};
 ghost use Rattle.ls_bits.specs.Stuffing.{stuff};
 ghost use Rattle.ls_bits.specs.Golomb.{IsGolomb, code_word, most_value};
 ghost use Rattle.ls_bits.specs.View.Room.{Fits};
 
 use crate::packer::Packer;
+use crate::room::Room;
 use std::marker::Model;
 
-/// The bytes that a vector had, the room that it had after them, and the bits put since, which `finish` stuffs into
-/// that room (T.87 C.1).
+/// The bytes that a room had, the places that it had after them, and the bits put since, which `finish` stuffs into
+/// those places (T.87 C.1).
 #[derive(Drop)]
-pub struct RoomSink {
-    packer: Packer,
+pub struct RoomSink<R: Room = Vec<u8>> {
+    packer: Packer<R>,
 }
 
-impl Model for RoomSink {
+impl<R: Room> Model for RoomSink<R> {
     ghost use Rattle.std.specs.Prelude.{ℕ, ◌+◌, ◌-◌, ◌*◌, ◌≤◌, ◌<◌, length};
     ghost use Rattle.ls_bits.specs.View.Room.{Filled, Fits};
 
-    ghost Value = { Filled };
+    ghost Value = { Filled R };
 
     ghost view = { λ s. record {
+      room = s.packer.room;
       front = s.packer.front;
       capacity_left = s.packer.capacity - length s.packer.front;
       bits = s.packer.bits;
@@ -33,12 +35,13 @@ impl Model for RoomSink {
         × (0 < length s.packer.bits → Fits (length s.packer.bits) (s.packer.capacity - length s.packer.front)) };
 }
 
-impl RoomSink {
-    /// No bits yet, after the bytes of the vector. Its room is the capacity that the vector has beyond these bytes.
-    pub fn new(bytes: Vec<u8>) -> RoomSink
-        ensures front { result.front ≡ bytes.items }
-        ensures room { result.capacity_left ≡ vec_capacity bytes - vec_len bytes }
+impl<R: Room> RoomSink<R> {
+    /// No bits yet, after the bytes of the room.
+    pub fn new(bytes: R) -> RoomSink<R>
+        ensures front { result.front ≡ R.items bytes }
+        ensures left { result.capacity_left ≡ R.capacity bytes - length (R.items bytes) }
         ensures bits { result.bits ≡ [] }
+        ensures grown { R.Grown bytes result.room }
     {
         RoomSink {
             packer: Packer::new(bytes),
@@ -55,7 +58,8 @@ impl RoomSink {
         requires room { Fits (length self.old.bits + count) self.old.capacity_left }
         ensures bits { self.new.bits ≡ self.old.bits ++ bits_of count value }
         ensures front { self.new.front ≡ self.old.front }
-        ensures room { self.new.capacity_left ≡ self.old.capacity_left }
+        ensures left { self.new.capacity_left ≡ self.old.capacity_left }
+        ensures grown { R.Grown self.old.room self.new.room }
     {
         self.packer.put(value, count);
     }
@@ -71,16 +75,18 @@ impl RoomSink {
         requires room { Fits (length self.old.bits + length (code_word k glimit qbpp v)) self.old.capacity_left }
         ensures bits { self.new.bits ≡ self.old.bits ++ code_word k glimit qbpp v }
         ensures front { self.new.front ≡ self.old.front }
-        ensures room { self.new.capacity_left ≡ self.old.capacity_left }
+        ensures left { self.new.capacity_left ≡ self.old.capacity_left }
+        ensures grown { R.Grown self.old.room self.new.room }
     {
         self.packer.put_golomb(k, glimit, qbpp, v);
     }
 
-    /// The vector: the bytes that it had, and after them the bits, stuffed (T.87 C.1) as `BitSink::finish` stuffs them.
-    /// Allocates nothing and cannot fail; the vector's capacity is what it was.
-    pub fn finish(self) -> Vec<u8>
-        ensures bytes { result.items ≡ self.front ++ stuff self.bits }
-        ensures capacity { vec_capacity result ≡ length self.front + self.capacity_left }
+    /// The room: the bytes that it had, and after them the bits, stuffed (T.87 C.1) as `BitSink::finish` stuffs them.
+    /// Allocates nothing and cannot fail; the room is as large as it was, and its free places are as they were.
+    pub fn finish(self) -> R
+        ensures bytes { R.items result ≡ self.front ++ stuff self.bits }
+        ensures capacity { R.capacity result ≡ length self.front + self.capacity_left }
+        ensures grown { R.Grown self.room result }
     {
         self.packer.finish()
     }

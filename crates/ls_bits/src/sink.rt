@@ -14,7 +14,7 @@ use std::marker::Model;
 /// `RoomSink`, into memory that it asked for at once.
 #[derive(Drop)]
 pub struct BitSink {
-    packer: Packer,
+    packer: Packer<Vec<u8>>,
 }
 
 impl Model for BitSink {

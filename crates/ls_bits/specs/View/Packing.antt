@@ -28,25 +28,28 @@ pub record IsPacked (start : ℕ) (bytes : List ℕ) (held : ℕ) (after_ff : Bo
   pub next : next_byte_bits 8 (drop start bytes) ≡ byte_bits after_ff
   pub few : held ≤ 63
 
--- what a packer is seen as
-pub record Packed : Type 0 where
-  -- the bytes that the vector had
+-- what a packer into a room is seen as
+pub record Packed (R : Type 0) : Type 0 where
+  -- the room with the bytes put so far
+  pub room : R
+  -- the bytes that the room had
   pub front : List ℕ
   -- the bits put since
   pub bits : List Bool
   -- how many of them aren't in a byte yet
   pub held : ℕ
-  -- how many bytes more the vector has the capacity for
+  -- how many bytes more the room has places for
   pub capacity_left : ℕ
   -- how many bytes it can have in all
   pub capacity : ℕ
 
 -- so many bits more fit into the room, however they are stuffed
-abbrev pub HasRoom : Packed → ℕ → Type 0
-HasRoom packed count = packed.held + count < 7 * packed.capacity_left + 7
+abbrev pub HasRoom : {R : Type 0} → Packed R → ℕ → Type 0
+HasRoom {R} packed count = packed.held + count < 7 * packed.capacity_left + 7
 
 -- what isn't bits is as it was, and `count` bits more have taken no more room than they need
-pub record KeepsRest (old new : Packed) (count : ℕ) : Type 0 where
+pub record KeepsRest {R : Type 0} (Grown : R → R → Type 0) (old new : Packed R) (count : ℕ) : Type 0 where
+  pub grown : Grown old.room new.room
   pub front : new.front ≡ old.front
   pub capacity : new.capacity ≡ old.capacity
   pub room : 7 * old.capacity_left + new.held ≤ 7 * new.capacity_left + old.held + count

@@ -1,10 +1,12 @@
--- What a sink into a vector of the caller's is seen as.
+-- What a sink into a room of the caller's is seen as.
 use Rattle.std.specs.Prelude.{ℕ, ◌+◌, ◌/◌, ◌≤◌, Bool, List}
 
-pub record Filled : Type 0 where
-  -- the vector's bytes when the sink was made
+pub record Filled (R : Type 0) : Type 0 where
+  -- the room with the bytes put so far
+  pub room : R
+  -- the bytes in the room when the sink was made
   pub front : List ℕ
-  -- how many bytes more it then had the capacity for
+  -- how many bytes more it then had places for
   pub capacity_left : ℕ
   -- the bits put since
   pub bits : List Bool

@@ -4,7 +4,7 @@ use Rattle.ls_bits.proofs.PackingLemmas.{bits_of-wide}
 use Rattle.ls_bits.proofs.packer.put_apart.Goals as goal
 
 pub returns-then-count-gt32-clause-bits : goal.returns-then-count-gt32-clause-bits
-returns-then-count-gt32-clause-bits c =
+returns-then-count-gt32-clause-bits g c =
     let small : c.args.value < 2 ^ 32 = omega arith in
     let size : c.args.count - 32 + 32 ≡ c.args.count = omega arith in
     c.append-then-count-gt32.ensures.bits

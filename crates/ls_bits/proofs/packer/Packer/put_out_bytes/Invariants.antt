@@ -3,7 +3,7 @@ use Rattle.ls_bits.specs.View.Packing.{KeepsRest}
 use Rattle.ls_bits.proofs.packer.Packer.put_out_bytes.Given as goal
 
 abbrev pub invariant-loop-self : goal.invariant-loop-self
-invariant-loop-self l = (l.self.bits ≡ l.fn.self.bits) × KeepsRest l.fn.self l.self 0
+invariant-loop-self g l = (l.self.bits ≡ l.fn.self.bits) × KeepsRest g.R.Room.Grown l.fn.self l.self 0
 
 abbrev pub decreases-loop-self : goal.decreases-loop-self
-decreases-loop-self l = l.self.held
+decreases-loop-self g l = l.self.held
