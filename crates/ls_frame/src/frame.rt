@@ -1,5 +1,5 @@
 //! Frames: pictures within the limits of this recorder.
-ghost use Rattle.std.specs.Prelude.{◌≡◌, ◌<◌, ◌↔◌, IsTrue, None, Some, IfErr, MatchResult, nat_lt, position};
+ghost use Rattle.std.specs.Prelude.{◌≡◌, ◌<◌, ◌↔◌, IsTrue, None, Some, IfOk, IfErr, MatchResult, nat_lt, position};
 ghost use Rattle.ls_frame.specs.Picture.{frame_fault, sample_count};
 
 use std::marker::Model;
@@ -98,23 +98,10 @@ impl Frame {
             (λ refused. frame_fault picture ≡ Some refused.0) }
         ensures returned { IfErr result (λ refused. refused.1 ≡ samples) }
     {
-        if width == 0 || height == 0 {
-            return Err((FrameFault::ZeroSize, samples));
+        match FrameView::new(kind, width, height, maxval, &samples) {
+            Ok(_) => Ok(Frame::from_parts(kind, width, height, maxval, samples)),
+            Err(fault) => Err((fault, samples)),
         }
-        let count = sample_count(kind, width, height);
-        if count > MOST_SAMPLES {
-            return Err((FrameFault::TooManySamples, samples));
-        }
-        if samples.len() as u64 != count {
-            return Err((FrameFault::WrongCount, samples));
-        }
-        if maxval == 0 {
-            return Err((FrameFault::ZeroMaxval, samples));
-        }
-        if let Some(place) = first_above(&samples, maxval) {
-            return Err((FrameFault::SampleTooLarge(place), samples));
-        }
-        Ok(Frame::from_parts(kind, width, height, maxval, samples))
     }
 
     /// A frame of parts that make one. It looks at no sample.
@@ -182,6 +169,132 @@ impl Frame {
         ensures lawful { IsFrame self.now }
     {
         self.samples.as_slice()
+    }
+
+    /// The same frame, over the samples that this one holds.
+    pub fn view(&self) -> FrameView<'_>
+        ensures { result ≡ self.now }
+    {
+        FrameView {
+            kind: self.kind,
+            width: self.width,
+            height: self.height,
+            maxval: self.maxval,
+            samples: self.samples.as_slice(),
+        }
+    }
+}
+
+/// A frame whose samples stand in memory of its maker's.
+///
+/// Samples go as a `Frame`'s do.
+#[derive(Debug, Drop)]
+pub struct FrameView<'a> {
+    kind: Kind,
+    width: u16,
+    height: u16,
+    maxval: u16,
+    samples: &'a [u16],
+}
+
+impl<'a> Model for FrameView<'a> {
+    ghost use Rattle.ls_frame.specs.Picture.{Picture, IsFrame};
+
+    ghost Value = { Picture };
+
+    ghost view = { λ f. record { kind = f.kind; width = f.width; height = f.height; maxval = f.maxval; samples = f.samples.now } };
+
+    ghost invariant = { λ f. IsFrame (record { kind = f.kind; width = f.width; height = f.height; maxval = f.maxval; samples = f.samples.now }) };
+}
+
+impl<'a> FrameView<'a> {
+    ghost use Rattle.ls_frame.specs.Picture.{Picture, IsFrame};
+
+    /// A frame of this kind, size and maxval over these samples. If they make none, the first fault in `FrameFault`'s order is
+    /// answered.
+    pub fn new(
+        kind: Kind,
+        width: u16,
+        height: u16,
+        maxval: u16,
+        samples: &'a [u16],
+    ) -> Result<FrameView<'a>, FrameFault>
+        ensures exactly { let picture : Picture = record {
+          kind = kind;
+          width = width;
+          height = height;
+          maxval = maxval;
+          samples = samples.now;
+        } in
+            MatchResult result
+            (λ f. (frame_fault picture ≡ None) × (f ≡ picture))
+            (λ fault. frame_fault picture ≡ Some fault) }
+        ensures lawful { IfOk result (λ f. IsFrame f) }
+    {
+        if width == 0 || height == 0 {
+            return Err(FrameFault::ZeroSize);
+        }
+        let count = sample_count(kind, width, height);
+        if count > MOST_SAMPLES {
+            return Err(FrameFault::TooManySamples);
+        }
+        if samples.len() as u64 != count {
+            return Err(FrameFault::WrongCount);
+        }
+        if maxval == 0 {
+            return Err(FrameFault::ZeroMaxval);
+        }
+        if let Some(place) = first_above(samples, maxval) {
+            return Err(FrameFault::SampleTooLarge(place));
+        }
+        Ok(FrameView {
+            kind,
+            width,
+            height,
+            maxval,
+            samples,
+        })
+    }
+
+    /// Gray or colour.
+    pub fn kind(&self) -> Kind
+        ensures value { result ≡ self.now.kind }
+        ensures lawful { IsFrame self.now }
+    {
+        self.kind
+    }
+
+    /// Pixels in a row, 1 to 65535.
+    pub fn width(&self) -> u16
+        ensures value { result ≡ self.now.width }
+        ensures lawful { IsFrame self.now }
+    {
+        self.width
+    }
+
+    /// Rows, 1 to 65535.
+    pub fn height(&self) -> u16
+        ensures value { result ≡ self.now.height }
+        ensures lawful { IsFrame self.now }
+    {
+        self.height
+    }
+
+    /// The greatest value that a sample may have, 1 to 65535.
+    pub fn maxval(&self) -> u16
+        ensures value { result ≡ self.now.maxval }
+        ensures some { 0 < result }
+        ensures lawful { IsFrame self.now }
+    {
+        self.maxval
+    }
+
+    /// The samples.
+    pub fn samples(&self) -> &'a [u16]
+        ensures value { result.now ≡ self.now.samples }
+        ensures lawful { IsFrame self.now }
+    {
+        self.samples
     }
 }
 
