@@ -49,7 +49,7 @@ impl Packer<Vec<u8>> {
     /// Takes room for any one put, or for the last byte. Fails only if an allocation fails.
     #[inline(always)]
     pub fn reserve(&mut self) -> Result<(), AllocError>
-        ensures left { OnOk result (HasRoom self.new 64) }
+        ensures room { OnOk result (HasRoom self.new 64) }
         ensures bits { self.new.bits ≡ self.old.bits }
         ensures front { self.new.front ≡ self.old.front }
     {
@@ -64,7 +64,7 @@ impl<R: Room> Packer<R> {
         ensures front { result.front ≡ R.items bytes }
         ensures bits { result.bits ≡ [] }
         ensures held { result.held ≡ 0 }
-        ensures left { result.capacity_left ≡ R.capacity bytes - length (R.items bytes) }
+        ensures room { result.capacity_left ≡ R.capacity bytes - length (R.items bytes) }
         ensures capacity { result.capacity ≡ R.capacity bytes }
         ensures within { length (R.items bytes) ≤ R.capacity bytes }
     {

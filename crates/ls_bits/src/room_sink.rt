@@ -39,7 +39,7 @@ impl<R: Room> RoomSink<R> {
     /// No bits yet, after the bytes of the room.
     pub fn new(bytes: R) -> RoomSink<R>
         ensures front { result.front ≡ R.items bytes }
-        ensures left { result.capacity_left ≡ R.capacity bytes - length (R.items bytes) }
+        ensures room { result.capacity_left ≡ R.capacity bytes - length (R.items bytes) }
         ensures bits { result.bits ≡ [] }
         ensures grown { R.Grown bytes result.room }
     {
@@ -58,7 +58,7 @@ impl<R: Room> RoomSink<R> {
         requires room { Fits (length self.old.bits + count) self.old.capacity_left }
         ensures bits { self.new.bits ≡ self.old.bits ++ bits_of count value }
         ensures front { self.new.front ≡ self.old.front }
-        ensures left { self.new.capacity_left ≡ self.old.capacity_left }
+        ensures room { self.new.capacity_left ≡ self.old.capacity_left }
         ensures grown { R.Grown self.old.room self.new.room }
     {
         self.packer.put(value, count);
@@ -75,7 +75,7 @@ impl<R: Room> RoomSink<R> {
         requires room { Fits (length self.old.bits + length (code_word k glimit qbpp v)) self.old.capacity_left }
         ensures bits { self.new.bits ≡ self.old.bits ++ code_word k glimit qbpp v }
         ensures front { self.new.front ≡ self.old.front }
-        ensures left { self.new.capacity_left ≡ self.old.capacity_left }
+        ensures room { self.new.capacity_left ≡ self.old.capacity_left }
         ensures grown { R.Grown self.old.room self.new.room }
     {
         self.packer.put_golomb(k, glimit, qbpp, v);

@@ -3,7 +3,7 @@ mod coder;
 mod row;
 mod scan;
 
-ghost use Rattle.std.specs.Prelude.{◌≡◌, ◌+◌, ◌-◌, ◌*◌, ◌/◌, ◌^◌, ◌<◌, ◌≤◌, ◌++◌, List, length, map, flat_map, IfOk, vec_len, vec_capacity, if◌then◌else◌};
+ghost use Rattle.std.specs.Prelude.{◌≡◌, ◌+◌, ◌-◌, ◌*◌, ◌/◌, ◌^◌, ◌<◌, ◌≤◌, ◌++◌, List, length, take, drop, map, flat_map, IfOk, vec_len, vec_capacity, if◌then◌else◌};
 ghost use Rattle.std.specs.List.{range_with_len};
 ghost use Rattle.ls_frame.specs.Picture.{components};
 ghost use Rattle.ls_frame.specs.Parameters.{limit_of, default_parameters};
@@ -14,7 +14,8 @@ use crate::marker::Marker;
 use crate::segments::write::{
     presets_length, put_frame_header, put_marker, put_presets_if_needed, put_scan_header,
 };
-use ls_frame::{Frame, Presets};
+use ls_bits::{Room, SliceRoom};
+use ls_frame::{Frame, FrameView, Presets};
 use scan::put_scan;
 use std::alloc::{AllocError, Global};
 
@@ -60,12 +61,48 @@ pub fn encode_within(frame: &Frame, presets: &Presets, lines: &mut Lines, bytes:
     ensures lines { lines.new ≡ lines.old }
 {
     let mut bytes = bytes;
-    put_marker(&mut bytes, Marker::StartOfImage);
-    put_frame_header(&mut bytes, frame);
-    put_presets_if_needed(&mut bytes, presets);
-    let mut bytes = put_scans(frame, presets, lines, bytes);
-    put_marker(&mut bytes, Marker::EndOfImage);
+    put_codestream(&frame.view(), presets, lines, &mut bytes);
     bytes
+}
+
+/// The codestream of a frame, at the front of a slice, and how many bytes it has. Those behind it are as they were.
+///
+/// It requires parameters of the frame's maxval, lines at least as wide as the frame, and `view_bound` bytes in the slice. It
+/// allocates nothing and cannot fail.
+pub fn encode_into(
+    frame: &FrameView,
+    presets: &Presets,
+    lines: &mut Lines,
+    bytes: &mut [u8],
+) -> usize
+    requires maxval { presets.now.maxval ≡ frame.now.maxval }
+    requires width { frame.now.width ≤ lines.old }
+    requires room { bound frame.now presets.now ≤ length bytes.old }
+    ensures bytes { take result bytes.new ≡ codestream frame.now presets.now }
+    ensures count { result ≡ length (codestream frame.now presets.now) }
+    ensures rest { drop result bytes.new ≡ drop result bytes.old }
+    ensures lines { lines.new ≡ lines.old }
+{
+    let mut room = SliceRoom::new(bytes);
+    put_codestream(frame, presets, lines, &mut room);
+    room.len()
+}
+
+/// Puts the codestream of a frame into a room, after the bytes that it has.
+fn put_codestream<R: Room>(frame: &FrameView, presets: &Presets, lines: &mut Lines, bytes: &mut R)
+    requires maxval { presets.now.maxval ≡ frame.now.maxval }
+    requires width { frame.now.width ≤ lines.old }
+    requires room { length (R.items bytes.old) + bound frame.now presets.now ≤ R.capacity bytes.old }
+    ensures bytes { R.items bytes.new ≡ R.items bytes.old ++ codestream frame.now presets.now }
+    ensures capacity { R.capacity bytes.new ≡ R.capacity bytes.old }
+    ensures grown { R.Grown bytes.old bytes.new }
+    ensures lines { lines.new ≡ lines.old }
+{
+    put_marker(bytes, Marker::StartOfImage);
+    put_frame_header(bytes, frame);
+    put_presets_if_needed(bytes, presets);
+    put_scans(frame, presets, lines, bytes);
+    put_marker(bytes, Marker::EndOfImage);
 }
 
 /// The most bytes that the codestream of a frame may have, fewer than 2^32: those of all headers and, for each component, LIMIT
@@ -73,6 +110,16 @@ pub fn encode_within(frame: &Frame, presets: &Presets, lines: &mut Lines, bytes:
 ///
 /// It requires parameters of the frame's maxval.
 pub fn code_bound(frame: &Frame, presets: &Presets) -> u64
+    requires maxval { presets.now.maxval ≡ frame.now.maxval }
+    ensures value { result ≡ bound frame.now presets.now }
+    ensures enough { length (codestream frame.now presets.now) ≤ result }
+    ensures small { result < 2 ^ 32 }
+{
+    view_bound(&frame.view(), presets)
+}
+
+/// As `code_bound`, of a frame whose samples stand elsewhere.
+pub fn view_bound(frame: &FrameView, presets: &Presets) -> u64
     requires maxval { presets.now.maxval ≡ frame.now.maxval }
     ensures value { result ≡ bound frame.now presets.now }
     ensures enough { length (codestream frame.now presets.now) ≤ result }
@@ -86,7 +133,7 @@ pub fn code_bound(frame: &Frame, presets: &Presets) -> u64
 /// The bytes of a codestream that aren't data: SOI, the frame header, preset parameters where they are written, a scan header for
 /// each component, EOI.
 #[tactic(auto, unfolding(crate::specs::Layout::headers_length))]
-fn headers_length(frame: &Frame, presets: &Presets) -> u64
+fn headers_length(frame: &FrameView, presets: &Presets) -> u64
     ensures value { result ≡ headers_length frame.now presets.now }
     ensures small { result ≤ 68 }
 {
@@ -95,7 +142,7 @@ fn headers_length(frame: &Frame, presets: &Presets) -> u64
 }
 
 /// The most bytes of a scan's data.
-fn scan_bound(frame: &Frame, presets: &Presets) -> u64
+fn scan_bound(frame: &FrameView, presets: &Presets) -> u64
     requires maxval { presets.now.maxval ≡ frame.now.maxval }
     ensures value { result ≡ scan_bound frame.now presets.now }
     ensures small { result ≤ 2 ^ 42 }
@@ -105,19 +152,19 @@ fn scan_bound(frame: &Frame, presets: &Presets) -> u64
 }
 
 /// A scan header and its data for each component.
-fn put_scans(frame: &Frame, presets: &Presets, lines: &mut Lines, bytes: Vec<u8>) -> Vec<u8>
+fn put_scans<R: Room>(frame: &FrameView, presets: &Presets, lines: &mut Lines, bytes: &mut R)
     requires maxval { presets.now.maxval ≡ frame.now.maxval }
     requires width { frame.now.width ≤ lines.old }
-    requires room { vec_len bytes + components frame.now.kind * (10 + scan_bound frame.now presets.now) + 2 ≤ vec_capacity bytes }
-    ensures bytes { result.items ≡ bytes.items ++ scans_up_to frame.now presets.now (components frame.now.kind) }
-    ensures room { vec_len result + 2 ≤ vec_capacity result }
-    ensures capacity { vec_capacity result ≡ vec_capacity bytes }
+    requires room { length (R.items bytes.old) + components frame.now.kind * (10 + scan_bound frame.now presets.now) + 2
+        ≤ R.capacity bytes.old }
+    ensures bytes { R.items bytes.new ≡ R.items bytes.old ++ scans_up_to frame.now presets.now (components frame.now.kind) }
+    ensures room { length (R.items bytes.new) + 2 ≤ R.capacity bytes.new }
+    ensures capacity { R.capacity bytes.new ≡ R.capacity bytes.old }
+    ensures grown { R.Grown bytes.old bytes.new }
     ensures lines { lines.new ≡ lines.old }
 {
-    let mut bytes = bytes;
     for component in 0..frame.kind().components() {
-        put_scan_header(&mut bytes, component + 1);
-        bytes = put_scan(frame, presets, lines, bytes, usize::from(component));
+        put_scan_header(bytes, component + 1);
+        put_scan(frame, presets, lines, bytes, usize::from(component));
     }
-    bytes
 }

@@ -42,6 +42,6 @@ mod shape;
 
 pub use buffers::Lines;
 pub use decode::{Decoded, decode_frame};
-pub use encode::{code_bound, encode_frame, encode_with, encode_within};
+pub use encode::{code_bound, encode_frame, encode_into, encode_with, encode_within, view_bound};
 pub use faults::{StreamFault, What};
 pub use next::{NextFault, next_stream};

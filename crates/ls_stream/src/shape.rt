@@ -2,7 +2,7 @@
 ghost use Rattle.std.specs.Prelude.{◌≡◌};
 ghost use Rattle.ls_stream.specs.View.Shapes.{IsShapeOf};
 
-use ls_frame::Frame;
+use ls_frame::FrameView;
 
 /// How many pixels a row has, how many rows there are, and how many components.
 #[derive(Clone, Copy)]
@@ -13,7 +13,7 @@ pub struct Shape {
 }
 
 /// The shape of a frame.
-pub fn shape_of(frame: &Frame) -> Shape
+pub fn shape_of(frame: &FrameView) -> Shape
     ensures { IsShapeOf frame.now result }
 {
     Shape {

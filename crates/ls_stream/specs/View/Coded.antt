@@ -39,9 +39,10 @@ bits_from plane (span ∷ more) state = span_bits_in plane span state ++ bits_fr
 abbrev pub all_from : Plane → List Bool → Coding → List Span → List Bool
 all_from plane bits state more = bits ++ bits_from plane more state
 
--- a scan that is being written: the state of its coding, the bytes in front of it, how many more there was room for, and its bits
--- so far
-pub record Written : Type 0 where
+-- a scan that is being written: the state of its coding, the room that its bytes go into, the bytes in front of it, how many more
+-- there were places for, and its bits so far
+pub record Written (R : Type 0) : Type 0 where
+  pub room : R
   pub state : Coding
   pub front : List ℕ
   pub capacity_left : ℕ

@@ -1,5 +1,5 @@
 //! A scan that is being written: the events of its rows, as bits (T.87 Annex A).
-ghost use Rattle.std.specs.Prelude.{◌≡◌, ◌+◌, ◌-◌, ◌*◌, ◌<◌, ◌≤◌, ◌++◌, [], ℕ, true, false, length, replicate, vec_len, vec_capacity};
+ghost use Rattle.std.specs.Prelude.{◌≡◌, ◌+◌, ◌-◌, ◌*◌, ◌<◌, ◌≤◌, ◌++◌, [], ℕ, true, false, length, replicate};
 ghost use Rattle.ls_frame.specs.Parameters.{qbpp_of, limit_of};
 ghost use Rattle.ls_bits.specs.Stuffing.{stuff};
 ghost use Rattle.ls_bits.specs.Golomb.{IsGolomb, code_word, most_value};
@@ -13,42 +13,43 @@ ghost use Rattle.ls_coding.specs.View.Calls.{MayCodeMirrored};
 ghost use Rattle.ls_coding.specs.View.Mirrors.{IsMirrored};
 ghost use Rattle.ls_coding.specs.declared.neighbours.Neighbours.{Neighbours};
 
-use ls_bits::RoomSink;
+use ls_bits::{Room, RoomSink};
 use ls_coding::{Mirrored, Neighbours, RunWord, State, Tail, Word};
 use ls_frame::Presets;
 use std::marker::Model;
 
 /// The state of a scan's coding, and the sink of its bits.
 #[derive(Drop)]
-pub struct Coder<'a> {
+pub struct Coder<'a, R: Room> {
     presets: Presets,
     /// The bits of an error (qbpp).
     qbpp: u32,
     /// It stands elsewhere, so that the rest of the coder can be in registers.
     state: &'a mut State,
-    sink: RoomSink,
+    sink: RoomSink<R>,
 }
 
-impl<'a> Model for Coder<'a> {
+impl<'a, R: Room> Model for Coder<'a, R> {
     ghost use Rattle.std.specs.Prelude.{◌≡◌};
     ghost use Rattle.ls_frame.specs.Parameters.{qbpp_of};
     ghost use Rattle.ls_stream.specs.View.Coded.{Written};
 
-    ghost Value = { Written };
+    ghost Value = { Written R };
 
-    ghost view = { λ c. record { state = c.state.now; front = c.sink.front; capacity_left = c.sink.capacity_left; bits = c.sink.bits } };
+    ghost view = { λ c. record { state = c.state.now; room = c.sink.room; front = c.sink.front; capacity_left = c.sink.capacity_left; bits = c.sink.bits } };
 
     ghost invariant = { λ c. (c.state.now.parameters ≡ c.presets) × (c.qbpp ≡ qbpp_of c.presets.maxval) };
 }
 
-impl<'a> Coder<'a> {
-    /// The start of a scan, with the state of a scan's start, after the bytes that a vector has, into the room that it has.
-    pub fn new(presets: &Presets, state: &'a mut State, bytes: Vec<u8>) -> Coder<'a>
+impl<'a, R: Room> Coder<'a, R> {
+    /// The start of a scan, with the state of a scan's start, after the bytes that a room has, into the places that it has.
+    pub fn new(presets: &Presets, state: &'a mut State, bytes: R) -> Coder<'a, R>
         requires state { state.old ≡ state_of presets.now [] }
         ensures parameters { result.state.parameters ≡ presets.now }
         ensures state { result.state ≡ state_of presets.now [] }
-        ensures front { result.front ≡ bytes.items }
-        ensures room { result.capacity_left ≡ vec_capacity bytes - vec_len bytes }
+        ensures front { result.front ≡ R.items bytes }
+        ensures room { result.capacity_left ≡ R.capacity bytes - length (R.items bytes) }
+        ensures grown { R.Grown bytes result.room }
         ensures bits { result.bits ≡ [] }
     {
         Coder {
@@ -80,6 +81,7 @@ impl<'a> Coder<'a> {
         ensures parameters { self.new.state.parameters ≡ self.old.state.parameters }
         ensures front { self.new.front ≡ self.old.front }
         ensures room { self.new.capacity_left ≡ self.old.capacity_left }
+        ensures grown { R.Grown self.old.room self.new.room }
     {
         let word = self.state.code_regular_at(mirrored);
         put_word(&mut self.sink, self.qbpp, word);
@@ -95,6 +97,7 @@ impl<'a> Coder<'a> {
         ensures state { self.new.state ≡ run_after self.old.state (run_of count false) }
         ensures front { self.new.front ≡ self.old.front }
         ensures room { self.new.capacity_left ≡ self.old.capacity_left }
+        ensures grown { R.Grown self.old.room self.new.room }
     {
         let word = self.state.code_run(count, true);
         put_run(&mut self.sink, word);
@@ -114,6 +117,7 @@ impl<'a> Coder<'a> {
             (interruption_error self.old.state.parameters neighbours.now sample) }
         ensures front { self.new.front ≡ self.old.front }
         ensures room { self.new.capacity_left ≡ self.old.capacity_left }
+        ensures grown { R.Grown self.old.room self.new.room }
     {
         let run = self.state.code_run(count, false);
         put_run(&mut self.sink, run);
@@ -121,45 +125,49 @@ impl<'a> Coder<'a> {
         put_word(&mut self.sink, self.qbpp, word);
     }
 
-    /// The vector: the bytes that it had, and after them the bits of the scan, stuffed. Its capacity is what it was.
-    pub fn finish(self) -> Vec<u8>
-        ensures bytes { result.items ≡ self.entry.front ++ stuff self.entry.bits }
-        ensures capacity { vec_capacity result ≡ length self.entry.front + self.entry.capacity_left }
+    /// The room: the bytes that it had, and after them the bits of the scan, stuffed.
+    pub fn finish(self) -> R
+        ensures bytes { R.items result ≡ self.entry.front ++ stuff self.entry.bits }
+        ensures capacity { R.capacity result ≡ length self.entry.front + self.entry.capacity_left }
+        ensures grown { R.Grown self.entry.room result }
     {
         self.sink.finish()
     }
 }
 
 /// A code word, after the bits that are there.
-fn put_word(sink: &mut RoomSink, qbpp: u32, word: Word)
+fn put_word<R: Room>(sink: &mut RoomSink<R>, qbpp: u32, word: Word)
     requires golomb { IsGolomb word.k word.glimit qbpp }
     requires value { word.value ≤ most_value qbpp }
     requires room { Fits (length sink.old.bits + length (code_word word.k word.glimit qbpp word.value)) sink.old.capacity_left }
     ensures bits { sink.new.bits ≡ sink.old.bits ++ code_word word.k word.glimit qbpp word.value }
     ensures front { sink.new.front ≡ sink.old.front }
     ensures room { sink.new.capacity_left ≡ sink.old.capacity_left }
+    ensures grown { R.Grown sink.old.room sink.new.room }
 {
     sink.put_golomb(word.k, word.glimit, qbpp, word.value);
 }
 
 /// The bits of a run, after those that are there.
-fn put_run(sink: &mut RoomSink, word: RunWord)
+fn put_run<R: Room>(sink: &mut RoomSink<R>, word: RunWord)
     requires tail { TailFits word.tail }
     requires room { Fits (length sink.old.bits + length (word_bits word)) sink.old.capacity_left }
     ensures bits { sink.new.bits ≡ sink.old.bits ++ word_bits word }
     ensures front { sink.new.front ≡ sink.old.front }
     ensures room { sink.new.capacity_left ≡ sink.old.capacity_left }
+    ensures grown { R.Grown sink.old.room sink.new.room }
 {
     put_ones(sink, word.ones);
     put_tail(sink, word.tail);
 }
 
 /// So many bits 1.
-fn put_ones(sink: &mut RoomSink, count: u32)
+fn put_ones<R: Room>(sink: &mut RoomSink<R>, count: u32)
     requires { Fits (length sink.old.bits + count) sink.old.capacity_left }
     ensures bits { sink.new.bits ≡ sink.old.bits ++ replicate count true }
     ensures front { sink.new.front ≡ sink.old.front }
     ensures room { sink.new.capacity_left ≡ sink.old.capacity_left }
+    ensures grown { R.Grown sink.old.room sink.new.room }
 {
     for done in 0..count {
         sink.put(1, 1);
@@ -167,12 +175,13 @@ fn put_ones(sink: &mut RoomSink, count: u32)
 }
 
 /// How a run ends.
-fn put_tail(sink: &mut RoomSink, tail: Tail)
+fn put_tail<R: Room>(sink: &mut RoomSink<R>, tail: Tail)
     requires tail { TailFits tail }
     requires room { Fits (length sink.old.bits + length (tail_bits tail)) sink.old.capacity_left }
     ensures bits { sink.new.bits ≡ sink.old.bits ++ tail_bits tail }
     ensures front { sink.new.front ≡ sink.old.front }
     ensures room { sink.new.capacity_left ≡ sink.old.capacity_left }
+    ensures grown { R.Grown sink.old.room sink.new.room }
 {
     match tail {
         Tail::LineFull => {}

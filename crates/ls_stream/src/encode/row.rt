@@ -11,6 +11,7 @@ ghost use Rattle.ls_stream.specs.View.Blocks.{mirrored_at, AreMirrored};
 
 use crate::encode::coder::Coder;
 use crate::lines::neighbours_in;
+use ls_bits::Room;
 use ls_coding::{Mirrored, mirror};
 use ls_frame::Presets;
 
@@ -29,7 +30,7 @@ pub struct Block {
 }
 
 /// Codes the row whose line, and the line above, are these, each with one place more on the left and on the right.
-pub fn code_row(coder: &mut Coder, above: &[u16], line: &[u16], width: usize)
+pub fn code_row<R: Room>(coder: &mut Coder<R>, above: &[u16], line: &[u16], width: usize)
     requires lines { ArePadded coder.old.state.parameters.maxval width above.now line.now }
     requires narrow { width ≤ 65535 }
     requires uninterrupted { coder.old.state.interrupted ≡ false }
@@ -42,6 +43,7 @@ pub fn code_row(coder: &mut Coder, above: &[u16], line: &[u16], width: usize)
     ensures parameters { coder.new.state.parameters ≡ coder.old.state.parameters }
     ensures front { coder.new.front ≡ coder.old.front }
     ensures room { coder.new.capacity_left ≡ coder.old.capacity_left }
+    ensures grown { R.Grown coder.old.room coder.new.room }
 {
     let mut block = Block {
         contexts: [0; BLOCK],
@@ -59,8 +61,8 @@ pub fn code_row(coder: &mut Coder, above: &[u16], line: &[u16], width: usize)
 }
 
 /// Codes the spans that begin at the columns from `start` up to `end`, which a block is of, and answers the column after them.
-fn code_block(
-    coder: &mut Coder,
+fn code_block<R: Room>(
+    coder: &mut Coder<R>,
     above: &[u16],
     line: &[u16],
     block: &Block,
@@ -86,6 +88,7 @@ fn code_block(
     ensures parameters { coder.new.state.parameters ≡ coder.old.state.parameters }
     ensures front { coder.new.front ≡ coder.old.front }
     ensures room { coder.new.capacity_left ≡ coder.old.capacity_left }
+    ensures grown { R.Grown coder.old.room coder.new.room }
 {
     let mut column = start;
     'spans: while column < end {
@@ -96,8 +99,8 @@ fn code_block(
 }
 
 /// Codes a sample of regular mode, or a run with the sample that interrupts it, and answers the column after it.
-fn code_span(
-    coder: &mut Coder,
+fn code_span<R: Room>(
+    coder: &mut Coder<R>,
     mirrored: Mirrored,
     above: &[u16],
     line: &[u16],
@@ -122,6 +125,7 @@ fn code_span(
     ensures parameters { coder.new.state.parameters ≡ coder.old.state.parameters }
     ensures front { coder.new.front ≡ coder.old.front }
     ensures room { coder.new.capacity_left ≡ coder.old.capacity_left }
+    ensures grown { R.Grown coder.old.room coder.new.room }
 {
     if mirrored.context != 0 {
         coder.code_sample(mirrored);

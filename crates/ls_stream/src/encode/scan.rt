@@ -1,5 +1,5 @@
 //! The scan of one component: the rows of its plane, coded and stuffed (T.87 Annex A).
-ghost use Rattle.std.specs.Prelude.{◌≡◌, ◌+◌, ◌*◌, ◌/◌, ◌^◌, ◌<◌, ◌≤◌, ◌++◌, ℕ, false, [], List, length, slice_index, vec_len, vec_capacity};
+ghost use Rattle.std.specs.Prelude.{◌≡◌, ◌+◌, ◌*◌, ◌/◌, ◌^◌, ◌<◌, ◌≤◌, ◌++◌, ℕ, false, [], List, length, slice_index, vec_len};
 ghost use Rattle.ls_frame.specs.Picture.{components};
 ghost use Rattle.ls_frame.specs.Parameters.{limit_of};
 ghost use Rattle.ls_bits.specs.View.Room.{Fits};
@@ -15,28 +15,30 @@ use crate::encode::coder::Coder;
 use crate::encode::row::code_row;
 use crate::lines::{clear, fill_line};
 use crate::shape::{Shape, shape_of};
+use ls_bits::{Room, take_room};
 use ls_coding::State;
-use ls_frame::{Frame, Presets};
+use ls_frame::{FrameView, Presets};
 
-/// Codes the scan of a component, after the bytes that a vector has, into room that it has.
-pub fn put_scan(
-    frame: &Frame,
+/// Codes the scan of a component, after the bytes that a room has, into places that it has.
+pub fn put_scan<R: Room>(
+    frame: &FrameView,
     presets: &Presets,
     lines: &mut Lines,
-    bytes: Vec<u8>,
+    bytes: &mut R,
     component: usize,
-) -> Vec<u8>
+)
     requires maxval { presets.now.maxval ≡ frame.now.maxval }
     requires width { frame.now.width ≤ lines.old }
     requires component { component < components frame.now.kind }
-    requires room { vec_len bytes + scan_bound frame.now presets.now ≤ vec_capacity bytes }
-    ensures bytes { result.items ≡ bytes.items ++ stuff (plane_bits presets.now (plane_of frame.now component)) }
-    ensures short { vec_len result ≤ vec_len bytes + scan_bound frame.now presets.now }
-    ensures capacity { vec_capacity result ≡ vec_capacity bytes }
+    requires room { length (R.items bytes.old) + scan_bound frame.now presets.now ≤ R.capacity bytes.old }
+    ensures bytes { R.items bytes.new ≡ R.items bytes.old ++ stuff (plane_bits presets.now (plane_of frame.now component)) }
+    ensures short { length (R.items bytes.new) ≤ length (R.items bytes.old) + scan_bound frame.now presets.now }
+    ensures capacity { R.capacity bytes.new ≡ R.capacity bytes.old }
+    ensures grown { R.Grown bytes.old bytes.new }
     ensures lines { lines.new ≡ lines.old }
 {
     let mut state = State::new(presets);
-    let mut coder = Coder::new(presets, &mut state, bytes);
+    let mut coder = Coder::new(presets, &mut state, take_room(bytes));
     code_plane(
         &mut coder,
         frame,
@@ -44,13 +46,13 @@ pub fn put_scan(
         &mut lines.line,
         component,
     );
-    coder.finish()
+    *bytes = coder.finish();
 }
 
 /// Codes a component's plane, at a scan's start; `above` and `line` are room for what a row is coded by.
-fn code_plane(
-    coder: &mut Coder,
-    frame: &Frame,
+fn code_plane<R: Room>(
+    coder: &mut Coder<R>,
+    frame: &FrameView,
     above: &mut Vec<u16>,
     line: &mut Vec<u16>,
     component: usize,
@@ -66,6 +68,7 @@ fn code_plane(
     ensures cost { length coder.new.bits ≤ limit_of coder.old.state.parameters.maxval * (frame.now.width * frame.now.height) }
     ensures front { coder.new.front ≡ coder.old.front }
     ensures room { coder.new.capacity_left ≡ coder.old.capacity_left }
+    ensures grown { R.Grown coder.old.room coder.new.room }
     ensures above { vec_len above.new ≡ vec_len above.old }
     ensures line { vec_len line.new ≡ vec_len line.old }
 {
@@ -82,8 +85,8 @@ fn code_plane(
 }
 
 /// Codes the rows of one component; `above` and `line` are room for what a row is coded by.
-fn code_rows(
-    coder: &mut Coder,
+fn code_rows<R: Room>(
+    coder: &mut Coder<R>,
     above: &mut [u16],
     line: &mut [u16],
     samples: &[u16],
@@ -106,6 +109,7 @@ fn code_rows(
     ensures cost { length coder.new.bits ≤ length coder.old.bits + limit_of coder.old.state.parameters.maxval * (shape.width * shape.height) }
     ensures front { coder.new.front ≡ coder.old.front }
     ensures room { coder.new.capacity_left ≡ coder.old.capacity_left }
+    ensures grown { R.Grown coder.old.room coder.new.room }
 {
     clear(above);
     for row in 0..shape.height {

@@ -1,5 +1,5 @@
-//! Writing marker segments (T.87 Annex C; T.81 B.1), after the bytes that a vector has, into room that it has.
-ghost use Rattle.std.specs.Prelude.{◌≡◌, ◌+◌, ◌-◌, ◌*◌, ◌<◌, ◌≤◌, ◌++◌, map, flat_map, vec_len, vec_capacity};
+//! Writing marker segments (T.87 Annex C; T.81 B.1), after the bytes that a room has, into places that it has.
+ghost use Rattle.std.specs.Prelude.{◌≡◌, ◌+◌, ◌-◌, ◌*◌, ◌<◌, ◌≤◌, ◌++◌, length, map, flat_map};
 ghost use Rattle.std.specs.List.{range_with_len};
 ghost use Rattle.ls_frame.specs.Picture.{components};
 ghost use Rattle.ls_frame.specs.Parameters.{bpp_of};
@@ -12,45 +12,49 @@ ghost use Rattle.ls_stream.specs.Layout.{written_component, written_header, need
 use crate::marker::Marker;
 use crate::segments::{SAMPLED_ONE_BY_ONE, greatest_maxval};
 use byteorder::{BigEndian, ByteOrder};
-use ls_frame::{Frame, Presets};
+use ls_bits::Room;
+use ls_frame::{FrameView, Presets};
 
 /// A marker.
-pub fn put_marker(bytes: &mut Vec<u8>, marker: Marker)
-    requires room { vec_len bytes.old + 2 ≤ vec_capacity bytes.old }
-    ensures bytes { bytes.new.items ≡ bytes.old.items ++ marker_bytes marker }
-    ensures len { vec_len bytes.new ≡ vec_len bytes.old + 2 }
-    ensures capacity { vec_capacity bytes.new ≡ vec_capacity bytes.old }
+pub fn put_marker<R: Room>(bytes: &mut R, marker: Marker)
+    requires room { length (R.items bytes.old) + 2 ≤ R.capacity bytes.old }
+    ensures bytes { R.items bytes.new ≡ R.items bytes.old ++ marker_bytes marker }
+    ensures len { length (R.items bytes.new) ≡ length (R.items bytes.old) + 2 }
+    ensures capacity { R.capacity bytes.new ≡ R.capacity bytes.old }
+    ensures grown { R.Grown bytes.old bytes.new }
 {
-    bytes.push_reserved(0xFF);
-    bytes.push_reserved(marker.code());
+    bytes.put_byte(0xFF);
+    bytes.put_byte(marker.code());
 }
 
 /// The frame header: the bits of a sample (P), the lines, the samples of a line, and the components, numbered from 1
 /// (SOF55; T.87 C.2.2).
 #[tactic(auto, unfolding(crate::specs::Segments::header_contents))]
-pub fn put_frame_header(bytes: &mut Vec<u8>, frame: &Frame)
-    requires room { vec_len bytes.old + (10 + 3 * components frame.now.kind) ≤ vec_capacity bytes.old }
-    ensures bytes { bytes.new.items
-        ≡ bytes.old.items ++ segment Marker.StartOfFrame (header_contents (written_header frame.now)) }
-    ensures len { vec_len bytes.new ≡ vec_len bytes.old + (10 + 3 * components frame.now.kind) }
-    ensures capacity { vec_capacity bytes.new ≡ vec_capacity bytes.old }
+pub fn put_frame_header<R: Room>(bytes: &mut R, frame: &FrameView)
+    requires room { length (R.items bytes.old) + (10 + 3 * components frame.now.kind) ≤ R.capacity bytes.old }
+    ensures bytes { R.items bytes.new
+        ≡ R.items bytes.old ++ segment Marker.StartOfFrame (header_contents (written_header frame.now)) }
+    ensures len { length (R.items bytes.new) ≡ length (R.items bytes.old) + (10 + 3 * components frame.now.kind) }
+    ensures capacity { R.capacity bytes.new ≡ R.capacity bytes.old }
+    ensures grown { R.Grown bytes.old bytes.new }
 {
     let count = frame.kind().components();
     put_marker(bytes, Marker::StartOfFrame);
     put_field(bytes, 8 + 3 * u16::from(count));
-    bytes.push_reserved(precision(frame));
+    bytes.put_byte(precision(frame));
     put_field(bytes, frame.height());
     put_field(bytes, frame.width());
-    bytes.push_reserved(count);
+    bytes.put_byte(count);
     put_components(bytes, count);
 }
 
 /// Preset parameters, only where they have to be written (`needs_presets`).
-pub fn put_presets_if_needed(bytes: &mut Vec<u8>, presets: &Presets)
-    requires room { vec_len bytes.old + presets_length presets.now ≤ vec_capacity bytes.old }
-    ensures bytes { bytes.new.items ≡ bytes.old.items ++ miscellaneous_bytes (written_presets presets.now) }
-    ensures len { vec_len bytes.new ≡ vec_len bytes.old + presets_length presets.now }
-    ensures capacity { vec_capacity bytes.new ≡ vec_capacity bytes.old }
+pub fn put_presets_if_needed<R: Room>(bytes: &mut R, presets: &Presets)
+    requires room { length (R.items bytes.old) + presets_length presets.now ≤ R.capacity bytes.old }
+    ensures bytes { R.items bytes.new ≡ R.items bytes.old ++ miscellaneous_bytes (written_presets presets.now) }
+    ensures len { length (R.items bytes.new) ≡ length (R.items bytes.old) + presets_length presets.now }
+    ensures capacity { R.capacity bytes.new ≡ R.capacity bytes.old }
+    ensures grown { R.Grown bytes.old bytes.new }
 {
     if needs_presets(presets) {
         put_presets(bytes, presets);
@@ -67,52 +71,55 @@ pub fn presets_length(presets: &Presets) -> u64
 
 /// The header of a scan of one component, of this identifier (SOS; T.87 C.2.3).
 #[tactic(auto, unfolding(crate::specs::Segments::scan_contents))]
-pub fn put_scan_header(bytes: &mut Vec<u8>, id: u8)
-    requires room { vec_len bytes.old + 10 ≤ vec_capacity bytes.old }
-    ensures bytes { bytes.new.items ≡ bytes.old.items ++ segment Marker.StartOfScan (scan_contents id) }
-    ensures len { vec_len bytes.new ≡ vec_len bytes.old + 10 }
-    ensures capacity { vec_capacity bytes.new ≡ vec_capacity bytes.old }
+pub fn put_scan_header<R: Room>(bytes: &mut R, id: u8)
+    requires room { length (R.items bytes.old) + 10 ≤ R.capacity bytes.old }
+    ensures bytes { R.items bytes.new ≡ R.items bytes.old ++ segment Marker.StartOfScan (scan_contents id) }
+    ensures len { length (R.items bytes.new) ≡ length (R.items bytes.old) + 10 }
+    ensures capacity { R.capacity bytes.new ≡ R.capacity bytes.old }
+    ensures grown { R.Grown bytes.old bytes.new }
 {
     put_marker(bytes, Marker::StartOfScan);
     put_field(bytes, 8);
-    bytes.push_reserved(1);
-    bytes.push_reserved(id);
+    bytes.put_byte(1);
+    bytes.put_byte(id);
     put_field(bytes, 0);
     put_field(bytes, 0);
 }
 
 /// A field of two bytes.
-fn put_field(bytes: &mut Vec<u8>, field: u16)
-    requires room { vec_len bytes.old + 2 ≤ vec_capacity bytes.old }
-    ensures bytes { bytes.new.items ≡ bytes.old.items ++ two_bytes field }
-    ensures len { vec_len bytes.new ≡ vec_len bytes.old + 2 }
-    ensures capacity { vec_capacity bytes.new ≡ vec_capacity bytes.old }
+fn put_field<R: Room>(bytes: &mut R, field: u16)
+    requires room { length (R.items bytes.old) + 2 ≤ R.capacity bytes.old }
+    ensures bytes { R.items bytes.new ≡ R.items bytes.old ++ two_bytes field }
+    ensures len { length (R.items bytes.new) ≡ length (R.items bytes.old) + 2 }
+    ensures capacity { R.capacity bytes.new ≡ R.capacity bytes.old }
+    ensures grown { R.Grown bytes.old bytes.new }
 {
     let mut two = [0u8; 2];
     BigEndian::write_u16(&mut two, field);
-    bytes.push_reserved(two[0]);
-    bytes.push_reserved(two[1]);
+    bytes.put_byte(two[0]);
+    bytes.put_byte(two[1]);
 }
 
 /// P: the bits of a frame's samples.
-fn precision(frame: &Frame) -> u8
+fn precision(frame: &FrameView) -> u8
     ensures { result ≡ bpp_of frame.now.maxval }
 {
     Presets::default_of(frame.maxval()).bpp() as u8
 }
 
 /// Components, numbered from 1, with their sampling factors.
-fn put_components(bytes: &mut Vec<u8>, count: u8)
+fn put_components<R: Room>(bytes: &mut R, count: u8)
     requires few { count ≤ 3 }
-    requires room { vec_len bytes.old + 3 * count ≤ vec_capacity bytes.old }
-    ensures bytes { bytes.new.items ≡ bytes.old.items ++ flat_map component_bytes (map written_component (range_with_len 0 count)) }
-    ensures len { vec_len bytes.new ≡ vec_len bytes.old + 3 * count }
-    ensures capacity { vec_capacity bytes.new ≡ vec_capacity bytes.old }
+    requires room { length (R.items bytes.old) + 3 * count ≤ R.capacity bytes.old }
+    ensures bytes { R.items bytes.new ≡ R.items bytes.old ++ flat_map component_bytes (map written_component (range_with_len 0 count)) }
+    ensures len { length (R.items bytes.new) ≡ length (R.items bytes.old) + 3 * count }
+    ensures capacity { R.capacity bytes.new ≡ R.capacity bytes.old }
+    ensures grown { R.Grown bytes.old bytes.new }
 {
     for component in 0..count {
-        bytes.push_reserved(component + 1);
-        bytes.push_reserved(SAMPLED_ONE_BY_ONE);
-        bytes.push_reserved(0);
+        bytes.put_byte(component + 1);
+        bytes.put_byte(SAMPLED_ONE_BY_ONE);
+        bytes.put_byte(0);
     }
 }
 
@@ -125,25 +132,27 @@ fn needs_presets(presets: &Presets) -> bool
 
 /// Preset parameters (LSE with ID 1; T.87 C.2.4.1.1).
 #[tactic(auto, unfolding(crate::specs::Segments::presets_contents))]
-fn put_presets(bytes: &mut Vec<u8>, presets: &Presets)
-    requires room { vec_len bytes.old + 15 ≤ vec_capacity bytes.old }
-    ensures bytes { bytes.new.items ≡ bytes.old.items ++ segment Marker.PresetParameters (presets_contents presets.now) }
-    ensures len { vec_len bytes.new ≡ vec_len bytes.old + 15 }
-    ensures capacity { vec_capacity bytes.new ≡ vec_capacity bytes.old }
+fn put_presets<R: Room>(bytes: &mut R, presets: &Presets)
+    requires room { length (R.items bytes.old) + 15 ≤ R.capacity bytes.old }
+    ensures bytes { R.items bytes.new ≡ R.items bytes.old ++ segment Marker.PresetParameters (presets_contents presets.now) }
+    ensures len { length (R.items bytes.new) ≡ length (R.items bytes.old) + 15 }
+    ensures capacity { R.capacity bytes.new ≡ R.capacity bytes.old }
+    ensures grown { R.Grown bytes.old bytes.new }
 {
     put_marker(bytes, Marker::PresetParameters);
     put_field(bytes, 13);
-    bytes.push_reserved(1);
+    bytes.put_byte(1);
     put_parameters(bytes, presets);
 }
 
 /// MAXVAL, the thresholds and RESET.
-fn put_parameters(bytes: &mut Vec<u8>, presets: &Presets)
-    requires room { vec_len bytes.old + 10 ≤ vec_capacity bytes.old }
-    ensures bytes { let p = presets.now in bytes.new.items ≡ bytes.old.items
+fn put_parameters<R: Room>(bytes: &mut R, presets: &Presets)
+    requires room { length (R.items bytes.old) + 10 ≤ R.capacity bytes.old }
+    ensures bytes { let p = presets.now in R.items bytes.new ≡ R.items bytes.old
         ++ (two_bytes p.maxval ++ two_bytes p.t1 ++ two_bytes p.t2 ++ two_bytes p.t3 ++ two_bytes p.reset) }
-    ensures len { vec_len bytes.new ≡ vec_len bytes.old + 10 }
-    ensures capacity { vec_capacity bytes.new ≡ vec_capacity bytes.old }
+    ensures len { length (R.items bytes.new) ≡ length (R.items bytes.old) + 10 }
+    ensures capacity { R.capacity bytes.new ≡ R.capacity bytes.old }
+    ensures grown { R.Grown bytes.old bytes.new }
 {
     put_field(bytes, presets.maxval());
     put_field(bytes, presets.t1());

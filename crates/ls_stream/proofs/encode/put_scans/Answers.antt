@@ -9,16 +9,17 @@ use Rattle.ls_stream.proofs.encode.put_scans.Goals as goal
 
 pub loop-component-init : goal.loop-component-init
 unfolding scans_up_to
-loop-component-init c = record {
-  bytes = sym (append-nil c.args.bytes.items);
+loop-component-init g c = record {
+  bytes = sym (append-nil (g.R.Room.items c.args.bytes.now));
   room = let whole : components c.args.frame.now.kind - 0 ≡ components c.args.frame.now.kind = omega arith in rw whole c.requires.room;
   capacity = refl;
+  grown = g.met.R.Room.grown_not _;
   lines = refl;
   count = c.components-component-end.ensures ∙ ap components c.kind.ensures.value;
 }
 
-pub put_scan-bytes-requires-clause-room : goal.put_scan-bytes-requires-clause-room
-put_scan-bytes-requires-clause-room c =
+pub put_scan-requires-clause-room : goal.put_scan-requires-clause-room
+put_scan-requires-clause-room g c =
     omega (
       arith,
       c.loop-component.invariant.room,
@@ -27,18 +28,19 @@ put_scan-bytes-requires-clause-room c =
     )
 
 pub loop-component-preserved : goal.loop-component-preserved
-loop-component-preserved c = record {
-  bytes = scan_more c.args.frame.now c.args.presets.now c.args.bytes.items _ _ _ c.loop-component.component c.loop-component.invariant.bytes c.put_scan_header.ensures.bytes
-      (c.put_scan-bytes.ensures.bytes ∙ ap (λ n. c.put_scan_header.new.bytes.items ++ stuff (plane_bits c.args.presets.now (plane_of c.args.frame.now n))) c.from.ensures);
+loop-component-preserved g c = record {
+  bytes = scan_more c.args.frame.now c.args.presets.now (g.R.Room.items c.args.bytes.now) _ _ _ c.loop-component.component c.loop-component.invariant.bytes c.put_scan_header.ensures.bytes
+      (c.put_scan.ensures.bytes ∙ ap (λ n. g.R.Room.items c.put_scan_header.new.bytes ++ stuff (plane_bits c.args.presets.now (plane_of c.args.frame.now n))) c.from.ensures);
   room = omega (
     arith,
     c.loop-component.invariant.room,
     c.loop-component.invariant.count,
-    c.put_scan-bytes.ensures.short,
-    c.put_scan-bytes.ensures.capacity,
+    c.put_scan.ensures.short,
+    c.put_scan.ensures.capacity,
     room_left (components c.args.frame.now.kind) c.loop-component.component (10 + scan_bound c.args.frame.now c.args.presets.now) (omega (arith, c.loop-component.invariant.count)),
   );
-  capacity = omega (arith, c.loop-component.invariant.capacity, c.put_scan-bytes.ensures.capacity, c.put_scan_header.ensures.capacity);
+  capacity = omega (arith, c.loop-component.invariant.capacity, c.put_scan.ensures.capacity, c.put_scan_header.ensures.capacity);
+  grown = g.met.R.Room.grown_twice _ _ _ c.loop-component.invariant.grown (g.met.R.Room.grown_twice _ _ _ c.put_scan_header.ensures.grown c.put_scan.ensures.grown);
   lines = search rules;
   count = c.loop-component.invariant.count;
 }

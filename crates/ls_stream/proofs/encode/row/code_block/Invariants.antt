@@ -6,7 +6,7 @@ use Rattle.ls_stream.specs.View.LineBuffers.{AreLines}
 use Rattle.ls_stream.proofs.encode.row.code_block.Given as goal
 
 abbrev pub invariant-spans : goal.invariant-spans
-invariant-spans l = record {
+invariant-spans g l = record {
   row : (plane : Plane) (i : ℕ) → plane.width ≡ l.width → AreLines plane i l.above l.line → (more : List Span)
       → all_from plane l.coder.bits l.coder.state (row_from plane i l.column ++ more) ≡ all_from plane l.fn.coder.bits l.fn.coder.state (row_from plane i l.start ++ more);
   cost : length l.coder.bits + limit_of l.fn.coder.state.parameters.maxval * (l.width - l.column) ≤ length l.fn.coder.bits + limit_of l.fn.coder.state.parameters.maxval * (l.width - l.start);
@@ -15,7 +15,8 @@ invariant-spans l = record {
   parameters : l.coder.state.parameters ≡ l.fn.coder.state.parameters;
   front : l.coder.front ≡ l.fn.coder.front;
   room : l.coder.capacity_left ≡ l.fn.coder.capacity_left;
+  grown : g.R.Room.Grown l.fn.coder.room l.coder.room;
 }
 
 abbrev pub decreases-spans : goal.decreases-spans
-decreases-spans l = l.end - l.column
+decreases-spans g l = l.end - l.column

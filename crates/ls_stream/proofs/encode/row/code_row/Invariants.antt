@@ -6,7 +6,7 @@ use Rattle.ls_stream.specs.View.LineBuffers.{AreLines}
 use Rattle.ls_stream.proofs.encode.row.code_row.Given as goal
 
 abbrev pub invariant-columns : goal.invariant-columns
-invariant-columns l = record {
+invariant-columns g l = record {
   row : (plane : Plane) (i : ℕ) → plane.width ≡ l.width → AreLines plane i l.above l.line → (more : List Span)
       → all_from plane l.coder.bits l.coder.state (row_from plane i l.column ++ more) ≡ all_from plane l.fn.coder.bits l.fn.coder.state (row_from plane i 0 ++ more);
   cost : length l.coder.bits + limit_of l.fn.coder.state.parameters.maxval * (l.width - l.column) ≤ length l.fn.coder.bits + limit_of l.fn.coder.state.parameters.maxval * l.width;
@@ -16,7 +16,8 @@ invariant-columns l = record {
   parameters : l.coder.state.parameters ≡ l.fn.coder.state.parameters;
   front : l.coder.front ≡ l.fn.coder.front;
   room : l.coder.capacity_left ≡ l.fn.coder.capacity_left;
+  grown : g.R.Room.Grown l.fn.coder.room l.coder.room;
 }
 
 abbrev pub decreases-columns : goal.decreases-columns
-decreases-columns l = l.width - l.column
+decreases-columns g l = l.width - l.column

@@ -13,14 +13,14 @@ use Rattle.ls_stream.proofs.RowLemmas.{spent}
 use Rattle.ls_stream.proofs.encode.scan.code_rows.Goals as goal
 
 pub code_row-requires-clause-lines : goal.code_row-requires-clause-lines
-code_row-requires-clause-lines c =
+code_row-requires-clause-lines g c =
     subst (λ (p : Parameters). ArePadded p.maxval c.args.shape.width c.loop-row.above c.fill_line.new.line) (sym c.loop-row.invariant.parameters)
     (padded c.args.coder.now.state.parameters.maxval c.args.shape.width c.args.shape.components c.args.component (c.loop-row.row * (c.args.shape.width * c.args.shape.components)) c.args.samples.now c.row_of-pixels.result.now _ _ c.requires.some
     c.loop-row.invariant.above_length (omega (arith, c.fill_line.auto.line, c.loop-row.invariant.line_length)) c.loop-row.invariant.small c.row_of-pixels.ensures.len c.row_of-pixels.ensures.samples c.requires.small
     c.fill_line.ensures.left c.fill_line.ensures.samples c.fill_line.ensures.right)
 
 pub code_row-requires-clause-room : goal.code_row-requires-clause-room
-code_row-requires-clause-room c =
+code_row-requires-clause-room g c =
     let limit = limit_of c.args.coder.now.state.parameters.maxval in
     let rows : c.args.shape.width * 1 ≤ c.args.shape.width * (c.args.shape.height - c.loop-row.row) = mul-le c.args.shape.width 1 c.args.shape.width (c.args.shape.height - c.loop-row.row) (omega arith) (omega arith) in
     let one : limit * (c.args.shape.width * 1) ≤ limit * (c.args.shape.width * (c.args.shape.height - c.loop-row.row)) = mul-le limit (c.args.shape.width * 1) limit (c.args.shape.width * (c.args.shape.height - c.loop-row.row)) (omega arith) rows in
@@ -28,7 +28,7 @@ code_row-requires-clause-room c =
     (omega (arith, c.loop-row.invariant.cost, c.loop-row.invariant.room, c.requires.room))
 
 pub loop-row-preserved : goal.loop-row-preserved
-loop-row-preserved c =
+loop-row-preserved g c =
     let samples = c.args.samples.now in
     let plane : Plane = component_plane c.args.shape.width c.args.shape.components c.args.component samples in
     let row = c.loop-row.row in
@@ -72,4 +72,5 @@ loop-row-preserved c =
       parameters = c.code_row.ensures.parameters ∙ c.loop-row.invariant.parameters;
       front = c.code_row.ensures.front ∙ c.loop-row.invariant.front;
       room = c.code_row.ensures.room ∙ c.loop-row.invariant.room;
+      grown = g.met.R.Room.grown_twice _ _ _ c.loop-row.invariant.grown c.code_row.ensures.grown;
     }

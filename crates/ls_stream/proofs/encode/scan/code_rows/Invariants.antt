@@ -7,7 +7,7 @@ use Rattle.ls_stream.specs.View.LineBuffers.{HoldsLine}
 use Rattle.ls_stream.proofs.encode.scan.code_rows.Given as goal
 
 abbrev pub invariant-loop-row : goal.invariant-loop-row
-invariant-loop-row l = record {
+invariant-loop-row g l = record {
   rows : (more : List Span) → all_from (component_plane l.shape.width l.shape.components l.component l.samples) l.coder.bits l.coder.state (rows_from (component_plane l.shape.width l.shape.components l.component l.samples) (l.shape.height - l.row) l.row ++ more)
       ≡ all_from (component_plane l.shape.width l.shape.components l.component l.samples) l.fn.coder.bits l.fn.coder.state (rows_from (component_plane l.shape.width l.shape.components l.component l.samples) l.shape.height 0 ++ more);
   held : HoldsLine (component_plane l.shape.width l.shape.components l.component l.samples) l.row l.above;
@@ -19,4 +19,5 @@ invariant-loop-row l = record {
   parameters : l.coder.state.parameters ≡ l.fn.coder.state.parameters;
   front : l.coder.front ≡ l.fn.coder.front;
   room : l.coder.capacity_left ≡ l.fn.coder.capacity_left;
+  grown : g.R.Room.Grown l.fn.coder.room l.coder.room;
 }

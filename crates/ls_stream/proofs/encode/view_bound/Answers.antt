@@ -4,7 +4,7 @@ use Rattle.ls_frame.specs.Picture.{components}
 use Rattle.ls_stream.specs.Layout.{codestream, headers_length, bound}
 use Rattle.ls_stream.proofs.FrameLemmas.{few_components}
 use Rattle.ls_stream.proofs.LengthLemmas.{within_bound, bound_small}
-use Rattle.ls_stream.proofs.encode.code_bound.Goals as goal
+use Rattle.ls_stream.proofs.encode.view_bound.Goals as goal
 
 pub overflow_add-result : goal.overflow_add-result
 overflow_add-result c =
