@@ -447,10 +447,10 @@ frame_has_outline bytes f header p opened left put = record {
 
 -- ---- what any outline of the bytes says
 
-record IsThatOutline (header : FrameHeader) (p : Parameters) (opened left : List ℕ) (o : Outline) : Type 0 where
-  header_is : o.header ≡ header
-  parameters_are : o.parameters ≡ p
-  scans_are : scans_at (drop 1 (ids_in header)) opened ≡ Ok (o.scans, left)
+pub record IsThatOutline (header : FrameHeader) (p : Parameters) (opened left : List ℕ) (o : Outline) : Type 0 where
+  pub header_is : o.header ≡ header
+  pub parameters_are : o.parameters ≡ p
+  pub scans_are : scans_at (drop 1 (ids_in header)) opened ≡ Ok (o.scans, left)
 
 abbrev Opened : Type 0
 Opened = FrameHeader × Parameters × List ℕ
@@ -462,7 +462,7 @@ made_of x found = Ok (outline x.0 x.1 found.0, found.1)
 abbrev opened_outline : Opened → Take Outline
 opened_outline x = scans_at (drop 1 (ids_in x.0)) x.2 >>= made_of x
 
-that_outline : (bytes : List ℕ) (header : FrameHeader) (p : Parameters) (opened left : List ℕ) (o : Outline) → opening_at bytes ≡ Ok (header, p, opened)
+pub that_outline : (bytes : List ℕ) (header : FrameHeader) (p : Parameters) (opened left : List ℕ) (o : Outline) → opening_at bytes ≡ Ok (header, p, opened)
     → outline_at bytes ≡ Ok (o, left) → IsThatOutline header p opened left o
 unfolding outline_at
 that_outline bytes header p opened left o e f =

@@ -35,6 +35,7 @@ pub mod NextStopLaws
 pub mod OneBreakLemmas
 pub mod OneFaultLemmas
 pub mod OneRunLemmas
+pub mod OpeningLemmas
 pub mod OutlineLemmas
 pub mod PlaceLemmas
 pub mod PlaneLaws

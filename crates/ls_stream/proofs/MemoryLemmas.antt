@@ -1,5 +1,5 @@
 -- Reading all before the data of the first scan allocates nothing: no fault of it is NoMemory.
-use Rattle.std.proofs.Common.{◌≡◌, ◌≢◌, ℕ, zero, suc, Bool, true, false, List, [], ◌∷◌, length, Option, None, Some, Result, Ok, Err, ap}
+use Rattle.std.proofs.Common.{◌≡◌, ◌≢◌, ℕ, zero, suc, Bool, true, false, List, [], ◌∷◌, length, Option, None, Some, Result, Ok, Err, inl, inr, drop, ap}
 use Rattle.std.specs.Prelude.{◌+◌, ◌*◌, ◌&&◌, ◌==◌, not, nat_le, nat_lt, if◌then◌else◌, slice_index}
 use Rattle.ls_frame.specs.declared.frame.Kind.{Kind}
 use Rattle.ls_frame.specs.declared.frame.Kind.TheVariants.{Gray, Color}
@@ -11,10 +11,12 @@ use Rattle.ls_stream.specs.declared.faults.StreamFault.TheVariants.{Truncated, N
 use Rattle.ls_stream.specs.declared.faults.What.TheVariants as what
 use Rattle.ls_stream.specs.declared.marker.Marker.{Marker}
 use Rattle.ls_stream.specs.declared.marker.Marker.TheVariants.{StartOfImage, EndOfImage, StartOfScan, StartOfFrame, PresetParameters, Application, Comment, Other}
+use Rattle.ls_bits.specs.declared.data.Stop.{Stop}
 use Rattle.ls_stream.specs.Segments.{field_of}
-use Rattle.ls_stream.specs.Grammar.{parameters_of, most_bytes}
-use Rattle.ls_stream.specs.View.Reading.{◌>>=◌, wanted, byte_at, start_at, code_at, marker_at, contents_at, kind_of_count, id_of, ids_of, frame_header_of, preset_fields_of, scan_header_of, skipped_at, presets_at, after_marker, part_at, Ahead, unless_marker, ahead_within, ahead_at, frame_header_at, scan_header_at, or_bad_presets, opening_at}
-use Rattle.ls_stream.specs.View.Outlines.{past_most, fault_of}
+use Rattle.ls_stream.specs.Grammar.{parameters_of, no_presets, most_bytes}
+use Rattle.ls_stream.specs.View.FirstFaults.{BreaksData, wrong_code, marker_early, input_ends, leftover}
+use Rattle.ls_stream.specs.View.Reading.{◌>>=◌, wanted, byte_at, start_at, code_at, marker_at, contents_at, kind_of_count, id_of, ids_of, frame_header_of, preset_fields_of, scan_header_of, skipped_at, presets_at, after_marker, part_at, Ahead, unless_marker, ahead_within, ahead_at, frame_header_at, scan_header_at, or_bad_presets, opening_at, next_scan_at, end_at}
+use Rattle.ls_stream.specs.View.Outlines.{past_most, fault_of, after_data, ids_in, ScansStop, DecodingStops, at_opening, at_scans}
 use Rattle.ls_stream.proofs.StepLemmas.{same_fault}
 
 -- it doesn't fail with NoMemory
@@ -224,3 +226,30 @@ only_memory true NoMemory e = e
 -- it is NoMemory of all bytes only if it is that of the first
 pub memory_of_first : (bytes : List ℕ) (fault : StreamFault) → fault_of bytes fault ≡ NoMemory → fault ≡ NoMemory
 memory_of_first bytes fault e = only_memory (nat_lt most_bytes (length bytes)) fault e
+
+-- ---- after the opening
+
+next_scan : (id : ℕ) (bytes : List ℕ) → NeedsNone (next_scan_at id bytes)
+unfolding next_scan_at
+next_scan id bytes = step (scan_header_at true no_presets id bytes) _ (scan_header true no_presets id bytes) (λ scan. value _)
+
+end : (bytes : List ℕ) → NeedsNone (end_at bytes)
+unfolding end_at
+end bytes = step (ahead_at true no_presets bytes) _ (ahead true no_presets bytes) (λ next. test _ BadSegment _ bad_segment (value _))
+
+data_needs_none : (p : Parameters) (width height component : ℕ) (stuffed : List ℕ) (stop : Stop) → BreaksData p width height component stuffed stop NoMemory → ⊥
+data_needs_none p width height component stuffed stop (wrong_code breaks e) = absurd cc
+data_needs_none p width height component stuffed stop (marker_early breaks ends e) = absurd cc
+data_needs_none p width height component stuffed stop (input_ends breaks ends e) = absurd cc
+data_needs_none p width height component stuffed stop (leftover bits e) = absurd cc
+
+scans_need_none : (p : Parameters) (width height component : ℕ) (later bytes : List ℕ) → ScansStop p width height component later bytes NoMemory → ⊥
+scans_need_none p width height component [] bytes (inl breaks) = data_needs_none p width height component _ _ breaks
+scans_need_none p width height component [] bytes (inr after) = end (after_data bytes) after.1
+scans_need_none p width height component (id ∷ later) bytes (inl breaks) = data_needs_none p width height component _ _ breaks
+scans_need_none p width height component (id ∷ later) bytes (inr (plane, inl header)) = next_scan id (after_data bytes) header
+scans_need_none p width height component (id ∷ later) bytes (inr (plane, inr more)) = scans_need_none p width height (component + 1) later more.0 more.2
+
+pub decoding_needs_none : (bytes : List ℕ) → DecodingStops bytes NoMemory → ⊥
+decoding_needs_none bytes (at_opening e) = opening_needs_none bytes e
+decoding_needs_none bytes (at_scans header p rest e stops) = scans_need_none p header.width header.height 0 (drop 1 (ids_in header)) rest stops

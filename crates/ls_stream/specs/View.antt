@@ -5,6 +5,7 @@ pub mod Decoding
 pub mod Extents
 pub mod FirstFaults
 pub mod LineBuffers
+pub mod Openings
 pub mod Outlines
 pub mod Places
 pub mod Reading

@@ -12,7 +12,7 @@ ghost use Rattle.ls_stream.specs.Components.{component_plane};
 ghost use Rattle.ls_stream.specs.Grammar.{IsCoded, Spells, most_bytes};
 ghost use Rattle.ls_stream.specs.Faults.{BeginsWithOpening};
 ghost use Rattle.ls_stream.specs.View.FirstFaults.{BreaksData};
-ghost use Rattle.ls_stream.specs.View.Reading.{next_scan_at, end_at, HasOpening};
+ghost use Rattle.ls_stream.specs.View.Reading.{opening_at};
 ghost use Rattle.ls_stream.specs.View.Outlines.{Outline, IsOutlineOf, ids_in, scans_at, outline_at, data_at, after_data, ScansStop, DecodingStops, IsFirstFault};
 ghost use Rattle.ls_stream.specs.View.Decoding.{AreScansOf, NoScans, fault_in, picture};
 
@@ -24,8 +24,9 @@ use crate::segments::read::FrameHeader;
 use crate::shape::Shape;
 use ls_bits::{CodeFault, Stop, data_of};
 use ls_coding::Regions;
-use ls_frame::{Frame, Presets};
+use ls_frame::{Frame, Kind, Presets};
 use std::alloc::Global;
+use std::marker::Model;
 
 /// A frame that was decoded.
 #[derive(Drop)]
@@ -56,51 +57,192 @@ pub fn decode_frame(alloc: Global, bytes: &[u8]) -> Result<Decoded, StreamFault>
         → MatchResult result (λ decoded. (decoded.frame ≡ f) × (decoded.used ≡ length front)) (λ fault. fault ≡ StreamFault.NoMemory) }
     ensures memory { IfErr result (λ fault. fault ≡ StreamFault.NoMemory → BeginsWithOpening (take most_bytes bytes.now)) }
 {
-    let first = first_bytes(bytes);
-    match decode_first(alloc, first) {
-        Ok(decoded) => Ok(decoded),
-        Err(fault) => Err(fault_of(bytes, fault)),
-    }
-}
-
-/// As `decode_frame`, for no more bytes than a codestream may have.
-fn decode_first(alloc: Global, bytes: &[u8]) -> Result<Decoded, StreamFault>
-    ensures ok { IfOk result (λ decoded. (o : Outline) × (left : List ℕ) × (outline_at bytes.now ≡ Ok (o, left))
-        × IsFrame decoded.frame × IsOutlineOf decoded.frame o × (decoded.used + length left ≡ length bytes.now)) }
-    ensures only { IfOk result (λ decoded. (o : Outline) (left : List ℕ) (f : Picture) → outline_at bytes.now ≡ Ok (o, left)
-        → IsFrame f → IsOutlineOf f o → decoded.frame ≡ f) }
-    ensures none { IfErr result (λ fault. (fault ≡ StreamFault.NoMemory)
-        ⊎ ((o : Outline) (left : List ℕ) (f : Picture) → outline_at bytes.now ≡ Ok (o, left) → IsFrame f → IsOutlineOf f o → ⊥)) }
-    ensures stops { IfErr result (λ fault. (fault ≡ StreamFault.NoMemory) ⊎ DecodingStops bytes.now fault) }
-    ensures memory { IfErr result (λ fault. fault ≡ StreamFault.NoMemory → HasOpening bytes.now) }
-{
-    let (header, presets, rest) = match read_opening(bytes) {
+    let opening = match Opening::read(bytes) {
         Ok(opening) => opening,
         Err(fault) => return Err(fault),
     };
-    let shape = shape_of(&header);
-    let mut lines = DecoderLines::new(alloc, header.width)?;
-    let regions = Regions::new(alloc, &presets)?;
-    let mut samples = vec![in alloc; 0u16; shape.height * shape.width * shape.components]?;
-    let rest = decode_scans(&presets, &regions, &header, &mut lines, &mut samples, rest)?;
+    let mut lines = DecoderLines::new(alloc, opening.width())?;
+    let regions = Regions::new(alloc, opening.presets())?;
+    let mut samples = vec![in alloc; 0u16; opening.sample_count()]?;
+    let used = match opening.decode(&mut lines, &regions, &mut samples) {
+        Ok(used) => used,
+        Err(fault) => return Err(fault),
+    };
     Ok(Decoded {
-        frame: frame_of(&header, &presets, samples),
-        used: bytes.len() - rest.len(),
+        frame: opening.frame_of(samples),
+        used,
     })
 }
 
-/// The frame of a header, with these samples.
-fn frame_of(header: &FrameHeader, presets: &Presets, samples: Vec<u16>) -> Frame
-    requires { IsFrame (picture header.now presets.now.maxval samples.items) }
-    ensures { result ≡ picture header.now presets.now.maxval samples.items }
+/// What stands before the data of a codestream's first scan: SOI, the frame header, the coding parameters and the header of the first
+/// component's scan, with the miscellaneous segments between them (T.87 Annex C). It says the form of the frame.
+#[derive(Drop)]
+pub struct Opening<'a> {
+    header: FrameHeader,
+    presets: Presets,
+    /// The bytes that it was read off.
+    bytes: &'a [u8],
+    /// What is left of the first of them, as many as a codestream may have.
+    rest: &'a [u8],
+}
+
+impl<'a> Model for Opening<'a> {
+    ghost use Rattle.ls_stream.specs.View.Openings.{Opened, IsOpening};
+
+    ghost Value = { Opened };
+
+    ghost view = { λ o. record { bytes = o.bytes.now; kind = o.header.kind; width = o.header.width; height = o.header.height; parameters = o.presets } };
+
+    ghost invariant = { λ o. IsOpening o.bytes.now o.header o.presets o.rest.now };
+}
+
+impl<'a> Opening<'a> {
+    ghost use Rattle.ls_stream.specs.View.Openings.{IsOfForm, picture_of};
+
+    /// The opening at the front of bytes. It looks at no sample, and allocates nothing.
+    ///
+    /// If any front of the bytes is a codestream of a frame, its form is the frame's. Where this fails no front is one, and the fault
+    /// is the first from the left, as `decode_frame` says it.
+    pub fn read(bytes: &'a [u8]) -> Result<Opening<'a>, StreamFault>
+        ensures bytes { IfOk result (λ opening. opening.bytes ≡ bytes.now) }
+        ensures begins { IfOk result (λ opening. BeginsWithOpening (take most_bytes bytes.now)) }
+        ensures form { IfOk result (λ opening. (front rest : List ℕ) (f : Picture) → bytes.now ≡ front ++ rest → Spells front f
+            → IsOfForm opening f) }
+        ensures none { IfErr result (λ fault. (front rest : List ℕ) (f : Picture) → bytes.now ≡ front ++ rest → Spells front f → ⊥) }
+        ensures first { IfErr result (λ fault. IsFirstFault bytes.now fault) }
+        ensures memory { IfErr result (λ fault. fault ≢ StreamFault.NoMemory) }
+    {
+        match read_opening(first_bytes(bytes)) {
+            Ok(opening) => Ok(Opening {
+                header: opening.0,
+                presets: opening.1,
+                bytes,
+                rest: opening.2,
+            }),
+            Err(fault) => Err(fault_of(bytes, fault)),
+        }
+    }
+
+    /// Gray or colour.
+    pub fn kind(&self) -> Kind
+        ensures { result ≡ self.now.kind }
+    {
+        self.header.kind
+    }
+
+    /// Pixels in a row, 1 to 65535.
+    pub fn width(&self) -> u16
+        ensures value { result ≡ self.now.width }
+        ensures some { 0 < result }
+    {
+        self.header.width
+    }
+
+    /// Rows, 1 to 65535.
+    pub fn height(&self) -> u16
+        ensures value { result ≡ self.now.height }
+        ensures some { 0 < result }
+    {
+        self.header.height
+    }
+
+    /// The parameters that it is coded with; their maxval is the frame's.
+    pub fn presets(&self) -> &Presets
+        ensures { result.now ≡ self.now.parameters }
+    {
+        &self.presets
+    }
+
+    /// How many samples the frame has, in all components together, 1 to 2^28.
+    pub fn sample_count(&self) -> usize
+        ensures value { result ≡ sample_count self.now.kind self.now.width self.now.height }
+        ensures few { result ≤ most_samples }
+    {
+        let shape = shape_of(&self.header);
+        shape.width * shape.height * shape.components
+    }
+
+    /// Decodes the frame into its samples, row by row from the top, pixel by pixel, component by component. Answers how many bytes the
+    /// codestream has. It allocates nothing.
+    ///
+    /// It requires as many places as the frame has samples, none of which is over maxval (zeros, for one), lines at least as wide as
+    /// the frame, and the regions of the opening's parameters. On a fault, which is as `decode_frame` says it and never NoMemory,
+    /// nothing is said of the places.
+    pub fn decode(
+        &self,
+        lines: &mut DecoderLines,
+        regions: &Regions,
+        samples: &mut [u16],
+    ) -> Result<usize, StreamFault>
+        requires regions { regions.now ≡ self.now.parameters }
+        requires width { self.now.width ≤ lines.old }
+        requires samples { length samples.old ≡ sample_count self.now.kind self.now.width self.now.height }
+        requires small { (k : ℕ) → slice_index samples.old k ≤ self.now.parameters.maxval }
+        ensures ok { IfOk result (λ used. (used ≤ length self.now.bytes) × Spells (take used self.now.bytes) (picture_of self.now samples.new)) }
+        ensures complete { (front rest : List ℕ) (f : Picture) → self.now.bytes ≡ front ++ rest → Spells front f
+            → MatchResult result (λ used. (picture_of self.now samples.new ≡ f) × (used ≡ length front)) (λ fault. ⊥) }
+        ensures first { IfErr result (λ fault. IsFirstFault self.now.bytes fault) }
+        ensures memory { IfErr result (λ fault. fault ≢ StreamFault.NoMemory) }
+    {
+        let first = first_bytes(self.bytes);
+        match decode_opened(
+            first,
+            (self.header, self.presets, self.rest),
+            lines,
+            regions,
+            samples,
+        ) {
+            Ok(used) => Ok(used),
+            Err(fault) => Err(fault_of(self.bytes, fault)),
+        }
+    }
+
+    /// The frame of this form with these samples. It looks at none.
+    pub fn frame_of(&self, samples: Vec<u16>) -> Frame
+        requires { IsFrame (picture_of self.now samples.items) }
+        ensures { result ≡ picture_of self.now samples.items }
+    {
+        Frame::from_parts(
+            self.header.kind,
+            self.header.width,
+            self.header.height,
+            self.presets.maxval(),
+            samples,
+        )
+    }
+}
+
+/// Reads the scans after an opening, which was read off the front of no more bytes than a codestream may have.
+fn decode_opened(
+    bytes: &[u8],
+    opening: (FrameHeader, Presets, &[u8]),
+    lines: &mut DecoderLines,
+    regions: &Regions,
+    samples: &mut [u16],
+) -> Result<usize, StreamFault>
+    requires opening { opening_at bytes.now ≡ Ok (opening.0, opening.1, opening.2.now) }
+    requires some_width { 0 < opening.0.width }
+    requires some_height { 0 < opening.0.height }
+    requires few { sample_count opening.0.kind opening.0.width opening.0.height ≤ most_samples }
+    requires regions { regions.now ≡ opening.1 }
+    requires width { opening.0.width ≤ lines.old }
+    requires samples { length samples.old ≡ sample_count opening.0.kind opening.0.width opening.0.height }
+    requires small { (k : ℕ) → slice_index samples.old k ≤ opening.1.maxval }
+    ensures ok { IfOk result (λ used. (o : Outline) × (left : List ℕ) × (outline_at bytes.now ≡ Ok (o, left))
+        × IsFrame (picture opening.entry.0 opening.entry.1.maxval samples.new) × IsOutlineOf (picture opening.entry.0 opening.entry.1.maxval samples.new) o
+        × (used + length left ≡ length bytes.now)) }
+    ensures only { IfOk result (λ used. (o : Outline) (left : List ℕ) (f : Picture) → outline_at bytes.now ≡ Ok (o, left)
+        → IsFrame f → IsOutlineOf f o → picture opening.entry.0 opening.entry.1.maxval samples.new ≡ f) }
+    ensures none { IfErr result (λ fault. (o : Outline) (left : List ℕ) (f : Picture) → outline_at bytes.now ≡ Ok (o, left)
+        → IsFrame f → IsOutlineOf f o → ⊥) }
+    ensures stops { IfErr result (λ fault. DecodingStops bytes.now fault) }
 {
-    Frame::from_parts(
-        header.kind,
-        header.width,
-        header.height,
-        presets.maxval(),
-        samples,
-    )
+    let (header, presets, rest) = opening;
+    prove!(presets.maxval() > 0);
+    match decode_scans(&presets, regions, &header, lines, samples, rest) {
+        Ok(left) => Ok(bytes.len() - left.len()),
+        Err(fault) => Err(fault),
+    }
 }
 
 /// Reads the scans of all components, of which the first one's header was read, into the samples; answers what is left after EOI.

@@ -19,7 +19,7 @@
 //! ```
 //!
 //! `encode_with` codes with parameters that were chosen. `next_stream` takes one codestream after the other off a
-//! reader.
+//! reader. `encode_into` and `Opening` code in memory of the caller's, and allocate nothing.
 //!
 //! In reading order: `encode` (frames to codestreams), and in it `scan` (the rows of a component), `row` (a row, from
 //! left to right), `coder` (one event, as bits); `decode`, its mirror image, and in it `markers` (what stands around
@@ -40,8 +40,9 @@ pub mod next;
 mod segments;
 mod shape;
 
-pub use buffers::Lines;
-pub use decode::{Decoded, decode_frame};
+pub use buffers::{DecoderLines, Lines};
+pub use decode::{Decoded, Opening, decode_frame};
 pub use encode::{code_bound, encode_frame, encode_into, encode_with, encode_within, view_bound};
 pub use faults::{StreamFault, What};
+pub use ls_coding::Regions;
 pub use next::{NextFault, next_stream};

@@ -1,0 +1,32 @@
+-- What an opening says of the frame.
+use Rattle.std.proofs.Common.{◌≡◌, ℕ, List, ◌++◌, take, Ok, sym, ◌∙◌, ap}
+use Rattle.ls_frame.specs.Picture.{Picture, IsFrame}
+use Rattle.ls_frame.specs.Parameters.{Parameters}
+use Rattle.ls_stream.specs.declared.segments.read.FrameHeader.{FrameHeader}
+use Rattle.ls_stream.specs.Grammar.{Spells, most_bytes}
+use Rattle.ls_stream.specs.View.Reading.{opening_at}
+use Rattle.ls_stream.specs.View.Outlines.{Outline, IsOutlineOf, outline_at}
+use Rattle.ls_stream.specs.View.Openings.{IsOfForm}
+use Rattle.ls_stream.proofs.FrameReadingLemmas.{IsFoundAt, found_at, that_outline}
+
+-- no front is a codestream where no outline says a frame
+pub no_front : (bytes first : List ℕ) → first ≡ take most_bytes bytes
+    → ((o : Outline) (left : List ℕ) (f : Picture) → outline_at first ≡ Ok (o, left) → IsFrame f → IsOutlineOf f o → ⊥)
+    → (front rest : List ℕ) (f : Picture) → bytes ≡ front ++ rest → Spells front f → ⊥
+no_front bytes first same none front rest f e spelled =
+    let there : IsFoundAt bytes front f = found_at bytes front rest f e spelled in
+    none there.o there.left f (ap outline_at same ∙ there.outline_is) there.frame there.says
+
+-- a frame that a front is a codestream of has the form of the opening
+pub of_form : (bytes first : List ℕ) (header : FrameHeader) (p : Parameters) (opened : List ℕ) → first ≡ take most_bytes bytes
+    → opening_at first ≡ Ok (header, p, opened) → (front rest : List ℕ) (f : Picture) → bytes ≡ front ++ rest → Spells front f
+    → IsOfForm (record { bytes = bytes; kind = header.kind; width = header.width; height = header.height; parameters = p }) f
+of_form bytes first header p opened same e front rest f split spelled =
+    let there : IsFoundAt bytes front f = found_at bytes front rest f split spelled in
+    let that = that_outline (take most_bytes bytes) header p opened there.left there.o (ap opening_at (sym same) ∙ e) there.outline_is in
+    record {
+      kind = sym there.says.kind ∙ ap (λ (h : FrameHeader). h.kind) that.header_is;
+      width = sym there.says.width ∙ ap (λ (h : FrameHeader). h.width) that.header_is;
+      height = sym there.says.height ∙ ap (λ (h : FrameHeader). h.height) that.header_is;
+      maxval = sym there.says.maxval ∙ ap (λ (q : Parameters). q.maxval) that.parameters_are;
+    }

@@ -1,0 +1,42 @@
+-- What stands before the data of a codestream's first scan, once it was read.
+use Rattle.std.specs.Prelude.{◌≡◌, ℕ, ◌<◌, ◌≤◌, List, take, Ok}
+use Rattle.ls_frame.specs.declared.frame.Kind.{Kind}
+use Rattle.ls_frame.specs.Picture.{Picture, sample_count, most_samples}
+use Rattle.ls_frame.specs.Parameters.{Parameters}
+use Rattle.ls_bits.specs.Bits.{AreBytes}
+use Rattle.ls_stream.specs.declared.segments.read.FrameHeader.{FrameHeader}
+use Rattle.ls_stream.specs.Grammar.{most_bytes}
+use Rattle.ls_stream.specs.View.Reading.{opening_at}
+
+-- what an opening is seen as: the bytes that it stands in front of, the form of its frame, and the coding parameters
+pub record Opened : Type 0 where
+  pub bytes : List ℕ
+  pub kind : Kind
+  pub width : ℕ
+  pub height : ℕ
+  pub parameters : Parameters
+
+-- it was read off the first bytes, as many as a codestream may have, and left these
+pub record IsOpening (bytes : List ℕ) (header : FrameHeader) (p : Parameters) (rest : List ℕ) : Type 0 where
+  pub are : AreBytes bytes
+  pub read : opening_at (take most_bytes bytes) ≡ Ok (header, p, rest)
+  pub width : 0 < header.width
+  pub height : 0 < header.height
+  pub few : sample_count header.kind header.width header.height ≤ most_samples
+
+-- a frame of the form that an opening says
+pub record IsOfForm (opened : Opened) (f : Picture) : Type 0 where
+  pub kind : f.kind ≡ opened.kind
+  pub width : f.width ≡ opened.width
+  pub height : f.height ≡ opened.height
+  pub maxval : f.maxval ≡ opened.parameters.maxval
+
+-- the picture of that form with these samples
+abbrev pub picture_of : Opened → List ℕ → Picture
+picture_of opened samples = record {
+  kind = opened.kind;
+  width = opened.width;
+  height = opened.height;
+  maxval = opened.parameters.maxval;
+  samples = samples;
+}
