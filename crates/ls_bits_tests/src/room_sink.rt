@@ -1,5 +1,5 @@
 use crate::testing::check_bytes;
-use ls_bits::RoomSink;
+use ls_bits::{RoomSink, SliceRoom};
 
 #[test]
 fn bits_go_after_the_bytes_that_were_there(rt: HostRuntime) {
@@ -18,4 +18,15 @@ fn bits_go_after_the_bytes_that_were_there(rt: HostRuntime) {
     check_bytes(&rt, &filled, &[0x07, 0xff, 0x40]);
     // The memory is that of before: nothing was allocated.
     assert_eq!(rt; filled.capacity(), capacity);
+}
+
+#[test]
+fn bits_go_into_a_slice_and_leave_the_places_behind_them(rt: HostRuntime) {
+    let mut places = [0x11u8; 4];
+    let mut sink = RoomSink::new(SliceRoom::new(&mut places));
+    sink.put(255, 8);
+    sink.put(1, 1);
+    let room = sink.finish();
+    check_bytes(&rt, &room.places[..room.len], &[0xff, 0x40]);
+    check_bytes(&rt, &room.places[room.len..], &[0x11, 0x11]);
 }

@@ -1,5 +1,5 @@
 use crate::testing::{Parts, check, check_items, frame_of};
-use ls_frame::{Frame, FrameFault, Kind};
+use ls_frame::{Frame, FrameFault, FrameView, Kind};
 use std::alloc::{AllocError, Global};
 use std::process::Abort;
 
@@ -31,6 +31,7 @@ const REFUSED: [(Parts<'static>, FrameFault); 10] = [
 /// That parts make no frame for this reason, and that their samples come back.
 fn check_refused(rt: &impl Abort, alloc: Global, i: usize, parts: &Parts<'_>, want: FrameFault) {
     let (kind, width, height, maxval, samples) = *parts;
+    check_view_refused(rt, i, parts, want);
     let Ok(given) = samples.to_vec(alloc) else {
         return;
     };
@@ -43,6 +44,15 @@ fn check_refused(rt: &impl Abort, alloc: Global, i: usize, parts: &Parts<'_>, wa
             &(fault, returned.as_slice()),
             &(want, samples),
         ),
+    }
+}
+
+/// That parts make no view either, for the same reason.
+fn check_view_refused(rt: &impl Abort, i: usize, parts: &Parts<'_>, want: FrameFault) {
+    let (kind, width, height, maxval, samples) = *parts;
+    match FrameView::new(kind, width, height, maxval, samples) {
+        Ok(_) => panic!(rt; "parts {i} make a view"),
+        Err(fault) => check(rt, "a view's fault", i, &fault, &want),
     }
 }
 
@@ -68,6 +78,17 @@ fn check_parts(rt: &impl Abort, i: usize, frame: &Frame, parts: &Parts<'_>) {
     check(rt, "the height", i, &frame.height(), &height);
     check(rt, "maxval", i, &frame.maxval(), &maxval);
     check_items(rt, "the samples", i, frame.samples(), samples);
+    check_view(rt, i, &frame.view(), parts);
+}
+
+/// That a view has these parts.
+fn check_view(rt: &impl Abort, i: usize, view: &FrameView<'_>, parts: &Parts<'_>) {
+    let (kind, width, height, maxval, samples) = *parts;
+    check(rt, "the view's kind", i, &view.kind(), &kind);
+    check(rt, "its width", i, &view.width(), &width);
+    check(rt, "its height", i, &view.height(), &height);
+    check(rt, "its maxval", i, &view.maxval(), &maxval);
+    check_items(rt, "its samples", i, view.samples(), samples);
 }
 
 #[test]

@@ -5,7 +5,9 @@ use crate::testing::{
     Chance, PICTURES, Parts, Picture, Shape, drawn_frame, frame_of, longest_line, parts_of,
 };
 use ls_frame::{Frame, Kind, PresetFault, Presets, Tuning};
-use ls_stream::{Decoded, StreamFault, What, decode_frame, encode_with};
+use ls_stream::{
+    Decoded, DecoderLines, Opening, Regions, StreamFault, What, decode_frame, encode_with,
+};
 use std::alloc::{AllocError, Global};
 use std::process::Abort;
 use std::test::Fail;
@@ -24,7 +26,41 @@ fn check_answer(
         Ok(Decoded { frame, used }) => Ok((parts_of(frame), *used)),
         Err(fault) => Err(*fault),
     };
+    check_parts(rt, name, got, want);
+}
+
+/// That these are the parts.
+fn check_parts(rt: &impl Abort, name: &str, got: Answer<'_>, want: Answer<'_>) {
     assert_eq!(rt; got, want, "{name}");
+}
+
+/// That bytes are decoded to this in places of the caller's.
+fn check_opened(
+    rt: &impl Abort,
+    alloc: Global,
+    name: &str,
+    bytes: &[u8],
+    want: Answer<'_>,
+) -> Result<(), AllocError> {
+    let opening = match Opening::read(bytes) {
+        Ok(opening) => opening,
+        Err(fault) => {
+            check_parts(rt, name, Err(fault), want);
+            return Ok(());
+        }
+    };
+    let (kind, width, height) = (opening.kind(), opening.width(), opening.height());
+    let mut lines = DecoderLines::new(alloc, width)?;
+    let regions = Regions::new(alloc, opening.presets())?;
+    let mut samples = vec![in alloc; 0u16; opening.sample_count()]?;
+    match opening.decode(&mut lines, &regions, &mut samples) {
+        Ok(used) => {
+            let parts = (kind, width, height, opening.presets().maxval(), &*samples);
+            check_parts(rt, name, Ok((parts, used)), want);
+        }
+        Err(fault) => check_parts(rt, name, Err(fault), want),
+    }
+    Ok(())
 }
 
 /// That bytes are decoded to this.
@@ -46,6 +82,7 @@ fn check_codestream(
     bytes: &[u8],
 ) -> Result<(), AllocError> {
     check_decoded(rt, alloc, name, bytes, Ok((*parts, bytes.len())));
+    check_opened(rt, alloc, name, bytes, Ok((*parts, bytes.len())))?;
     let mut longer = bytes.to_vec(alloc)?;
     longer.push(0x41)?;
     check_decoded(rt, alloc, name, &longer, Ok((*parts, bytes.len())));

@@ -6,7 +6,9 @@ use crate::testing::{
     drawn_frame, frame_of, frame_of_parts, longest_line,
 };
 use ls_frame::{Frame, Kind, Presets, Tuning};
-use ls_stream::{Lines, code_bound, encode_frame, encode_with, encode_within};
+use ls_stream::{
+    Lines, code_bound, encode_frame, encode_into, encode_with, encode_within, view_bound,
+};
 use std::alloc::{AllocError, Global};
 use std::process::Abort;
 use std::test::Fail;
@@ -79,6 +81,7 @@ fn codestreams_go_after_bytes_without_memory(rt: HostRuntime) {
     for (parts, want, bound) in &CODESTREAMS {
         if let Ok(frame) = frame_of_parts(&rt, rt.alloc(), parts) {
             let _refused = encode_after_a_byte(&rt, rt.alloc(), &frame, want, *bound);
+            let _refused = encode_into_a_slice(&rt, rt.alloc(), &frame, want, *bound);
         }
     }
 }
@@ -103,6 +106,30 @@ fn encode_after_a_byte(
     check_number(rt, "capacity", bytes.capacity() as u64, capacity as u64);
     let width = u64::from(frame.width());
     check_number(rt, "width", u64::from(lines.width()), width);
+    Ok(())
+}
+
+/// Encodes into a slice of bytes 5A, as many as the bound and one more, and sees that those behind the codestream stay.
+fn encode_into_a_slice(
+    rt: &impl Abort,
+    alloc: Global,
+    frame: &Frame,
+    want: &[u8],
+    bound: u64,
+) -> Result<(), AllocError> {
+    let presets = Presets::default_of(frame.maxval());
+    let view = frame.view();
+    let room = view_bound(&view, &presets) as usize;
+    check_number(rt, "bound of a view", room as u64, bound);
+    let mut bytes = vec![in alloc; 0x5Au8; room + 1]?;
+    let mut lines = Lines::new(alloc, frame.width())?;
+    let count = encode_into(&view, &presets, &mut lines, &mut bytes);
+    check_bytes(rt, "in a slice", bytes.get(..count).unwrap_or(&[]), want);
+    let mut changed = 0;
+    for byte in bytes.get(count..).unwrap_or(&[]) {
+        changed += u64::from(*byte != 0x5A);
+    }
+    check_number(rt, "behind it", changed, 0);
     Ok(())
 }
 
