@@ -1,0 +1,104 @@
+"""libjlsrec by ctypes: its calls as jlsrec.h declares them, and its statuses as exceptions."""
+
+from __future__ import annotations
+
+import ctypes
+import ctypes.util
+import os
+from pathlib import Path
+
+OK = 0
+NO_MEMORY = 1
+NO_ROOM = 2
+
+
+class Form(ctypes.Structure):
+    """What a codestream says of its picture. Of t1 to reset a 0 stands for T.87's default."""
+
+    _fields_ = [
+        (name, ctypes.c_uint32)
+        for name in ("components", "width", "height", "maxval", "t1", "t2", "t3", "reset")
+    ]
+
+
+class Fault(ctypes.Structure):
+    """The details of a codestream's fault."""
+
+    _fields_ = [(name, ctypes.c_uint32) for name in ("component", "marker", "number")]
+
+
+class JlsrecError(ValueError):
+    """A picture that can't be encoded, or bytes that can't be decoded. Its text says why.
+
+    status: the library's number for it. component, marker, number: what a codestream's fault names, else 0.
+    """
+
+    def __init__(self, status: int, fault: Fault) -> None:
+        super().__init__(text_of(status, fault))
+        self.status = status
+        self.component = int(fault.component)
+        self.marker = int(fault.marker)
+        self.number = int(fault.number)
+
+
+def _load() -> ctypes.CDLL:
+    """The library of JLSREC_LIBRARY, that beside this package, that of this checkout, or the system's."""
+    named = os.environ.get("JLSREC_LIBRARY")
+    if named:
+        return ctypes.CDLL(named)
+    here = Path(__file__).resolve().parent
+    for path in (
+        here / "libjlsrec.so.0",
+        here.parents[1] / "libjlsrec.so.0",
+        here.parents[1] / "out" / "library" / "libjlsrec.so",
+    ):
+        if path.exists():
+            return ctypes.CDLL(str(path))
+    found = ctypes.util.find_library("jlsrec")
+    if found:
+        return ctypes.CDLL(found)
+    raise ImportError(
+        "libjlsrec isn't there: library/build makes it, ./install installs it, and JLSREC_LIBRARY names one elsewhere"
+    )
+
+
+_address = ctypes.c_void_p
+_size = ctypes.c_size_t
+_form = ctypes.POINTER(Form)
+_fault = ctypes.POINTER(Fault)
+_count = ctypes.POINTER(ctypes.c_size_t)
+
+library = _load()
+
+
+def _declare(name: str, result: object, *arguments: object) -> None:
+    call = getattr(library, name)
+    call.restype = result
+    call.argtypes = list(arguments)
+
+
+_number = ctypes.c_uint32
+_declare("jlsrec_bound", ctypes.c_uint64, _number, _number, _number, _number)
+for _bits in ("8", "16"):
+    _declare(f"jlsrec_encode_{_bits}", _number, _form, _address, _size, _size, _address, _size, _count)
+    _declare(f"jlsrec_decode_{_bits}", _number, _address, _size, _address, _size, _form, _count, _fault)
+_declare("jlsrec_read_form", _number, _address, _size, _form, _fault)
+_declare("jlsrec_extent", _number, _address, _size, _count)
+_declare("jlsrec_text", _size, _number, _fault, _address, _size)
+_declare("jlsrec_version", _number)
+
+
+def text_of(status: int, fault: Fault) -> str:
+    """What the library says of a status."""
+    room = ctypes.create_string_buffer(256)
+    library.jlsrec_text(status, ctypes.byref(fault), room, len(room))
+    return room.value.decode()
+
+
+def check(status: int, fault: Fault | None = None) -> None:
+    """Raises what a status stands for: MemoryError, JlsrecError, or nothing."""
+    if status == OK:
+        return
+    if status == NO_MEMORY:
+        raise MemoryError("libjlsrec: no memory")
+    raise JlsrecError(status, fault if fault is not None else Fault())

@@ -1,0 +1,232 @@
+"""Checks of the Python package, by the program and by films: python3 check.py PROGRAM FILMS."""
+
+from __future__ import annotations
+
+import os
+import re
+import shutil
+import subprocess
+import sys
+import threading
+import time
+from pathlib import Path
+
+import numpy as np
+
+import jlsrec
+
+program, films = sys.argv[1], Path(sys.argv[2])
+passed = failed = 0
+
+# The heading of a Netpbm image: words, with white space and comments between them.
+BETWEEN = rb"(?:\s|#[^\n\r]*[\n\r])+"
+HEADING = re.compile(BETWEEN.join([rb"(P[56])", rb"(\d+)", rb"(\d+)", rb"(\d+)"]) + rb"\s")
+
+# T.87's Annex H.3: its picture, and its codestream with default parameters.
+EXAMPLE = np.array([[0, 0, 90, 74], [68, 50, 43, 205], [64, 145, 145, 145], [100, 145, 145, 145]], np.uint8)
+EXAMPLE_CODED = bytes.fromhex(
+    "ffd8 fff7000b080004000401011100 ffda0008010100000000"
+    "c000006c80208e01c00000574000006ee6000001bc18000005d800009160 ffd9"
+)
+
+
+def case(name: str, holds: bool) -> None:
+    """Counts a case, and tells of one that fails."""
+    global passed, failed
+    if holds:
+        passed += 1
+    else:
+        failed += 1
+        print(f"FAILED {name}")
+
+
+def refuses(name: str, kind: type[BaseException], text: str, call, *words) -> None:
+    """That a call raises an error of this kind, whose text holds this."""
+    try:
+        call(*words)
+    except kind as error:
+        case(f"{name}: {error}", text in str(error))
+    else:
+        case(name, False)
+
+
+def images_of(path: Path) -> list[tuple[np.ndarray, int]]:
+    """The images of a binary Netpbm film, with their maxvals."""
+    data, place, images = path.read_bytes(), 0, []
+    while place < len(data):
+        head = HEADING.match(data, place)
+        width, height, maxval = (int(word) for word in head.groups()[1:])
+        shape = (height, width) if head[1] == b"P5" else (height, width, 3)
+        kind = np.dtype(np.uint8) if maxval < 256 else np.dtype(">u2")
+        count = int(np.prod(shape))
+        samples = np.frombuffer(data, kind, count, head.end()).reshape(shape)
+        images.append((samples.astype(np.uint8 if maxval < 256 else np.uint16), maxval))
+        place = head.end() + count * kind.itemsize
+    return images
+
+
+def coded(path: Path) -> bytes:
+    """What the program codes a film as."""
+    return subprocess.run([program, "code", path], stdout=subprocess.PIPE, check=True).stdout
+
+
+# ---- pictures
+
+case("the standard's example", jlsrec.encode(EXAMPLE) == EXAMPLE_CODED)
+case("and back", (jlsrec.decode(EXAMPLE_CODED) == EXAMPLE).all())
+case("with bytes behind it", (jlsrec.decode(EXAMPLE_CODED + b"more") == EXAMPLE).all())
+header = jlsrec.read_header(EXAMPLE_CODED)
+case("its header", header == jlsrec.Header(4, 4, 1, 255, (3, 7, 21, 64)))
+case("its shape and type", header.shape == (4, 4) and header.dtype == np.uint8)
+case("a version", re.fullmatch(r"\d+\.\d+\.\d+", jlsrec.library_version()) is not None)
+
+for path in sorted(films.glob("*.p?m")):
+    images = images_of(path)
+    whole = coded(path)
+    ours = b"".join(jlsrec.encode(array, maxval) for array, maxval in images)
+    case(f"{path.name} is coded as the program does", ours == whole)
+    Path("film.jls").write_bytes(whole)
+    recording = jlsrec.Recording("film.jls")
+    case(f"{path.name} has its frames", len(recording) == len(images) and recording.fault is None)
+    case(
+        f"{path.name} comes back",
+        all((got == want).all() and got.dtype == want.dtype for got, (want, _) in zip(recording, images)),
+    )
+    case(f"{path.name} has its maxvals", [recording.header(i).maxval for i in range(len(images))] == [m for _, m in images])
+
+plane = (np.arange(48 * 64).reshape(48, 64) * 7 % 4096).astype(np.uint16)
+color = np.stack([plane, plane[::-1], plane[:, ::-1]], axis=2)
+for name, array in {
+    "columns": plane[:, 5:40],
+    "every second row": plane[::2],
+    "upside down": plane[::-1],
+    "turned": plane.T,
+    "every second column": plane[:, ::2],
+    "columns in colour": color[:, 3:30],
+    "colours the other way round": color[:, :, ::-1],
+    "a row": plane[:1],
+    "a column": plane[:, :1],
+    "read only": np.frombuffer(plane.tobytes(), np.uint16).reshape(plane.shape),
+}.items():
+    data = jlsrec.encode(array, 4095)
+    case(f"{name}: as a copy", data == jlsrec.encode(np.ascontiguousarray(array), 4095))
+    case(f"{name}: back", (jlsrec.decode(data) == array).all())
+
+tuned = jlsrec.encode(plane, 4095, (20, 70, 300, 32))
+case("a preset is kept", jlsrec.read_header(tuned).preset == (20, 70, 300, 32))
+case("and decoded by", (jlsrec.decode(tuned) == plane).all())
+words = np.zeros((4, 4), np.uint16)
+case("8 bits into 16", jlsrec.decode(EXAMPLE_CODED, words) is words and (words == EXAMPLE).all())
+for name, data in {"bytearray": bytearray(EXAMPLE_CODED), "memoryview": memoryview(EXAMPLE_CODED)}.items():
+    case(f"a {name} is decoded", (jlsrec.decode(data) == EXAMPLE).all())
+
+# ---- what is refused
+
+refuses("signed samples", TypeError, "uint8 or uint16", jlsrec.encode, plane.astype(np.int16))
+refuses("a stack of planes", TypeError, "(height, width)", jlsrec.encode, np.zeros((2, 4, 4), np.uint8))
+refuses("a sample over maxval", jlsrec.JlsrecError, "maxval", jlsrec.encode, plane, 100)
+refuses("no row", jlsrec.JlsrecError, "side", jlsrec.encode, np.zeros((0, 4), np.uint8))
+refuses("a preset out of range", jlsrec.JlsrecError, "T1", jlsrec.encode, plane, 4095, (5000, 0, 0, 0))
+refuses("no bytes", jlsrec.JlsrecError, "truncated", jlsrec.decode, b"")
+refuses("no codestream", jlsrec.JlsrecError, "SOI", jlsrec.decode, b"P5 1 1 255 x")
+refuses("a codestream cut off", jlsrec.JlsrecError, "truncated", jlsrec.decode, EXAMPLE_CODED[:-9])
+refuses("a header cut off", jlsrec.JlsrecError, "truncated", jlsrec.read_header, EXAMPLE_CODED[:20])
+refuses("an array of another shape", ValueError, "out is to be", jlsrec.decode, EXAMPLE_CODED, np.zeros((4, 5), np.uint8))
+refuses("an array that isn't whole", ValueError, "contiguous", jlsrec.decode, EXAMPLE_CODED, np.zeros((4, 8), np.uint8)[:, ::2])
+
+# ---- recordings
+
+arrays = [np.roll(plane, k, axis=1) for k in range(9)]
+case("a recording is written", jlsrec.write("nine.jls", arrays, 4095) == 9)
+refuses("and isn't written over", FileExistsError, "", jlsrec.write, "nine.jls", arrays)
+case("unless told", jlsrec.write("nine.jls", iter(arrays), 4095, replace=True) == 9)
+played = subprocess.run([program, "play", "nine.jls"], stdout=subprocess.PIPE, check=True).stdout
+case("the program plays it", played == b"".join(b"P5\n64 48\n4095\n" + a.astype(">u2").tobytes() for a in arrays))
+recording = jlsrec.Recording("nine.jls")
+case("by index", (recording[7] == arrays[7]).all() and (recording[-1] == arrays[8]).all())
+case("by slice", all((a == b).all() for a, b in zip(recording[2:8:3], arrays[2:8:3])) and len(recording[2:8:3]) == 2)
+refuses("past its end", IndexError, "", recording.__getitem__, 9)
+refuses("before its start", IndexError, "", recording.__getitem__, -10)
+case("a codestream", recording.data(3) == jlsrec.encode(arrays[3], 4095))
+whole = Path("nine.jls").read_bytes()
+Path("cut.jls").write_bytes(whole[:-40])
+cut = jlsrec.Recording("cut.jls")
+case("one that breaks off has the frames before", len(cut) == 8 and (cut[7] == arrays[7]).all())
+case("and its fault", cut.fault is not None and "truncated" in str(cut.fault))
+Path("tail.jls").write_bytes(whole + b"what is this")
+tail = jlsrec.Recording("tail.jls")
+case("one with more behind it too", len(tail) == 9 and tail.fault is not None and "SOI" in str(tail.fault))
+Path("none.jls").write_bytes(b"")
+case("an empty one", len(jlsrec.Recording("none.jls")) == 0 and list(jlsrec.Recording("none.jls")) == [])
+refuses("none", FileNotFoundError, "", jlsrec.Recording, "nowhere.jls")
+
+# ---- threads code side by side: the lock of Python's is free meanwhile
+
+large = np.random.default_rng(1).integers(0, 4096, (1500, 1500)).astype(np.uint16)
+steps, stop = 0, threading.Event()
+
+
+def step() -> None:
+    """Counts while another thread codes."""
+    global steps
+    while not stop.is_set():
+        steps += 1
+
+
+counting = threading.Thread(target=step)
+counting.start()
+before = steps
+data = jlsrec.encode(large, 4095)
+during = steps - before
+stop.set()
+counting.join()
+case("another thread runs meanwhile", during > 1000 and (jlsrec.decode(data) == large).all())
+kept: list[bool] = []
+threads = [
+    threading.Thread(target=lambda k=k: kept.append((jlsrec.decode(jlsrec.encode(arrays[k], 4095)) == arrays[k]).all()))
+    for k in range(8)
+]
+for thread in threads:
+    thread.start()
+for thread in threads:
+    thread.join()
+case("eight threads", kept == [True] * 8)
+
+# ---- what is looked at
+
+
+def run(*words: str) -> subprocess.CompletedProcess:
+    """Runs the package as a program."""
+    return subprocess.run([sys.executable, "-m", "jlsrec", *words], capture_output=True, text=True)
+
+
+case("a sheet is made", run("sheet", "nine.jls", "-o", "nine.png").returncode == 0)
+case("as a PNG file", Path("nine.png").read_bytes()[:8] == b"\x89PNG\r\n\x1a\n")
+told = run("sheet", "nowhere.jls", "-o", "no.png")
+case("a file that isn't there is told", told.returncode == 1 and "nowhere.jls: No such file" in told.stderr)
+case("seventeen are too many", run("view", *["nine.jls"] * 17).returncode == 2)
+
+if shutil.which("Xvfb") is None or shutil.which("import") is None:
+    print("the window: not tested, since Xvfb or ImageMagick's import isn't there")
+else:
+    screen = f":{os.getpid() % 400 + 100}"
+    server = subprocess.Popen(["Xvfb", screen, "-screen", "0", "1280x960x24"], stderr=subprocess.DEVNULL)
+    time.sleep(2)
+    shown = {**os.environ, "DISPLAY": screen}
+    window = subprocess.Popen([sys.executable, "-m", "jlsrec", "view", "nine.jls", "cut.jls", "film.jls"], env=shown)
+    time.sleep(4)
+    subprocess.run(["import", "-window", "root", "window.png"], env=shown, check=False)
+    subprocess.run(["convert", "window.png", "window.ppm"], check=False)
+    picture = Path("window.ppm")
+    pixels = images_of(picture)[0][0] if picture.exists() else np.zeros((1, 1, 3), np.uint8)
+    case("the window runs", window.poll() is None)
+    case("and shows pictures, a histogram and bits", len(np.unique(pixels.reshape(-1, 3), axis=0)) > 100)
+    for color, what in (((90, 170, 250), "the bits"), ((240, 192, 64), "the window's bounds"), ((240, 96, 96), "the frame's place")):
+        case(f"it draws {what}", (pixels == color).all(axis=2).any())
+    window.terminate()
+    server.terminate()
+    window.wait()
+    server.wait()
+
+print(f"{passed} passed, {failed} failed")
+sys.exit(failed != 0)
