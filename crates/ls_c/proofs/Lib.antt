@@ -1,0 +1,7 @@
+mod BoundLemmas
+mod DecodingLemmas
+mod EncodingLemmas
+mod ExtentLemmas
+mod NumberLemmas
+mod PresetLemmas
+mod RowLemmas

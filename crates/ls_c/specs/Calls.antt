@@ -1,0 +1,89 @@
+-- What the exported calls promise.
+use Rattle.std.specs.Prelude.{◌≡◌, ◌≢◌, ◌⊎◌, ℕ, ◌<◌, ◌≤◌, nat_le, List, [], ◌∷◌, ◌++◌, length, take, drop, Option, None, Ok}
+use Rattle.ls_frame.specs.Picture.{Picture, IsFrame}
+use Rattle.ls_frame.specs.Parameters.{Parameters}
+use Rattle.ls_stream.specs.declared.faults.StreamFault.{StreamFault}
+use Rattle.ls_stream.specs.declared.faults.StreamFault.TheVariants.{NoMemory}
+use Rattle.ls_stream.specs.declared.segments.read.FrameHeader.{FrameHeader}
+use Rattle.ls_stream.specs.Grammar.{Spells, most_bytes}
+use Rattle.ls_stream.specs.Faults.{BeginsWithOpening}
+use Rattle.ls_stream.specs.View.Reading.{opening_at}
+use Rattle.ls_stream.specs.View.Outlines.{IsFirstFault}
+use Rattle.ls_stream.specs.View.Extents.{IsNext}
+use Rattle.ls_c.specs.declared.form.JlsrecForm.{JlsrecForm}
+use Rattle.ls_c.specs.declared.form.JlsrecFault.{JlsrecFault}
+use Rattle.ls_c.specs.declared.refusal.Refusal.{Refusal}
+use Rattle.ls_c.specs.declared.refusal.Refusal.TheVariants as refusal
+use Rattle.ls_c.specs.Forms.{unless_met, form_of, no_form, picture_in, coded, request_refusal, encode_refusal}
+use Rattle.ls_c.specs.Refusals.{status_by, fault_number, details_of, no_details}
+
+-- Samples of at most `most`, in rows from `stride` to `stride`, were encoded into a buffer.
+pub record IsEncoding (most : ℕ) (form : JlsrecForm) (stride : ℕ) (samples old new : List ℕ) (written status : ℕ) : Type 0 where
+  -- the status, unless an allocation failed, which is answered only for samples that have all but their values right
+  pub status_is : (status ≡ 1) ⊎ (status ≡ status_by (encode_refusal most form stride samples (length old)))
+  pub memory : status ≡ 1 → request_refusal most form stride (length samples) ≡ None
+  -- 0: the codestream of the picture, and the rest of the buffer as it was
+  pub frame : status ≡ 0 → IsFrame (picture_in form stride samples)
+  pub spells : status ≡ 0 → Spells (take written new) (picture_in form stride samples)
+  pub done : status ≡ 0 → (written ≡ length (coded form stride samples)) × (new ≡ coded form stride samples ++ drop written old)
+  -- another: nothing is written, and only where there is no room it is told how many bytes are needed
+  pub kept : status ≢ 0 → new ≡ old
+  pub need : status ≡ 2 → (written ≡ length (coded form stride samples)) × (length old < written)
+  pub none : status ≢ 0 → status ≢ 2 → written ≡ 0
+
+-- The bytes begin with an opening, all before the data of the first scan, that says a frame of this form.
+pub record HaveForm (bytes : List ℕ) (form : JlsrecForm) : Type 0 where
+  pub f : Picture
+  pub opening : FrameHeader × Parameters × List ℕ
+  pub read : opening_at (take most_bytes bytes) ≡ Ok opening
+  pub kind : opening.0.kind ≡ f.kind
+  pub width : opening.0.width ≡ f.width
+  pub height : opening.0.height ≡ f.height
+  pub maxval : opening.1.maxval ≡ f.maxval
+  pub form_is : form ≡ form_of f
+
+-- what keeps a frame from standing among so many samples of at most `most`
+abbrev pub within : ℕ → Picture → ℕ → Option Refusal
+within most f room = unless_met (nat_le f.maxval most) refusal.NotEightBits (unless_met (nat_le (length f.samples) room) refusal.NoRoom None)
+
+-- the samples of the picture at the front, and the rest as it was
+abbrev pub laid : List ℕ → List ℕ → List ℕ
+laid samples old = samples ++ drop (length samples) old
+
+-- Bytes were decoded into a buffer of samples of at most `most`.
+pub record IsDecoding (most : ℕ) (bytes old new : List ℕ) (form : JlsrecForm) (used : ℕ) (fault : JlsrecFault) (status : ℕ) : Type 0 where
+  -- 0: a frame that the first bytes spell
+  pub done : status ≡ 0 → (f : Picture) × (used ≤ length bytes) × Spells (take used bytes) f × (form ≡ form_of f) × (new ≡ laid f.samples old)
+      × (length f.samples ≤ length old) × (f.maxval ≤ most)
+  -- whenever the bytes begin with a codestream of a frame, that one's
+  pub complete : (front rest : List ℕ) (f : Picture) → bytes ≡ front ++ rest → Spells front f
+      → (status ≡ 1) ⊎ ((status ≡ status_by (within most f (length old))) × (form ≡ form_of f) × (status ≡ 0 → (used ≡ length front) × (new ≡ laid f.samples old)))
+  -- 20 and above: the first fault
+  pub faulty : 20 ≤ status → (first : StreamFault) × (status ≡ fault_number first) × (fault ≡ details_of first) × IsFirstFault bytes first
+      × (first ≢ NoMemory)
+  -- no room, or not of 8 bits: the form is told
+  pub no_room : status ≡ 2 → HaveForm bytes form
+  pub too_deep : status ≡ 14 → HaveForm bytes form × (most < form.maxval)
+  -- an allocation is tried only after a complete legal opening
+  pub memory : status ≡ 1 → BeginsWithOpening (take most_bytes bytes)
+  -- no other status, and what stands afterwards
+  pub statuses : (status ≡ 0) ⊎ (status ≡ 1) ⊎ (status ≡ 2) ⊎ (status ≡ 14) ⊎ (20 ≤ status)
+  pub kept : status ≢ 0 → new ≡ old
+  pub unused : status ≢ 0 → used ≡ 0
+  pub formless : status ≢ 0 → status ≢ 2 → status ≢ 14 → form ≡ no_form
+  pub faultless : status < 20 → fault ≡ no_details
+
+-- The next codestream in bytes by its markers alone has so many of them.
+pub record IsExtent (bytes : List ℕ) (extent status : ℕ) : Type 0 where
+  pub statuses : (status ≡ 0) ⊎ (status ≡ 1) ⊎ (status ≡ 39)
+  pub within : extent ≤ length bytes
+  pub next : status ≡ 0 → bytes ≢ [] → IsNext (take extent bytes) (drop extent bytes)
+  pub complete : (front rest : List ℕ) (f : Picture) → bytes ≡ front ++ rest → Spells front f → (status ≡ 1) ⊎ ((status ≡ 0) × (extent ≡ length front))
+  pub memory : status ≡ 1 → 0 < length bytes
+  pub too_large : status ≡ 39 → most_bytes ≤ length bytes
+  pub none : status ≢ 0 → extent ≡ 0
+
+-- A text, cut to what the room holds, and a 0 after it; the rest as it was.
+abbrev pub printed : List ℕ → List ℕ → List ℕ
+printed text [] = []
+printed text (first ∷ more) = take (length more) text ++ 0 ∷ drop (length (take (length more) text)) more

@@ -1,0 +1,144 @@
+-- The statuses: 0 if a call did what it was asked to, and a number for each refusal.
+use Rattle.std.specs.Prelude.{◌≡◌, ℕ, Option, None, Some, Result, Ok, Err}
+use Rattle.ls_frame.specs.declared.presets.PresetFault.{PresetFault}
+use Rattle.ls_frame.specs.declared.presets.PresetFault.TheVariants.{MaxvalRange, T1Range, T2Range, T3Range, ResetRange}
+use Rattle.ls_stream.specs.declared.faults.StreamFault.{StreamFault}
+use Rattle.ls_stream.specs.declared.faults.StreamFault.TheVariants.{Truncated, NotSoi, BadSegment, Unsupported, BadPresets, TooLarge, BadCode, LeftoverBits, NoMemory}
+use Rattle.ls_stream.specs.declared.faults.What.{What}
+use Rattle.ls_stream.specs.declared.faults.What.TheVariants as what
+use Rattle.ls_c.specs.declared.form.JlsrecFault.{JlsrecFault}
+use Rattle.ls_c.specs.declared.refusal.Refusal.{Refusal}
+use Rattle.ls_c.specs.declared.refusal.Refusal.TheVariants as refusal
+
+-- preset parameters that are to be coded with
+abbrev pub preset_number : PresetFault → ℕ
+preset_number MaxvalRange = 6
+preset_number T1Range = 10
+preset_number T2Range = 11
+preset_number T3Range = 12
+preset_number ResetRange = 13
+
+-- those that a codestream has
+abbrev pub stream_preset_number : PresetFault → ℕ
+stream_preset_number MaxvalRange = 34
+stream_preset_number T1Range = 35
+stream_preset_number T2Range = 36
+stream_preset_number T3Range = 37
+stream_preset_number ResetRange = 38
+
+abbrev pub what_number : What → ℕ
+what_number (what.Marker code) = 23
+what_number (what.Components count) = 24
+what_number what.HeightZero = 25
+what_number what.Sampling = 26
+what_number what.Mapping = 27
+what_number what.Near = 28
+what_number what.Interleave = 29
+what_number what.PointTransform = 30
+what_number (what.LseId id) = 31
+what_number what.LseLate = 32
+what_number what.ScanOrder = 33
+
+abbrev pub fault_number : StreamFault → ℕ
+fault_number NoMemory = 1
+fault_number Truncated = 20
+fault_number NotSoi = 21
+fault_number BadSegment = 22
+fault_number (Unsupported what) = what_number what
+fault_number (BadPresets fault) = stream_preset_number fault
+fault_number TooLarge = 39
+fault_number (BadCode component) = 40
+fault_number (LeftoverBits component) = 41
+
+abbrev pub number_of : Refusal → ℕ
+number_of refusal.NoRoom = 2
+number_of refusal.Components = 3
+number_of refusal.Side = 4
+number_of refusal.TooManySamples = 5
+number_of refusal.Maxval = 6
+number_of refusal.Stride = 7
+number_of refusal.TooFewSamples = 8
+number_of refusal.SampleTooLarge = 9
+number_of (refusal.Preset fault) = preset_number fault
+number_of refusal.NotEightBits = 14
+number_of (refusal.Stream fault) = fault_number fault
+
+abbrev pub status_of : Result (Unit {0}) Refusal → ℕ
+status_of (Ok done) = 0
+status_of (Err refusal) = number_of refusal
+
+-- the status of what refuses, if anything does
+abbrev pub status_by : Option Refusal → ℕ
+status_by None = 0
+status_by (Some refusal) = number_of refusal
+
+-- ---- details
+
+abbrev pub details : ℕ → ℕ → ℕ → JlsrecFault
+details component marker number = record { component = component; marker = marker; number = number }
+
+abbrev pub no_details : JlsrecFault
+no_details = details 0 0 0
+
+abbrev pub what_details : What → JlsrecFault
+what_details (what.Marker code) = details 0 code 0
+what_details (what.Components count) = details 0 0 count
+what_details what.HeightZero = no_details
+what_details what.Sampling = no_details
+what_details what.Mapping = no_details
+what_details what.Near = no_details
+what_details what.Interleave = no_details
+what_details what.PointTransform = no_details
+what_details (what.LseId id) = details 0 0 id
+what_details what.LseLate = no_details
+what_details what.ScanOrder = no_details
+
+-- what a fault says beside its number
+abbrev pub details_of : StreamFault → JlsrecFault
+details_of NoMemory = no_details
+details_of Truncated = no_details
+details_of NotSoi = no_details
+details_of BadSegment = no_details
+details_of (Unsupported what) = what_details what
+details_of (BadPresets fault) = no_details
+details_of TooLarge = no_details
+details_of (BadCode component) = details component 0 0
+details_of (LeftoverBits component) = details component 0 0
+
+-- what a refusal says beside its number is in the details; what it doesn't say isn't looked at there
+abbrev pub IsNamedWhat : What → JlsrecFault → Type 0
+IsNamedWhat (what.Marker code) d = code ≡ d.marker
+IsNamedWhat (what.Components count) d = count ≡ d.number
+IsNamedWhat what.HeightZero d = Unit {0}
+IsNamedWhat what.Sampling d = Unit {0}
+IsNamedWhat what.Mapping d = Unit {0}
+IsNamedWhat what.Near d = Unit {0}
+IsNamedWhat what.Interleave d = Unit {0}
+IsNamedWhat what.PointTransform d = Unit {0}
+IsNamedWhat (what.LseId id) d = id ≡ d.number
+IsNamedWhat what.LseLate d = Unit {0}
+IsNamedWhat what.ScanOrder d = Unit {0}
+
+abbrev pub IsNamedFault : StreamFault → JlsrecFault → Type 0
+IsNamedFault NoMemory d = Unit {0}
+IsNamedFault Truncated d = Unit {0}
+IsNamedFault NotSoi d = Unit {0}
+IsNamedFault BadSegment d = Unit {0}
+IsNamedFault (Unsupported what) d = IsNamedWhat what d
+IsNamedFault (BadPresets fault) d = Unit {0}
+IsNamedFault TooLarge d = Unit {0}
+IsNamedFault (BadCode component) d = component ≡ d.component
+IsNamedFault (LeftoverBits component) d = component ≡ d.component
+
+abbrev pub IsNamed : Refusal → JlsrecFault → Type 0
+IsNamed refusal.NoRoom d = Unit {0}
+IsNamed refusal.Components d = Unit {0}
+IsNamed refusal.Side d = Unit {0}
+IsNamed refusal.TooManySamples d = Unit {0}
+IsNamed refusal.Maxval d = Unit {0}
+IsNamed refusal.Stride d = Unit {0}
+IsNamed refusal.TooFewSamples d = Unit {0}
+IsNamed refusal.SampleTooLarge d = Unit {0}
+IsNamed (refusal.Preset fault) d = Unit {0}
+IsNamed refusal.NotEightBits d = Unit {0}
+IsNamed (refusal.Stream fault) d = IsNamedFault fault d

@@ -1,0 +1,53 @@
+//! How far the next codestream goes, and how long one may be.
+ghost use Rattle.std.specs.Prelude.{◌≡◌, ◌<◌, ◌≤◌, List, ℕ, length};
+ghost use Rattle.ls_frame.specs.Picture.{Picture, IsFrame};
+ghost use Rattle.ls_frame.specs.Parameters.{Parameters, IsLegal};
+ghost use Rattle.ls_stream.specs.Layout.{codestream};
+ghost use Rattle.ls_c.specs.Calls.{IsExtent};
+ghost use Rattle.ls_c.specs.Forms.{bound_of, form_of, IsOfForm};
+ghost use Rattle.ls_c.specs.Refusals.{status_of};
+
+use crate::form::JlsrecForm;
+use crate::refusal::{NO_MEMORY, Refusal};
+use crate::request::shape_of;
+use ls_frame::{Buffered, Presets};
+use ls_stream::{NextFault, StreamFault, next_stream};
+use std::alloc::Global;
+
+/// How many bytes the next codestream has, by its markers alone; 0 if there are no bytes.
+pub fn next_extent(alloc: Global, bytes: &[u8], extent: &mut usize) -> Result<(), Refusal>
+    ensures { IsExtent bytes.now extent.new (status_of result) }
+{
+    *extent = 0;
+    if bytes.is_empty() {
+        return Ok(());
+    }
+    let Ok(mut reader) = Buffered::new(alloc, bytes) else {
+        return Err(NO_MEMORY);
+    };
+    match next_stream(alloc, &mut reader) {
+        Ok(Some(codestream)) => {
+            *extent = codestream.len();
+            Ok(())
+        }
+        Ok(None) => Ok(()),
+        Err(NextFault::NoMemory) => Err(NO_MEMORY),
+        Err(NextFault::TooLarge) => Err(Refusal::Stream(StreamFault::TooLarge)),
+        Err(NextFault::Io) => unreachable!(),
+    }
+}
+
+/// The most bytes of a codestream of this form, with any coding parameters; 0 if there is no picture of it.
+pub fn bound(form: &JlsrecForm) -> u64
+    ensures value { result ≡ bound_of form.now }
+    ensures enough { (f : Picture) (p : Parameters) → IsFrame f → IsLegal p → p.maxval ≡ f.maxval → IsOfForm f form.now
+        → length (codestream f p) ≤ result }
+{
+    let Ok(shape) = shape_of(form) else {
+        return 0;
+    };
+    let count = u64::from(shape.kind.components());
+    let pixels = u64::from(shape.width) * u64::from(shape.height);
+    let limit = u64::from(Presets::default_of(shape.maxval).limit());
+    29 + 13 * count + count * (limit * pixels / 7 + 1)
+}

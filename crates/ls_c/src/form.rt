@@ -1,0 +1,106 @@
+//! What C passes and is passed: the form of a picture, and the details of a fault.
+ghost use Rattle.std.specs.Prelude.{◌≡◌};
+ghost use Rattle.ls_c.specs.Forms.{form_of, no_form, plain_form};
+ghost use Rattle.ls_c.specs.Refusals.{details_of, no_details};
+
+use ls_frame::Frame;
+use ls_stream::{StreamFault, What};
+
+/// The form of a picture: `jlsrec_form` of the header.
+#[repr(C)]
+#[derive(Clone, Copy)]
+pub struct JlsrecForm {
+    /// Samples a pixel, 1 or 3.
+    pub components: u32,
+    /// Pixels a row, 1 to 65535.
+    pub width: u32,
+    /// Rows, 1 to 65535.
+    pub height: u32,
+    /// The greatest value that a sample may have, 1 to 65535.
+    pub maxval: u32,
+    /// T1, T2, T3 and RESET of T.87; a 0 stands for the default of maxval (C.2.4.1.1).
+    pub t1: u32,
+    pub t2: u32,
+    pub t3: u32,
+    pub reset: u32,
+}
+
+/// What a fault's status leaves open: `jlsrec_fault` of the header. What a fault doesn't have is 0.
+#[repr(C)]
+#[derive(Clone, Copy)]
+pub struct JlsrecFault {
+    /// The component, from 0, whose data is at fault.
+    pub component: u32,
+    /// The code of a marker that isn't supported.
+    pub marker: u32,
+    /// How many components a frame header has, or the ID of an LSE segment, where that isn't supported.
+    pub number: u32,
+}
+
+/// The form of a frame; the coding parameters are left at their defaults.
+pub fn form_of(frame: &Frame) -> JlsrecForm
+    ensures { result ≡ form_of frame.now }
+{
+    plain_form(
+        u32::from(frame.kind().components()),
+        u32::from(frame.width()),
+        u32::from(frame.height()),
+        u32::from(frame.maxval()),
+    )
+}
+
+/// No form: zeros.
+pub fn no_form() -> JlsrecForm
+    ensures { result ≡ no_form }
+{
+    plain_form(0, 0, 0, 0)
+}
+
+/// A form with the coding parameters left at their defaults.
+pub fn plain_form(components: u32, width: u32, height: u32, maxval: u32) -> JlsrecForm
+    ensures { result ≡ plain_form components width height maxval }
+{
+    JlsrecForm {
+        components,
+        width,
+        height,
+        maxval,
+        t1: 0,
+        t2: 0,
+        t3: 0,
+        reset: 0,
+    }
+}
+
+/// No details: zeros.
+pub fn no_details() -> JlsrecFault
+    ensures { result ≡ no_details }
+{
+    details(0, 0, 0)
+}
+
+/// What a fault says beside its number.
+pub fn details_of(fault: StreamFault) -> JlsrecFault
+    ensures { result ≡ details_of fault }
+{
+    match fault {
+        StreamFault::BadCode(component) => details(u32::from(component), 0, 0),
+        StreamFault::LeftoverBits(component) => details(u32::from(component), 0, 0),
+        StreamFault::Unsupported(What::Marker(code)) => details(0, u32::from(code), 0),
+        StreamFault::Unsupported(What::Components(count)) => details(0, 0, u32::from(count)),
+        StreamFault::Unsupported(What::LseId(id)) => details(0, 0, u32::from(id)),
+        _ => no_details(),
+    }
+}
+
+fn details(component: u32, marker: u32, number: u32) -> JlsrecFault
+    ensures component { result.component ≡ component }
+    ensures marker { result.marker ≡ marker }
+    ensures number { result.number ≡ number }
+{
+    JlsrecFault {
+        component,
+        marker,
+        number,
+    }
+}

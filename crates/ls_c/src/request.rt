@@ -1,0 +1,234 @@
+//! What a caller asks to have encoded: a form, its coding parameters, and where its rows stand.
+ghost use Rattle.std.specs.Prelude.{◌≡◌, ◌*◌, ◌<◌, ◌≤◌, ◌++◌, true, false, None, Some, IfOk, OnOk, MatchOption, MatchResult, take, drop};
+ghost use Rattle.ls_frame.specs.Picture.{components, sample_count, most_samples};
+ghost use Rattle.ls_frame.specs.Parameters.{preset_fault, IsLegal};
+ghost use Rattle.ls_frame.specs.Tuning.{or_default};
+ghost use Rattle.ls_c.specs.Forms.{kind_of, is_sixteen_bits, form_refusal, request_refusal, rows_refusal, parameters, narrowed, stride_by, rows_of};
+ghost use Rattle.ls_c.specs.Requests.{IsRequest};
+
+use crate::form::JlsrecForm;
+use crate::refusal::Refusal;
+use ls_frame::frame::MOST_SAMPLES;
+use ls_frame::{Kind, PresetFault, Presets};
+use std::alloc::{AllocError, Global};
+
+/// The form of a frame.
+#[derive(Clone, Copy)]
+pub struct Shape {
+    pub kind: Kind,
+    pub width: u16,
+    pub height: u16,
+    pub maxval: u16,
+}
+
+/// Where the rows of a picture stand among a caller's samples.
+#[derive(Clone, Copy)]
+pub struct Rows {
+    /// The samples of a row.
+    pub row: usize,
+    /// The samples from the start of a row to that of the next.
+    pub stride: usize,
+    pub height: usize,
+}
+
+/// What is to be encoded, but for the samples.
+#[derive(Clone, Copy)]
+pub struct Request {
+    pub shape: Shape,
+    pub presets: Presets,
+    pub rows: Rows,
+}
+
+/// The shape that a form says.
+pub fn shape_of(form: &JlsrecForm) -> Result<Shape, Refusal>
+    ensures exactly { MatchResult result (λ _. form_refusal form.now ≡ None) (λ refused. form_refusal form.now ≡ Some refused) }
+    ensures kind { IfOk result (λ shape. shape.kind ≡ kind_of form.now.components) }
+    ensures width { IfOk result (λ shape. shape.width ≡ form.now.width) }
+    ensures height { IfOk result (λ shape. shape.height ≡ form.now.height) }
+    ensures maxval { IfOk result (λ shape. shape.maxval ≡ form.now.maxval) }
+    ensures some_width { IfOk result (λ shape. 0 < shape.width) }
+    ensures some_height { IfOk result (λ shape. 0 < shape.height) }
+    ensures some_maxval { IfOk result (λ shape. 0 < shape.maxval) }
+    ensures few { IfOk result (λ shape. sample_count shape.kind shape.width shape.height ≤ most_samples) }
+{
+    let kind = match form.components {
+        1 => Kind::Gray,
+        3 => Kind::Color,
+        _ => return Err(Refusal::Components),
+    };
+    let Some(width) = sixteen_bits(form.width) else {
+        return Err(Refusal::Side);
+    };
+    let Some(height) = sixteen_bits(form.height) else {
+        return Err(Refusal::Side);
+    };
+    if u64::from(width) * u64::from(height) * u64::from(kind.components()) > MOST_SAMPLES {
+        return Err(Refusal::TooManySamples);
+    }
+    let Some(maxval) = sixteen_bits(form.maxval) else {
+        return Err(Refusal::Maxval);
+    };
+    Ok(Shape {
+        kind,
+        width,
+        height,
+        maxval,
+    })
+}
+
+/// A number of 1 to 65535.
+fn sixteen_bits(number: u32) -> Option<u16>
+    ensures { MatchOption result (is_sixteen_bits number ≡ false) (λ same. (same ≡ number) × (is_sixteen_bits number ≡ true)) }
+{
+    match u16::try_from(number) {
+        Ok(0) => None,
+        Ok(same) => Some(same),
+        Err(_) => None,
+    }
+}
+
+/// What is to be encoded: samples of at most `most`, of which there are so many.
+pub fn request_of(
+    most: u32,
+    form: &JlsrecForm,
+    stride: usize,
+    count: usize,
+) -> Result<Request, Refusal>
+    ensures exactly { MatchResult result (λ _. request_refusal most form.now stride count ≡ None)
+        (λ refused. request_refusal most form.now stride count ≡ Some refused) }
+    ensures asked { IfOk result (λ request. IsRequest request form.now stride count) }
+{
+    let shape = shape_of(form)?;
+    if u32::from(shape.maxval) > most {
+        return Err(Refusal::NotEightBits);
+    }
+    let presets = match presets_of(form, shape.maxval) {
+        Ok(presets) => presets,
+        Err(fault) => return Err(Refusal::Preset(fault)),
+    };
+    let row = usize::from(shape.width) * usize::from(shape.kind.components());
+    let rows = rows_of(row, stride, shape.height, count)?;
+    Ok(Request {
+        shape,
+        presets,
+        rows,
+    })
+}
+
+/// Where rows of so many samples stand among `count` of them.
+fn rows_of(row: usize, stride: usize, height: u16, count: usize) -> Result<Rows, Refusal>
+    requires some_height { 0 < height }
+    ensures exactly { MatchResult result (λ _. rows_refusal row (stride_by row stride) height count ≡ None)
+        (λ refused. rows_refusal row (stride_by row stride) height count ≡ Some refused) }
+    ensures row { IfOk result (λ rows. rows.row ≡ row) }
+    ensures stride { IfOk result (λ rows. rows.stride ≡ stride_by row stride) }
+    ensures height { IfOk result (λ rows. rows.height ≡ height) }
+{
+    let stride = if stride == 0 { row } else { stride };
+    if stride < row {
+        return Err(Refusal::Stride);
+    }
+    if (count as u128) < u128::from(height - 1) * stride as u128 + row as u128 {
+        return Err(Refusal::TooFewSamples);
+    }
+    Ok(Rows {
+        row,
+        stride,
+        height: usize::from(height),
+    })
+}
+
+/// The coding parameters that a form asks for.
+fn presets_of(form: &JlsrecForm, maxval: u16) -> Result<Presets, PresetFault>
+    requires some { 0 < maxval }
+    requires same { form.now.maxval ≡ maxval }
+    ensures exactly { MatchResult result (λ presets. (preset_fault (parameters form.now) ≡ None) × (presets ≡ parameters form.now))
+        (λ fault. preset_fault (parameters form.now) ≡ Some fault) }
+    ensures legal { IfOk result (λ presets. IsLegal presets) }
+    ensures maxval { IfOk result (λ presets. presets.maxval ≡ maxval) }
+{
+    let defaults = Presets::default_of(maxval);
+    Presets::explicit(
+        maxval,
+        narrowed(or_default(form.t1, defaults.t1())),
+        narrowed(or_default(form.t2, defaults.t2())),
+        narrowed(or_default(form.t3, defaults.t3())),
+        narrowed(or_default(form.reset, defaults.reset())),
+    )
+}
+
+/// What was chosen, or the default if that is 0.
+fn or_default(chosen: u32, default: u16) -> u32
+    ensures { result ≡ or_default chosen default }
+{
+    if chosen == 0 {
+        u32::from(default)
+    } else {
+        chosen
+    }
+}
+
+/// The number, or 0 if it is over 65535: either is out of each parameter's range.
+fn narrowed(number: u32) -> u16
+    ensures { result ≡ narrowed number }
+{
+    u16::try_from(number).unwrap_or(0)
+}
+
+/// The rows of a picture, copied together.
+pub fn joined(alloc: Global, rows: &Rows, samples: &[u16]) -> Result<Vec<u16>, AllocError>
+    ensures { IfOk result (λ joined. joined.items ≡ rows_of rows.now.row rows.now.stride rows.now.height samples.now) }
+{
+    let mut joined = Vec::new(alloc);
+    let mut rest = samples;
+    for number in 0..rows.height {
+        joined.extend_from_slice(front(rest, rows.row))?;
+        rest = after(rest, rows.stride);
+    }
+    Ok(joined)
+}
+
+/// The rows of a picture of samples of 8 bits, copied together.
+pub fn joined_bytes(alloc: Global, rows: &Rows, samples: &[u8]) -> Result<Vec<u16>, AllocError>
+    ensures { IfOk result (λ joined. joined.items ≡ rows_of rows.now.row rows.now.stride rows.now.height samples.now) }
+{
+    let mut joined = Vec::new(alloc);
+    let mut rest = samples;
+    for number in 0..rows.height {
+        append_widened(&mut joined, front(rest, rows.row))?;
+        rest = after(rest, rows.stride);
+    }
+    Ok(joined)
+}
+
+/// Appends samples of 8 bits.
+fn append_widened(joined: &mut Vec<u16>, samples: &[u8]) -> Result<(), AllocError>
+    ensures { OnOk result (joined.new.items ≡ joined.old.items ++ samples.now) }
+{
+    for sample in samples {
+        joined.push(u16::from(*sample))?;
+    }
+    Ok(())
+}
+
+/// The first so many, or all if there are fewer.
+fn front<T>(items: &[T], count: usize) -> &[T]
+    ensures { result.now ≡ take count items.now }
+{
+    if count < items.len() {
+        &items[..count]
+    } else {
+        items
+    }
+}
+
+/// Those after the first so many, if there are any.
+fn after<T>(items: &[T], count: usize) -> &[T]
+    ensures { result.now ≡ drop count items.now }
+{
+    if count < items.len() {
+        &items[count..]
+    } else {
+        &[]
+    }
+}
