@@ -402,7 +402,7 @@ planes_break p width height component (id ∷ later) bytes fault are stops =
     )
 
 -- an opening that was read stands there
-opening_has : (bytes : List ℕ) (h : FrameHeader) (p : Parameters) (rest : List ℕ) (opening : OpeningRead bytes h p rest)
+pub opening_has : (bytes : List ℕ) (h : FrameHeader) (p : Parameters) (rest : List ℕ) (opening : OpeningRead bytes h p rest)
     → HasScan bytes opening.contents opening.before opening.between rest
 opening_has bytes h p rest opening =
     let contents = opening.contents in
@@ -416,7 +416,7 @@ opening_has bytes h p rest opening =
     scan_stands contents bytes h opening.before opening.between middle rest opening.scan_fill has (ids_at contents h opening.header).0 refl opening.between_lawful
 
 -- with its parameters
-parameters_stand : (bytes : List ℕ) (h : FrameHeader) (p : Parameters) (rest : List ℕ) (opening : OpeningRead bytes h p rest)
+pub parameters_stand : (bytes : List ℕ) (h : FrameHeader) (p : Parameters) (rest : List ℕ) (opening : OpeningRead bytes h p rest)
     → parameters_of (slice_index opening.contents 0) (last_presets no_presets (opening.before ++ opening.between)) ≡ Ok p
 parameters_stand bytes h p rest opening =
     ap (λ n. parameters_of n (last_presets no_presets (opening.before ++ opening.between))) (sym (precision_at opening.contents h opening.header)) ∙ opening.parameters_are

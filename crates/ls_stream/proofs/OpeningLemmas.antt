@@ -1,12 +1,17 @@
 -- What an opening says of the frame.
-use Rattle.std.proofs.Common.{◌≡◌, ℕ, List, ◌++◌, take, Ok, sym, ◌∙◌, ap}
-use Rattle.ls_frame.specs.Picture.{Picture, IsFrame}
+use Rattle.std.proofs.Common.{◌≡◌, ℕ, List, ◌++◌, take, Ok, get_or, refl, sym, ◌∙◌, ap}
+use Rattle.ls_bits.specs.Bits.{AreBytes}
+use Rattle.ls_frame.specs.Picture.{Picture, IsFrame, components}
 use Rattle.ls_frame.specs.Parameters.{Parameters}
 use Rattle.ls_stream.specs.declared.segments.read.FrameHeader.{FrameHeader}
+use Rattle.ls_stream.specs.Segments.{header_contents}
 use Rattle.ls_stream.specs.Grammar.{Spells, most_bytes}
 use Rattle.ls_stream.specs.View.Reading.{opening_at}
 use Rattle.ls_stream.specs.View.Outlines.{Outline, IsOutlineOf, outline_at}
-use Rattle.ls_stream.specs.View.Openings.{IsOfForm}
+use Rattle.ls_stream.specs.View.Openings.{IsOfForm, SaysSo}
+use Rattle.ls_stream.proofs.HeaderLemmas.{HeaderRead}
+use Rattle.ls_stream.proofs.OutlineLemmas.{opening_read}
+use Rattle.ls_stream.proofs.FaultLaws.{opening_has, parameters_stand}
 use Rattle.ls_stream.proofs.FrameReadingLemmas.{IsFoundAt, found_at, that_outline}
 
 -- no front is a codestream where no outline says a frame
@@ -29,4 +34,31 @@ of_form bytes first header p opened same e front rest f split spelled =
       width = sym there.says.width ∙ ap (λ (h : FrameHeader). h.width) that.header_is;
       height = sym there.says.height ∙ ap (λ (h : FrameHeader). h.height) that.header_is;
       maxval = sym there.says.maxval ∙ ap (λ (q : Parameters). q.maxval) that.parameters_are;
+    }
+
+-- how many components a frame header has
+count_at : (contents : List ℕ) (h : FrameHeader) → HeaderRead contents h → components h.kind ≡ get_or contents 5 0
+unfolding header_contents
+count_at contents h read = sym read.count ∙ sym (ap (λ (bs : List ℕ). get_or bs 5 0) read.whole)
+
+-- an opening that was read says what stands there
+pub opening_says : (bytes : List ℕ) (h : FrameHeader) (p : Parameters) (opened : List ℕ) → AreBytes (take most_bytes bytes)
+    → opening_at (take most_bytes bytes) ≡ Ok (h, p, opened)
+    → SaysSo (record { bytes = bytes; kind = h.kind; width = h.width; height = h.height; parameters = p })
+opening_says bytes h p opened are e =
+    let read = opening_read (take most_bytes bytes) (h, p, opened) are e in
+    record {
+      begins = record {
+        contents = read.contents;
+        before = read.before;
+        between = read.between;
+        rest = opened;
+        parameters = p;
+        scan = opening_has (take most_bytes bytes) h p opened read;
+        parameters_are = parameters_stand (take most_bytes bytes) h p opened read;
+      };
+      kind = count_at read.contents h read.header;
+      height = sym read.header.height_at;
+      width = sym read.header.width_at;
+      parameters = refl;
     }

@@ -97,7 +97,7 @@ impl<'a> Model for Opening<'a> {
 }
 
 impl<'a> Opening<'a> {
-    ghost use Rattle.ls_stream.specs.View.Openings.{IsOfForm, picture_of};
+    ghost use Rattle.ls_stream.specs.View.Openings.{SaysSo, IsOfForm, picture_of};
 
     /// The opening at the front of bytes. It looks at no sample, and allocates nothing.
     ///
@@ -106,6 +106,7 @@ impl<'a> Opening<'a> {
     pub fn read(bytes: &'a [u8]) -> Result<Opening<'a>, StreamFault>
         ensures bytes { IfOk result (λ opening. opening.bytes ≡ bytes.now) }
         ensures begins { IfOk result (λ opening. BeginsWithOpening (take most_bytes bytes.now)) }
+        ensures says { IfOk result (λ opening. SaysSo opening) }
         ensures form { IfOk result (λ opening. (front rest : List ℕ) (f : Picture) → bytes.now ≡ front ++ rest → Spells front f
             → IsOfForm opening f) }
         ensures none { IfErr result (λ fault. (front rest : List ℕ) (f : Picture) → bytes.now ≡ front ++ rest → Spells front f → ⊥) }

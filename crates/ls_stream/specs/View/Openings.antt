@@ -1,11 +1,13 @@
 -- What stands before the data of a codestream's first scan, once it was read.
-use Rattle.std.specs.Prelude.{◌≡◌, ℕ, ◌<◌, ◌≤◌, List, take, Ok}
+use Rattle.std.specs.Prelude.{◌≡◌, ℕ, ◌<◌, ◌≤◌, List, take, slice_index, Ok}
 use Rattle.ls_frame.specs.declared.frame.Kind.{Kind}
-use Rattle.ls_frame.specs.Picture.{Picture, sample_count, most_samples}
+use Rattle.ls_frame.specs.Picture.{Picture, components, sample_count, most_samples}
 use Rattle.ls_frame.specs.Parameters.{Parameters}
 use Rattle.ls_bits.specs.Bits.{AreBytes}
 use Rattle.ls_stream.specs.declared.segments.read.FrameHeader.{FrameHeader}
+use Rattle.ls_stream.specs.Segments.{field_of}
 use Rattle.ls_stream.specs.Grammar.{most_bytes}
+use Rattle.ls_stream.specs.Faults.{BeginsWithOpening}
 use Rattle.ls_stream.specs.View.Reading.{opening_at}
 
 -- what an opening is seen as: the bytes that it stands in front of, the form of its frame, and the coding parameters
@@ -15,6 +17,15 @@ pub record Opened : Type 0 where
   pub width : ℕ
   pub height : ℕ
   pub parameters : Parameters
+
+-- the bytes begin with a complete legal opening, and this is what it says: the components, lines (Y) and samples a line (X) of its
+-- frame header, and its coding parameters
+pub record SaysSo (opened : Opened) : Type 0 where
+  pub begins : BeginsWithOpening (take most_bytes opened.bytes)
+  pub kind : components opened.kind ≡ slice_index begins.contents 5
+  pub height : opened.height ≡ field_of begins.contents 1
+  pub width : opened.width ≡ field_of begins.contents 3
+  pub parameters : opened.parameters ≡ begins.parameters
 
 -- it was read off the first bytes, as many as a codestream may have, and left these
 pub record IsOpening (bytes : List ℕ) (header : FrameHeader) (p : Parameters) (rest : List ℕ) : Type 0 where

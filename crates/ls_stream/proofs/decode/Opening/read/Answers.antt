@@ -1,11 +1,11 @@
 use Rattle.std.proofs.Common.{get_or, take, Fits, w8, Err, sym, ◌∙◌, ap, subst, arith}
 use Rattle.ls_stream.specs.Grammar.{most_bytes}
-use Rattle.ls_stream.specs.View.Reading.{HasOpening}
+use Rattle.ls_stream.specs.View.Reading.{HasOpening, opening_at}
 use Rattle.ls_stream.specs.View.Outlines.{DecodingStops, at_opening}
 use Rattle.ls_stream.proofs.FaultLaws.{opening_begins, stops_are_first_faults}
 use Rattle.ls_stream.proofs.MemoryLemmas.{memory_of_first, opening_needs_none}
 use Rattle.ls_stream.proofs.FrameReadingLemmas.{are_bytes, bytes_take, no_opening}
-use Rattle.ls_stream.proofs.OpeningLemmas.{no_front, of_form}
+use Rattle.ls_stream.proofs.OpeningLemmas.{no_front, of_form, opening_says}
 use Rattle.ls_stream.proofs.decode.Opening.read.Goals as goal
 
 pub returns-in-Ok-clause-begins : goal.returns-in-Ok-clause-begins
@@ -13,6 +13,12 @@ returns-in-Ok-clause-begins c =
     let bytes = c.args.bytes.now in
     let are = bytes_take most_bytes bytes (are_bytes bytes (λ i. let fits : Fits w8 (get_or bytes i 0) = c.type_inv.bytes i in omega arith)) in
     opening_begins (take most_bytes bytes) are (subst HasOpening c.first_bytes.ensures (_, c.in-Ok.ensures.value))
+
+pub returns-in-Ok-clause-says : goal.returns-in-Ok-clause-says
+returns-in-Ok-clause-says c =
+    let bytes = c.args.bytes.now in
+    let are = bytes_take most_bytes bytes (are_bytes bytes (λ i. let fits : Fits w8 (get_or bytes i 0) = c.type_inv.bytes i in omega arith)) in
+    opening_says bytes _ _ _ are (ap opening_at (sym c.first_bytes.ensures) ∙ c.in-Ok.ensures.value)
 
 pub returns-in-Ok-clause-form : goal.returns-in-Ok-clause-form
 returns-in-Ok-clause-form c = of_form c.args.bytes.now c.first_bytes.result.now _ _ _ c.first_bytes.ensures c.in-Ok.ensures.value
