@@ -17,7 +17,7 @@ use Rattle.ls_c.specs.Calls.{IsEncoding}
 use Rattle.ls_c.specs.declared.request.Request.{Request}
 use Rattle.ls_c.specs.Requests.{IsRequest, shaped}
 use Rattle.ls_c.proofs.NumberLemmas.{preset_above, number_some, two_is_no_room}
-use Rattle.ls_c.proofs.RowLemmas.{rows_length}
+use Rattle.ls_c.proofs.RowLemmas.{rows_length, rows_adjacent}
 
 -- ---- what a request is refused with
 
@@ -169,3 +169,13 @@ joined_count form stride samples joined request is e =
     let some : 0 < form.height = omega (arith, is.some_height, is.height) in
     let whole = rows_length (row_of form) (stride_of form stride) form.height samples some is.enough ∙ product form.height form.width (components (kind_of form.components)) in
     rw is.kind (rw is.width (rw is.height (ap length e ∙ (cc whole))))
+
+-- rows that follow one another are as many samples at the front as the picture has
+pub adjacent_rows : (form : JlsrecForm) (stride : ℕ) (samples front : List ℕ) (request : Request) → IsRequest request form stride (length samples)
+    → request.rows.stride ≡ request.rows.row → front ≡ take (sample_count request.shape.kind request.shape.width request.shape.height) samples
+    → front ≡ rows_of request.rows.row request.rows.stride request.rows.height samples
+adjacent_rows form stride samples front request is adjacent e =
+    let count : request.rows.height * request.rows.row ≡ sample_count request.shape.kind request.shape.width request.shape.height =
+    rw is.kind (rw is.width (rw is.height (rw is.rows (rw is.row (product form.height form.width (components (kind_of form.components))))))) in
+    e ∙ ap (λ n. take n samples) (sym count) ∙ sym (rows_adjacent request.rows.row request.rows.height samples)
+    ∙ ap (λ n. rows_of request.rows.row n request.rows.height samples) (sym adjacent)

@@ -66,9 +66,9 @@ abbrev pub stride_of : JlsrecForm → ℕ → ℕ
 stride_of form stride = stride_by (row_of form) stride
 
 -- so many rows of these samples: one at the front, and one at each stride after it
-abbrev pub rows_of : ℕ → ℕ → ℕ → List ℕ → List ℕ
-rows_of row stride zero samples = []
-rows_of row stride (suc more) samples = take row samples ++ rows_of row stride more (drop stride samples)
+abbrev pub rows_of : {A : Type 0} → ℕ → ℕ → ℕ → List A → List A
+rows_of {A} row stride zero samples = []
+rows_of {A} row stride (suc more) samples = take row samples ++ rows_of row stride more (drop stride samples)
 
 -- how many samples they reach over
 abbrev pub reach_of : ℕ → ℕ → ℕ → ℕ

@@ -1,5 +1,5 @@
 //! Encoding into a caller's memory, and decoding into it.
-ghost use Rattle.std.specs.Prelude.{◌≡◌, ◌⊎◌, ◌+◌, ◌*◌, ◌<◌, ◌≤◌, ◌++◌, Some, OnOk, OnErr, IfOk, IfErr, Ok, Err, length, take, drop, ℕ, List, MatchResult};
+ghost use Rattle.std.specs.Prelude.{◌≡◌, ◌⊎◌, ◌+◌, ◌*◌, ◌<◌, ◌≤◌, ◌++◌, Some, OnOk, OnErr, IfOk, IfErr, Ok, Err, None, nat_le, length, take, drop, ℕ, List, MatchResult};
 ghost use Rattle.std.specs.List.{AllByRecursion};
 ghost use Rattle.ls_frame.specs.Picture.{Picture, IsFrame, sample_count, most_samples};
 ghost use Rattle.ls_frame.specs.Parameters.{IsLegal};
@@ -8,17 +8,17 @@ ghost use Rattle.ls_stream.specs.Layout.{codestream};
 ghost use Rattle.ls_stream.specs.Grammar.{most_bytes};
 ghost use Rattle.ls_stream.specs.Faults.{BeginsWithOpening};
 ghost use Rattle.ls_stream.specs.View.Outlines.{IsFirstFault};
-ghost use Rattle.ls_c.specs.Forms.{coding_refusal, form_of, no_form};
+ghost use Rattle.ls_c.specs.Forms.{unless_met, coding_refusal, form_of, no_form};
 ghost use Rattle.ls_c.specs.Refusals.{status_by, status_of, details_of, no_details};
 ghost use Rattle.ls_c.specs.Calls.{IsEncoding, IsDecoding, HaveForm, within, laid};
 ghost use Rattle.ls_c.specs.Requests.{shaped};
 
 use crate::form::{JlsrecFault, JlsrecForm, details_of, form_of, no_details, no_form};
 use crate::refusal::{NO_MEMORY, Refusal};
-use crate::request::{Request, Shape, joined, joined_bytes, request_of};
-use ls_frame::{Frame, Presets};
+use crate::request::{Request, Shape, adjacent, joined, request_of, widened};
+use ls_frame::{Frame, FrameView, Presets};
 use ls_stream::laws::codestreams_spell_their_frames;
-use ls_stream::{StreamFault, decode_frame, encode_with};
+use ls_stream::{Lines, StreamFault, decode_frame, encode_into, encode_with, view_bound};
 use std::alloc::Global;
 
 /// Encodes samples of 16 bits.
@@ -37,12 +37,22 @@ pub fn encode_words(
         Ok(request) => request,
         Err(refused) => return Err(refused),
     };
+    if let Some(samples) = adjacent(&request, samples) {
+        return encode_joined(
+            alloc,
+            request.shape,
+            &request.presets,
+            samples,
+            bytes,
+            written,
+        );
+    }
     let joined = joined(alloc, &request.rows, samples)?;
     encode_joined(
         alloc,
         request.shape,
         &request.presets,
-        joined,
+        &joined,
         bytes,
         written,
     )
@@ -64,12 +74,24 @@ pub fn encode_bytes(
         Ok(request) => request,
         Err(refused) => return Err(refused),
     };
-    let joined = joined_bytes(alloc, &request.rows, samples)?;
+    if let Some(samples) = adjacent(&request, samples) {
+        let samples = widened(alloc, samples)?;
+        return encode_joined(
+            alloc,
+            request.shape,
+            &request.presets,
+            &samples,
+            bytes,
+            written,
+        );
+    }
+    let joined = joined(alloc, &request.rows, samples)?;
+    let widened = widened(alloc, &joined)?;
     encode_joined(
         alloc,
         request.shape,
         &request.presets,
-        joined,
+        &widened,
         bytes,
         written,
     )
@@ -80,7 +102,7 @@ fn encode_joined(
     alloc: Global,
     shape: Shape,
     presets: &Presets,
-    samples: Vec<u16>,
+    samples: &[u16],
     bytes: &mut [u8],
     written: &mut usize,
 ) -> Result<(), Refusal>
@@ -90,24 +112,59 @@ fn encode_joined(
     requires maxval { presets.now.maxval ≡ shape.maxval }
     requires legal { IsLegal presets.now }
     requires few { sample_count shape.kind shape.width shape.height ≤ most_samples }
-    requires count { length samples.items ≡ sample_count shape.kind shape.width shape.height }
+    requires count { length samples.now ≡ sample_count shape.kind shape.width shape.height }
     requires nothing { written.old ≡ 0 }
     ensures exactly { (result ≡ Err (Refusal.Stream StreamFault.NoMemory))
-        ⊎ (status_of result ≡ status_by (coding_refusal (shaped shape samples.items) presets.now (length bytes.old))) }
-    ensures frame { OnOk result (IsFrame (shaped shape samples.items)) }
-    ensures done { OnOk result (bytes.new ≡ codestream (shaped shape samples.items) presets.now ++ drop written.new bytes.old) }
-    ensures spells { OnOk result (Spells (codestream (shaped shape samples.items) presets.now) (shaped shape samples.items)) }
-    ensures written { OnOk result (written.new ≡ length (codestream (shaped shape samples.items) presets.now)) }
+        ⊎ (status_of result ≡ status_by (coding_refusal (shaped shape samples.now) presets.now (length bytes.old))) }
+    ensures frame { OnOk result (IsFrame (shaped shape samples.now)) }
+    ensures done { OnOk result (bytes.new ≡ codestream (shaped shape samples.now) presets.now ++ drop written.new bytes.old) }
+    ensures spells { OnOk result (Spells (codestream (shaped shape samples.now) presets.now) (shaped shape samples.now)) }
+    ensures written { OnOk result (written.new ≡ length (codestream (shaped shape samples.now) presets.now)) }
     ensures kept { OnErr result (bytes.new ≡ bytes.old) }
     ensures need { result ≡ Err Refusal.NoRoom
-        → (written.new ≡ length (codestream (shaped shape samples.items) presets.now)) × (length bytes.old < written.new) }
+        → (written.new ≡ length (codestream (shaped shape samples.now) presets.now)) × (length bytes.old < written.new) }
     ensures none { IfErr result (λ refused. (refused ≡ Refusal.NoRoom) ⊎ (written.new ≡ 0)) }
 {
     codestreams_spell_their_frames();
-    let made = Frame::new(shape.kind, shape.width, shape.height, shape.maxval, samples);
+    let made = FrameView::new(shape.kind, shape.width, shape.height, shape.maxval, samples);
     let Ok(frame) = made else {
         return Err(Refusal::SampleTooLarge);
     };
+    if view_bound(&frame, presets) > bytes.len() as u64 {
+        return encode_apart(alloc, &frame, presets, bytes, written);
+    }
+    let mut lines = Lines::new(alloc, shape.width)?;
+    *written = encode_into(&frame, presets, &mut lines, bytes);
+    Ok(())
+}
+
+/// Encodes a frame in memory of its own, since `bytes` have less room than any frame of its form may need.
+fn encode_apart(
+    alloc: Global,
+    frame: &FrameView,
+    presets: &Presets,
+    bytes: &mut [u8],
+    written: &mut usize,
+) -> Result<(), Refusal>
+    requires maxval { presets.now.maxval ≡ frame.now.maxval }
+    requires nothing { written.old ≡ 0 }
+    ensures exactly { (result ≡ Err (Refusal.Stream StreamFault.NoMemory))
+        ⊎ (status_of result ≡ status_by (unless_met (nat_le (length (codestream frame.now presets.now)) (length bytes.old)) Refusal.NoRoom None)) }
+    ensures done { OnOk result (bytes.new ≡ codestream frame.now presets.now ++ drop written.new bytes.old) }
+    ensures written { OnOk result (written.new ≡ length (codestream frame.now presets.now)) }
+    ensures kept { OnErr result (bytes.new ≡ bytes.old) }
+    ensures need { result ≡ Err Refusal.NoRoom
+        → (written.new ≡ length (codestream frame.now presets.now)) × (length bytes.old < written.new) }
+    ensures none { IfErr result (λ refused. (refused ≡ Refusal.NoRoom) ⊎ (written.new ≡ 0)) }
+{
+    let samples = Vec::from_slice(alloc, frame.samples())?;
+    let frame = Frame::from_parts(
+        frame.kind(),
+        frame.width(),
+        frame.height(),
+        frame.maxval(),
+        samples,
+    );
     let Ok(codestream) = encode_with(alloc, &frame, presets) else {
         return Err(NO_MEMORY);
     };

@@ -1,5 +1,5 @@
 //! What a caller asks to have encoded: a form, its coding parameters, and where its rows stand.
-ghost use Rattle.std.specs.Prelude.{◌≡◌, ◌*◌, ◌<◌, ◌≤◌, ◌++◌, true, false, None, Some, IfOk, OnOk, MatchOption, MatchResult, take, drop};
+ghost use Rattle.std.specs.Prelude.{◌≡◌, ◌*◌, ◌<◌, ◌≤◌, true, false, None, Some, IfOk, IfSome, MatchOption, MatchResult, take, drop};
 ghost use Rattle.ls_frame.specs.Picture.{components, sample_count, most_samples};
 ghost use Rattle.ls_frame.specs.Parameters.{preset_fault, IsLegal};
 ghost use Rattle.ls_frame.specs.Tuning.{or_default};
@@ -176,7 +176,7 @@ fn narrowed(number: u32) -> u16
 }
 
 /// The rows of a picture, copied together.
-pub fn joined(alloc: Global, rows: &Rows, samples: &[u16]) -> Result<Vec<u16>, AllocError>
+pub fn joined<T: Copy>(alloc: Global, rows: &Rows, samples: &[T]) -> Result<Vec<T>, AllocError>
     ensures { IfOk result (λ joined. joined.items ≡ rows_of rows.now.row rows.now.stride rows.now.height samples.now) }
 {
     let mut joined = Vec::new(alloc);
@@ -188,27 +188,29 @@ pub fn joined(alloc: Global, rows: &Rows, samples: &[u16]) -> Result<Vec<u16>, A
     Ok(joined)
 }
 
-/// The rows of a picture of samples of 8 bits, copied together.
-pub fn joined_bytes(alloc: Global, rows: &Rows, samples: &[u8]) -> Result<Vec<u16>, AllocError>
-    ensures { IfOk result (λ joined. joined.items ≡ rows_of rows.now.row rows.now.stride rows.now.height samples.now) }
+/// Samples of 8 bits, each in 16.
+pub fn widened(alloc: Global, samples: &[u8]) -> Result<Vec<u16>, AllocError>
+    ensures { IfOk result (λ widened. widened.items ≡ samples.now) }
 {
-    let mut joined = Vec::new(alloc);
-    let mut rest = samples;
-    for number in 0..rows.height {
-        append_widened(&mut joined, front(rest, rows.row))?;
-        rest = after(rest, rows.stride);
-    }
-    Ok(joined)
+    samples
+        .iter()
+        .map(|sample| u16::from(*sample))
+        .collect(alloc)
 }
 
-/// Appends samples of 8 bits.
-fn append_widened(joined: &mut Vec<u16>, samples: &[u8]) -> Result<(), AllocError>
-    ensures { OnOk result (joined.new.items ≡ joined.old.items ++ samples.now) }
+/// The samples of rows that follow one another; `None` of others.
+pub fn adjacent<'a, T>(request: &Request, samples: &'a [T]) -> Option<&'a [T]>
+    ensures { IfSome result (λ front. (request.now.rows.stride ≡ request.now.rows.row)
+        × (front.now ≡ take (sample_count request.now.shape.kind request.now.shape.width request.now.shape.height) samples.now)) }
 {
-    for sample in samples {
-        joined.push(u16::from(*sample))?;
+    if request.rows.stride != request.rows.row {
+        return None;
     }
-    Ok(())
+    let shape = &request.shape;
+    let count = usize::from(shape.width)
+        * usize::from(shape.height)
+        * usize::from(shape.kind.components());
+    Some(front(samples, count))
 }
 
 /// The first so many, or all if there are fewer.

@@ -5,6 +5,6 @@ use Rattle.ls_c.proofs.coding.encode_joined.Goals as goal
 
 pub returns-clause-spells : goal.returns-clause-spells
 returns-clause-spells c =
-    let f = shaped c.args.shape c.args.samples.items in
+    let f = shaped c.args.shape c.args.samples.now in
     let frame : IsFrame f = search rules in
     c.codestreams_spell_their_frames.ensures f c.args.presets.now frame c.requires.legal c.requires.maxval
