@@ -1,6 +1,6 @@
 -- What the exported calls promise.
 use Rattle.std.specs.Prelude.{◌≡◌, ◌≢◌, ◌⊎◌, ℕ, ◌<◌, ◌≤◌, nat_le, List, [], ◌∷◌, ◌++◌, length, take, drop, Option, None, Ok}
-use Rattle.ls_frame.specs.Picture.{Picture, IsFrame}
+use Rattle.ls_frame.specs.Picture.{Picture, IsFrame, components}
 use Rattle.ls_frame.specs.Parameters.{Parameters}
 use Rattle.ls_stream.specs.declared.faults.StreamFault.{StreamFault}
 use Rattle.ls_stream.specs.declared.faults.StreamFault.TheVariants.{NoMemory}
@@ -9,12 +9,13 @@ use Rattle.ls_stream.specs.Grammar.{Spells, most_bytes}
 use Rattle.ls_stream.specs.Faults.{BeginsWithOpening}
 use Rattle.ls_stream.specs.View.Reading.{opening_at}
 use Rattle.ls_stream.specs.View.Outlines.{IsFirstFault}
+use Rattle.ls_stream.specs.View.Openings.{Opened, SaysSo}
 use Rattle.ls_stream.specs.View.Extents.{IsNext}
 use Rattle.ls_c.specs.declared.form.JlsrecForm.{JlsrecForm}
 use Rattle.ls_c.specs.declared.form.JlsrecFault.{JlsrecFault}
 use Rattle.ls_c.specs.declared.refusal.Refusal.{Refusal}
 use Rattle.ls_c.specs.declared.refusal.Refusal.TheVariants as refusal
-use Rattle.ls_c.specs.Forms.{unless_met, form_of, no_form, picture_in, coded, request_refusal, encode_refusal}
+use Rattle.ls_c.specs.Forms.{unless_met, form_of, no_form, picture_in, coded, request_refusal, encode_refusal, IsOfForm}
 use Rattle.ls_c.specs.Refusals.{status_by, fault_number, details_of, no_details}
 
 -- Samples of at most `most`, in rows from `stride` to `stride`, were encoded into a buffer.
@@ -72,6 +73,29 @@ pub record IsDecoding (most : ℕ) (bytes old new : List ℕ) (form : JlsrecForm
   pub unused : status ≢ 0 → used ≡ 0
   pub formless : status ≢ 0 → status ≢ 2 → status ≢ 14 → form ≡ no_form
   pub faultless : status < 20 → fault ≡ no_details
+
+-- the form that an opening says, with the coding parameters in force
+abbrev pub form_by : Opened → JlsrecForm
+form_by opened = record {
+  components = components opened.kind;
+  width = opened.width;
+  height = opened.height;
+  maxval = opened.parameters.maxval;
+  t1 = opened.parameters.t1;
+  t2 = opened.parameters.t2;
+  t3 = opened.parameters.t3;
+  reset = opened.parameters.reset;
+}
+
+-- The form of the codestream at the front of bytes was read, by its opening alone.
+pub record IsReading (bytes : List ℕ) (form : JlsrecForm) (fault : JlsrecFault) (status : ℕ) : Type 0 where
+  -- 0: the bytes begin with a complete legal opening, and the form is what it says
+  pub done : status ≡ 0 → (opened : Opened) × (opened.bytes ≡ bytes) × SaysSo opened × (form ≡ form_by opened) × (fault ≡ no_details)
+  -- whenever they begin with a codestream of a frame, its form
+  pub complete : (front rest : List ℕ) (f : Picture) → bytes ≡ front ++ rest → Spells front f → (status ≡ 0) × IsOfForm f form
+  -- another: the first fault of the bytes
+  pub faulty : status ≢ 0 → (first : StreamFault) × (status ≡ fault_number first) × (20 ≤ status) × (fault ≡ details_of first)
+      × IsFirstFault bytes first × (form ≡ no_form)
 
 -- The next codestream in bytes by its markers alone has so many of them.
 pub record IsExtent (bytes : List ℕ) (extent status : ℕ) : Type 0 where

@@ -4,6 +4,7 @@
 mod coding;
 mod extent;
 mod form;
+mod reading;
 mod refusal;
 mod request;
 mod text;
@@ -12,12 +13,13 @@ ghost use Rattle.std.specs.Prelude.{◌≡◌, ◌≤◌, ℕ, List, length};
 ghost use Rattle.ls_frame.specs.Picture.{Picture, IsFrame};
 ghost use Rattle.ls_frame.specs.Parameters.{Parameters, IsLegal};
 ghost use Rattle.ls_stream.specs.Layout.{codestream};
-ghost use Rattle.ls_c.specs.Calls.{IsEncoding, IsDecoding, IsExtent, printed};
+ghost use Rattle.ls_c.specs.Calls.{IsEncoding, IsDecoding, IsReading, IsExtent, printed};
 ghost use Rattle.ls_c.specs.Forms.{bound_of, plain_form, IsOfForm};
 
 use coding::{decode_bytes, decode_words, encode_bytes, encode_words};
 use extent::{bound, next_extent};
 use form::{JlsrecFault, JlsrecForm, plain_form};
+use reading::read_form;
 use refusal::status_of;
 use std::alloc::Global;
 use text::print;
@@ -76,6 +78,17 @@ pub extern "C" fn jlsrec_decode_8(
     ensures { IsDecoding 255 bytes.now samples.old samples.new form.new used.new fault.new result }
 {
     status_of(decode_bytes(alloc, bytes, samples, form, used, fault))
+}
+
+#[unsafe(no_mangle)]
+pub extern "C" fn jlsrec_read_form(
+    bytes: &[u8],
+    form: &mut JlsrecForm,
+    fault: &mut JlsrecFault,
+) -> u32
+    ensures { IsReading bytes.now form.new fault.new result }
+{
+    status_of(read_form(bytes, form, fault))
 }
 
 #[unsafe(no_mangle)]
