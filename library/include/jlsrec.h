@@ -113,11 +113,22 @@ uint32_t jlsrec_encode_8(const jlsrec_form *form, const uint8_t *samples, size_t
 uint32_t jlsrec_encode_16(const jlsrec_form *form, const uint16_t *samples, size_t count, size_t stride, uint8_t *bytes,
                           size_t room, size_t *written);
 
+/* Reads what a codestream says of its picture before the samples, and no sample: SOI, the frame header, the coding
+ * parameters and the first scan's header, at the front of `count` bytes.
+ *
+ *   form     the form of the picture, with the coding parameters in force
+ *   fault    the details of the fault
+ *
+ * JLSREC_OK: that all stands there and is right. Whenever the bytes begin with a codestream of a picture this is
+ * answered, and *form is that picture's. *fault is all 0.
+ * 20 and above: the first fault, with its details in *fault; *form is all 0. No other status is answered. */
+uint32_t jlsrec_read_form(const uint8_t *bytes, size_t count, jlsrec_form *form, jlsrec_fault *fault);
+
 /* Decodes the codestream at the front of `count` bytes; what stands after it isn't looked at.
  *
  *   bytes    the bytes
  *   samples  where the samples are to go, with room for `room` of them: width * height * components are needed
- *   form     the form of the picture. Its t1, t2, t3 and reset aren't told: they are 0
+ *   form     the form of the picture. Its t1, t2, t3 and reset aren't told: they are 0 (jlsrec_read_form tells them)
  *   used     how many bytes the codestream has
  *   fault    the details of the fault
  *

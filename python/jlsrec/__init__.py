@@ -80,10 +80,11 @@ def encode(array: np.ndarray, maxval: Optional[int] = None, preset: Optional[Pre
     say) or parameters out of range, MemoryError where memory is refused.
     """
     array = np.asarray(array)
-    if array.dtype != np.uint8 and array.dtype != np.uint16:
+    if array.dtype.kind != "u" or array.dtype.itemsize > 2:
         raise TypeError(f"samples are to be uint8 or uint16, and these are {array.dtype}")
     if array.ndim != 2 and not (array.ndim == 3 and array.shape[2] == 3):
         raise TypeError(f"a picture is (height, width) or (height, width, 3), and this is {array.shape}")
+    array = array.astype(array.dtype.newbyteorder("="), copy=False)
     height, width = array.shape[:2]
     components = 1 if array.ndim == 2 else 3
     stride = _stride(array)
@@ -136,8 +137,13 @@ def read_header(data: Data) -> Header:
 class Recording(Sequence):
     """The frames of a recording, joined codestreams in a file, each decoded when it is asked for.
 
+        with jlsrec.Recording("gray12.pgm.jls") as film:
+            for array in film: ...
+            last = film[-1]
+
     len() and indices go by the markers of the codestreams; the file is mapped, and not read into memory. A slice is a
-    list of arrays. header(i) and data(i) are of frame i, without decoding it.
+    list of arrays. header(i) and data(i) are of frame i, without decoding it. A frame that can't be decoded raises
+    JlsrecError, whose text begins with "frame N: "; the others are had all the same. The file must not shrink meanwhile.
 
     Where the file breaks off or is damaged between codestreams, the frames before that are there and `fault` is the
     error, else None.
@@ -154,6 +160,19 @@ class Recording(Sequence):
         self._fault: Optional[JlsrecError] = None
         self._details = _library.Fault()
         self._ended = size == 0
+
+    def close(self) -> None:
+        """Lets go of the file. A frame that was decoded stays."""
+        self._bytes, self._starts, self._ended = np.empty(0, np.uint8), [0], True
+        if isinstance(self._map, mmap.mmap):
+            self._map.close()
+        self._map = b""
+
+    def __enter__(self) -> "Recording":
+        return self
+
+    def __exit__(self, *exception: object) -> None:
+        self.close()
 
     def _walk(self, frames: Optional[int] = None) -> None:
         """Looks for the ends of so many frames, or of all."""
@@ -206,23 +225,29 @@ class Recording(Sequence):
             raise IndexError("no such frame")
         return self._bytes[self._starts[index] : self._starts[index + 1]]
 
+    def _frame(self, index: int) -> np.ndarray:
+        try:
+            return _decode(self._span(index), None)[0]
+        except JlsrecError as error:
+            number = index if index >= 0 else index + len(self)
+            raise error.of_frame(number) from None
+
     @overload
     def __getitem__(self, index: int) -> np.ndarray: ...
     @overload
     def __getitem__(self, index: slice) -> list[np.ndarray]: ...
     def __getitem__(self, index):
         if isinstance(index, slice):
-            return [self[i] for i in range(*index.indices(len(self)))]
-        return _decode(self._span(index), None)[0]
+            return [self._frame(i) for i in range(*index.indices(len(self)))]
+        return self._frame(index)
 
     def __iter__(self) -> Iterator[np.ndarray]:
         index = 0
         while True:
-            try:
-                span = self._span(index)
-            except IndexError:
+            self._walk(index + 1)
+            if index + 1 >= len(self._starts):
                 return
-            yield _decode(span, None)[0]
+            yield self._frame(index)
             index += 1
 
     def data(self, index: int) -> bytes:
@@ -302,7 +327,7 @@ def _decode(data: np.ndarray, out: Optional[np.ndarray]) -> tuple[np.ndarray, in
         out = np.empty(header.shape, header.dtype)
     elif out.shape != header.shape or out.dtype not in (np.dtype(np.uint16), header.dtype):
         raise ValueError(f"out is to be {header.shape} of {header.dtype}, and is {out.shape} of {out.dtype}")
-    elif not out.flags.c_contiguous or not out.flags.writeable:
+    elif not (out.flags.c_contiguous and out.flags.writeable and out.flags.aligned):
         raise ValueError("out is to be contiguous and writable")
     form, fault, used = _library.Form(), _library.Fault(), ctypes.c_size_t()
     call = getattr(_library.library, f"jlsrec_decode_{out.dtype.itemsize * 8}")

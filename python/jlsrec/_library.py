@@ -35,10 +35,17 @@ class JlsrecError(ValueError):
 
     def __init__(self, status: int, fault: Fault) -> None:
         super().__init__(text_of(status, fault))
+        self.fault = fault
         self.status = status
         self.component = int(fault.component)
         self.marker = int(fault.marker)
         self.number = int(fault.number)
+
+    def of_frame(self, number: int) -> JlsrecError:
+        """The same error, whose text begins with the frame's number."""
+        error = JlsrecError(self.status, self.fault)
+        error.args = (f"frame {number}: {self}",)
+        return error
 
 
 def _load() -> ctypes.CDLL:

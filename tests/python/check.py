@@ -160,6 +160,18 @@ Path("none.jls").write_bytes(b"")
 case("an empty one", len(jlsrec.Recording("none.jls")) == 0 and list(jlsrec.Recording("none.jls")) == [])
 refuses("none", FileNotFoundError, "", jlsrec.Recording, "nowhere.jls")
 
+damaged = bytearray(whole)
+second = len(recording.data(0))
+damaged[second + 30 : second + 60] = bytes(30)
+Path("damaged.jls").write_bytes(damaged)
+with jlsrec.Recording("damaged.jls") as damage:
+    refuses("a frame that is damaged", jlsrec.JlsrecError, "frame 1: ", damage.__getitem__, 1)
+    refuses("from the end too", jlsrec.JlsrecError, "frame 1: ", damage.__getitem__, -8)
+    case("and the others are there", all((damage[k] == arrays[k]).all() for k in (0, 2, 3, 8)))
+case("one that was closed has none", len(damage) == 0)
+big = arrays[4].astype(">u2")
+case("another order of bytes", jlsrec.encode(big, 4095) == recording.data(4))
+
 # ---- threads code side by side: the lock of Python's is free meanwhile
 
 large = np.random.default_rng(1).integers(0, 4096, (1500, 1500)).astype(np.uint16)
