@@ -90,15 +90,14 @@ def _check(status: int, fault: Optional[_Fault] = None, where: str = "") -> None
 
 
 def _bytes(data: Buffer) -> numpy.ndarray:
-    # never empty, so that it has an address
-    array = numpy.frombuffer(data, numpy.uint8) if memoryview(data).nbytes else numpy.empty(1, numpy.uint8)[:0]
-    return array
+    # of no bytes too it has an address
+    return numpy.frombuffer(data, numpy.uint8) if memoryview(data).nbytes else numpy.empty(1, numpy.uint8)[:0]
 
 
 def _samples(array: numpy.ndarray) -> numpy.ndarray:
     """The array with each row in one piece, and its rows from the top down."""
     array = numpy.asarray(array)
-    if array.dtype not in (numpy.uint8, numpy.uint16):
+    if array.dtype.kind != "u" or array.itemsize > 2:
         raise TypeError(f"samples are uint8 or uint16, not {array.dtype}")
     if not (array.ndim == 2 or array.ndim == 3 and array.shape[2] == 3):
         raise ValueError(f"a picture has the shape (height, width) or (height, width, 3), not {array.shape}")
