@@ -568,7 +568,7 @@ static void memory(const char *name) {
     size_t tries = 0;
     /* One that is refused may be asked for otherwise: encoding is through where none was refused. */
     requests = 1;
-    for (uint32_t status; requests > tries && tries < 1000;) {
+    for (uint32_t status; requests >= tries && tries < 1000;) {
         struct guarded out = guarded(room);
         size_t said = 7;
         requests = 0;
