@@ -302,10 +302,11 @@ class Recording(Sequence):
         """The bytes of a picture, whole or not."""
         return self._span(self._place(number)).tobytes()
 
-    def maxval(self, number: int) -> int:
-        """The greatest value that a sample of a picture may have. The picture is decoded for that."""
+    def with_maxval(self, number: int) -> tuple[numpy.ndarray, int]:
+        """A picture, and the greatest value that its samples may have."""
         number = self._place(number)
-        return _decode(self._span(number), None, f"frame {number}: ")[1].maxval
+        array, form, _ = _decode(self._span(number), None, f"frame {number}: ")
+        return array, form.maxval
 
     @overload
     def __getitem__(self, index: int) -> numpy.ndarray: ...
@@ -314,8 +315,7 @@ class Recording(Sequence):
     def __getitem__(self, index):
         if isinstance(index, slice):
             return [self[number] for number in self._numbers(index)]
-        number = self._place(int(index))
-        return _decode(self._span(number), None, f"frame {number}: ")[0]
+        return self.with_maxval(int(index))[0]
 
     def _numbers(self, index: slice) -> range:
         bounds = (index.start, index.stop)
@@ -329,11 +329,10 @@ class Recording(Sequence):
     def __iter__(self) -> Iterator[numpy.ndarray]:
         number = 0
         while True:
-            try:
-                place = self._place(number)
-            except IndexError:
+            self._find(number)
+            if number >= len(self._places) - 1:
                 return
-            yield _decode(self._span(place), None, f"frame {place}: ")[0]
+            yield self[number]
             number += 1
 
 

@@ -1,9 +1,12 @@
 """Tests of the package jlsrec: check.py PROGRAM FOLDER, in which films and their recordings are. The last line counts."""
 
+import os
 import subprocess
 import sys
 import tempfile
 import threading
+import time
+import zlib
 from pathlib import Path
 
 import numpy
@@ -55,7 +58,7 @@ for film in sorted(folder.glob("*.p?m")):
     data = coded.read_bytes()
     with jlsrec.Recording(coded) as recording:
         check(f"{film.name}: length", len(recording) == len(wanted))
-        check(f"{film.name}: maxval", recording.maxval(0) == wanted[0][1])
+        check(f"{film.name}: maxval", recording.with_maxval(0)[1] == wanted[0][1])
         for number, (want, maxval) in enumerate(wanted):
             name = f"{film.name}, frame {number}"
             array = recording[number]
@@ -139,6 +142,89 @@ for worker in workers:
 for worker in workers:
     worker.join()
 check("eight threads", same == [True] * 8)
+
+
+# ---- contact sheets: a PNG of the frames, as another reader has it, and the fault if one is at fault
+
+
+def sheet(*words):
+    return subprocess.run([sys.executable, "-m", "jlsrec", "sheet", *words], cwd=folder, capture_output=True, text=True)
+
+
+def png(path):
+    """The rows of a PNG of 8 bits in colour with no filter."""
+    data, at, packed = path.read_bytes(), 8, b""
+    while at < len(data):
+        size = int.from_bytes(data[at : at + 4], "big")
+        name, content, sum_ = data[at + 4 : at + 8], data[at + 8 : at + 8 + size], data[at + 8 + size : at + 12 + size]
+        if zlib.crc32(name + content).to_bytes(4, "big") != sum_:
+            return None
+        if name == b"IHDR":
+            width, height = int.from_bytes(content[:4], "big"), int.from_bytes(content[4:8], "big")
+        packed += content if name == b"IDAT" else b""
+        at += 12 + size
+    return numpy.frombuffer(zlib.decompress(packed), numpy.uint8).reshape(height, 1 + 3 * width)[:, 1:].reshape(height, width, 3)
+
+
+done = sheet("gray8.pgm.jls", "-o", "sheet.png")
+check(f"sheet: {done.returncode} {done.stderr}", done.returncode == 0 and done.stderr == "")
+image = png(folder / "sheet.png")
+first = next(images(folder / "gray8.pgm"))[0].astype(float)
+low, high = first.min(), first.max()
+corner = image[10 : 10 + first.shape[0], 10 : 10 + first.shape[1]]
+check("the first frame of a sheet", (abs(corner[:, :, 1] - 255 * (first - low) / (high - low)) <= 1).all())
+done = sheet("cut.jls", "-o", "sheet.png")
+played = subprocess.run([program, "play", "cut.jls"], cwd=folder, capture_output=True).stderr.decode()
+check(f"sheet of a recording that breaks off: {done.stderr}", done.returncode == 1 and done.stderr == played)
+check("sheet of no recording", sheet("missing.jls", "-o", "sheet.png").returncode == 1)
+
+# ---- the window, where there is a display
+
+
+def look():
+    import tkinter
+
+    from jlsrec.viewer import Window
+
+    window = Window([folder / "gray12.pgm.jls", folder / "colour8.ppm.jls", folder / "cut.jls"], 50)
+    root, (gray12, colour, cut) = window.root, window.panes
+    root.update()
+    with jlsrec.Recording(folder / "gray12.pgm.jls") as recording:
+        frames = list(recording)
+    check("window: the first frame", (gray12.array == frames[0]).all() and (gray12.image.width(), gray12.image.height()) == (96, 72))
+    root.focus_force()
+    root.event_generate("<Right>")
+    root.update()
+    check("window: the next frame", window.frame.get() == 1 and (gray12.array == frames[1]).all())
+    root.event_generate("<End>")
+    root.update()
+    check("window: the last frame, or the last that a recording has", (gray12.array == frames[-1]).all())
+    check(f"window: the fault, {cut.fault}", f"jlsrec: cut.jls: {cut.fault}\n" == played and cut.words["text"] == cut.fault)
+    root.event_generate("<plus>")
+    root.update()
+    check("window: twice as large", (gray12.image.width(), gray12.image.height()) == (192, 144))
+    event = tkinter.Event()
+    event.x, event.y = 21, 8
+    gray12.point(event)
+    check(f"window: {gray12.words['text']}", gray12.words["text"] == f"10, 4: {frames[-1][4, 10]} of 4095")
+    root.event_generate("<a>")
+    root.update()
+    check("window: window and level fit", 0 < window.width.get() < 1000)
+    root.event_generate("<f>")
+    root.event_generate("<space>")
+    root.update()
+    before = window.frame.get()
+    until = time.monotonic() + 20
+    while window.frame.get() == before and time.monotonic() < until:
+        root.update()
+    check("window: plays", window.plays and window.frame.get() != before and window.width.get() == 1000)
+    root.destroy()
+
+
+if os.environ.get("DISPLAY"):
+    look()
+else:
+    print("the window: not looked at, since there is no display")
 
 print(f"{passed} passed, {failed} failed")
 sys.exit(failed != 0)
