@@ -466,7 +466,7 @@ static void faults(const char *folder) {
     memcpy(bytes + 42, colour + 43, sizeof colour - 43);
     faulty(folder, "no_data_of_green", bytes, sizeof colour - 1, JLSREC_BAD_CODE, (jlsrec_fault){1, 0, 0});
     memcpy(bytes, colour, sizeof colour);
-    for (size_t cut = 0; cut < sizeof colour; cut++) faulty(folder, "cut", bytes, cut, JLSREC_TRUNCATED, no_fault);
+    for (size_t cut = 0; cut < sizeof colour; cut++) faulty(folder, "cut_short", bytes, cut, JLSREC_TRUNCATED, no_fault);
 
     /* no second codestream is taken for the first: its frame, or its fault */
     uint8_t two[2 * sizeof black + 1];
