@@ -49,15 +49,15 @@ class JlsrecError(ValueError):
 
 
 def _load() -> ctypes.CDLL:
-    """The library of JLSREC_LIBRARY, that beside this package, that of this checkout, or the system's."""
+    """The library of JLSREC_LIBRARY, that which ./install put below the same prefix, this checkout's, or the system's."""
     named = os.environ.get("JLSREC_LIBRARY")
     if named:
         return ctypes.CDLL(named)
     here = Path(__file__).resolve().parent
     for path in (
         here / "libjlsrec.so.0",
-        here.parents[1] / "libjlsrec.so.0",
-        here.parents[1] / "out" / "library" / "libjlsrec.so",
+        here.parents[2] / "libjlsrec.so.0",
+        here.parents[1] / "out" / "library" / "libjlsrec.so.0",
     ):
         if path.exists():
             return ctypes.CDLL(str(path))
