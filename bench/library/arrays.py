@@ -1,0 +1,26 @@
+"""Times the Python package: arrays.py encode|decode TIMES FILM, as library.c does."""
+
+import re
+import sys
+import time
+
+import jlsrec
+import numpy as np
+
+what, times, name = sys.argv[1], int(sys.argv[2]), sys.argv[3]
+film = open(name, "rb").read()
+heading = re.match(rb"(P[56])\s+(\d+)\s+(\d+)\s+(\d+)\s", film)
+width, height, maxval = (int(word) for word in heading.groups()[1:])
+kind = np.uint8 if maxval < 256 else np.dtype(">u2")
+array = np.frombuffer(film, kind, offset=heading.end()).astype(np.uint16)
+array = array.reshape((height, width) if heading[1] == b"P5" else (height, width, 3))
+data = jlsrec.encode(array, maxval)
+out = np.empty_like(array)
+begin = time.perf_counter()
+for _ in range(times):
+    if what == "encode":
+        jlsrec.encode(array, maxval)
+    else:
+        jlsrec.decode(data, out)
+took = time.perf_counter() - begin
+print(f"{name}: {took / times / array.size * 1e9:.3f} ns a sample", file=sys.stderr)
