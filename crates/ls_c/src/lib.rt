@@ -1,4 +1,13 @@
-//! Lossless JPEG-LS (T.87) for C.
+//! The C library: coding and decoding in a caller's memory, over the calls of `ls_stream`.
+//!
+//! What it hands on are its exports; `library/include/jlsrec.h` declares them for C and says what each answers and leaves in memory.
+//! `specs/Calls.antt` says the same, call by call (`IsEncoding`, `IsDecoding`, `IsExtent`), over the forms and rows of
+//! `specs/Forms.antt` and the statuses of `specs/Refusals.antt`. A slice is a pointer and then a count for C, and `alloc` is nothing:
+//! it stands for the malloc, realloc and free of the process.
+//!
+//! In reading order: `form` (what C passes and is passed), `refusal` (why a call refuses, and the statuses), `request` (what is to be
+//! encoded, looked at before memory is asked for), `coding` (encoding and decoding), `extent` (how far the next codestream goes, and
+//! how long one may be), `text` (what is said of a status).
 #![tactic(auto)]
 
 mod coding;
@@ -24,6 +33,7 @@ use refusal::status_of;
 use std::alloc::Global;
 use text::print;
 
+/// Encodes samples of 16 bits into `bytes`; `written` says how many bytes the codestream has.
 #[unsafe(no_mangle)]
 pub extern "C" fn jlsrec_encode_16(
     alloc: Global,
@@ -38,6 +48,7 @@ pub extern "C" fn jlsrec_encode_16(
     status_of(encode_words(alloc, form, samples, stride, bytes, written))
 }
 
+/// Encodes samples of 8 bits into `bytes`; `written` says how many bytes the codestream has.
 #[unsafe(no_mangle)]
 pub extern "C" fn jlsrec_encode_8(
     alloc: Global,
@@ -52,6 +63,8 @@ pub extern "C" fn jlsrec_encode_8(
     status_of(encode_bytes(alloc, form, samples, stride, bytes, written))
 }
 
+/// Decodes the codestream at the front of bytes into samples of 16 bits, and says its form, how many bytes it has, or the details of its
+/// fault.
 #[unsafe(no_mangle)]
 pub extern "C" fn jlsrec_decode_16(
     alloc: Global,
@@ -66,6 +79,8 @@ pub extern "C" fn jlsrec_decode_16(
     status_of(decode_words(alloc, bytes, samples, form, used, fault))
 }
 
+/// Decodes the codestream at the front of bytes into samples of 8 bits, and says its form, how many bytes it has, or the details of its
+/// fault.
 #[unsafe(no_mangle)]
 pub extern "C" fn jlsrec_decode_8(
     alloc: Global,
@@ -80,6 +95,7 @@ pub extern "C" fn jlsrec_decode_8(
     status_of(decode_bytes(alloc, bytes, samples, form, used, fault))
 }
 
+/// How many bytes the next codestream has, by its markers alone.
 #[unsafe(no_mangle)]
 pub extern "C" fn jlsrec_read_form(
     bytes: &[u8],
@@ -98,6 +114,7 @@ pub extern "C" fn jlsrec_extent(alloc: Global, bytes: &[u8], extent: &mut usize)
     status_of(next_extent(alloc, bytes, extent))
 }
 
+/// The most bytes of a codestream of a picture of this form, with any coding parameters; 0 if there is no such picture.
 #[unsafe(no_mangle)]
 pub extern "C" fn jlsrec_bound(components: u32, width: u32, height: u32, maxval: u32) -> u64
     ensures value { result ≡ bound_of (plain_form components width height maxval) }
@@ -107,6 +124,7 @@ pub extern "C" fn jlsrec_bound(components: u32, width: u32, height: u32, maxval:
     bound(&plain_form(components, width, height, maxval))
 }
 
+/// What is said of a status, cut to the room, with a 0 after it; answers how long it is whole.
 #[unsafe(no_mangle)]
 pub extern "C" fn jlsrec_text(status: u32, fault: &JlsrecFault, text: &mut [u8]) -> usize
     ensures { (said : List ℕ) × (result ≡ length said) × (text.new ≡ printed said text.old) }
