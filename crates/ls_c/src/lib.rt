@@ -1,12 +1,12 @@
 //! The C library: coding and decoding in a caller's memory, over the calls of `ls_stream`.
 //!
 //! What it hands on are its exports; `library/include/jlsrec.h` declares them for C and says what each answers and leaves in memory.
-//! `specs/Calls.antt` says the same, call by call (`IsEncoding`, `IsDecoding`, `IsExtent`), over the forms and rows of
+//! `specs/Calls.antt` says the same, call by call (`IsEncoding`, `IsDecoding`, `IsReading`, `IsExtent`), over the forms and rows of
 //! `specs/Forms.antt` and the statuses of `specs/Refusals.antt`. A slice is a pointer and then a count for C, and `alloc` is nothing:
 //! it stands for the malloc, realloc and free of the process.
 //!
 //! In reading order: `form` (what C passes and is passed), `refusal` (why a call refuses, and the statuses), `request` (what is to be
-//! encoded, looked at before memory is asked for), `coding` (encoding and decoding), `extent` (how far the next codestream goes, and
+//! encoded, looked at before memory is asked for), `coding` (encoding and decoding), `reading` (a form by itself), `extent` (how far the next codestream goes, and
 //! how long one may be), `text` (what is said of a status).
 #![tactic(auto)]
 
@@ -96,6 +96,7 @@ pub extern "C" fn jlsrec_decode_8(
 }
 
 /// How many bytes the next codestream has, by its markers alone.
+/// Says the form of the codestream at the front of bytes, by its headers alone, or the details of its first fault.
 #[unsafe(no_mangle)]
 pub extern "C" fn jlsrec_read_form(
     bytes: &[u8],
