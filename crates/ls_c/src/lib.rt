@@ -6,8 +6,8 @@
 //! it stands for the malloc, realloc and free of the process.
 //!
 //! In reading order: `form` (what C passes and is passed), `refusal` (why a call refuses, and the statuses), `request` (what is to be
-//! encoded, looked at before memory is asked for), `coding` (encoding and decoding), `reading` (a form by itself), `extent` (how far the next codestream goes, and
-//! how long one may be), `text` (what is said of a status).
+//! encoded, looked at before memory is asked for), `coding` (encoding and decoding), `reading` (a form by itself), `extent` (how far
+//! the next codestream goes, and how long one may be), `text` (what is said of a status).
 #![tactic(auto)]
 
 mod coding;
