@@ -2,3 +2,4 @@
 pub mod Account
 pub mod Cores
 pub mod Running
+pub mod Waiting

@@ -33,7 +33,8 @@
 //!
 //! In reading order: `faults` (why a queue can't be made), `replies` (jobs and answers), `bounded` (`Core`, the queue
 //! by itself), `steps` (`replay`, a queue over a list of steps), `views` and `account` (what the channel carries, and
-//! the rule of its steps), `running` (`open` to `settle`), `laws`.
+//! the rule of its steps), `waiting` (how long one who waits looks before it sleeps), `running` (`open` to `settle`),
+//! `laws`.
 #![tactic(auto)]
 
 mod account;
@@ -44,6 +45,7 @@ mod replies;
 mod running;
 mod steps;
 mod views;
+mod waiting;
 
 pub use account::Account;
 pub use bounded::Core;
@@ -54,3 +56,4 @@ pub use running::{
     WorkerSeat, open, settle,
 };
 pub use steps::{Reply, Step, replay};
+pub use waiting::{Patience, receive};

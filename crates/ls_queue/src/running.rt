@@ -9,12 +9,13 @@ ghost use Rattle.ls_queue.specs.Faults.{open_fault};
 ghost use Rattle.ls_queue.specs.View.Running.{sources_of, workers_of, places_of, AreAllSources, AreAllWorkers, AreWorkerSeats, AreEnds, IsSourceSeat, IsWorkerSeat, IsWorkerAt, Balances, IsUnsettled, all_done, takes_of, IsEnded, IsEndedAt, IsCloser, IsFinished, IsMissing, IsLowestMissing, EachHasEnd, has_end, puts_of, parts_of, AreNewSources, AreNewWorkers, items_put, jobs_taken, is_done, items_ended, Takes};
 
 use crate::account::{
-    Account, Channel, JobSent, Joined, MarkSent, Received, SeatPass, Settled, SourceSeated,
+    Account, Channel, JobSent, Joined, MarkSent, Received, Rule, SeatPass, Settled, SourceSeated,
     WorkerSeated,
 };
 use crate::faults::{QueueFault, open_fault};
 use crate::replies::Job;
-use crate::views::Message;
+use crate::views::{Message, View};
+use crate::waiting::{Patience, receive};
 use crossbeam_channel::bounded_with;
 use std::alloc::{AllocError, Global};
 use std::sync::Wait;
@@ -39,6 +40,7 @@ pub struct SourceSeat<T> {
 pub struct WorkerSeat<T> {
     /// Whether it was answered Done.
     done: bool,
+    patience: Patience,
     pass: SeatPass<T>,
 }
 
@@ -176,6 +178,7 @@ fn worker_seats<T: Drop>(
     for worker in 0..channel.workers {
         seats.push(WorkerSeat {
             done: false,
+            patience: Patience::new(),
             pass: channel.entrance.another::<WorkerSeated>(pass),
         })?;
     }
@@ -245,7 +248,12 @@ impl<T: Drop> Queue<T> {
             return Taken::Done;
         }
         for _ in rt.forever() {
-            match self.channel.exit.recv_as::<Received, R>(rt, &mut seat.pass) {
+            match receive::<Message<T>, View<T>, Rule, Received, R>(
+                rt,
+                &self.channel.exit,
+                &mut seat.pass,
+                &mut seat.patience,
+            ) {
                 Ok(Message::Job(job)) => return Taken::Job(job),
                 Ok(Message::Mark(_)) => {
                     seat.done = true;
@@ -442,10 +450,7 @@ fn join_seats<T: Drop>(channel: &Channel<T>, pass: &mut SeatPass<T>, mut seats: 
     ensures known { view pass.new ≡ with_takes (view pass.old) (takes_of seats.items) }
 {
     while !seats.is_empty() {
-        let WorkerSeat {
-            done: _,
-            pass: theirs,
-        } = seats.remove(0);
+        let WorkerSeat { pass: theirs, .. } = seats.remove(0);
         channel.entrance.absorb::<Joined>(pass, theirs);
     }
 }

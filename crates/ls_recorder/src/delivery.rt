@@ -11,9 +11,10 @@ use crate::faults::RecordFault;
 use crate::sizes::Sizes;
 use crossbeam_channel::bounded_with;
 use crossbeam_channel::protocol::Free;
+pub(crate) use ends::Another;
 use ends::Door;
-pub(crate) use ends::{Another, LOOKS};
 pub use ends::{Answer, Inbox, Outbox};
+use ls_queue::Patience;
 use std::alloc::{AllocError, Global};
 use std::sync::Wait;
 
@@ -61,7 +62,12 @@ fn channels(
     for source in 0..sources {
         let (entrance, exit, mut pass) = bounded_with::<Answer, (), Free, Global>(alloc, window)?;
         let other = entrance.another::<Another>(&mut pass);
-        inboxes.push(Inbox { source, exit, pass })?;
+        inboxes.push(Inbox {
+            source,
+            exit,
+            pass,
+            patience: Patience::new(),
+        })?;
         doors.push(Door {
             entrance,
             pass: other,

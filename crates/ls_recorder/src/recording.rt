@@ -7,7 +7,7 @@ ghost use Rattle.std.specs.Prelude.{◌≡◌, ℕ, max, List, ◌⊎◌, Some, 
 ghost use Rattle.ls_queue.specs.View.Running.{sources_of, workers_of, places_of};
 ghost use Rattle.ls_recorder.specs.View.Boxes.{HaveRoom};
 ghost use Rattle.ls_recorder.specs.Sizes.{record_fault};
-ghost use Rattle.ls_recorder.specs.View.Recordings.{AreTracks, AreCounted, AreParts, HasRun};
+ghost use Rattle.ls_recorder.specs.View.Recordings.{AreTracks, AreCounted, AreParts, HasRun, MayRun};
 
 use crate::delivery::boxes;
 use crate::faults::RecordFault;
@@ -19,8 +19,9 @@ use ls_pieces::Order;
 use ls_queue::{Account, Queue, open, settle};
 use std::alloc::Global;
 use std::sync::Wait;
+use std::sync::atomic::AtomicBool;
 use std::thread::Threads;
-use threads::{Parts, Ran, Shared, flags_for, room_for, run_in_scope};
+use threads::{Parts, Ran, Room, Shared, flags_for, room_for, run_in_scope};
 
 /// A film's reader and writer as its lane gives them back, and how many frames it recorded, or why it stopped.
 #[derive(Drop)]
@@ -76,15 +77,68 @@ pub fn record<Rt: Threads + Wait + Sync, R: Feed + Send + Drop, W: Outlet + Send
     if let Some(fault) = sizes.fault(films.len()) {
         return Err((fault, films));
     }
-    let (Ok(flags), Ok(room)) = (
-        flags_for(alloc, films.len()),
-        room_for(alloc, films.len(), workers),
-    ) else {
+    let Ok(prepared) = prepare(rt, alloc, films.len(), sizes) else {
         return Err((RecordFault::NoMemory, films));
     };
-    let Ok((queue, parts)) = make_queue(rt, alloc, films.len() as u8, sizes) else {
-        return Err((RecordFault::NoMemory, films));
-    };
+    match run_prepared(rt, alloc, films, prepared, window, gate) {
+        Ok(recording) => Ok(recording),
+        Err(films) => Err((RecordFault::NotStarted, films)),
+    }
+}
+
+/// What a recording takes before it starts a thread: its queue with the seats and boxes, a flag for each source, and room
+/// for what its threads answer.
+#[derive(Drop)]
+struct Prepared<R: Feed + Drop, W: Outlet + Drop> {
+    queue: Queue<Order>,
+    parts: Parts,
+    flags: Vec<AtomicBool>,
+    room: Room<R, W>,
+}
+
+/// Takes what a recording of so many films needs before it starts a thread. Fails only if an allocation fails.
+fn prepare<Rt: Wait, R: Feed + Drop, W: Outlet + Drop>(
+    rt: &Rt,
+    alloc: Global,
+    sources: usize,
+    sizes: Sizes,
+) -> Result<Prepared<R, W>, RecordFault>
+    requires { record_fault sources sizes.workers sizes.capacity sizes.window ≡ None }
+    ensures { IfOk result (λ prepared. (films : List (R × W × Tuning)) → length films ≡ sources
+        → MayRun prepared.queue prepared.flags.items sizes.window films prepared.parts prepared.room) }
+{
+    let flags = flags_for(alloc, sources)?;
+    let room = room_for(alloc, sources, sizes.workers)?;
+    let (queue, parts) = make_queue(rt, alloc, sources as u8, sizes)?;
+    Ok(Prepared {
+        queue,
+        parts,
+        flags,
+        room,
+    })
+}
+
+/// Records films by what was prepared for them; gives them back if a worker can't be started.
+fn run_prepared<Rt: Threads + Wait + Sync, R: Feed + Send + Drop, W: Outlet + Send + Drop, G: Gate>(
+    rt: &Rt,
+    alloc: Global,
+    films: Vec<(R, W, Tuning)>,
+    prepared: Prepared<R, W>,
+    window: usize,
+    gate: &G,
+) -> Result<Recording<R, W>, Vec<(R, W, Tuning)>>
+    requires { MayRun prepared.queue prepared.flags.items window films.items prepared.parts prepared.room }
+    ensures tracks { IfOk result (λ recording. AreTracks R.remaining R.failed_reads W.contents W.failed_writes recording.account.counts 0 films.items recording.tracks.items) }
+    ensures account { IfOk result (λ recording. AreCounted recording.account.counts 0 recording.tracks.items) }
+    ensures sources { IfOk result (λ recording. recording.account.sources ≡ length films.items) }
+    ensures refused { IfErr result (λ back. back.items ≡ films.items) }
+{
+    let Prepared {
+        queue,
+        parts,
+        flags,
+        room,
+    } = prepared;
     let shared = Shared {
         rt,
         alloc,
@@ -95,7 +149,7 @@ pub fn record<Rt: Threads + Wait + Sync, R: Feed + Send + Drop, W: Outlet + Send
     };
     match run_in_scope(&shared, films, parts, room) {
         Ok(ran) => Ok(settled(rt, queue, ran)),
-        Err(films) => Err((RecordFault::NotStarted, films)),
+        Err(films) => Err(films),
     }
 }
 

@@ -4,18 +4,14 @@ ghost use Rattle.crossbeam_channel.specs.Claims.{IsSeatAt};
 ghost use Rattle.crossbeam_channel.specs.Ends.{sends_on, receives_on};
 
 use crossbeam_channel::protocol::{Free, Split};
-use crossbeam_channel::{Pass, RuledReceiver, RuledSender, TryRecvError};
+use crossbeam_channel::{Pass, RuledReceiver, RuledSender};
 use ls_pieces::{Coded, Uncoded};
+use ls_queue::{Patience, receive};
 use std::alloc::AllocError;
-use std::hint::spin_loop;
 use std::sync::Wait;
 
 /// What a worker answers to a job: its piece, or that it couldn't be coded.
 pub type Answer = Result<Coded, Uncoded>;
-
-/// How often a lane looks into its box, or for a place in its window, before it sleeps: for about as long as a small
-/// frame takes to code, since to be woken takes longer, and costs who wakes it as much.
-pub const LOOKS: usize = 400;
 
 /// A pass of a box says nothing, and so does each pass that is made of it.
 pub struct Another;
@@ -32,6 +28,7 @@ pub struct Inbox {
     pub(crate) source: u8,
     pub(crate) exit: RuledReceiver<Answer, (), Free>,
     pub(crate) pass: Pass<Answer, ()>,
+    pub(crate) patience: Patience,
     ghost own: { IsSeatAt (receives_on exit) pass },
 }
 
@@ -58,14 +55,12 @@ impl Inbox {
         ensures source { self.new.source ≡ self.old.source }
         ensures same { receives_on self.new.exit ≡ receives_on self.old.exit }
     {
-        for _look in 0..LOOKS {
-            match self.exit.try_recv_as::<Free, R>(rt, &mut self.pass) {
-                Ok(answer) => return Some(answer),
-                Err(TryRecvError::Disconnected) => return None,
-                Err(TryRecvError::Empty) => spin_loop(),
-            }
-        }
-        self.exit.recv_as::<Free, R>(rt, &mut self.pass).ok()
+        receive::<Answer, (), Free, Free, R>(
+            rt,
+            &self.exit,
+            &mut self.pass,
+            &mut self.patience,
+        ).ok()
     }
 }
 

@@ -281,6 +281,7 @@ fn write_ready<W: Outlet, R: Wait, G: Gate>(
         drop(piece);
         returns.give(setting.rt);
     }
+    returns.hand_back(setting.rt);
     Ok(written)
 }
 

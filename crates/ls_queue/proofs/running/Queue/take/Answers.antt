@@ -8,14 +8,14 @@ use Rattle.ls_queue.specs.View.Running.{jobs_in_first}
 use Rattle.ls_queue.proofs.AccountSteps.{received}
 use Rattle.ls_queue.proofs.running.Queue.take.Goals as goal
 
-pub recv_as-requires-clause-rule : goal.recv_as-requires-clause-rule
-recv_as-requires-clause-rule g c =
+pub receive-requires-clause-rule : goal.receive-requires-clause-rule
+receive-requires-clause-rule g c =
     received _ _ _ _ _ (c.loop.invariant.known ∙ c.requires.known) c.loop.invariant.before
 
 pub returns-in-Ok-Job-clause-taken : goal.returns-in-Ok-Job-clause-taken
 returns-in-Ok-Job-clause-taken g c =
     let was = c.loop.invariant.known ∙ c.requires.known in
-    let now = view c.recv_as.new.pass in
+    let now = view c.receive.new.pass in
     let after : Message g.row.T.Denot → Type 0 = λ m. AfterTake (view c.loop.seat.pass) m now in
     let rule : after (message.Job c.in-Ok-Job.job) = subst after c.in-Ok-Job.field-0-is c.in-Ok-Job.ensures.rule in (
       c.loop.invariant.before,

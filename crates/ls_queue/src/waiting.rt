@@ -1,0 +1,80 @@
+//! How one who waits for a message looks for it, and then sleeps.
+ghost use Rattle.std.specs.Prelude.{◌≡◌, MatchResult};
+ghost use Rattle.crossbeam_channel.specs.Claims.{view, IsSeatAt};
+ghost use Rattle.crossbeam_channel.specs.Ends.{receives_on};
+ghost use Rattle.crossbeam_channel.specs.Fifo.{Pops, Learns};
+ghost use Rattle.ls_queue.specs.View.Waiting.{most_looks, looks_after_service, looks_after_sleep};
+
+use crossbeam_channel::protocol::{Lesson, Outcome, Protocol};
+use crossbeam_channel::{Pass, RecvError, RuledReceiver, TryRecvError};
+use std::hint::spin_loop;
+use std::sync::Wait;
+
+/// The fewest looks before a sleep, some microseconds long.
+const FEWEST_LOOKS: u32 = 50;
+
+/// The most looks before a sleep, a tenth of a millisecond long: two threads that were woken one after the other are
+/// at work again by then.
+const MOST_LOOKS: u32 = 1600;
+
+/// How often one who waits looks before it sleeps: more often if looking has served it lately, and less often if it
+/// hasn't.
+///
+/// A sleeper takes long to wake, and it costs who wakes it as much as a small frame takes to code. So looking is
+/// cheaper as long as those it waits for are at work on small jobs. If their jobs are large, or if others want the
+/// processor, it only takes time from them.
+#[derive(Drop)]
+pub struct Patience {
+    looks: u32,
+}
+
+impl Patience {
+    /// The patience of one who hasn't waited yet.
+    pub fn new() -> Patience
+        ensures { result.looks ≡ most_looks }
+    {
+        Patience { looks: MOST_LOOKS }
+    }
+
+    /// Looking has served.
+    fn grow(&mut self)
+        ensures { self.new.looks ≡ looks_after_service self.old.looks }
+    {
+        self.looks = self.looks.saturating_mul(2).min(MOST_LOOKS);
+    }
+
+    /// Looking hasn't served.
+    fn shrink(&mut self)
+        ensures { self.new.looks ≡ looks_after_sleep self.old.looks }
+    {
+        self.looks = (self.looks / 2).max(FEWEST_LOOKS);
+    }
+}
+
+/// Receives a message as `recv_as` does, and waits for one: it looks as often as its patience says, and then sleeps.
+pub fn receive<T: Drop, V, P: Protocol<T, V>, M: Outcome<T, V> + Lesson<T, V>, R: Wait>(
+    rt: &R,
+    exit: &RuledReceiver<T, V, P>,
+    pass: &mut Pass<T, V>,
+    patience: &mut Patience,
+) -> Result<T, RecvError>
+    requires channel { IsSeatAt (receives_on exit.now) pass.old }
+    requires rule { Pops P.holds pass.old.id (view pass.old) (M.then (view pass.old)) × Learns P.holds pass.old.id (view pass.old) (M.fact (view pass.old)) }
+    ensures channel { IsSeatAt (receives_on exit.now) pass.new × (pass.new.id ≡ pass.old.id) }
+    ensures rule { MatchResult result (λ message. M.then (view pass.old) message (view pass.new)) (λ _. view pass.new ≡ view pass.old) }
+{
+    for look in 0..patience.looks {
+        match exit.try_recv_as::<M, R>(rt, pass) {
+            Ok(message) => {
+                if look > 0 {
+                    patience.grow();
+                }
+                return Ok(message);
+            }
+            Err(TryRecvError::Disconnected) => return Err(RecvError),
+            Err(TryRecvError::Empty) => spin_loop(),
+        }
+    }
+    patience.shrink();
+    exit.recv_as::<M, R>(rt, pass)
+}
