@@ -27,6 +27,6 @@ fn bits_go_into_a_slice_and_leave_the_places_behind_them(rt: HostRuntime) {
     sink.put(255, 8);
     sink.put(1, 1);
     let room = sink.finish();
-    check_bytes(&rt, &room.places[..room.len], &[0xff, 0x40]);
-    check_bytes(&rt, &room.places[room.len..], &[0x11, 0x11]);
+    assert_eq!(rt; room.len, 2);
+    check_bytes(&rt, &places, &[0xff, 0x40, 0x11, 0x11]);
 }
