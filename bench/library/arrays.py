@@ -1,4 +1,4 @@
-"""Times the Python package: arrays.py encode|decode TIMES FILM, as library.c does."""
+"""Times the Python package: arrays.py encode|decode TIMES FILM, as library.c does, of a film's first image."""
 
 import re
 import sys
@@ -12,8 +12,8 @@ film = open(name, "rb").read()
 heading = re.match(rb"(P[56])\s+(\d+)\s+(\d+)\s+(\d+)\s", film)
 width, height, maxval = (int(word) for word in heading.groups()[1:])
 kind = np.uint8 if maxval < 256 else np.dtype(">u2")
-array = np.frombuffer(film, kind, offset=heading.end()).astype(np.uint16)
-array = array.reshape((height, width) if heading[1] == b"P5" else (height, width, 3))
+shape = (height, width) if heading[1] == b"P5" else (height, width, 3)
+array = np.frombuffer(film, kind, int(np.prod(shape)), heading.end()).astype(np.uint16).reshape(shape)
 data = jlsrec.encode(array, maxval)
 out = np.empty_like(array)
 begin = time.perf_counter()

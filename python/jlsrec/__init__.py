@@ -13,6 +13,7 @@ from __future__ import annotations
 import ctypes
 import mmap
 import os
+import threading
 from collections.abc import Iterable, Iterator, Sequence
 from dataclasses import dataclass
 from pathlib import Path
@@ -97,7 +98,7 @@ def encode(array: np.ndarray, maxval: Optional[int] = None, preset: Optional[Pre
     form = _library.Form(components, width, height, most, t1, t2, t3, reset)
     count = 0 if array.size == 0 else (height - 1) * stride + width * components
     call = getattr(_library.library, f"jlsrec_encode_{bits}")
-    room = np.empty(_library.library.jlsrec_bound(components, width, height, most), np.uint8)
+    room = _room(_library.library.jlsrec_bound(components, width, height, most))
     written = ctypes.c_size_t()
     _library.check(
         call(
@@ -277,6 +278,21 @@ def write(
             file.write(encode(array, maxval, preset))
             frames += 1
     return frames
+
+
+class _Kept(threading.local):
+    """Memory that a thread codes into, kept from call to call. Only what a codestream filled of it is resident."""
+
+    room = np.empty(0, np.uint8)
+
+
+_kept = _Kept()
+
+
+def _room(size: int) -> np.ndarray:
+    if _kept.room.size < size:
+        _kept.room = np.empty(size, np.uint8)
+    return _kept.room
 
 
 def _stride(array: np.ndarray) -> Optional[int]:
