@@ -128,7 +128,7 @@ uint32_t jlsrec_read_form(const uint8_t *bytes, size_t count, jlsrec_form *form,
  *
  *   bytes    the bytes
  *   samples  where the samples are to go, with room for `room` of them: width * height * components are needed
- *   form     the form of the picture. Its t1, t2, t3 and reset aren't told: they are 0 (jlsrec_read_form tells them)
+ *   form     the form of the picture, with the coding parameters in force
  *   used     how many bytes the codestream has
  *   fault    the details of the fault
  *
@@ -136,11 +136,12 @@ uint32_t jlsrec_read_form(const uint8_t *bytes, size_t count, jlsrec_form *form,
  * them are as they were. Whenever the bytes begin with a codestream of a picture this is answered, or NO_MEMORY, or one
  * of the next two.
  * JLSREC_NOT_8_BITS (jlsrec_decode_8 alone) and JLSREC_NO_ROOM: what stands before the data of the first scan is right,
- * and says the picture of *form, whose maxval is over 255, or which has more samples than there is room for; whether the
- * data is right isn't told. *used is 0, and `samples` is as it was.
- * JLSREC_NO_MEMORY: only if what stands before the data of the first scan is right.
- * 20 and above: the first fault, with its details in *fault (of the other statuses *fault is all 0).
- * With these two *used is 0, *form is all 0, and `samples` is as it was. */
+ * and says the picture of *form, whose maxval is over 255, or which has more samples than there is room for; the data
+ * isn't looked at. *used is 0, and `samples` is as it was.
+ * JLSREC_NO_MEMORY: only if what stands before the data of the first scan is right. `samples` is as it was.
+ * 20 and above: the first fault, with its details in *fault (of the other statuses *fault is all 0). Nothing is said of
+ * the first samples, as many as the picture has; those after them are as they were.
+ * With these two *used is 0, and *form is all 0. */
 uint32_t jlsrec_decode_8(const uint8_t *bytes, size_t count, uint8_t *samples, size_t room, jlsrec_form *form, size_t *used,
                          jlsrec_fault *fault);
 uint32_t jlsrec_decode_16(const uint8_t *bytes, size_t count, uint16_t *samples, size_t room, jlsrec_form *form,

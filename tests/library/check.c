@@ -152,6 +152,23 @@ static uint32_t decode(bool eight, const uint8_t *bytes, size_t count, void *sam
 
 static bool same_form(const jlsrec_form *a, const jlsrec_form *b) { return !memcmp(a, b, sizeof *a); }
 
+/* The form with the default of each coding parameter that it leaves open (T.87 C.2.4.1.1). */
+static jlsrec_form in_force(const jlsrec_form *asked) {
+    jlsrec_form f = *asked;
+    uint32_t factor = f.maxval >= 128 ? ((f.maxval < 4095 ? f.maxval : 4095) + 128) / 256 : 256 / (f.maxval + 1);
+    uint32_t t1 = f.maxval >= 128 ? factor + 2 : 3 / factor > 2 ? 3 / factor : 2;
+    uint32_t t2 = f.maxval >= 128 ? 4 * factor + 3 : 7 / factor > 3 ? 7 / factor : 3;
+    uint32_t t3 = f.maxval >= 128 ? 17 * factor + 4 : 21 / factor > 4 ? 21 / factor : 4;
+    t1 = t1 > f.maxval || t1 < 1 ? 1 : t1;
+    t2 = t2 > f.maxval || t2 < t1 ? t1 : t2;
+    t3 = t3 > f.maxval || t3 < t2 ? t2 : t3;
+    if (!f.t1) f.t1 = t1;
+    if (!f.t2) f.t2 = t2;
+    if (!f.t3) f.t3 = t3;
+    if (!f.reset) f.reset = 64;
+    return f;
+}
+
 static const jlsrec_form no_form;
 static const jlsrec_fault no_fault;
 
@@ -172,7 +189,8 @@ static bool encodes(bool eight, const jlsrec_form *form, const void *samples, si
     return holds;
 }
 
-static bool decodes(bool eight, const uint8_t *bytes, size_t count, size_t used_wanted, const struct picture *p, size_t room) {
+static bool decodes(bool eight, const uint8_t *bytes, size_t count, size_t used_wanted, const struct picture *p,
+                    const jlsrec_form *asked, size_t room) {
     size_t size = eight ? 1 : 2, used = 12345;
     struct guarded out = guarded(room * size);
     jlsrec_form form;
@@ -180,7 +198,10 @@ static bool decodes(bool eight, const uint8_t *bytes, size_t count, size_t used_
     memset(&form, 0x55, sizeof form);
     memset(&fault, 0x55, sizeof fault);
     uint32_t status = decode(eight, bytes, count, out.bytes, room, &form, &used, &fault);
-    bool holds = same_form(&form, &p->form) && !memcmp(&fault, &no_fault, sizeof fault);
+    jlsrec_form wanted = in_force(asked), read;
+    bool holds = same_form(&form, &wanted) && !memcmp(&fault, &no_fault, sizeof fault) &&
+                 jlsrec_read_form(bytes, count, &read, &fault) == JLSREC_OK && same_form(&read, &wanted) &&
+                 !memcmp(&fault, &no_fault, sizeof fault);
     if (eight && p->form.maxval > 255)
         holds = holds && status == JLSREC_NOT_8_BITS && used == 0 && kept_after(&out, 0);
     else if (room < p->count)
@@ -229,7 +250,7 @@ static void film(const char *name, const char *coded_name, char **presets) {
                           written == 0 && kept_after(&out, 0),
                       "%s, frame %u: not 8 bits", name, number);
                 free(out.all);
-                count(decodes(true, want, left, need, &p, p.count), "%s, frame %u: decoded to 8 bits", name, number);
+                count(decodes(true, want, left, need, &p, &asked, p.count), "%s, frame %u: decoded to 8 bits", name, number);
                 continue;
             }
             size_t first = need < 200 ? 0 : need - 3;
@@ -255,8 +276,8 @@ static void film(const char *name, const char *coded_name, char **presets) {
             }
             size_t rooms[] = {0, 1, p.count - 1, p.count, p.count + 1, p.count + 100};
             for (size_t i = 0; i < sizeof rooms / sizeof *rooms; i++)
-                count(decodes(eight, want, left, need, &p, rooms[i]), "%s, frame %u: decoded, room %zu", name, number, rooms[i]);
-            count(decodes(eight, want, need, need, &p, p.count), "%s, frame %u: decoded alone", name, number);
+                count(decodes(eight, want, left, need, &p, &asked, rooms[i]), "%s, frame %u: decoded, room %zu", name, number, rooms[i]);
+            count(decodes(eight, want, need, need, &p, &asked, p.count), "%s, frame %u: decoded alone", name, number);
         }
         for (size_t cut = need < 300 ? 0 : need - 300; cut < need; cut++) {
             struct guarded out = guarded(2 * p.count);
@@ -264,7 +285,8 @@ static void film(const char *name, const char *coded_name, char **presets) {
             jlsrec_fault fault;
             size_t used, extent;
             uint32_t status = jlsrec_decode_16(want, cut, (uint16_t *)out.bytes, p.count, &form, &used, &fault);
-            bool holds = status == JLSREC_TRUNCATED && used == 0 && same_form(&form, &no_form) && kept_after(&out, 0) &&
+            /* The picture's own samples may have been written. */
+            bool holds = status == JLSREC_TRUNCATED && used == 0 && same_form(&form, &no_form) && kept_after(&out, 2 * p.count) &&
                          jlsrec_extent(want, cut, &extent) == JLSREC_OK && extent == cut;
             count(holds, "%s, frame %u: cut after %zu bytes", name, number, cut);
             free(out.all);
@@ -639,10 +661,11 @@ static void *work(void *argument) {
             uint8_t *bytes = allocated(room);
             uint16_t *back = allocated(2 * p.count);
             char text[40];
+            jlsrec_form wanted = in_force(&p.form);
             bool holds = !jlsrec_encode_16(&p.form, p.samples, p.count, 0, bytes, room, &written) &&
                          !jlsrec_extent(bytes, written, &extent) && extent == written &&
                          !jlsrec_decode_16(bytes, written, back, p.count, &form, &used, &fault) && used == written &&
-                         !memcmp(back, p.samples, 2 * p.count) && same_form(&form, &p.form) &&
+                         !memcmp(back, p.samples, 2 * p.count) && same_form(&form, &wanted) &&
                          jlsrec_text(JLSREC_BAD_CODE, &(jlsrec_fault){job->number, 0, 0}, text, sizeof text) == 23 &&
                          text[22] == '0' + (int)job->number;
             if (!holds) job->wrong++;

@@ -3,5 +3,6 @@ mod DecodingLemmas
 mod EncodingLemmas
 mod ExtentLemmas
 mod NumberLemmas
+mod OpeningLemmas
 mod PresetLemmas
 mod RowLemmas

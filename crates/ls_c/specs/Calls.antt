@@ -1,13 +1,10 @@
 -- What the exported calls promise.
-use Rattle.std.specs.Prelude.{◌≡◌, ◌≢◌, ◌⊎◌, ℕ, ◌<◌, ◌≤◌, nat_le, List, [], ◌∷◌, ◌++◌, length, take, drop, Option, None, Ok}
+use Rattle.std.specs.Prelude.{◌≡◌, ◌≢◌, ◌⊎◌, ℕ, ◌<◌, ◌≤◌, nat_le, List, [], ◌∷◌, ◌++◌, length, take, drop, Option, None, ◌*◌}
 use Rattle.ls_frame.specs.Picture.{Picture, IsFrame, components}
-use Rattle.ls_frame.specs.Parameters.{Parameters}
 use Rattle.ls_stream.specs.declared.faults.StreamFault.{StreamFault}
 use Rattle.ls_stream.specs.declared.faults.StreamFault.TheVariants.{NoMemory}
-use Rattle.ls_stream.specs.declared.segments.read.FrameHeader.{FrameHeader}
 use Rattle.ls_stream.specs.Grammar.{Spells, most_bytes}
 use Rattle.ls_stream.specs.Faults.{BeginsWithOpening}
-use Rattle.ls_stream.specs.View.Reading.{opening_at}
 use Rattle.ls_stream.specs.View.Outlines.{IsFirstFault}
 use Rattle.ls_stream.specs.View.Openings.{Opened, SaysSo}
 use Rattle.ls_stream.specs.View.Extents.{IsNext}
@@ -15,7 +12,7 @@ use Rattle.ls_c.specs.declared.form.JlsrecForm.{JlsrecForm}
 use Rattle.ls_c.specs.declared.form.JlsrecFault.{JlsrecFault}
 use Rattle.ls_c.specs.declared.refusal.Refusal.{Refusal}
 use Rattle.ls_c.specs.declared.refusal.Refusal.TheVariants as refusal
-use Rattle.ls_c.specs.Forms.{unless_met, form_of, no_form, picture_in, coded, request_refusal, encode_refusal, IsOfForm}
+use Rattle.ls_c.specs.Forms.{unless_met, no_form, picture_in, coded, request_refusal, encode_refusal, IsOfForm}
 use Rattle.ls_c.specs.Refusals.{status_by, fault_number, details_of, no_details}
 
 -- Samples of at most `most`, in rows from `stride` to `stride`, were encoded into a buffer.
@@ -32,48 +29,6 @@ pub record IsEncoding (most : ℕ) (form : JlsrecForm) (stride : ℕ) (samples o
   pub need : status ≡ 2 → (written ≡ length (coded form stride samples)) × (length old < written)
   pub none : status ≢ 0 → status ≢ 2 → written ≡ 0
 
--- The bytes begin with an opening, all before the data of the first scan, that says a frame of this form.
-pub record HaveForm (bytes : List ℕ) (form : JlsrecForm) : Type 0 where
-  pub f : Picture
-  pub opening : FrameHeader × Parameters × List ℕ
-  pub read : opening_at (take most_bytes bytes) ≡ Ok opening
-  pub kind : opening.0.kind ≡ f.kind
-  pub width : opening.0.width ≡ f.width
-  pub height : opening.0.height ≡ f.height
-  pub maxval : opening.1.maxval ≡ f.maxval
-  pub form_is : form ≡ form_of f
-
--- what keeps a frame from standing among so many samples of at most `most`
-abbrev pub within : ℕ → Picture → ℕ → Option Refusal
-within most f room = unless_met (nat_le f.maxval most) refusal.NotEightBits (unless_met (nat_le (length f.samples) room) refusal.NoRoom None)
-
--- the samples of the picture at the front, and the rest as it was
-abbrev pub laid : List ℕ → List ℕ → List ℕ
-laid samples old = samples ++ drop (length samples) old
-
--- Bytes were decoded into a buffer of samples of at most `most`.
-pub record IsDecoding (most : ℕ) (bytes old new : List ℕ) (form : JlsrecForm) (used : ℕ) (fault : JlsrecFault) (status : ℕ) : Type 0 where
-  -- 0: a frame that the first bytes spell
-  pub done : status ≡ 0 → (f : Picture) × (used ≤ length bytes) × Spells (take used bytes) f × (form ≡ form_of f) × (new ≡ laid f.samples old)
-      × (length f.samples ≤ length old) × (f.maxval ≤ most)
-  -- whenever the bytes begin with a codestream of a frame, that one's
-  pub complete : (front rest : List ℕ) (f : Picture) → bytes ≡ front ++ rest → Spells front f
-      → (status ≡ 1) ⊎ ((status ≡ status_by (within most f (length old))) × (form ≡ form_of f) × (status ≡ 0 → (used ≡ length front) × (new ≡ laid f.samples old)))
-  -- 20 and above: the first fault
-  pub faulty : 20 ≤ status → (first : StreamFault) × (status ≡ fault_number first) × (fault ≡ details_of first) × IsFirstFault bytes first
-      × (first ≢ NoMemory)
-  -- no room, or not of 8 bits: the form is told
-  pub no_room : status ≡ 2 → HaveForm bytes form
-  pub too_deep : status ≡ 14 → HaveForm bytes form × (most < form.maxval)
-  -- an allocation is tried only after a complete legal opening
-  pub memory : status ≡ 1 → BeginsWithOpening (take most_bytes bytes)
-  -- no other status, and what stands afterwards
-  pub statuses : (status ≡ 0) ⊎ (status ≡ 1) ⊎ (status ≡ 2) ⊎ (status ≡ 14) ⊎ (20 ≤ status)
-  pub kept : status ≢ 0 → new ≡ old
-  pub unused : status ≢ 0 → used ≡ 0
-  pub formless : status ≢ 0 → status ≢ 2 → status ≢ 14 → form ≡ no_form
-  pub faultless : status < 20 → fault ≡ no_details
-
 -- the form that an opening says, with the coding parameters in force
 abbrev pub form_by : Opened → JlsrecForm
 form_by opened = record {
@@ -87,10 +42,72 @@ form_by opened = record {
   reset = opened.parameters.reset;
 }
 
+-- The bytes begin with a complete legal opening, all before the data of the first scan, and the form is what it says.
+pub record HaveForm (bytes : List ℕ) (form : JlsrecForm) : Type 0 where
+  pub opened : Opened
+  pub of_bytes : opened.bytes ≡ bytes
+  pub says : SaysSo opened
+  pub form_is : form ≡ form_by opened
+
+-- the form is that of each frame whose codestream stands in front
+abbrev pub SaysForm : List ℕ → JlsrecForm → Type 0
+SaysForm bytes form = (front rest : List ℕ) (f : Picture) → bytes ≡ front ++ rest → Spells front f → IsOfForm f form
+
+-- how many samples a picture of a form has
+abbrev pub samples_of : JlsrecForm → ℕ
+samples_of form = form.width * form.height * form.components
+
+-- Samples are as they were; or all are but the first, as many as a form has that the bytes say.
+pub data KeepsBeyond (bytes old new : List ℕ) : Type 0 where
+  same : new ≡ old → KeepsBeyond bytes old new
+  but_its : (form : JlsrecForm) → HaveForm bytes form → drop (samples_of form) new ≡ drop (samples_of form) old → KeepsBeyond bytes old new
+
+-- what keeps a frame from standing among so many samples of at most `most`
+abbrev pub within : ℕ → Picture → ℕ → Option Refusal
+within most f room = unless_met (nat_le f.maxval most) refusal.NotEightBits (unless_met (nat_le (length f.samples) room) refusal.NoRoom None)
+
+-- the samples of the picture at the front, and the rest as it was
+abbrev pub laid : List ℕ → List ℕ → List ℕ
+laid samples old = samples ++ drop (length samples) old
+
+-- Why the codestream at the front of bytes isn't decoded into so many samples of at most `most`, before its data is looked at.
+pub data IsUnopened (most room : ℕ) (bytes : List ℕ) (form : JlsrecForm) (fault : JlsrecFault) (refused : Refusal) : Type 0 where
+  too_deep : refused ≡ refusal.NotEightBits → HaveForm bytes form → most < form.maxval → SaysForm bytes form → fault ≡ no_details
+      → IsUnopened most room bytes form fault refused
+  too_large : refused ≡ refusal.NoRoom → HaveForm bytes form → form.maxval ≤ most → room < samples_of form → SaysForm bytes form
+      → fault ≡ no_details → IsUnopened most room bytes form fault refused
+  at_fault : (first : StreamFault) → refused ≡ refusal.Stream first → first ≢ NoMemory → IsFirstFault bytes first
+      → ((front rest : List ℕ) (f : Picture) → bytes ≡ front ++ rest → Spells front f → ⊥) → fault ≡ details_of first → form ≡ no_form
+      → IsUnopened most room bytes form fault refused
+
+-- Bytes were decoded into a buffer of samples of at most `most`.
+pub record IsDecoding (most : ℕ) (bytes old new : List ℕ) (form : JlsrecForm) (used : ℕ) (fault : JlsrecFault) (status : ℕ) : Type 0 where
+  -- 0: a frame that the first bytes spell
+  pub done : status ≡ 0 → (f : Picture) × (used ≤ length bytes) × Spells (take used bytes) f × IsOfForm f form × HaveForm bytes form
+      × (new ≡ laid f.samples old) × (length f.samples ≤ length old) × (f.maxval ≤ most)
+  -- whenever the bytes begin with a codestream of a frame, that one's
+  pub complete : (front rest : List ℕ) (f : Picture) → bytes ≡ front ++ rest → Spells front f
+      → (status ≡ 1) ⊎ ((status ≡ status_by (within most f (length old))) × IsOfForm f form × (status ≡ 0 → (used ≡ length front) × (new ≡ laid f.samples old)))
+  -- 20 and above: the first fault
+  pub faulty : 20 ≤ status → (first : StreamFault) × (status ≡ fault_number first) × (fault ≡ details_of first) × IsFirstFault bytes first
+      × (first ≢ NoMemory)
+  -- no room, or not of 8 bits: the form is told, and it is that which doesn't fit, whatever the data
+  pub no_room : status ≡ 2 → HaveForm bytes form × (form.maxval ≤ most) × (length old < samples_of form)
+  pub too_deep : status ≡ 14 → HaveForm bytes form × (most < form.maxval)
+  -- an allocation is tried only after a complete legal opening
+  pub memory : status ≡ 1 → BeginsWithOpening (take most_bytes bytes)
+  -- no other status, and what stands afterwards
+  pub statuses : (status ≡ 0) ⊎ (status ≡ 1) ⊎ (status ≡ 2) ⊎ (status ≡ 14) ⊎ (20 ≤ status)
+  pub kept : status ≢ 0 → status < 20 → new ≡ old
+  pub beyond : 20 ≤ status → KeepsBeyond bytes old new
+  pub unused : status ≢ 0 → used ≡ 0
+  pub formless : status ≢ 0 → status ≢ 2 → status ≢ 14 → form ≡ no_form
+  pub faultless : status < 20 → fault ≡ no_details
+
 -- The form of the codestream at the front of bytes was read, by its opening alone.
 pub record IsReading (bytes : List ℕ) (form : JlsrecForm) (fault : JlsrecFault) (status : ℕ) : Type 0 where
   -- 0: the bytes begin with a complete legal opening, and the form is what it says
-  pub done : status ≡ 0 → (opened : Opened) × (opened.bytes ≡ bytes) × SaysSo opened × (form ≡ form_by opened) × (fault ≡ no_details)
+  pub done : status ≡ 0 → HaveForm bytes form × (fault ≡ no_details)
   -- whenever they begin with a codestream of a frame, its form
   pub complete : (front rest : List ℕ) (f : Picture) → bytes ≡ front ++ rest → Spells front f → (status ≡ 0) × IsOfForm f form
   -- another: the first fault of the bytes

@@ -25,10 +25,6 @@ picture form samples = record { kind = kind_of form.components; width = form.wid
 abbrev pub plain_form : ℕ → ℕ → ℕ → ℕ → JlsrecForm
 plain_form components width height maxval = record { components = components; width = width; height = height; maxval = maxval; t1 = 0; t2 = 0; t3 = 0; reset = 0 }
 
--- the form of a picture, with the coding parameters by default
-abbrev pub form_of : Picture → JlsrecForm
-form_of f = plain_form (components f.kind) f.width f.height f.maxval
-
 abbrev pub no_form : JlsrecForm
 no_form = plain_form 0 0 0 0
 

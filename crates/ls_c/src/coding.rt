@@ -1,5 +1,5 @@
 //! Encoding into a caller's memory, and decoding into it.
-ghost use Rattle.std.specs.Prelude.{◌≡◌, ◌⊎◌, ◌+◌, ◌*◌, ◌<◌, ◌≤◌, ◌++◌, Some, OnOk, OnErr, IfOk, IfErr, Ok, Err, None, nat_le, length, take, drop, ℕ, List, MatchResult};
+ghost use Rattle.std.specs.Prelude.{◌≡◌, ◌⊎◌, ◌+◌, ◌*◌, ◌<◌, ◌≤◌, ◌++◌, Some, OnOk, OnErr, IfOk, IfErr, Ok, Err, None, nat_le, length, take, drop, ℕ, List, MatchResult, slice_index};
 ghost use Rattle.std.specs.List.{AllByRecursion};
 ghost use Rattle.ls_frame.specs.Picture.{Picture, IsFrame, sample_count, most_samples};
 ghost use Rattle.ls_frame.specs.Parameters.{IsLegal};
@@ -8,17 +8,20 @@ ghost use Rattle.ls_stream.specs.Layout.{codestream};
 ghost use Rattle.ls_stream.specs.Grammar.{most_bytes};
 ghost use Rattle.ls_stream.specs.Faults.{BeginsWithOpening};
 ghost use Rattle.ls_stream.specs.View.Outlines.{IsFirstFault};
-ghost use Rattle.ls_c.specs.Forms.{unless_met, coding_refusal, form_of, no_form};
+ghost use Rattle.ls_stream.specs.View.Openings.{picture_of};
+ghost use Rattle.ls_c.specs.Forms.{unless_met, coding_refusal, no_form};
 ghost use Rattle.ls_c.specs.Refusals.{status_by, status_of, details_of, no_details};
-ghost use Rattle.ls_c.specs.Calls.{IsEncoding, IsDecoding, HaveForm, within, laid};
+ghost use Rattle.ls_c.specs.Calls.{IsEncoding, IsDecoding, IsUnopened, HaveForm, SaysForm, form_by, laid};
 ghost use Rattle.ls_c.specs.Requests.{shaped};
 
-use crate::form::{JlsrecFault, JlsrecForm, details_of, form_of, no_details, no_form};
+use crate::form::{JlsrecFault, JlsrecForm, details_of, form_by, no_details, no_form};
 use crate::refusal::{NO_MEMORY, Refusal};
 use crate::request::{Request, Shape, adjacent, joined, request_of, widened};
 use ls_frame::{Frame, FrameView, Presets};
 use ls_stream::laws::codestreams_spell_their_frames;
-use ls_stream::{Lines, StreamFault, decode_frame, encode_into, encode_with, view_bound};
+use ls_stream::{
+    DecoderLines, Lines, Opening, Regions, StreamFault, encode_into, encode_with, view_bound,
+};
 use std::alloc::Global;
 
 /// Encodes samples of 16 bits.
@@ -188,13 +191,22 @@ pub fn decode_words(
 ) -> Result<(), Refusal>
     ensures { IsDecoding 65535 bytes.now samples.old samples.new form.new used.new fault.new (status_of result) }
 {
-    match decode_within(alloc, 65535, samples.len(), bytes, form, used, fault) {
-        Ok(frame) => {
-            let found = frame.samples();
-            samples[..found.len()].copy_from_slice(found);
+    *used = 0;
+    let opening = match open(bytes, 65535, samples.len(), form, fault) {
+        Ok(opening) => opening,
+        Err(refused) => return Err(refused),
+    };
+    let count = opening.sample_count();
+    match decode_at(alloc, &opening, &mut samples[..count]) {
+        Ok(taken) => {
+            *used = taken;
             Ok(())
         }
-        Err(refused) => Err(refused),
+        Err(first) => {
+            *form = no_form();
+            *fault = details_of(first);
+            Err(Refusal::Stream(first))
+        }
     }
 }
 
@@ -209,12 +221,22 @@ pub fn decode_bytes(
 ) -> Result<(), Refusal>
     ensures { IsDecoding 255 bytes.now samples.old samples.new form.new used.new fault.new (status_of result) }
 {
-    match decode_within(alloc, 255, samples.len(), bytes, form, used, fault) {
-        Ok(frame) => {
-            lay_narrowed(frame.samples(), samples);
+    *used = 0;
+    let opening = match open(bytes, 255, samples.len(), form, fault) {
+        Ok(opening) => opening,
+        Err(refused) => return Err(refused),
+    };
+    match decode_apart(alloc, &opening) {
+        Ok((found, taken)) => {
+            lay_narrowed(&found, samples);
+            *used = taken;
             Ok(())
         }
-        Err(refused) => Err(refused),
+        Err(first) => {
+            *form = no_form();
+            *fault = details_of(first);
+            Err(Refusal::Stream(first))
+        }
     }
 }
 
@@ -229,51 +251,79 @@ fn lay_narrowed(found: &[u16], samples: &mut [u8])
     }
 }
 
-/// The frame of the codestream at the front of bytes, if so many samples of at most `most` can hold its own. Says its form, how many bytes
-/// it has, or the details of the first fault.
-fn decode_within(
-    alloc: Global,
+/// Opens the codestream at the front of bytes, if so many samples of at most `most` can hold its frame's. Says its form, or the details of
+/// the first fault.
+fn open<'a>(
+    bytes: &'a [u8],
     most: u16,
     room: usize,
-    bytes: &[u8],
     form: &mut JlsrecForm,
-    used: &mut usize,
     fault: &mut JlsrecFault,
-) -> Result<Frame, Refusal>
-    ensures frame { IfOk result (λ frame. IsFrame frame × (frame.maxval ≤ most) × (length frame.samples ≤ room)) }
-    ensures done { IfOk result (λ frame. (form.new ≡ form_of frame) × (used.new ≤ length bytes.now) × Spells (take used.new bytes.now) frame) }
-    ensures complete { (front rest : List ℕ) (f : Picture) → bytes.now ≡ front ++ rest → Spells front f
-        → MatchResult result (λ frame. (frame ≡ f) × (used.new ≡ length front))
-        (λ refused. (refused ≡ Refusal.Stream StreamFault.NoMemory) ⊎ ((form.new ≡ form_of f) × (within most f room ≡ Some refused))) }
-    ensures refused { IfErr result (λ refused. (refused ≡ Refusal.NotEightBits) ⊎ (refused ≡ Refusal.NoRoom)
-        ⊎ ((first : StreamFault) × (refused ≡ Refusal.Stream first) × (fault.new ≡ details_of first)
-        × ((first ≡ StreamFault.NoMemory) ⊎ IsFirstFault bytes.now first))) }
-    ensures no_room { result ≡ Err Refusal.NoRoom → HaveForm bytes.now form.new }
-    ensures too_deep { result ≡ Err Refusal.NotEightBits → HaveForm bytes.now form.new × (most < form.new.maxval) }
-    ensures memory { result ≡ Err (Refusal.Stream StreamFault.NoMemory) → BeginsWithOpening (take most_bytes bytes.now) }
-    ensures unused { OnErr result (used.new ≡ 0) }
-    ensures formless { IfErr result (λ refused. (first : StreamFault) → refused ≡ Refusal.Stream first → form.new ≡ no_form) }
+) -> Result<Opening<'a>, Refusal>
+    ensures bytes { IfOk result (λ opening. opening.bytes ≡ bytes.now) }
+    ensures begins { IfOk result (λ opening. BeginsWithOpening (take most_bytes bytes.now)) }
+    ensures fits { IfOk result (λ opening. (opening.parameters.maxval ≤ most) × (sample_count opening.kind opening.width opening.height ≤ room)) }
+    ensures form { IfOk result (λ opening. HaveForm bytes.now form.new × (form.new ≡ form_by opening)) }
+    ensures spelled { IfOk result (λ opening. SaysForm bytes.now form.new) }
     ensures faultless { OnOk result (fault.new ≡ no_details) }
-    ensures faultless_refused { IfErr result (λ refused. (refused ≡ Refusal.NotEightBits) ⊎ (refused ≡ Refusal.NoRoom) → fault.new ≡ no_details) }
+    ensures refused { IfErr result (λ refused. IsUnopened most room bytes.now form.new fault.new refused) }
 {
     *form = no_form();
-    *used = 0;
     *fault = no_details();
-    let decoded = match decode_frame(alloc, bytes) {
-        Ok(decoded) => decoded,
+    let opening = match Opening::read(bytes) {
+        Ok(opening) => opening,
         Err(first) => {
             *fault = details_of(first);
             return Err(Refusal::Stream(first));
         }
     };
-    let frame = decoded.frame;
-    *form = form_of(&frame);
-    if frame.maxval() > most {
+    *form = form_by(&opening);
+    if opening.presets().maxval() > most {
         return Err(Refusal::NotEightBits);
     }
-    if frame.samples().len() > room {
+    if opening.sample_count() > room {
         return Err(Refusal::NoRoom);
     }
-    *used = decoded.used;
-    Ok(frame)
+    Ok(opening)
+}
+
+/// Decodes the frame of an opening into its samples' places.
+fn decode_at(alloc: Global, opening: &Opening, places: &mut [u16]) -> Result<usize, StreamFault>
+    requires samples { length places.old ≡ sample_count opening.now.kind opening.now.width opening.now.height }
+    ensures ok { IfOk result (λ used. (used ≤ length opening.now.bytes) × Spells (take used opening.now.bytes) (picture_of opening.now places.new)) }
+    ensures complete { (front rest : List ℕ) (f : Picture) → opening.now.bytes ≡ front ++ rest → Spells front f
+        → MatchResult result (λ used. (picture_of opening.now places.new ≡ f) × (used ≡ length front)) (λ fault. fault ≡ StreamFault.NoMemory) }
+    ensures first { IfErr result (λ fault. (fault ≡ StreamFault.NoMemory) ⊎ IsFirstFault opening.now.bytes fault) }
+    ensures kept { IfErr result (λ fault. fault ≡ StreamFault.NoMemory → places.new ≡ places.old) }
+{
+    let mut lines = DecoderLines::new(alloc, opening.width())?;
+    let regions = Regions::new(alloc, opening.presets())?;
+    clear(places);
+    match opening.decode(&mut lines, &regions, places) {
+        Ok(used) => Ok(used),
+        Err(fault) => Err(fault),
+    }
+}
+
+/// Decodes the frame of an opening in memory of its own: its samples, and how many bytes its codestream has.
+fn decode_apart(alloc: Global, opening: &Opening) -> Result<(Vec<u16>, usize), StreamFault>
+    ensures ok { IfOk result (λ found. (found.1 ≤ length opening.now.bytes) × Spells (take found.1 opening.now.bytes) (picture_of opening.now found.0.items)) }
+    ensures complete { (front rest : List ℕ) (f : Picture) → opening.now.bytes ≡ front ++ rest → Spells front f
+        → MatchResult result (λ found. (picture_of opening.now found.0.items ≡ f) × (found.1 ≡ length front)) (λ fault. fault ≡ StreamFault.NoMemory) }
+    ensures first { IfErr result (λ fault. (fault ≡ StreamFault.NoMemory) ⊎ IsFirstFault opening.now.bytes fault) }
+{
+    let mut found = vec![in alloc; 0u16; opening.sample_count()]?;
+    match decode_at(alloc, opening, &mut found) {
+        Ok(used) => Ok((found, used)),
+        Err(fault) => Err(fault),
+    }
+}
+
+/// Writes 0 into each place.
+fn clear(places: &mut [u16])
+    ensures { (k : ℕ) → k < length places.new → slice_index places.new k ≡ 0 }
+{
+    for place in places.iter_mut() {
+        *place = 0;
+    }
 }

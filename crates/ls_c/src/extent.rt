@@ -4,7 +4,7 @@ ghost use Rattle.ls_frame.specs.Picture.{Picture, IsFrame};
 ghost use Rattle.ls_frame.specs.Parameters.{Parameters, IsLegal};
 ghost use Rattle.ls_stream.specs.Layout.{codestream};
 ghost use Rattle.ls_c.specs.Calls.{IsExtent};
-ghost use Rattle.ls_c.specs.Forms.{bound_of, form_of, IsOfForm};
+ghost use Rattle.ls_c.specs.Forms.{bound_of, IsOfForm};
 ghost use Rattle.ls_c.specs.Refusals.{status_of};
 
 use crate::form::JlsrecForm;

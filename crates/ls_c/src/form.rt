@@ -1,10 +1,10 @@
 //! What C passes and is passed: the form of a picture, and the details of a fault.
 ghost use Rattle.std.specs.Prelude.{◌≡◌};
-ghost use Rattle.ls_c.specs.Forms.{form_of, no_form, plain_form};
+ghost use Rattle.ls_c.specs.Calls.{form_by};
+ghost use Rattle.ls_c.specs.Forms.{no_form, plain_form};
 ghost use Rattle.ls_c.specs.Refusals.{details_of, no_details};
 
-use ls_frame::Frame;
-use ls_stream::{StreamFault, What};
+use ls_stream::{Opening, StreamFault, What};
 
 /// The form of a picture: `jlsrec_form` of the header.
 #[repr(C)]
@@ -37,16 +37,21 @@ pub struct JlsrecFault {
     pub number: u32,
 }
 
-/// The form of a frame; the coding parameters are left at their defaults.
-pub fn form_of(frame: &Frame) -> JlsrecForm
-    ensures { result ≡ form_of frame.now }
+/// The form that an opening says, with the coding parameters in force.
+pub fn form_by(opening: &Opening) -> JlsrecForm
+    ensures { result ≡ form_by opening.now }
 {
-    plain_form(
-        u32::from(frame.kind().components()),
-        u32::from(frame.width()),
-        u32::from(frame.height()),
-        u32::from(frame.maxval()),
-    )
+    let presets = opening.presets();
+    JlsrecForm {
+        components: u32::from(opening.kind().components()),
+        width: u32::from(opening.width()),
+        height: u32::from(opening.height()),
+        maxval: u32::from(presets.maxval()),
+        t1: u32::from(presets.t1()),
+        t2: u32::from(presets.t2()),
+        t3: u32::from(presets.t3()),
+        reset: u32::from(presets.reset()),
+    }
 }
 
 /// No form: zeros.

@@ -1,9 +1,9 @@
 //! What a codestream says of its picture before the samples.
 ghost use Rattle.std.specs.Prelude.{◌≡◌};
-ghost use Rattle.ls_c.specs.Calls.{IsReading, form_by};
+ghost use Rattle.ls_c.specs.Calls.{IsReading};
 ghost use Rattle.ls_c.specs.Refusals.{status_of};
 
-use crate::form::{JlsrecFault, JlsrecForm, details_of, no_details, no_form};
+use crate::form::{JlsrecFault, JlsrecForm, details_of, form_by, no_details, no_form};
 use crate::refusal::Refusal;
 use ls_stream::Opening;
 
@@ -26,22 +26,5 @@ pub fn read_form(
             *fault = details_of(first);
             Err(Refusal::Stream(first))
         }
-    }
-}
-
-/// The form that an opening says.
-fn form_by(opening: &Opening) -> JlsrecForm
-    ensures { result ≡ form_by opening.now }
-{
-    let presets = opening.presets();
-    JlsrecForm {
-        components: u32::from(opening.kind().components()),
-        width: u32::from(opening.width()),
-        height: u32::from(opening.height()),
-        maxval: u32::from(presets.maxval()),
-        t1: u32::from(presets.t1()),
-        t2: u32::from(presets.t2()),
-        t3: u32::from(presets.t3()),
-        reset: u32::from(presets.reset()),
     }
 }

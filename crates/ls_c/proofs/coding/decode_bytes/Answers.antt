@@ -1,21 +1,30 @@
-use Rattle.std.proofs.Common.{◌≡◌, ◌∙◌, ap, List, ℕ, Err}
-use Rattle.ls_frame.specs.Picture.{Picture}
-use Rattle.ls_c.specs.declared.refusal.Refusal.{Refusal}
-use Rattle.ls_c.specs.Calls.{laid}
-use Rattle.ls_c.proofs.DecodingLemmas.{refused_is, decoded}
+use Rattle.std.proofs.Common.{◌≡◌, ◌⊎◌, ◌≤◌, refl, sym, ap, subst, ◌∙◌}
+use Rattle.std.specs.List.{AllByRecursion}
+use Rattle.ls_stream.specs.declared.faults.StreamFault.TheVariants.{NoMemory}
+use Rattle.ls_stream.specs.View.Outlines.{IsFirstFault}
+use Rattle.ls_c.specs.Calls.{same, laid}
+use Rattle.ls_c.proofs.DecodingLemmas.{unopened, stopped, all_narrow}
+use Rattle.ls_c.proofs.OpeningLemmas.{decoded_of}
 use Rattle.ls_c.proofs.coding.decode_bytes.Goals as goal
 
-pub returns-in-Ok : goal.returns-in-Ok
-returns-in-Ok c =
-    let old = c.args.samples.now in
-    let f : Picture = c.in-Ok.frame in
-    let found : c.samples.result.now ≡ f.samples = c.samples.ensures.value in
-    decoded 255 c.args.bytes.now old _ c.decode_within.new.form c.decode_within.new.used c.decode_within.new.fault f
-    c.in-Ok.ensures.frame.1 c.in-Ok.ensures.frame.2 c.in-Ok.ensures.done.0 c.in-Ok.ensures.done.1 c.in-Ok.ensures.done.2 c.in-Ok.ensures.faultless
-    c.in-Ok.ensures.complete (c.lay_narrowed.ensures ∙ ap (λ (xs : List ℕ). laid xs old) found)
-
 pub returns-in-Err : goal.returns-in-Err
-returns-in-Err c =
-    refused_is 255 c.args.bytes.now c.args.samples.now c.decode_within.new.form c.decode_within.new.used c.decode_within.new.fault c.in-Err.refused
-    c.in-Err.ensures.complete c.in-Err.ensures.refused (λ e. c.in-Err.ensures.no_room (ap (λ (r : Refusal). Err r) e)) (λ e. c.in-Err.ensures.too_deep (ap (λ (r : Refusal). Err r) e))
-    (λ e. c.in-Err.ensures.memory (ap (λ (r : Refusal). Err r) e)) c.in-Err.ensures.unused c.in-Err.ensures.formless c.in-Err.ensures.faultless_refused
+returns-in-Err c = unopened 255 c.args.bytes.now c.args.samples.now c.open.new.form 0 c.open.new.fault c.in-Err.refused c.in-Err.ensures.refused refl
+
+pub lay_narrowed-requires-clause-small : goal.lay_narrowed-requires-clause-small
+lay_narrowed-requires-clause-small c =
+    subst (AllByRecursion (λ sample. sample ≤ 255)) (sym c.deref.ensures.value)
+    (all_narrow c.in-Ok.opening.parameters.maxval 255 c.in-Ok-decode_apart.found.items c.in-Ok.ensures.fits.0 c.in-Ok-decode_apart.ensures.ok.1.frame.each)
+
+pub returns-in-Ok-decode_apart : goal.returns-in-Ok-decode_apart
+returns-in-Ok-decode_apart c =
+    decoded_of 255 c.args.bytes.now c.args.samples.now _ c.open.new.form c.in-Ok-decode_apart.taken c.open.new.fault c.in-Ok.opening c.in-Ok-decode_apart.found.items
+    c.in-Ok.ensures.bytes c.in-Ok.ensures.fits c.in-Ok.ensures.form c.in-Ok.ensures.spelled c.in-Ok-decode_apart.ensures.ok c.in-Ok-decode_apart.ensures.complete
+    c.in-Ok.ensures.faultless (c.lay_narrowed.ensures ∙ ap (λ xs. laid xs c.args.samples.now) c.deref.ensures.value)
+
+pub returns-in-Err-decode_apart : goal.returns-in-Err-decode_apart
+returns-in-Err-decode_apart c =
+    let first = c.in-Err-decode_apart.first in
+    stopped 255 c.args.bytes.now c.args.samples.now _ _ 0 _ first
+    (λ front rest f e s. c.in-Err-decode_apart.ensures.complete front rest f (c.in-Ok.ensures.bytes ∙ e) s)
+    (subst (λ bytes. (first ≡ NoMemory) ⊎ IsFirstFault bytes first) c.in-Ok.ensures.bytes c.in-Err-decode_apart.ensures.first)
+    (λ _. c.in-Ok.ensures.begins) (λ _. refl) (same refl) c.details_of.ensures refl c.no_form.ensures

@@ -7,7 +7,7 @@ use Rattle.ls_c.proofs.reading.read_form.Goals as goal
 
 pub returns-in-Ok : goal.returns-in-Ok
 returns-in-Ok c = record {
-  done = λ _. (c.in-Ok.opening, c.in-Ok.ensures.bytes, c.in-Ok.ensures.says, c.form_by.ensures, c.no_details.ensures);
+  done = λ _. (record { opened = c.in-Ok.opening; of_bytes = c.in-Ok.ensures.bytes; says = c.in-Ok.ensures.says; form_is = c.form_by.ensures }, c.no_details.ensures);
   complete = λ front rest f e spelled.
       let is = c.in-Ok.ensures.form front rest f e spelled in (
         refl,

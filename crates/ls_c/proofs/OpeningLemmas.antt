@@ -1,0 +1,57 @@
+-- Forms that openings say, and samples that are zeros.
+use Rattle.std.proofs.Common.{◌≡◌, ℕ, ◌<◌, ◌≤◌, List, ◌++◌, [], ◌∷◌, length, take, drop, get_or, zero, suc, refl, sym, ◌∙◌, ap, subst, inl, inr, arith}
+use Rattle.std.specs.Prelude.{slice_index}
+use Rattle.std.proofs.lemmas.Bool.{cases_lt}
+use Rattle.std.proofs.Math.Seq.{drop-append_seam}
+use Rattle.ls_frame.specs.Picture.{Picture, components, sample_count}
+use Rattle.ls_stream.specs.Grammar.{Spells}
+use Rattle.ls_stream.specs.View.Openings.{Opened, IsOfForm as HasForm, picture_of}
+use Rattle.ls_c.specs.declared.form.JlsrecForm.{JlsrecForm}
+use Rattle.ls_c.specs.declared.form.JlsrecFault.{JlsrecFault}
+use Rattle.ls_c.specs.Forms.{IsOfForm}
+use Rattle.ls_c.specs.Refusals.{no_details}
+use Rattle.ls_c.specs.Calls.{HaveForm, SaysForm, form_by, samples_of, IsDecoding, laid}
+use Rattle.ls_c.proofs.DecodingLemmas.{decoded}
+
+-- a frame of the form of an opening has the form that is told of it
+pub told : (opened : Opened) (form : JlsrecForm) (f : Picture) → form ≡ form_by opened → HasForm opened f → IsOfForm f form
+told opened form f e is = record {
+  components = ap components is.kind ∙ sym (ap (λ (x : JlsrecForm). x.components) e);
+  width = is.width ∙ sym (ap (λ (x : JlsrecForm). x.width) e);
+  height = is.height ∙ sym (ap (λ (x : JlsrecForm). x.height) e);
+  maxval = is.maxval ∙ sym (ap (λ (x : JlsrecForm). x.maxval) e);
+}
+
+past_end : (xs : List ℕ) (k : ℕ) → length xs ≤ k → get_or xs k 0 ≡ 0
+past_end [] k le = refl
+past_end (x ∷ xs) zero le = absurd (omega (arith, le))
+past_end (x ∷ xs) (suc k) le = past_end xs k (omega (arith, le))
+
+-- zeros are at most anything
+pub zeros_small : (most : ℕ) (samples : List ℕ) → ((k : ℕ) → k < length samples → slice_index samples k ≡ 0) → (k : ℕ) → slice_index samples k ≤ most
+zeros_small most samples zeros k =
+    elim (cases_lt k (length samples)) [
+      | inl below ↦ omega (arith, zeros k below)
+      | inr past ↦ omega (arith, past_end samples k past)
+    ]
+
+-- what was decoded after an opening into so many places
+pub decoded_of : (most : ℕ) (bytes old new : List ℕ) (form : JlsrecForm) (used : ℕ) (fault : JlsrecFault) (o : Opened) (places : List ℕ) → o.bytes ≡ bytes
+    → (o.parameters.maxval ≤ most) × (sample_count o.kind o.width o.height ≤ length old) → HaveForm bytes form × (form ≡ form_by o) → SaysForm bytes form
+    → (used ≤ length o.bytes) × Spells (take used o.bytes) (picture_of o places)
+    → ((front rest : List ℕ) (g : Picture) → o.bytes ≡ front ++ rest → Spells front g → (picture_of o places ≡ g) × (used ≡ length front))
+    → fault ≡ no_details → new ≡ laid places old → IsDecoding most bytes old new form used fault 0
+decoded_of most bytes old new form used fault o places same_bytes fits has says ok only none laid_is =
+    let f : Picture = picture_of o places in
+    let whole = subst (λ b. (used ≤ length b) × Spells (take used b) f) same_bytes ok in
+    decoded most bytes old new form used fault f fits.0 (omega (arith, whole.1.frame.count, fits.1)) says
+    (told o form f has.1 (record { kind = refl; width = refl; height = refl; maxval = refl })) has.0 whole.0 whole.1 none
+    (λ front rest g e s. only front rest g (same_bytes ∙ e) s) laid_is
+
+-- as many samples as an opening says
+pub form_samples : (o : Opened) (form : JlsrecForm) → form ≡ form_by o → samples_of form ≡ sample_count o.kind o.width o.height
+form_samples o form e = ap samples_of e
+
+-- what stands beyond places that were written to
+pub beyond_places : (count : ℕ) (places old : List ℕ) → length places ≡ count → drop count (places ++ drop count old) ≡ drop count old
+beyond_places count places old e = ap (λ n. drop n (places ++ drop count old)) (sym e) ∙ drop-append_seam places (drop count old)

@@ -1,0 +1,25 @@
+use Rattle.std.proofs.Common.{refl, ap, arith}
+use Rattle.ls_c.specs.declared.form.JlsrecForm.{JlsrecForm}
+use Rattle.ls_c.specs.Calls.{too_deep, too_large, at_fault}
+use Rattle.ls_c.proofs.OpeningLemmas.{told}
+use Rattle.ls_c.proofs.coding.open.Goals as goal
+
+pub returns-in-Err-clause-refused : goal.returns-in-Err-clause-refused
+returns-in-Err-clause-refused c =
+    at_fault c.in-Err.first refl c.in-Err.ensures.memory c.in-Err.ensures.first c.in-Err.ensures.none c.details_of.ensures c.no_form.ensures
+
+pub returns-then-maxval-most-clause-refused : goal.returns-then-maxval-most-clause-refused
+returns-then-maxval-most-clause-refused c =
+    too_deep refl (record { opened = c.in-Ok.opening; of_bytes = c.in-Ok.ensures.bytes; says = c.in-Ok.ensures.says; form_is = c.form_by.ensures })
+    (omega (arith, c.if-maxval-most.true, c.maxval.ensures.value, ap (λ p. p.maxval) c.presets.ensures, ap (λ (x : JlsrecForm). x.maxval) c.form_by.ensures))
+    (λ front rest f e s. told c.in-Ok.opening c.form_by.result f c.form_by.ensures (c.in-Ok.ensures.form front rest f e s)) c.no_details.ensures
+
+pub returns-then-sample_count-room-clause-refused : goal.returns-then-sample_count-room-clause-refused
+returns-then-sample_count-room-clause-refused c =
+    too_large refl (record { opened = c.in-Ok.opening; of_bytes = c.in-Ok.ensures.bytes; says = c.in-Ok.ensures.says; form_is = c.form_by.ensures })
+    (omega (arith, c.if-maxval-most.false, c.maxval.ensures.value, ap (λ p. p.maxval) c.presets.ensures, ap (λ (x : JlsrecForm). x.maxval) c.form_by.ensures))
+    (rw (c.form_by.ensures) (omega (arith, c.if-sample_count-room.true, c.sample_count.ensures.value)))
+    (λ front rest f e s. told c.in-Ok.opening c.form_by.result f c.form_by.ensures (c.in-Ok.ensures.form front rest f e s)) c.no_details.ensures
+
+pub returns-clause-spelled : goal.returns-clause-spelled
+returns-clause-spelled c = λ front rest f e s. told c.in-Ok.opening c.form_by.result f c.form_by.ensures (c.in-Ok.ensures.form front rest f e s)
