@@ -1,18 +1,18 @@
 -- Samples within maxval.
-use Rattle.std.proofs.Common.{◌≡◌, ℕ, suc, ◌+◌, ◌≤◌, Bool, true, false, cond, not, List, [], ◌∷◌, length, None, Some, refl, arith, nat_lt}
+use Rattle.std.proofs.Common.{◌≡◌, ℕ, suc, ◌+◌, ◌≤◌, Bool, true, false, cond, not, List, [], ◌∷◌, length, None, Some, refl, arith, nat_lt, fold, max}
 use Rattle.std.specs.List.{position, prefix_len, AllByRecursion}
-use Rattle.std.proofs.lemmas.Bool.{ltb-false}
+use Rattle.std.proofs.lemmas.Bool.{ltb-false, ltb-true, le-ltb}
 
-front : ℕ → List ℕ → ℕ
+abbrev front : ℕ → List ℕ → ℕ
 front m xs = prefix_len (λ s. not (nat_lt m s)) xs
 
-step : (m x : ℕ) (xs : List ℕ) (over : Bool) → nat_lt m x ≡ over → suc (length xs) ≤ cond (not over) (1 + prefix_len (λ s. not (nat_lt m s)) xs) 0
-    → (x ≤ m) × (length xs ≤ prefix_len (λ s. not (nat_lt m s)) xs)
+step : (m x : ℕ) (xs : List ℕ) (over : Bool) → nat_lt m x ≡ over → suc (length xs) ≤ cond (not over) (1 + front m xs) 0
+    → (x ≤ m) × (length xs ≤ front m xs)
 step m x xs true e h = absurd (omega arith)
 step m x xs false e h = (ltb-false m x e, omega arith)
 
 -- where the search goes through to the end, each sample is within
-through : (m : ℕ) (xs : List ℕ) → length xs ≤ prefix_len (λ s. not (nat_lt m s)) xs → AllByRecursion (λ s. s ≤ m) xs
+through : (m : ℕ) (xs : List ℕ) → length xs ≤ front m xs → AllByRecursion (λ s. s ≤ m) xs
 through m [] h = tt
 through m (x ∷ xs) h = let found = step m x xs (nat_lt m x) refl h in (found.0, through m xs found.1)
 
@@ -22,3 +22,22 @@ found_none false i h = refl
 
 pub none_above : (m : ℕ) (xs : List ℕ) → position (λ s. nat_lt m s) xs ≡ None → AllByRecursion (λ s. s ≤ m) xs
 none_above m xs h = through m xs (ltb-false _ _ (found_none _ _ h))
+
+within_step : (m x : ℕ) (xs : List ℕ) (over : Bool) → nat_lt m x ≡ over → x ≤ m → length xs ≤ front m xs
+    → suc (length xs) ≤ cond (not over) (1 + front m xs) 0
+within_step m x xs true e within h = let above = ltb-true m x e in absurd (omega arith)
+within_step m x xs false e within h = omega arith
+
+-- where the greatest is within, the search goes through to the end
+within_greatest : (m : ℕ) (xs : List ℕ) (g : ℕ) → fold max g xs ≤ m → (g ≤ m) × (length xs ≤ front m xs)
+within_greatest m [] g h = (h, omega arith)
+within_greatest m (x ∷ xs) g h =
+    let rest = within_greatest m xs (max g x) h in
+    (omega arith, within_step m x xs (nat_lt m x) refl (omega arith) rest.1)
+
+not_found : (here : Bool) (i : ℕ) → here ≡ false → cond here (Some i) None ≡ None
+not_found true i h = cc
+not_found false i h = refl
+
+pub none_above_greatest : (m : ℕ) (xs : List ℕ) → fold max 0 xs ≤ m → position (λ s. nat_lt m s) xs ≡ None
+none_above_greatest m xs h = not_found _ _ (le-ltb _ _ (within_greatest m xs 0 h).1)

@@ -1,5 +1,5 @@
 //! Frames: pictures within the limits of this recorder.
-ghost use Rattle.std.specs.Prelude.{◌≡◌, ◌<◌, ◌↔◌, IsTrue, None, Some, IfOk, IfErr, MatchResult, nat_lt, position};
+ghost use Rattle.std.specs.Prelude.{◌≡◌, ◌<◌, ◌↔◌, IsTrue, None, Some, IfOk, IfErr, MatchResult, nat_lt, position, fold, max};
 ghost use Rattle.ls_frame.specs.Picture.{frame_fault, sample_count};
 
 use std::marker::Model;
@@ -322,5 +322,16 @@ impl PartialEq for Frame {
 fn first_above(samples: &[u16], maxval: u16) -> Option<usize>
     ensures { result ≡ position (λ sample. nat_lt maxval sample) samples.now }
 {
+    if greatest(samples) <= maxval {
+        return None;
+    }
     samples.iter().position(|sample| *sample > maxval)
+}
+
+/// The greatest of some samples, 0 of none. It looks at each, several at once, and so finds sooner that none is over
+/// maxval than a search for the first.
+fn greatest(samples: &[u16]) -> u16
+    ensures { result ≡ fold max 0 samples.now }
+{
+    samples.iter().fold(0, |greatest: u16, sample| greatest.max(*sample))
 }
