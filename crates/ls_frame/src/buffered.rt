@@ -1,7 +1,7 @@
 //! A reader that takes the bytes of another in chunks and hands them out.
 ghost use Rattle.std.specs.Prelude.{◌≡◌, ◌≢◌, ◌-◌, ◌<◌, ◌≤◌, [], ◌∷◌, ◌++◌, IfOk, OnOk, OnErr, Some, IfSome, IfNone, is_err, length, take};
 ghost use Rattle.std.specs.List.{AllByRecursion};
-ghost use Rattle.std.specs.Io.KnownBytes.{Keeps, IsAtEnd};
+ghost use Rattle.std.specs.Io.KnownBytes.{Keeps, IsAtEnd, prepend_known};
 ghost use Rattle.ls_frame.specs.View.Devices.{count_after};
 ghost use Rattle.ls_frame.specs.View.Known.{TakesUntil};
 
@@ -48,6 +48,24 @@ impl<R: Read> Buffered<R> {
             start: 0,
             end: 0,
         })
+    }
+
+    /// Puts bytes before those that are left, as if they hadn't been handed out. If an allocation fails, nothing changes.
+    pub fn put_back(&mut self, alloc: Global, bytes: &[u8]) -> Result<(), AllocError>
+        ensures back { OnOk result (left_in R.remaining self.new ≡ prepend_known bytes.now (left_in R.remaining self.old)) }
+        ensures kept { OnErr result (left_in R.remaining self.new ≡ left_in R.remaining self.old) }
+        ensures inner { inner_reader self.new ≡ inner_reader self.old }
+    {
+        let left = &self.chunk[self.start..self.end];
+        let mut chunk = Vec::new(alloc);
+        chunk.extend_from_slice(bytes)?;
+        chunk.extend_from_slice(left)?;
+        let end = chunk.len();
+        chunk.resize(CHUNK.max(end), 0)?;
+        self.chunk = chunk;
+        self.start = 0;
+        self.end = end;
+        Ok(())
     }
 
     /// Takes a chunk, if the one before was handed out.

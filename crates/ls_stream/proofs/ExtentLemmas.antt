@@ -8,7 +8,7 @@ use Rattle.ls_stream.specs.declared.next.awaited.Awaited.TheVariants as awaited
 use Rattle.ls_stream.specs.Grammar.{most_bytes}
 use Rattle.ls_stream.specs.View.Extents.{extent_at, IsNext}
 use Rattle.ls_stream.specs.View.Places.{read_on, GoesOn, Ends, IsPlaceAfter}
-use Rattle.ls_stream.proofs.StepLemmas.{same_fault}
+use Rattle.ls_stream.proofs.StepLemmas.{same_ok, same_fault}
 use Rattle.ls_stream.proofs.BreakLemmas.{no_err}
 use Rattle.ls_stream.proofs.PlaceLemmas.{read_on-none}
 
@@ -57,6 +57,10 @@ ended place bytes rest byte reached ends few = record {
     | inl all ↦ no_err [] Truncated (sym (all []) ∙ sym (reached.on (byte ∷ [])) ∙ truncated)
     | inr bad ↦ bad.1 (same_fault {A = List ℕ} bad.0 Truncated (sym (bad.2 []) ∙ sym (reached.on (byte ∷ [])) ∙ truncated))
   ]);
+  to_end = λ left whole. elim ends.ends [
+    | inl all ↦ same_ok left [] (sym whole ∙ reached.on (byte ∷ []) ∙ all [])
+    | inr bad ↦ absurd (no_err left bad.0 (sym whole ∙ reached.on (byte ∷ []) ∙ bad.2 []))
+  ];
 }
 
 -- the end of input
@@ -66,4 +70,5 @@ cut_off place bytes rest reached some short end = record {
   short = short;
   least = λ count less. reached.undecided count (omega arith);
   enough = inr end;
+  to_end = λ left whole. absurd (no_err left Truncated (sym whole ∙ reached_undecided place bytes reached));
 }

@@ -45,6 +45,7 @@ pub mod RunReadingLemmas
 pub mod ScanBreakLemmas
 pub mod ScanReadingLemmas
 pub mod SegmentLemmas
+pub mod SkipLemmas
 pub mod SpanLemmas
 pub mod SpellingLemmas
 pub mod StepLemmas

@@ -25,7 +25,7 @@ no_front bytes first same none front rest f e spelled =
 -- a frame that a front is a codestream of has the form of the opening
 pub of_form : (bytes first : List ℕ) (header : FrameHeader) (p : Parameters) (opened : List ℕ) → first ≡ take most_bytes bytes
     → opening_at first ≡ Ok (header, p, opened) → (front rest : List ℕ) (f : Picture) → bytes ≡ front ++ rest → Spells front f
-    → IsOfForm (record { bytes = bytes; kind = header.kind; width = header.width; height = header.height; parameters = p }) f
+    → IsOfForm (record { bytes = bytes; precision = header.precision; kind = header.kind; width = header.width; height = header.height; parameters = p }) f
 of_form bytes first header p opened same e front rest f split spelled =
     let there : IsFoundAt bytes front f = found_at bytes front rest f split spelled in
     let that = that_outline (take most_bytes bytes) header p opened there.left there.o (ap opening_at (sym same) ∙ e) there.outline_is in
@@ -41,10 +41,15 @@ count_at : (contents : List ℕ) (h : FrameHeader) → HeaderRead contents h →
 unfolding header_contents
 count_at contents h read = sym read.count ∙ sym (ap (λ (bs : List ℕ). get_or bs 5 0) read.whole)
 
+-- how many bits a sample has
+bits_at : (contents : List ℕ) (h : FrameHeader) → HeaderRead contents h → h.precision ≡ get_or contents 0 0
+unfolding header_contents
+bits_at contents h read = sym read.precision ∙ sym (ap (λ (bs : List ℕ). get_or bs 0 0) read.whole)
+
 -- an opening that was read says what stands there
 pub opening_says : (bytes : List ℕ) (h : FrameHeader) (p : Parameters) (opened : List ℕ) → AreBytes (take most_bytes bytes)
     → opening_at (take most_bytes bytes) ≡ Ok (h, p, opened)
-    → SaysSo (record { bytes = bytes; kind = h.kind; width = h.width; height = h.height; parameters = p })
+    → SaysSo (record { bytes = bytes; precision = h.precision; kind = h.kind; width = h.width; height = h.height; parameters = p })
 opening_says bytes h p opened are e =
     let read = opening_read (take most_bytes bytes) (h, p, opened) are e in
     record {
@@ -57,6 +62,7 @@ opening_says bytes h p opened are e =
         scan = opening_has (take most_bytes bytes) h p opened read;
         parameters_are = parameters_stand (take most_bytes bytes) h p opened read;
       };
+      precision = bits_at read.contents h read.header;
       kind = count_at read.contents h read.header;
       height = sym read.header.height_at;
       width = sym read.header.width_at;

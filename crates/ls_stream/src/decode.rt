@@ -12,8 +12,8 @@ ghost use Rattle.ls_stream.specs.Components.{component_plane};
 ghost use Rattle.ls_stream.specs.Grammar.{IsCoded, Spells, most_bytes};
 ghost use Rattle.ls_stream.specs.Faults.{BeginsWithOpening};
 ghost use Rattle.ls_stream.specs.View.FirstFaults.{BreaksData};
-ghost use Rattle.ls_stream.specs.View.Reading.{opening_at};
-ghost use Rattle.ls_stream.specs.View.Outlines.{Outline, IsOutlineOf, ids_in, scans_at, outline_at, data_at, after_data, ScansStop, DecodingStops, IsFirstFault};
+ghost use Rattle.ls_stream.specs.View.Reading.{opening_at, Gives};
+ghost use Rattle.ls_stream.specs.View.Outlines.{Outline, IsOutlineOf, ids_in, scans_at, rest_of, outline_at, data_at, after_data, ScansStop, DecodingStops, outline_of, IsFirstFault};
 ghost use Rattle.ls_stream.specs.View.Decoding.{AreScansOf, NoScans, fault_in, picture};
 
 use crate::buffers::DecoderLines;
@@ -91,13 +91,13 @@ impl<'a> Model for Opening<'a> {
 
     ghost Value = { Opened };
 
-    ghost view = { λ o. record { bytes = o.bytes.now; kind = o.header.kind; width = o.header.width; height = o.header.height; parameters = o.presets } };
+    ghost view = { λ o. record { bytes = o.bytes.now; precision = o.header.precision; kind = o.header.kind; width = o.header.width; height = o.header.height; parameters = o.presets } };
 
     ghost invariant = { λ o. IsOpening o.bytes.now o.header o.presets o.rest.now };
 }
 
 impl<'a> Opening<'a> {
-    ghost use Rattle.ls_stream.specs.View.Openings.{SaysSo, IsOfForm, picture_of};
+    ghost use Rattle.ls_stream.specs.View.Openings.{SaysSo, IsOfForm, IsOutlineFrom, picture_of};
 
     /// The opening at the front of bytes. It looks at no sample, and allocates nothing.
     ///
@@ -122,6 +122,13 @@ impl<'a> Opening<'a> {
             }),
             Err(fault) => Err(fault_of(bytes, fault)),
         }
+    }
+
+    /// Bits a sample (P), 2 to 16.
+    pub fn precision(&self) -> u8
+        ensures { result ≡ self.now.precision }
+    {
+        self.header.precision
     }
 
     /// Gray or colour.
@@ -195,6 +202,19 @@ impl<'a> Opening<'a> {
         ) {
             Ok(used) => Ok(used),
             Err(fault) => Err(fault_of(self.bytes, fault)),
+        }
+    }
+
+    /// Reads on to EOI by markers and headers, and decodes no data. Answers how many bytes the codestream has, or the first fault of
+    /// its markers and headers, which is never NoMemory. It allocates nothing.
+    pub fn skip(&self) -> Result<usize, StreamFault>
+        ensures ok { IfOk result (λ used. (o : Outline) × (left : List ℕ) × (outline_of self.now.bytes ≡ Ok (o, left))
+            × (used + length left ≡ length self.now.bytes) × IsOutlineFrom self.now o) }
+        ensures fault { IfErr result (λ fault. outline_of self.now.bytes ≡ Err fault) }
+    {
+        match skip_scans(&self.header, self.rest) {
+            Ok(left) => Ok(first_bytes(self.bytes).len() - left.len()),
+            Err(cause) => Err(fault_of(self.bytes, cause)),
         }
     }
 
@@ -278,6 +298,26 @@ fn decode_scans<'a>(
     }
     let after = decode_data(presets, regions, lines, samples, shape, last, rest)?;
     find_end(after)
+}
+
+/// Reads over the scans of all components, of which the first one's header was read; answers what is left after EOI.
+fn skip_scans<'a>(header: &FrameHeader, bytes: &'a [u8]) -> Result<&'a [u8], StreamFault>
+    requires ids { length (ids_in header.now) ≡ components header.now.kind }
+    ensures { Gives (λ rest. rest.now) result (rest_of (scans_at (drop 1 (ids_in header.now)) bytes.now)) }
+{
+    let last = usize::from(header.kind.components()) - 1;
+    let mut rest = bytes;
+    for component in 0..last {
+        rest = find_next_scan(header.ids[component + 1], after_data(rest))?;
+    }
+    find_end(after_data(rest))
+}
+
+/// What is left after the data at the front of bytes.
+fn after_data(bytes: &[u8]) -> &[u8]
+    ensures { result.now ≡ after_data bytes.now }
+{
+    &bytes[data_of(bytes).len..]
 }
 
 /// Reads the data at the front of bytes, which is of a component's scan, into the component's places among the samples; answers what is

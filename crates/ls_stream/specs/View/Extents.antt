@@ -63,6 +63,8 @@ pub record IsNext (bytes rest : List ℕ) : Type 0 where
   pub least : (count : ℕ) → count < length bytes → extent_at (take count bytes) ≡ Err Truncated
   -- they do, or the input ends with them
   pub enough : (extent_at bytes ≢ Err Truncated) ⊎ (rest ≡ [])
+  -- where they are read to EOI, it is their end
+  pub to_end : (left : List ℕ) → extent_at bytes ≡ Ok left → left ≡ []
 
 -- what was read of a front of bytes, as of all of them: with what is left after the front
 abbrev pub with_left : {X : Type 0} → List ℕ → Take X → Take X

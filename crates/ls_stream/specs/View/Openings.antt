@@ -8,20 +8,23 @@ use Rattle.ls_stream.specs.declared.segments.read.FrameHeader.{FrameHeader}
 use Rattle.ls_stream.specs.Segments.{field_of}
 use Rattle.ls_stream.specs.Grammar.{most_bytes}
 use Rattle.ls_stream.specs.Faults.{BeginsWithOpening}
+use Rattle.ls_stream.specs.View.Outlines.{Outline}
 use Rattle.ls_stream.specs.View.Reading.{opening_at}
 
--- what an opening is seen as: the bytes that it stands in front of, the form of its frame, and the coding parameters
+-- what an opening is seen as: the bytes that it stands in front of, the bits a sample, the form of its frame, and the coding parameters
 pub record Opened : Type 0 where
   pub bytes : List ℕ
+  pub precision : ℕ
   pub kind : Kind
   pub width : ℕ
   pub height : ℕ
   pub parameters : Parameters
 
--- the bytes begin with a complete legal opening, and this is what it says: the components, lines (Y) and samples a line (X) of its
--- frame header, and its coding parameters
+-- the bytes begin with a complete legal opening, and this is what it says: the bits a sample (P), components, lines (Y) and samples a
+-- line (X) of its frame header, and its coding parameters
 pub record SaysSo (opened : Opened) : Type 0 where
   pub begins : BeginsWithOpening (take most_bytes opened.bytes)
+  pub precision : opened.precision ≡ slice_index begins.contents 0
   pub kind : components opened.kind ≡ slice_index begins.contents 5
   pub height : opened.height ≡ field_of begins.contents 1
   pub width : opened.width ≡ field_of begins.contents 3
@@ -51,3 +54,11 @@ picture_of opened samples = record {
   maxval = opened.parameters.maxval;
   samples = samples;
 }
+
+-- an outline whose headers say what an opening says
+pub record IsOutlineFrom (opened : Opened) (o : Outline) : Type 0 where
+  pub precision : o.header.precision ≡ opened.precision
+  pub kind : o.header.kind ≡ opened.kind
+  pub width : o.header.width ≡ opened.width
+  pub height : o.header.height ≡ opened.height
+  pub parameters : o.parameters ≡ opened.parameters

@@ -1,6 +1,6 @@
 -- What a codestream has besides the planes: its frame header, its coding parameters and the data of its scans. How it is read off
 -- bytes, which of it says a frame, and what becomes of bytes past the most that a codestream has.
-use Rattle.std.specs.Prelude.{◌≡◌, ◌⊎◌, ℕ, suc, ◌+◌, ◌≤◌, ◌==◌, nat_lt, if◌then◌else◌, List, [], ◌∷◌, ◌++◌, length, take, drop, Ok, Err}
+use Rattle.std.specs.Prelude.{◌≡◌, ◌⊎◌, ℕ, suc, ◌+◌, ◌≤◌, ◌==◌, nat_lt, if◌then◌else◌, List, [], ◌∷◌, ◌++◌, length, take, drop, Result, Ok, Err}
 use Rattle.ls_frame.specs.Picture.{Picture, IsFrame, components}
 use Rattle.ls_frame.specs.Parameters.{Parameters}
 use Rattle.ls_bits.specs.Bits.{AreBytes}
@@ -48,6 +48,11 @@ scans_at (id ∷ later) bytes = do
   rest ← next_scan_at id (after_data bytes)
   scans ← scans_at later rest
   Ok (data_at bytes ∷ scans.0, scans.1)
+
+-- what is left
+abbrev pub rest_of : {X : Type 0} → Take X → Result (List ℕ) StreamFault
+rest_of (Ok found) = Ok found.1
+rest_of (Err fault) = Err fault
 
 -- the outline of the codestream at the front of bytes
 unfoldable pub outline_at : List ℕ → Take Outline
