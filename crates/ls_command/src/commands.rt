@@ -1,8 +1,9 @@
 //! The commands and options, as `clap` is told of them.
 use crate::texts::{
-    CAPACITY_HELP, CODE_HELP, FILM_HELP, FILMS_HELP, INTO_HELP, LIST_HELP, PLAY_HELP, PRESET_HELP,
-    PROGRESS_HELP, QUEUE_HELP, REASONS_HELP, RECORD_HELP, RECORDING_HELP, REPLACE_HELP,
-    REPLAY_HELP, REPORT_HELP, SOURCES_HELP, STEPS_HELP, WINDOW_HELP, WORKERS_HELP,
+    CAPACITY_HELP, CHECK_HELP, CODE_HELP, FILM_HELP, FILMS_HELP, FRAMES_HELP, INDEX_FILE_HELP,
+    INDEX_HELP, INTO_HELP, LIST_HELP, NO_SUMS_HELP, PLAY_HELP, PRESET_HELP, PROGRESS_HELP,
+    QUEUE_HELP, REASONS_HELP, RECORD_HELP, RECORDING_HELP, REPLACE_HELP, REPLAY_HELP, REPORT_HELP,
+    SALVAGE_HELP, SOURCES_HELP, STEPS_HELP, VERIFY_HELP, WINDOW_HELP, WORKERS_HELP,
 };
 use clap::{Arg, ArgAction, Command, value_parser};
 use std::alloc::{AllocError, Global};
@@ -11,17 +12,19 @@ use std::alloc::{AllocError, Global};
 pub fn command<'a>(alloc: Global) -> Result<Command<'a>, AllocError> {
     let list = "Lists the frames of a film";
     let code = "Codes the frames of a film";
-    let play = "Plays a recording";
     Command::new(alloc, "jlsrec")
         .version("0.1.0")
         .about("A lossless recorder of image sequences: JPEG-LS, ITU-T T.87")
         .bin_name("jlsrec")?
         .no_binary_name(true)
         .subcommand_required(true)
-        .subcommand(file_command(alloc, "list", list, LIST_HELP, FILM_HELP)?)?
-        .subcommand(file_command(alloc, "code", code, CODE_HELP, FILM_HELP)?)?
         .subcommand(record_command(alloc)?)?
-        .subcommand(file_command(alloc, "play", play, PLAY_HELP, RECORDING_HELP)?)?
+        .subcommand(play_command(alloc)?)?
+        .subcommand(file_command(alloc, "code", code, CODE_HELP, FILM_HELP)?)?
+        .subcommand(file_command(alloc, "list", list, LIST_HELP, FILM_HELP)?)?
+        .subcommand(index_command(alloc)?)?
+        .subcommand(check_command(alloc)?)?
+        .subcommand(verify_command(alloc)?)?
         .subcommand(replay_command(alloc)?)
 }
 
@@ -36,6 +39,36 @@ fn file_command<'a>(
     command_with_help(alloc, name, about, help)
         .arg(reasons_flag(alloc))?
         .arg(file_argument(alloc, file_help))
+}
+
+/// The command that plays a recording.
+fn play_command<'a>(alloc: Global) -> Result<Command<'a>, AllocError> {
+    file_command(alloc, "play", "Plays a recording", PLAY_HELP, RECORDING_HELP)?
+        .arg(option(alloc, "frames", "A..B", FRAMES_HELP))?
+        .arg(flag(alloc, "salvage", SALVAGE_HELP))
+}
+
+/// The command that looks up a recording's codestreams.
+fn index_command<'a>(alloc: Global) -> Result<Command<'a>, AllocError> {
+    let about = "Lists the codestreams of a recording";
+    file_command(alloc, "index", about, INDEX_HELP, RECORDING_HELP)?
+        .arg(flag(alloc, "no-sums", NO_SUMS_HELP))
+}
+
+/// The command that looks for damage in a recording.
+fn check_command<'a>(alloc: Global) -> Result<Command<'a>, AllocError> {
+    let about = "Says what is damaged of a recording";
+    file_command(alloc, "check", about, CHECK_HELP, RECORDING_HELP)?
+        .arg(option(alloc, "index", "INDEX", INDEX_FILE_HELP))
+}
+
+/// The command that compares a recording with its film.
+fn verify_command<'a>(alloc: Global) -> Result<Command<'a>, AllocError> {
+    let about = "Says whether a recording is of a film";
+    command_with_help(alloc, "verify", about, VERIFY_HELP)
+        .arg(reasons_flag(alloc))?
+        .arg(Arg::new(alloc, "FILM").required(true).help(FILM_HELP))?
+        .arg(file_argument(alloc, RECORDING_HELP))
 }
 
 /// The command that records films.

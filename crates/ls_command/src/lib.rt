@@ -7,7 +7,7 @@
 //! /// The recording that is to be played, if the words ask for that.
 //! pub fn played<'a>(alloc: Global, words: &'a [String]) -> Option<&'a str> {
 //!     match read_words(alloc, words) {
-//!         Ok((Request::Play { file }, _reasons)) => Some(file),
+//!         Ok((Request::Play { file, .. }, _reasons)) => Some(file),
 //!         _ => None,
 //!     }
 //! }
@@ -19,13 +19,17 @@
 #![tactic(auto)]
 
 mod commands;
+pub mod frames;
 mod texts;
 
 use clap::error::ErrorKind;
 use clap::{ArgMatches, Error};
 use commands::command;
+use frames::read_frames;
 use std::alloc::{AllocError, Global};
-use texts::BEGINNING;
+use texts::{BEGINNING, FRAMES_WANTED};
+
+pub use frames::Frames;
 
 /// What the words ask for.
 #[derive(Drop)]
@@ -38,9 +42,26 @@ pub enum Request<'a> {
     Code {
         file: &'a str,
     },
-    /// The frames of a recording.
+    /// The frames of a recording: all, or some; or past damage.
     Play {
         file: &'a str,
+        frames: Option<Frames>,
+        salvage: bool,
+    },
+    /// The lines of a recording's codestreams, with their sums or without.
+    Index {
+        file: &'a str,
+        sums: bool,
+    },
+    /// What is damaged of a recording, by itself or by its index.
+    Check {
+        file: &'a str,
+        index: Option<&'a str>,
+    },
+    /// Whether a recording's frames are a film's.
+    Verify {
+        film: &'a str,
+        recording: &'a str,
     },
     /// Recordings of films, side by side.
     Record {
@@ -134,15 +155,65 @@ fn request_of<'a>(
     alloc: Global,
     name: &str,
     words: &ArgMatches<'a>,
-) -> Result<Option<Request<'a>>, AllocError> {
+) -> Result<Option<Request<'a>>, Error> {
     match name {
         "list" => Ok(words.get_str("FILE").map(|file| Request::List { file })),
         "code" => Ok(words.get_str("FILE").map(|file| Request::Code { file })),
-        "play" => Ok(words.get_str("FILE").map(|file| Request::Play { file })),
-        "record" => record_request(alloc, words),
+        "play" => play_request(alloc, words),
+        "index" => Ok(index_request(words)),
+        "check" => Ok(check_request(words)),
+        "verify" => Ok(verify_request(words)),
+        "record" => Ok(record_request(alloc, words)?),
         "replay" => Ok(replay_request(words)),
         _ => Ok(None),
     }
+}
+
+/// What the words of `play` ask for, which `clap` has looked at.
+fn play_request<'a>(
+    alloc: Global,
+    words: &ArgMatches<'a>,
+) -> Result<Option<Request<'a>>, Error> {
+    let salvage = words.get_flag("salvage");
+    let frames = match words.get_str("frames") {
+        Some(_) if salvage => {
+            return Err(usage_fault(alloc, "--frames and --salvage don't go together")?);
+        }
+        Some(text) => match read_frames(text) {
+            Some(frames) => Some(frames),
+            None => return Err(usage_fault(alloc, FRAMES_WANTED)?),
+        },
+        None => None,
+    };
+    Ok(words.get_str("FILE").map(|file| Request::Play {
+        file,
+        frames,
+        salvage,
+    }))
+}
+
+/// What the words of `index` ask for, which `clap` has looked at.
+fn index_request<'a>(words: &ArgMatches<'a>) -> Option<Request<'a>> {
+    Some(Request::Index {
+        file: words.get_str("FILE")?,
+        sums: !words.get_flag("no-sums"),
+    })
+}
+
+/// What the words of `check` ask for, which `clap` has looked at.
+fn check_request<'a>(words: &ArgMatches<'a>) -> Option<Request<'a>> {
+    Some(Request::Check {
+        file: words.get_str("FILE")?,
+        index: words.get_str("index"),
+    })
+}
+
+/// What the words of `verify` ask for, which `clap` has looked at.
+fn verify_request<'a>(words: &ArgMatches<'a>) -> Option<Request<'a>> {
+    Some(Request::Verify {
+        film: words.get_str("FILM")?,
+        recording: words.get_str("FILE")?,
+    })
 }
 
 /// What the words of `record` ask for, which `clap` has looked at.

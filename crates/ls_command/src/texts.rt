@@ -7,13 +7,16 @@ jlsrec records films without loss, several side by side, as JPEG-LS (ITU-T T.87)
   jlsrec play left.pgm.jls > again.pgm       plays a recording: again.pgm is left.pgm
   jlsrec code left.pgm > left.jls            codes a film to standard output
   jlsrec list left.pgm                       writes a line for each frame of a film
+  jlsrec index left.pgm.jls                  writes a line for each codestream of a recording, with its sum
+  jlsrec check left.pgm.jls                  says what is damaged of a recording
+  jlsrec verify left.pgm left.pgm.jls        says whether a recording is of a film
 
 A film is binary Netpbm images (PGM or PPM, 1 to 16 bits a sample), one after the other.
 All commands: jlsrec --help. The options of one: jlsrec record --help.
 ";
 
 pub const LIST_HELP: &str = "\
-Writes a line for each frame of FILE to standard output.
+Writes a line for each frame of FILE, a film, to standard output. (Of a recording `index` does that.)
 
 The eleven columns of a line, one blank between:
   number   of the frame, from 0
@@ -56,6 +59,60 @@ and maxval, each on a line of its own, with no comment. Other programs take the 
 in `jlsrec play film.jls | ffmpeg -f image2pipe -i - film.mkv`.
 
 A codestream of another program is read if it is lossless, and each component has a scan of its own.";
+
+pub const FRAMES_HELP: &str = "\
+The frames to play, from number A to number B, both of them too, counted from 0: A..B; or A, A.. to the end, ..B.
+The codestreams before A are stepped over by their markers, and none after B is read";
+
+pub const FRAMES_WANTED: &str = "--frames takes A, A.., ..B or A..B, of frame numbers from 0, A no greater than B";
+
+pub const SALVAGE_HELP: &str = "\
+Go on after a codestream at fault, at the next one that begins after it, and say of each gap on standard error
+  frame N: FAULT: B bytes at O passed over
+where N is the number of the next frame that is played. The status is 1 if there was a gap";
+
+pub const INDEX_HELP: &str = "\
+Writes a line for each codestream of FILE, a recording, to standard output. It goes by markers and headers, and decodes
+nothing.
+
+The columns of a line, one blank between:
+  number   of the codestream, from 0
+  offset   of its first byte in FILE
+  bytes    that it has
+  kind     gray or color
+  width    in pixels
+  height   in pixels
+  maxval   the greatest value of a sample
+  P        bits a sample, as its header says
+  T1       the first threshold of T.87 that it is coded with
+  T2       the second
+  T3       the third
+  RESET    samples until a context's counters are halved
+  sum      SHA-256 of its bytes
+
+  $ jlsrec index film.pgm.jls > film.pgm.jls.index
+
+Frame 137 alone, by its line: tail -c +$((OFFSET + 1)) FILE | head -c BYTES; or `jlsrec play --frames 137 FILE`.";
+
+pub const NO_SUMS_HELP: &str = "Leave the sum out, which is quicker";
+
+pub const CHECK_HELP: &str = "\
+Decodes each codestream of FILE, a recording, and says of each that is damaged a line on standard output:
+  frame N: FAULT: B bytes at O passed over
+and at the end
+  FILE: N frames, M damaged
+N frames are whole. The status is 1 if any is damaged. JPEG-LS has no checksums, so a bit that has changed may decode
+as other samples: that only an index shows.";
+
+pub const INDEX_FILE_HELP: &str = "\
+The recording's index, as `index` wrote it: each codestream has to be where it stood, and to have its sum";
+
+pub const VERIFY_HELP: &str = "\
+Compares the frames of FILE, a recording, with those of FILM, frame by frame. The status is 0 exactly if they are the
+same, each with its size, its maxval and all its samples; whatever form the headers of either file have. Else it is 1,
+and the first frame that differs, is missing or is too many is said on standard error.
+
+  $ jlsrec verify film.pgm film.pgm.jls && echo the same";
 
 pub const RECORD_HELP: &str = "\
 Records the films FILE.. side by side: writes beside each FILE a file FILE.jls, of a codestream of JPEG-LS

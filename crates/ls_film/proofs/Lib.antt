@@ -4,6 +4,7 @@ pub mod FilmLemmas
 pub mod LineLemmas
 pub mod NextLemmas
 pub mod OneFilmLemmas
+pub mod PartLemmas
 pub mod PlayLemmas
 pub mod RecordedLemmas
 pub mod SliceLemmas

@@ -30,7 +30,7 @@ stops-into read read' start start' out out' fault is is' stops =
 no_start : (byte : ℕ) (bytes : List ℕ) → [] ≡ byte ∷ bytes → ⊥
 no_start byte bytes is = let clash : ⊥ = cc in absurd clash
 
-some_bytes : (bytes : List ℕ) (f : Picture) → Spells bytes f → 0 < length bytes
+pub some_bytes : (bytes : List ℕ) (f : Picture) → Spells bytes f → 0 < length bytes
 unfolding codestream_bytes
 some_bytes [] f spells = absurd (no_start _ _ spells.spelled)
 some_bytes (byte ∷ bytes) f spells = omega arith
@@ -38,7 +38,7 @@ some_bytes (byte ∷ bytes) f spells = omega arith
 module _ (only : (one other rest : List ℕ) (f g : Picture) → Spells one f → Spells other g → other ≡ one ++ rest → rest ≡ [])
     (same : (bytes : List ℕ) (f g : Picture) → Spells bytes f → Spells bytes g → f ≡ g) where
   -- what follows the first frames begins with a codestream, or nothing follows
-  no_break : (rest : List ℕ) (more : List Picture) → IsFilm Spells rest more → BeginsWithNone rest → ⊥
+  pub no_break : (rest : List ℕ) (more : List Picture) → IsFilm Spells rest more → BeginsWithNone rest → ⊥
   no_break rest [] none broken = absurd (omega (arith, ap length none, broken.some))
   no_break rest (f ∷ more) film broken = broken.none film.0 film.1 f film.2 film.3
 

@@ -2,6 +2,7 @@
 pub mod Engine
 pub mod Given
 pub mod Memory
+pub mod Parts
 pub mod Playing
 pub mod Steps
 pub mod Stopping

@@ -1,11 +1,12 @@
 //! The engine that reads frames and writes a text of them, a chunk for each, and its steps. What the frames are read from, and what is
 //! written of them, are parameters.
-ghost use Rattle.std.specs.Prelude.{◌≡◌, ℕ, ◌+◌, ◌<◌, ◌^◌, Bool, IfOk, IfErr, OnOk, IfSome, IfNone, List, [], length, Option};
+ghost use Rattle.std.specs.Prelude.{◌≡◌, ◌≢◌, ◌≤◌, false, IsTrue, ℕ, ◌+◌, ◌<◌, ◌^◌, Bool, IfOk, IfErr, OnOk, IfSome, IfNone, List, [], length, Option};
 ghost use Rattle.std.specs.Io.KnownBytes.{Appends};
 ghost use Rattle.ls_frame.specs.Picture.{Picture, IsFrame};
 ghost use Rattle.ls_frame.specs.View.Devices.{count_after};
 ghost use Rattle.ls_frame.specs.View.Known.{Gave, WasAtEnd};
-ghost use Rattle.ls_film.specs.View.Engine.{Completes};
+ghost use Rattle.ls_film.specs.Film.{most_frames};
+ghost use Rattle.ls_film.specs.View.Engine.{Completes, HasRun};
 ghost use Rattle.ls_film.specs.View.Steps.{HasStopped, StopsNext, StopsChunk, failed_input, failed_reader, failed_writer};
 ghost use Rattle.ls_film.specs.View.Texts.{GrowsBy};
 
@@ -79,6 +80,15 @@ impl<E> From<AllocError> for Stopped<E> {
     }
 }
 
+/// How far a run of the engine came.
+#[derive(Clone, Copy)]
+pub struct Run {
+    /// Of how many frames the text was written.
+    pub frames: u64,
+    /// Whether the reader was seen to be at its end.
+    pub ended: bool,
+}
+
 /// Writes the text of the frames of a reader's images, frame by frame, and says how many frames there were.
 ///
 /// Each chunk is written before the next image is read. If the bytes of reader and writer are known (as in memory), the
@@ -95,18 +105,52 @@ pub fn write_text<I: Images, T: Text, R: Feed, W: Outlet>(
     ensures reads { R.failed_reads reader.new ≡ count_after (failed_reader I.of_device result) (R.failed_reads reader.old) }
     ensures writes { W.failed_writes writer.new ≡ count_after (failed_writer result) (W.failed_writes writer.old) }
 {
-    let mut written = 0;
-    for number in 0..MOST_FRAMES {
-        let Some(frame) = next_frame_of::<I, R>(alloc, reader, number)? else {
-            return Ok(number);
-        };
-        let chunk = T::chunk(alloc, number, &frame)?;
-        written = write_chunk(writer, &chunk, written)?;
+    let run = write_at_most::<I, T, R, W>(alloc, reader, writer, MOST_FRAMES)?;
+    if run.ended {
+        return Ok(run.frames);
     }
     match next_frame_of::<I, R>(alloc, reader, MOST_FRAMES)? {
         None => Ok(MOST_FRAMES),
         Some(_) => Err(Stopped::TooMany),
     }
+}
+
+/// The same of the next `most` frames, or of all where there are fewer. No image after them is read.
+///
+/// It requires no more than `MOST_FRAMES`, and never stops for too many.
+pub fn write_at_most<I: Images, T: Text, R: Feed, W: Outlet>(
+    alloc: Global,
+    reader: &mut R,
+    writer: &mut W,
+    most: u64,
+) -> Result<Run, Stopped<I::Fault>>
+    requires { most ≤ most_frames }
+    ensures run { IfOk result (λ run. (bytes : ℕ) × HasRun I.image T.text
+        (R.remaining reader.old) (R.remaining reader.new) (W.contents writer.old) (W.contents writer.new) run.frames bytes) }
+    ensures ended { IfOk result (λ run. IsTrue run.ended → Completes I.image T.text
+        (R.remaining reader.old) (R.remaining reader.new) (W.contents writer.old) (W.contents writer.new) run.frames) }
+    ensures most { IfOk result (λ run. (run.frames ≤ most) × (run.ended ≡ false → run.frames ≡ most)) }
+    ensures stops { IfErr result (HasStopped I.image I.unread T.text
+        (R.remaining reader.old) (R.remaining reader.new) (W.contents writer.old) (W.contents writer.new)) }
+    ensures few { IfErr result (λ stopped. stopped ≢ Stopped.TooMany) }
+    ensures reads { R.failed_reads reader.new ≡ count_after (failed_reader I.of_device result) (R.failed_reads reader.old) }
+    ensures writes { W.failed_writes writer.new ≡ count_after (failed_writer result) (W.failed_writes writer.old) }
+{
+    let mut written = 0;
+    for number in 0..most {
+        let Some(frame) = next_frame_of::<I, R>(alloc, reader, number)? else {
+            return Ok(Run {
+                frames: number,
+                ended: true,
+            });
+        };
+        let chunk = T::chunk(alloc, number, &frame)?;
+        written = write_chunk(writer, &chunk, written)?;
+    }
+    Ok(Run {
+        frames: most,
+        ended: false,
+    })
 }
 
 /// Reads the frame of this number; `None` exactly at the end.

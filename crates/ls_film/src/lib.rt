@@ -43,9 +43,11 @@ pub mod faults;
 pub mod film;
 pub mod laws;
 pub mod listing;
+pub mod part;
 pub mod playing;
 
 pub use coding::{code_bytes, code_film};
 pub use faults::{FilmFault, MOST_FRAMES};
 pub use listing::{list_bytes, list_film};
+pub use part::{Part, PartFault, play_part};
 pub use playing::{PlayFault, play, play_bytes};

@@ -1,5 +1,5 @@
 //! Playing a recording: codestream after codestream is decoded, and its frame written as a Netpbm image.
-ghost use Rattle.std.specs.Prelude.{◌≡◌, ◌≤◌, ℕ, List, [], length, Option, Some, IfOk, IfErr, MatchResult, refl};
+ghost use Rattle.std.specs.Prelude.{◌≡◌, ◌≤◌, ◌<◌, ◌+◌, ◌^◌, ℕ, List, [], length, Option, Some, IfOk, IfErr, MatchResult, refl};
 ghost use Rattle.std.specs.List.{AllByRecursion};
 ghost use Rattle.ls_frame.specs.Picture.{Picture};
 ghost use Rattle.ls_frame.specs.Parameters.{Parameters};
@@ -46,7 +46,7 @@ pub enum PlayFault {
 
 impl PlayFault {
     /// What the engine's end over codestreams is to a recording.
-    fn of(stopped: Stopped<Unread>) -> PlayFault
+    pub(crate) fn of(stopped: Stopped<Unread>) -> PlayFault
         ensures { result ≡ play_fault stopped }
     {
         match stopped {
@@ -56,6 +56,23 @@ impl PlayFault {
             Stopped::Output(written) => PlayFault::Output(written),
             Stopped::NoMemory => PlayFault::NoMemory,
             Stopped::TooMany => PlayFault::TooMuch,
+        }
+    }
+}
+
+impl PlayFault {
+    ghost use Rattle.ls_film.specs.View.Parts.{later, number_in};
+
+    /// The same of what comes after the first codestreams: numbered by all of them.
+    ///
+    /// It requires that the number is one of 64 bits.
+    pub(crate) fn later(self, first: u64) -> PlayFault
+        requires { first + number_in self < 2 ^ 64 }
+        ensures { result ≡ later first self }
+    {
+        match self {
+            PlayFault::Stream(number, fault) => PlayFault::Stream(first + number, fault),
+            other => other,
         }
     }
 }
@@ -108,7 +125,7 @@ pub fn play_bytes(alloc: Global, recording: &[u8]) -> (Vec<u8>, Result<u64, Play
 
 /// Why the next codestream gives no frame.
 #[derive(Drop)]
-enum Unread {
+pub(crate) enum Unread {
     /// It can't be decoded, or memory was refused for it.
     Stream(StreamFault),
     /// A read failed.
@@ -116,7 +133,7 @@ enum Unread {
 }
 
 /// What a recording is of.
-struct Codestreams;
+pub(crate) struct Codestreams;
 
 impl Images for Codestreams {
     type Fault = Unread;
@@ -145,7 +162,7 @@ impl Images for Codestreams {
 }
 
 /// A canonical Netpbm image for each frame.
-struct ImageText;
+pub struct ImageText;
 
 impl Text for ImageText {
     ghost text = { show };

@@ -10,6 +10,8 @@ mod films;
 #[cfg(test)]
 mod page;
 #[cfg(test)]
+mod part;
+#[cfg(test)]
 mod playing;
 #[cfg(test)]
 mod testing;

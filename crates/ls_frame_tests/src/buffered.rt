@@ -247,3 +247,31 @@ fn room_for_a_chunk_is_handed_on_with_ample_memory(rt: HostRuntime) {
         check(&rt, "bytes taken", done, &chunks.given, &handed_out);
     }
 }
+
+/// How many of the six bytes `abcdef` are taken, what is put back then, and what is left after that.
+const PUT_BACK: [(usize, &[u8], &[u8]); 6] = [
+    (0, b"", b"abcdef"),
+    (0, b"xy", b"xyabcdef"),
+    (2, b"ab", b"abcdef"),
+    (2, b"vwxyz", b"vwxyzcdef"),
+    (6, b"f", b"f"),
+    (6, b"", b""),
+];
+
+/// That this is left after bytes were taken and others put back.
+fn check_put_back(rt: &impl Abort, alloc: Global, case: &(usize, &[u8], &[u8])) {
+    let (taken, back, want) = *case;
+    let mut reader = buffered(rt, alloc, Chunks::new(b"abcdef", 4, &[]));
+    for at in 0..taken {
+        check_read(rt, &mut reader, &b"abcdef"[at..], 1);
+    }
+    check_so(rt, "memory", taken, reader.put_back(alloc, back).is_ok());
+    check_all(rt, &mut reader, want, 4);
+}
+
+#[test]
+fn bytes_are_put_back_with_ample_memory(rt: HostRuntime) {
+    for case in &PUT_BACK {
+        check_put_back(&rt, rt.alloc(), case);
+    }
+}

@@ -1,7 +1,7 @@
 //! What the headers of a codestream say, and what stands after its scans: each fault, and none.
 use crate::testing::codestreams::CODESTREAMS;
 use ls_frame::PresetFault;
-use ls_stream::{StreamFault, What, decode_frame};
+use ls_stream::{Opening, StreamFault, What, decode_frame};
 use std::alloc::{AllocError, Global};
 use std::process::Abort;
 
@@ -188,4 +188,48 @@ fn what_follows_a_scan_has_these_faults_with_ample_memory(
         check_after(&rt, rt.alloc(), colour, 32, bytes, *want)?;
     }
     Ok(())
+}
+
+/// How many bits a sample and how many bytes a codestream has by its markers and headers, or their first fault.
+fn check_skipped(rt: &impl Abort, bytes: &[u8], want: Result<(u8, usize), StreamFault>) {
+    let got = match Opening::read(bytes) {
+        Ok(opening) => opening.skip().map(|used| (opening.precision(), used)),
+        Err(fault) => Err(fault),
+    };
+    assert_eq!(rt; got, want, "{bytes:?}");
+}
+
+/// That a codestream is read over by its markers and headers, and no front of it is.
+fn check_fronts(rt: &impl Abort, codestream: &[u8], precision: u8) {
+    check_skipped(rt, codestream, Ok((precision, codestream.len())));
+    for len in 0..codestream.len() {
+        check_skipped(rt, &codestream[..len], Err(StreamFault::Truncated));
+    }
+}
+
+#[test]
+fn codestreams_are_read_over_by_markers_and_headers(rt: HostRuntime) {
+    check_fronts(&rt, &LONE, 8);
+    check_fronts(&rt, &WITH_PRESETS, 2);
+}
+
+/// A place in `LONE`, the byte that stands there, and what is said of markers and headers: the data isn't looked at.
+const CHANGED_AFTER_THE_HEADERS: [(usize, u8, Result<(u8, usize), StreamFault>); 6] = [
+    (25, 0x00, Ok((8, 28))),
+    (25, 0xC0, Ok((8, 28))),
+    (26, 0x00, Err(StreamFault::Truncated)),
+    (27, 0xDA, Err(StreamFault::BadSegment)),
+    (27, 0xC0, Err(StreamFault::Unsupported(What::Marker(0xC0)))),
+    (27, 0xFF, Err(StreamFault::Truncated)),
+];
+
+#[test]
+fn faults_of_markers_after_the_headers_are_found(rt: HostRuntime) {
+    for (place, byte, want) in CHANGED_AFTER_THE_HEADERS {
+        let mut bytes = LONE;
+        if place < bytes.len() {
+            bytes[place] = byte;
+        }
+        check_skipped(&rt, &bytes, want);
+    }
 }

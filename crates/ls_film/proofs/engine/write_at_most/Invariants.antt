@@ -1,6 +1,6 @@
 use Rattle.std.proofs.Common.{◌≡◌, ◌*◌, ◌^◌, ◌≤◌}
 use Rattle.ls_film.specs.View.Engine.{HasRun}
-use Rattle.ls_film.proofs.engine.write_text.Given as goal
+use Rattle.ls_film.proofs.engine.write_at_most.Given as goal
 
 -- the frames so far were read, and their chunks written
 abbrev pub invariant-loop-number : goal.invariant-loop-number

@@ -1,0 +1,50 @@
+//! The frames that are asked for by their numbers.
+
+/// The frames from `first` to `last`, both of them among them, or to the end; numbered from 0.
+#[derive(Clone, Copy, Debug, PartialEq, Eq)]
+pub struct Frames {
+    pub first: u32,
+    pub last: Option<u32>,
+}
+
+/// The frames of `A`, `A..`, `..B` or `A..B`, where A and B are numbers below 4,294,967,295 and A is no greater than B; `None` of
+/// another text.
+pub fn read_frames(text: &str) -> Option<Frames> {
+    match text.split_once("..") {
+        None => {
+            let first = number(text)?;
+            Some(Frames {
+                first,
+                last: Some(first),
+            })
+        }
+        Some(("", last)) => between(0, number(last)?),
+        Some((first, "")) => Some(Frames {
+            first: number(first)?,
+            last: None,
+        }),
+        Some((first, last)) => between(number(first)?, number(last)?),
+    }
+}
+
+/// The frames from one number to another, if they are in order.
+fn between(first: u32, last: u32) -> Option<Frames> {
+    if first > last {
+        return None;
+    }
+    Some(Frames {
+        first,
+        last: Some(last),
+    })
+}
+
+/// A frame's number: digits, and no more than the greatest number that a frame has.
+fn number(text: &str) -> Option<u32> {
+    if text.starts_with('+') {
+        return None;
+    }
+    match text.parse::<u32>() {
+        Ok(number) if number < u32::MAX => Some(number),
+        _ => None,
+    }
+}

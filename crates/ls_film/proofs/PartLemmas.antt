@@ -1,0 +1,217 @@
+-- Codestreams that are passed over, and the frames that are shown after them.
+use Rattle.std.proofs.Common.{◌≡◌, ◌⊎◌, ◌<◌, ◌≤◌, ◌+◌, ℕ, inl, inr, List, [], ◌∷◌, ◌++◌, length, take, drop, Option, refl, sym, ap, subst, ◌∙◌, arith, append_assoc, append-nil}
+use Rattle.std.proofs.KnownBytes.{Appends-nil}
+use Rattle.std.proofs.lemmas.List.{length_push, length-append, length-drop, take_at, drop_at}
+use Rattle.ls_frame.specs.Picture.{Picture}
+use Rattle.ls_frame.specs.View.Known.{Tells, Gave, WasAtEnd, known}
+use Rattle.ls_stream.specs.declared.next.NextFault.{NextFault}
+use Rattle.ls_stream.specs.declared.next.NextFault.TheVariants as next_fault
+use Rattle.ls_stream.specs.declared.faults.StreamFault.TheVariants as stream
+use Rattle.ls_stream.specs.Grammar.{Spells, most_bytes}
+use Rattle.ls_stream.specs.View.Extents.{IsNext}
+use Rattle.std.specs.Io.KnownBytes.{Appends}
+use Rattle.ls_film.specs.Showing.{show}
+use Rattle.ls_film.specs.View.Engine.{Completes, HasRun}
+use Rattle.ls_stream.proofs.ExtentLaws.{next_is}
+use Rattle.ls_film.specs.Film.{most_frames, IsFilm}
+use Rattle.ls_film.specs.View.Playing.{BreaksBy, Stops}
+use Rattle.ls_film.specs.View.Parts.{joined, ArePassed, GavePassed, ShowsNext, ShowsPart, EndsEarly, StopsPassing, StopsShowing, IsNoneOfStreams, later, unpassed}
+use Rattle.ls_film.specs.declared.playing.PlayFault.{PlayFault}
+use Rattle.ls_film.specs.declared.playing.PlayFault.TheVariants.{Stream, Io, Output, NoMemory, TooMuch}
+use Rattle.ls_film.proofs.NextLemmas.{gave_some, gave_most, too_large}
+use Rattle.ls_film.proofs.OneFilmLemmas.{more_frames, no_frames}
+use Rattle.ls_film.proofs.RecordedLemmas.{some_bytes, no_break}
+use Rattle.ls_film.proofs.FilmLemmas.{GaveFrames-none}
+
+joined_more : (streams : List (List ℕ)) (codestream : List ℕ) → joined (streams ++ codestream ∷ []) ≡ joined streams ++ codestream
+joined_more [] codestream = append-nil codestream
+joined_more (first ∷ streams) codestream = ap (λ s. first ++ s) (joined_more streams codestream) ∙ sym (append_assoc first (joined streams) codestream)
+
+-- one codestream more
+passed_more : (streams : List (List ℕ)) (codestream rest : List ℕ) → ArePassed streams (codestream ++ rest) → IsNext codestream rest → ArePassed (streams ++ codestream ∷ []) rest
+passed_more [] codestream rest passed next = (next, tt)
+passed_more (first ∷ streams) codestream rest passed next =
+    let same : joined streams ++ (codestream ++ rest) ≡ joined (streams ++ codestream ∷ []) ++ rest =
+    sym (append_assoc (joined streams) codestream rest) ∙ ap (λ s. s ++ rest) (sym (joined_more streams codestream)) in
+    (subst (IsNext first) same passed.0, passed_more streams codestream rest passed.1 next)
+
+pub passed-none : (read : Option (List ℕ)) → GavePassed read read 0
+passed-none read = λ told. (told, [], refl, ([], refl, refl, tt))
+
+pub passed-more : (read mid new : Option (List ℕ)) (n : ℕ) (codestream : List ℕ) → GavePassed read mid n → Gave mid new (λ bytes. (codestream ≡ bytes) × IsNext bytes (known new))
+    → GavePassed read new (n + 1)
+passed-more read mid new n codestream passed next = λ told.
+    let front = passed told in
+    let one = next front.0 in
+    let streams : List (List ℕ) = front.3.0 in
+    let before : ArePassed streams (one.1 ++ known new) = subst (ArePassed streams) one.2 front.3.3 in (
+      one.0,
+      front.1 ++ one.1,
+      front.2 ∙ ap (λ s. front.1 ++ s) one.2 ∙ sym (append_assoc front.1 one.1 (known new)),
+      (
+        streams ++ one.1 ∷ [],
+        length_push streams one.1 ∙ ap (λ k. k + 1) front.3.1,
+        ap (λ s. s ++ one.1) front.3.2 ∙ sym (joined_more streams one.1),
+        passed_more streams one.1 (known new) before one.3.1,
+      ),
+    )
+
+-- the end of the input
+pub passed-end : (read mid new : Option (List ℕ)) (n : ℕ) → GavePassed read mid n → WasAtEnd mid new → GavePassed read new n × (Tells read → known new ≡ [])
+passed-end read mid new n passed end = (
+  λ told. let front = passed told in let none = end front.0 in (
+    none.0,
+    front.1,
+    front.2 ∙ ap (λ s. front.1 ++ s) (none.1 ∙ sym none.2),
+    (front.3.0, front.3.1, front.3.2, subst (ArePassed front.3.0) (none.1 ∙ sym none.2) front.3.3),
+  ),
+  λ told. (end (passed told).0).2,
+)
+
+-- a fault of the next one
+pub stops-passing : (read mid new : Option (List ℕ)) (m count : ℕ) (fault : NextFault) → m < count → GavePassed read mid m
+    → (fault ≡ next_fault.TooLarge → Tells mid → BreaksBy stream.TooLarge (known mid)) → StopsPassing read count (unpassed m fault)
+stops-passing read mid new m count next_fault.TooLarge before passed large = record { m = m; before = before; mid = mid; passed = passed; fault_is = inl (refl, large refl) }
+stops-passing read mid new m count next_fault.Io before passed large = record { m = m; before = before; mid = mid; passed = passed; fault_is = inr (inl refl) }
+stops-passing read mid new m count next_fault.NoMemory before passed large = record { m = m; before = before; mid = mid; passed = passed; fault_is = inr (inr refl) }
+
+-- a codestream that has become too large is none of a frame
+pub too-large-breaks : (mid new : Option (List ℕ)) (fault : NextFault) → fault ≡ next_fault.TooLarge
+    → (fault ≡ next_fault.TooLarge → Gave mid new (λ bytes. length bytes ≡ most_bytes))
+    → (Tells mid → (front rest : List ℕ) (f : Picture) → known mid ≡ front ++ rest → Spells front f → (fault ≡ next_fault.Io) ⊎ (fault ≡ next_fault.NoMemory))
+    → Tells mid → BreaksBy stream.TooLarge (known mid)
+too-large-breaks mid new fault is large complete told = (
+  record {
+    some = gave_some mid new _ (large is) (λ bytes all. omega (arith, all)) told;
+    none = λ front rest f split spells. too_large (subst (λ (x : NextFault). (x ≡ next_fault.Io) ⊎ (x ≡ next_fault.NoMemory)) is (complete told front rest f split spells));
+  },
+  inr (refl, gave_most mid new (large is) told),
+)
+
+-- ---- what is shown
+
+pub shows-run : (read read' written written' : Option (List ℕ)) (n bytes : ℕ) → HasRun Spells show read read' written written' n bytes → ShowsNext read read' written written' n
+shows-run read read' written written' n bytes run = record { frames = run.frames; count = run.count; lawful = run.lawful; gave = run.gave; wrote = run.wrote }
+
+pub shows-all : (read read' written written' : Option (List ℕ)) (n : ℕ) → Completes Spells show read read' written written' n
+    → ShowsNext read read' written written' n × (Tells read → known read' ≡ [])
+shows-all read read' written written' n run = (
+  record {
+    frames = run.frames;
+    count = run.count;
+    lawful = run.lawful;
+    gave = λ told. let gave = run.gave told in (gave.0, known read, sym (append-nil (known read)) ∙ ap (λ s. known read ++ s) (sym gave.1), gave.2);
+    wrote = run.wrote;
+  },
+  λ told. (run.gave told).1,
+)
+
+-- nothing was shown, since the recording ended before
+pub ends-early : (read mid written : Option (List ℕ)) (m : ℕ) → GavePassed read mid m → (Tells read → known mid ≡ []) → EndsEarly read mid written written m
+ends-early read mid written m passed end = record {
+  passed = m;
+  shown = 0;
+  count = omega arith;
+  shows = record { mid = mid; passed = passed; shows = record { frames = []; count = refl; lawful = tt; gave = GaveFrames-none Spells mid; wrote = Appends-nil written } };
+  end = end;
+}
+
+-- ---- a recording of whole codestreams
+
+-- the codestreams that are passed over are of its first frames
+passed_film : (streams : List (List ℕ)) (rest bytes : List ℕ) (frames : List Picture) → bytes ≡ joined streams ++ rest → ArePassed streams rest → IsFilm Spells bytes frames
+    → (length streams ≤ length frames) × IsFilm Spells rest (drop (length streams) frames)
+passed_film [] rest bytes frames whole passed film = (omega arith, subst (λ s. IsFilm Spells s frames) whole film)
+passed_film (first ∷ streams) rest bytes [] whole passed film =
+    absurd (omega (arith, passed.0.some, ap length film, ap length whole, length-append (first ++ joined streams) rest, length-append first (joined streams)))
+passed_film (first ∷ streams) rest bytes (f ∷ frames) whole passed film =
+    let after : List ℕ = joined streams ++ rest in
+    let split : first ++ after ≡ film.0 ++ film.1 = sym (append_assoc first (joined streams) rest) ∙ sym whole ∙ film.2 in
+    let is : first ≡ film.0 = next_is first after film.0 film.1 f passed.0 split film.3 in
+    let left : film.1 ≡ after =
+    sym (drop_at film.0 film.1 (length film.0) refl) ∙ ap (drop (length film.0)) (sym split) ∙ ap (λ n. drop n (first ++ after)) (sym (ap length is)) ∙ drop_at first after (length first) refl in
+    let more = passed_film streams rest film.1 frames left passed.1 film.4 in
+    (omega (arith, more.0), more.1)
+
+-- what follows those that the reader gave
+rest_film : (read mid : Option (List ℕ)) (n : ℕ) (frames : List Picture) → Tells read → IsFilm Spells (known read) frames → GavePassed read mid n
+    → Tells mid × (n ≤ length frames) × IsFilm Spells (known mid) (drop n frames)
+rest_film read mid n frames told film passed =
+    let front = passed told in
+    let rest = passed_film front.3.0 (known mid) (known read) frames (front.2 ∙ ap (λ s. s ++ known mid) front.3.2) front.3.3 film in
+    (front.0, subst (λ k. k ≤ length frames) front.3.1 rest.0, subst (λ k. IsFilm Spells (known mid) (drop k frames)) front.3.1 rest.1)
+
+module _ (only : (one other rest : List ℕ) (f g : Picture) → Spells one f → Spells other g → other ≡ one ++ rest → rest ≡ [])
+    (same : (bytes : List ℕ) (f g : Picture) → Spells bytes f → Spells bytes g → f ≡ g)
+    (read : Option (List ℕ)) (frames : List Picture) (few : length frames ≤ most_frames) (told : Tells read) (film : IsFilm Spells (known read) frames) where
+  -- the frames that are shown are the next ones, and what follows is a film of the others
+  next_frames : (read' written written' : Option (List ℕ)) (first n : ℕ) (part : ShowsPart read read' written written' first n)
+      → (more : List Picture) × (drop first frames ≡ part.shows.frames ++ more) × IsFilm Spells (known read') more × (first ≤ length frames)
+  next_frames read' written written' first n part =
+      let rest = rest_film read part.mid first frames told film part.passed in
+      let gave = part.shows.gave rest.0 in
+      let more = more_frames Spells some_bytes only same gave.1 (known read') (known part.mid) part.shows.frames (drop first frames) gave.2 gave.3 rest.2 in
+      (more.0, more.1, more.2, rest.1)
+
+  pub part-shown : (read' written written' : Option (List ℕ)) (first n : ℕ) → ShowsPart read read' written written' first n → (first + n ≤ length frames) × Appends written written' (show (take n (drop first frames)))
+  part-shown read' written written' first n part =
+      let next = next_frames read' written written' first n part in
+      let front : take n (drop first frames) ≡ part.shows.frames = ap (take n) next.1 ∙ take_at part.shows.frames next.0 n part.shows.count in (
+        omega (arith, next.3, length-drop first frames, ap length next.1, length-append part.shows.frames next.0, part.shows.count),
+        subst (λ fs. Appends written written' (show fs)) (sym front) part.shows.wrote,
+      )
+
+  pub part-few : (read' written written' : Option (List ℕ)) (m : ℕ) → EndsEarly read read' written written' m → m ≡ length frames
+  part-few read' written written' m ends =
+      let next = next_frames read' written written' ends.passed ends.shown ends.shows in
+      let none = no_frames Spells some_bytes only same next.0 (subst (λ s. IsFilm Spells s next.0) (ends.end told) next.2) in
+      omega (arith, next.3, length-drop ends.passed frames, ap length next.1, length-append ends.shows.shows.frames next.0, ends.shows.shows.count, ap length none, ends.count)
+
+  pub part-unpassed : (first : ℕ) (fault : PlayFault) → StopsPassing read first fault → IsNoneOfStreams fault
+  part-unpassed first fault stops = elim stops.fault_is [
+    | inl large ↦
+        let rest = rest_film read stops.mid stops.m frames told film stops.passed in
+        absurd (no_break only same (known stops.mid) (drop stops.m frames) rest.2 (large.1 rest.0).0)
+    | inr other ↦ elim other [
+      | inl io ↦ rw io tt
+      | inr memory ↦ rw memory tt
+    ]
+  ]
+
+  none_of_streams : (mid read' written written' : Option (List ℕ)) (rest : List Picture) → Tells mid → IsFilm Spells (known mid) rest → length rest ≤ most_frames → (fault : PlayFault)
+      → Stops mid read' written written' fault → IsNoneOfStreams fault
+  none_of_streams mid read' written written' rest tells is short (Stream m fault) run =
+      let broken = run.0.broken tells in
+      let more = more_frames Spells some_bytes only same broken.0 broken.1 (known mid) run.0.frames rest broken.2 broken.3 is in
+      absurd (no_break only same broken.1 more.0 more.2 broken.4.0)
+  none_of_streams mid read' written written' rest tells is short (Io m) run = tt
+  none_of_streams mid read' written written' rest tells is short (Output bytes) run = tt
+  none_of_streams mid read' written written' rest tells is short NoMemory run = tt
+  none_of_streams mid read' written written' rest tells is short TooMuch run =
+      let gave = run.gave tells in
+      let more = more_frames Spells some_bytes only same gave.1 _ (known mid) (run.frames ++ run.last ∷ []) rest gave.2 gave.3 is in
+      absurd (omega (arith, short, run.count, ap length more.1, length-append (run.frames ++ run.last ∷ []) more.0, length-append run.frames (run.last ∷ [])))
+
+  of_later : (first : ℕ) (fault : PlayFault) → IsNoneOfStreams fault → IsNoneOfStreams (later first fault)
+  of_later first (Stream m fault) none = none
+  of_later first (Io m) none = tt
+  of_later first (Output bytes) none = tt
+  of_later first NoMemory none = tt
+  of_later first TooMuch none = none
+
+  pub part-unshown : (read' written written' : Option (List ℕ)) (first : ℕ) (fault : PlayFault) → StopsShowing read read' written written' first fault → IsNoneOfStreams fault
+  part-unshown read' written written' first fault stops =
+      let rest = rest_film read stops.mid first frames told film stops.passed in
+      let short : length (drop first frames) ≤ most_frames = omega (arith, few, length-drop first frames) in
+      rw stops.numbered (of_later first stops.alone (none_of_streams stops.mid read' written written' (drop first frames) rest.0 rest.2 short stops.alone stops.stops))
+
+-- all that were left were shown, and too few
+pub early-shown : (read mid read' written written' : Option (List ℕ)) (first n : ℕ) → GavePassed read mid first → ShowsNext mid read' written written' n
+    → (Tells mid → known read' ≡ []) → EndsEarly read read' written written' (first + n)
+early-shown read mid read' written written' first n passed shows end = record {
+  passed = first;
+  shown = n;
+  count = refl;
+  shows = record { mid = mid; passed = passed; shows = shows };
+  end = λ told. end (passed told).0;
+}

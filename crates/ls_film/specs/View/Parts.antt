@@ -1,0 +1,148 @@
+-- A part of a recording: codestreams that are passed over by their markers, and the frames after them, which are shown.
+use Rattle.std.specs.Prelude.{◌≡◌, ◌⊎◌, ◌<◌, ◌≤◌, ◌+◌, ℕ, Bool, false, List, [], ◌∷◌, ◌++◌, length, take, drop, Option, Result, Ok, Err}
+use Rattle.std.specs.Io.KnownBytes.{Appends}
+use Rattle.std.specs.List.{AllByRecursion}
+use Rattle.ls_frame.specs.Picture.{Picture, IsFrame}
+use Rattle.ls_frame.specs.View.Known.{Tells, Gave, known}
+use Rattle.ls_stream.specs.declared.faults.StreamFault.TheVariants as stream
+use Rattle.ls_stream.specs.declared.next.NextFault.{NextFault}
+use Rattle.ls_stream.specs.declared.next.NextFault.TheVariants as next_fault
+use Rattle.ls_stream.specs.Grammar.{Spells}
+use Rattle.ls_stream.specs.View.Extents.{IsNext}
+use Rattle.ls_film.specs.declared.part.PartFault.{PartFault}
+use Rattle.ls_film.specs.declared.part.PartFault.TheVariants.{Play, TooFew}
+use Rattle.ls_film.specs.declared.playing.PlayFault.{PlayFault}
+use Rattle.ls_film.specs.declared.playing.PlayFault.TheVariants.{Stream, Io, Output, NoMemory, TooMuch}
+use Rattle.ls_film.specs.Showing.{show}
+use Rattle.ls_film.specs.View.Given.{GaveFrames}
+use Rattle.ls_film.specs.View.Playing.{BreaksBy, Stops, blames_reader as reader_at_fault, blames_writer as writer_at_fault}
+
+-- ---- codestreams that are passed over
+
+abbrev pub joined : List (List ℕ) → List ℕ
+joined [] = []
+joined (codestream ∷ more) = codestream ++ joined more
+
+-- Each is the next codestream of the bytes from it on; these bytes come after the last.
+abbrev pub ArePassed : List (List ℕ) → List ℕ → Type 0
+ArePassed [] rest = Unit {0}
+ArePassed (codestream ∷ more) rest = IsNext codestream (joined more ++ rest) × ArePassed more rest
+
+-- The reader gave n codestreams, by their markers.
+abbrev pub GavePassed : Option (List ℕ) → Option (List ℕ) → ℕ → Type 0
+GavePassed old new n = Gave old new (λ bytes. (streams : List (List ℕ)) × (length streams ≡ n) × (bytes ≡ joined streams) × ArePassed streams (known new))
+
+-- Passing over stopped at codestream m, one of the first: there are as many bytes as a codestream may have, and none is at their front; or a
+-- read failed, or an allocation.
+pub record StopsPassing (read : Option (List ℕ)) (first : ℕ) (fault : PlayFault) : Type 0 where
+  pub m : ℕ
+  pub before : m < first
+  pub mid : Option (List ℕ)
+  pub passed : GavePassed read mid m
+  pub fault_is : ((fault ≡ Stream m stream.TooLarge) × (Tells mid → BreaksBy stream.TooLarge (known mid))) ⊎ (fault ≡ Io 0) ⊎ (fault ≡ NoMemory)
+
+-- a fault of codestream m, to a recording whose first frames are passed over
+abbrev pub unpassed : ℕ → NextFault → PlayFault
+unpassed m next_fault.TooLarge = Stream m stream.TooLarge
+unpassed m next_fault.Io = Io 0
+unpassed m next_fault.NoMemory = NoMemory
+
+-- ---- the part
+
+module _ (read read' written written' : Option (List ℕ)) where
+  -- The reader gave codestreams of n frames, and the images of these were written and nothing else.
+  pub record ShowsNext (n : ℕ) : Type 0 where
+    pub frames : List Picture
+    pub count : length frames ≡ n
+    pub lawful : AllByRecursion IsFrame frames
+    pub gave : GaveFrames Spells read read' frames
+    pub wrote : Appends written written' (show frames)
+
+module _ (read read' written written' : Option (List ℕ)) where
+  -- The first codestreams were passed over, and n frames after them were shown.
+  pub record ShowsPart (first n : ℕ) : Type 0 where
+    pub mid : Option (List ℕ)
+    pub passed : GavePassed read mid first
+    pub shows : ShowsNext mid read' written written' n
+
+  -- The recording ended after m codestreams, some passed over and some shown.
+  pub record EndsEarly (m : ℕ) : Type 0 where
+    pub passed : ℕ
+    pub shown : ℕ
+    pub count : m ≡ passed + shown
+    pub shows : ShowsPart passed shown
+    pub end : Tells read → known read' ≡ []
+
+-- the number of the codestream at fault
+abbrev pub number_in : PlayFault → ℕ
+number_in (Stream m fault) = m
+number_in (Io m) = 0
+number_in (Output bytes) = 0
+number_in NoMemory = 0
+number_in TooMuch = 0
+
+-- a fault of what comes after the first codestreams, numbered by all of them
+abbrev pub later : ℕ → PlayFault → PlayFault
+later first (Stream m fault) = Stream (first + m) fault
+later first (Io m) = Io m
+later first (Output bytes) = Output bytes
+later first NoMemory = NoMemory
+later first TooMuch = TooMuch
+
+-- What follows the first codestreams, which were passed over, stopped as the playing of it does.
+pub record StopsShowing (read read' written written' : Option (List ℕ)) (first : ℕ) (fault : PlayFault) : Type 0 where
+  pub mid : Option (List ℕ)
+  pub passed : GavePassed read mid first
+  pub alone : PlayFault
+  pub numbered : fault ≡ later first alone
+  pub stops : Stops mid read' written written' alone
+
+-- what each fault says of the run
+abbrev pub StopsPart : Option (List ℕ) → Option (List ℕ) → Option (List ℕ) → Option (List ℕ) → ℕ → PartFault → Type 0
+StopsPart read read' written written' first (Play fault) =
+    (StopsPassing read first fault × Appends written written' []) ⊎ StopsShowing read read' written written' first fault
+StopsPart read read' written written' first (TooFew m) = EndsEarly read read' written written' m
+
+-- ---- a recording of whole codestreams
+
+-- no codestream is at fault, and there aren't too many
+abbrev pub IsNoneOfStreams : PlayFault → Type 0
+IsNoneOfStreams (Stream m fault) = ⊥
+IsNoneOfStreams (Io m) = Unit {0}
+IsNoneOfStreams (Output bytes) = Unit {0}
+IsNoneOfStreams NoMemory = Unit {0}
+IsNoneOfStreams TooMuch = ⊥
+
+-- What comes of a part of a recording that is codestreams of these frames: n of them from the first on are shown; or it is said how many
+-- there are; or a read failed, a write, or an allocation.
+abbrev pub IsPartOf : Option (List ℕ) → Option (List ℕ) → ℕ → List Picture → Result ℕ PartFault → Type 0
+IsPartOf written written' first frames (Ok n) = (first + n ≤ length frames) × Appends written written' (show (take n (drop first frames)))
+IsPartOf written written' first frames (Err (Play fault)) = IsNoneOfStreams fault
+IsPartOf written written' first frames (Err (TooFew m)) = m ≡ length frames
+
+-- ---- failures
+
+-- whether a run failed by its reader's device, and by its writer's
+abbrev pub blames_reader : PartFault → Bool
+blames_reader (Play fault) = reader_at_fault fault
+blames_reader (TooFew m) = false
+
+abbrev pub blames_writer : PartFault → Bool
+blames_writer (Play fault) = writer_at_fault fault
+blames_writer (TooFew m) = false
+
+abbrev pub failed_reader : {X : Type 0} → Result X PartFault → Bool
+failed_reader (Ok x) = false
+failed_reader (Err fault) = blames_reader fault
+
+abbrev pub failed_writer : {X : Type 0} → Result X PartFault → Bool
+failed_writer (Ok x) = false
+failed_writer (Err fault) = blames_writer fault
+
+abbrev pub failed_play : {X : Type 0} → Result X PlayFault → Bool
+failed_play (Ok x) = false
+failed_play (Err fault) = reader_at_fault fault
+
+abbrev pub failed_show : {X : Type 0} → Result X PlayFault → Bool
+failed_show (Ok x) = false
+failed_show (Err fault) = writer_at_fault fault

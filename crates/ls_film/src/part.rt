@@ -1,0 +1,150 @@
+//! Playing a part of a recording: the codestreams before it are passed over by their markers.
+ghost use Rattle.std.specs.Prelude.{◌≡◌, ◌<◌, ◌≤◌, ◌+◌, ℕ, List, [], Option, false, IsTrue, IfOk, IfErr, IfSome, IfNone, length, drop, take};
+ghost use Rattle.ls_frame.specs.Picture.{Picture};
+ghost use Rattle.ls_frame.specs.View.Devices.{count_after};
+ghost use Rattle.ls_frame.specs.View.Known.{Tells, known};
+ghost use Rattle.ls_stream.specs.Grammar.{Spells, most_bytes};
+ghost use Rattle.ls_stream.specs.View.Extents.{failed_feed};
+ghost use Rattle.ls_film.specs.Film.{most_frames, IsFilm};
+ghost use Rattle.ls_film.specs.Showing.{show};
+ghost use Rattle.ls_film.specs.View.Parts.{GavePassed, ShowsNext, ShowsPart, StopsPassing, StopsPart, IsPartOf, unpassed, failed_play, failed_show, failed_reader, failed_writer};
+ghost use Rattle.ls_film.specs.View.Playing.{Stops};
+
+use crate::engine::{Run, write_at_most, write_text};
+use crate::faults::MOST_FRAMES;
+use crate::playing::{Codestreams, ImageText, PlayFault};
+use ls_frame::{Feed, Outlet};
+use ls_stream::laws::{no_codestream_begins_another, one_frame_each};
+use ls_stream::{NextFault, StreamFault, next_stream};
+use std::alloc::Global;
+use thiserror::Error;
+
+/// A part of a recording: the frames from `first` to `last`, both of them in it, or to the end. They are numbered from 0.
+#[derive(Clone, Copy, Debug, PartialEq, Eq)]
+pub struct Part {
+    pub first: u64,
+    pub last: Option<u64>,
+}
+
+/// Why the playing of a part stopped.
+#[derive(Clone, Copy, Debug, Drop, PartialEq, Eq, Error)]
+pub enum PartFault {
+    /// As that of a whole recording, with frames numbered as in it. Nothing was written if it is of a codestream before the part.
+    #[error("{0}")]
+    Play(PlayFault),
+    /// The recording has only so many frames, and not all that were asked for. The images of those of the part that it has were written.
+    #[error("only {0} frames")]
+    TooFew(u64),
+}
+
+/// Writes the canonical Netpbm image of each frame of a part of a recording, and says how many there were.
+///
+/// The codestreams before the part are passed over by their markers: a fault that only decoding would show isn't looked for in them. Each
+/// image is written before the next codestream is read, and none after the part is read. If the bytes of reader and writer are known (as in
+/// memory), the clauses say which were read and written. After `Stream`, `Io` and `NoMemory` nothing is said of the reader's place.
+///
+/// It requires a first frame below `MOST_FRAMES`, and a last one, if any, that is below it too and none before the first.
+pub fn play_part<R: Feed, W: Outlet>(
+    alloc: Global,
+    part: Part,
+    reader: &mut R,
+    writer: &mut W,
+) -> Result<u64, PartFault>
+    requires first { part.first < most_frames }
+    requires last { IfSome part.last (λ last. (part.first ≤ last) × (last < most_frames)) }
+    ensures shows { IfOk result (ShowsPart (R.remaining reader.old) (R.remaining reader.new) (W.contents writer.old) (W.contents writer.new) part.first) }
+    ensures count { IfOk result (λ n. IfSome part.last (λ last. part.first + n ≡ last + 1)) }
+    ensures all { IfOk result (λ n. IfNone part.last ((0 < n) × (Tells (R.remaining reader.old) → known (R.remaining reader.new) ≡ []))) }
+    ensures stops { IfErr result (StopsPart (R.remaining reader.old) (R.remaining reader.new) (W.contents writer.old) (W.contents writer.new) part.first) }
+    // What comes of a recording that is codestreams of frames.
+    ensures film { (frames : List Picture) → length frames ≤ most_frames → Tells (R.remaining reader.old) → IsFilm Spells (known (R.remaining reader.old)) frames
+        → IsPartOf (W.contents writer.old) (W.contents writer.new) part.first frames result }
+    ensures reads { R.failed_reads reader.new ≡ count_after (failed_reader result) (R.failed_reads reader.old) }
+    ensures writes { W.failed_writes writer.new ≡ count_after (failed_writer result) (W.failed_writes writer.old) }
+{
+    no_codestream_begins_another();
+    one_frame_each();
+    let passed = match pass_streams(alloc, reader, part.first) {
+        Ok(run) => run,
+        Err(fault) => return Err(PartFault::Play(fault)),
+    };
+    if passed.ended {
+        return Err(PartFault::TooFew(passed.frames));
+    }
+    match show_next(alloc, part, reader, writer) {
+        Ok(run) if !run.ended => Ok(run.frames),
+        Ok(run) if part.last.is_none() && run.frames > 0 => Ok(run.frames),
+        Ok(run) => Err(PartFault::TooFew(part.first + run.frames)),
+        Err(fault) => Err(PartFault::Play(fault.later(part.first))),
+    }
+}
+
+/// Shows the frames of a part, once those before it were passed over.
+fn show_next<R: Feed, W: Outlet>(
+    alloc: Global,
+    part: Part,
+    reader: &mut R,
+    writer: &mut W,
+) -> Result<Run, PlayFault>
+    requires last { IfSome part.last (λ last. (part.first ≤ last) × (last < most_frames)) }
+    ensures shows { IfOk result (λ run. ShowsNext (R.remaining reader.old) (R.remaining reader.new) (W.contents writer.old) (W.contents writer.new) run.frames) }
+    ensures most { IfOk result (λ run. IfSome part.last (λ last. run.ended ≡ false → part.first + run.frames ≡ last + 1)) }
+    ensures ended { IfOk result (λ run. IsTrue run.ended → Tells (R.remaining reader.old) → known (R.remaining reader.new) ≡ []) }
+    ensures open { IfOk result (λ run. IfNone part.last (IsTrue run.ended)) }
+    ensures few { IfOk result (λ run. run.frames ≤ most_frames) }
+    ensures stops { IfErr result (Stops (R.remaining reader.old) (R.remaining reader.new) (W.contents writer.old) (W.contents writer.new)) }
+    ensures reads { R.failed_reads reader.new ≡ count_after (failed_play result) (R.failed_reads reader.old) }
+    ensures writes { W.failed_writes writer.new ≡ count_after (failed_show result) (W.failed_writes writer.old) }
+{
+    let Some(last) = part.last else {
+        return match write_text::<Codestreams, ImageText, R, W>(alloc, reader, writer) {
+            Ok(frames) => Ok(Run {
+                frames,
+                ended: true,
+            }),
+            Err(stopped) => Err(PlayFault::of(stopped)),
+        };
+    };
+    let most = last - part.first + 1;
+    match write_at_most::<Codestreams, ImageText, R, W>(alloc, reader, writer, most) {
+        Ok(run) => Ok(run),
+        Err(stopped) => Err(PlayFault::of(stopped)),
+    }
+}
+
+/// Passes over the next `count` codestreams by their markers, or over all where there are fewer.
+fn pass_streams<R: Feed>(alloc: Global, reader: &mut R, count: u64) -> Result<Run, PlayFault>
+    ensures passed { IfOk result (λ run. GavePassed (R.remaining reader.old) (R.remaining reader.new) run.frames) }
+    ensures most { IfOk result (λ run. (run.frames ≤ count) × (run.ended ≡ false → run.frames ≡ count)) }
+    ensures ended { IfOk result (λ run. IsTrue run.ended → Tells (R.remaining reader.old) → known (R.remaining reader.new) ≡ []) }
+    ensures stops { IfErr result (StopsPassing (R.remaining reader.old) count) }
+    ensures failures { R.failed_reads reader.new ≡ count_after (failed_play result) (R.failed_reads reader.old) }
+{
+    for number in 0..count {
+        match next_stream(alloc, reader) {
+            Ok(Some(_)) => {}
+            Ok(None) => {
+                return Ok(Run {
+                    frames: number,
+                    ended: true,
+                });
+            }
+            Err(fault) => return Err(unpassed(number, fault)),
+        }
+    }
+    Ok(Run {
+        frames: count,
+        ended: false,
+    })
+}
+
+/// What a fault of the next codestream, of this number, is to a recording whose first frames are passed over.
+fn unpassed(number: u64, fault: NextFault) -> PlayFault
+    ensures { result ≡ unpassed number fault }
+{
+    match fault {
+        NextFault::TooLarge => PlayFault::Stream(number, StreamFault::TooLarge),
+        NextFault::Io => PlayFault::Io(0),
+        NextFault::NoMemory => PlayFault::NoMemory,
+    }
+}
