@@ -333,5 +333,7 @@ fn first_above(samples: &[u16], maxval: u16) -> Option<usize>
 fn greatest(samples: &[u16]) -> u16
     ensures { result ≡ fold max 0 samples.now }
 {
-    samples.iter().fold(0, |greatest: u16, sample| greatest.max(*sample))
+    samples
+        .iter()
+        .fold(0, |greatest: u16, sample| greatest.max(*sample))
 }
