@@ -5,18 +5,21 @@ _jlsrec() {
     local options='--reasons --help'
     case $command in
     '')
-        mapfile -t COMPREPLY < <(compgen -W 'list code record play replay help --help --version' -- "$word")
+        mapfile -t COMPREPLY < <(compgen -W 'record play code list index check verify replay help --help --version' -- "$word")
         return
         ;;
     help)
-        mapfile -t COMPREPLY < <(compgen -W 'list code record play replay' -- "$word")
+        mapfile -t COMPREPLY < <(compgen -W 'record play code list index check verify replay' -- "$word")
         return
         ;;
     record) options+=' --workers --queue --window --preset --into --replace --progress --report' ;;
+    play) options+=' --frames --salvage' ;;
+    index) options+=' --no-sums' ;;
+    check) options+=' --index' ;;
     replay) options+=' --sources --capacity' ;;
     esac
     case $before in
-    --workers | --queue | --window | --sources | --capacity | --preset) COMPREPLY=() ;;
+    --workers | --queue | --window | --sources | --capacity | --preset | --frames) COMPREPLY=() ;;
     --into) mapfile -t COMPREPLY < <(compgen -d -- "$word") ;;
     *)
         if [[ $word == -* ]]; then

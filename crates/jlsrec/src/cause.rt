@@ -1,5 +1,5 @@
 //! What faults come of.
-use ls_film::{FilmFault, PlayFault};
+use ls_film::{FilmFault, PartFault, PlayFault};
 use ls_frame::NetpbmFault;
 use ls_recorder::LaneFault;
 use ls_stream::StreamFault;
@@ -48,6 +48,15 @@ impl Caused for PlayFault {
             PlayFault::Io(_) => Cause::Reading,
             PlayFault::Output(_) => Cause::Writing,
             _ => Cause::Other,
+        }
+    }
+}
+
+impl Caused for PartFault {
+    fn cause(&self) -> Cause {
+        match self {
+            PartFault::Play(fault) => fault.cause(),
+            PartFault::TooFew(_) => Cause::Other,
         }
     }
 }

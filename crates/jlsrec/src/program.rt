@@ -1,4 +1,5 @@
 //! The whole program over its words, its files and its two streams.
+mod playing;
 mod progress;
 mod recording;
 mod report;
@@ -6,11 +7,12 @@ mod watch;
 
 use crate::cause::{Cause, Caused};
 use crate::console::Console;
+use crate::program::playing::show;
 use crate::program::recording::{Task, record_films};
 use ls_command::{Answer, Request, misuse, read_words};
 use ls_files::{Opener, Opens, Source, likeness_of};
-use ls_film::{PlayFault, code_film, list_film, play};
-use ls_frame::{Buffered, Counted, Failed, Feed, Outlet, keep_blocks, write_bytes};
+use ls_film::{code_film, list_film};
+use ls_frame::{Buffered, Counted, Failed, Outlet, keep_blocks, write_bytes};
 use ls_queue::{QueueFault, Reply, replay};
 use ls_replay::{print_replies, read_steps, read_text};
 use std::alloc::Global;
@@ -105,7 +107,11 @@ where
     match request {
         Request::List { file } => list(rt, file, output, console),
         Request::Code { file } => code(rt, file, output, console),
-        Request::Play { file } => show(rt, file, output, console),
+        Request::Play {
+            file,
+            frames,
+            salvage,
+        } => show(rt, file, frames, output, console),
         Request::Record {
             workers,
             queue,
@@ -180,35 +186,8 @@ where
     conclude(file, result, &film, output.last_failure(), console)
 }
 
-/// Plays a recording.
-fn show<R, W, E>(rt: &R, file: &str, output: &mut Counted<W>, console: &mut Console<'_, E>) -> u8
-where
-    R: Eprint + Files + AllocGlobal,
-    W: Write,
-    E: Outlet,
-{
-    let mut recording = match open_film(rt, file, console) {
-        Ok(recording) => recording,
-        Err(status) => return status,
-    };
-    let result = play_lent(rt.alloc(), &mut recording, output);
-    conclude(file, result, &recording, output.last_failure(), console)
-}
-
-/// Plays a recording that is lent to a writer that is lent.
-fn play_lent<R: Feed, W: Outlet>(
-    alloc: Global,
-    recording: &mut R,
-    output: &mut W,
-) -> Result<u64, PlayFault> {
-    match play(alloc, recording, output) {
-        Ok((frames, _, _)) => Ok(frames),
-        Err((fault, _, _)) => Err(fault),
-    }
-}
-
 /// Says why an engine over a file stopped, if it did, and answers the status. `written` is the last failure of what it wrote to.
-fn conclude<O, X, E>(
+pub(crate) fn conclude<O, X, E>(
     file: &str,
     outcome: Result<u64, X>,
     reader: &Reader<'_, O>,
@@ -252,7 +231,7 @@ where
 }
 
 /// Opens a film or a recording, and waits for that if it is a named pipe; or says why it can't, and gives the status.
-fn open_film<'a, R, E>(
+pub(crate) fn open_film<'a, R, E>(
     rt: &'a R,
     file: &'a str,
     console: &mut Console<'_, E>,

@@ -43,23 +43,36 @@ fn file_command<'a>(
 
 /// The command that plays a recording.
 fn play_command<'a>(alloc: Global) -> Result<Command<'a>, AllocError> {
-    file_command(alloc, "play", "Plays a recording", PLAY_HELP, RECORDING_HELP)?
-        .arg(option(alloc, "frames", "A..B", FRAMES_HELP))?
-        .arg(flag(alloc, "salvage", SALVAGE_HELP))
+    file_command(
+        alloc,
+        "play",
+        "Plays a recording",
+        PLAY_HELP,
+        RECORDING_HELP,
+    )?
+    .arg(option(alloc, "frames", "A..B", FRAMES_HELP))?
+    .arg(flag(alloc, "salvage", SALVAGE_HELP))
 }
 
 /// The command that looks up a recording's codestreams.
 fn index_command<'a>(alloc: Global) -> Result<Command<'a>, AllocError> {
     let about = "Lists the codestreams of a recording";
-    file_command(alloc, "index", about, INDEX_HELP, RECORDING_HELP)?
-        .arg(flag(alloc, "no-sums", NO_SUMS_HELP))
+    file_command(alloc, "index", about, INDEX_HELP, RECORDING_HELP)?.arg(flag(
+        alloc,
+        "no-sums",
+        NO_SUMS_HELP,
+    ))
 }
 
 /// The command that looks for damage in a recording.
 fn check_command<'a>(alloc: Global) -> Result<Command<'a>, AllocError> {
     let about = "Says what is damaged of a recording";
-    file_command(alloc, "check", about, CHECK_HELP, RECORDING_HELP)?
-        .arg(option(alloc, "index", "INDEX", INDEX_FILE_HELP))
+    file_command(alloc, "check", about, CHECK_HELP, RECORDING_HELP)?.arg(option(
+        alloc,
+        "index",
+        "INDEX",
+        INDEX_FILE_HELP,
+    ))
 }
 
 /// The command that compares a recording with its film.

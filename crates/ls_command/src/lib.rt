@@ -25,11 +25,10 @@ mod texts;
 use clap::error::ErrorKind;
 use clap::{ArgMatches, Error};
 use commands::command;
+pub use frames::Frames;
 use frames::read_frames;
 use std::alloc::{AllocError, Global};
 use texts::{BEGINNING, FRAMES_WANTED};
-
-pub use frames::Frames;
 
 /// What the words ask for.
 #[derive(Drop)]
@@ -170,10 +169,7 @@ fn request_of<'a>(
 }
 
 /// What the words of `play` ask for, which `clap` has looked at.
-fn play_request<'a>(
-    alloc: Global,
-    words: &ArgMatches<'a>,
-) -> Result<Option<Request<'a>>, Error> {
+fn play_request<'a>(alloc: Global, words: &ArgMatches<'a>) -> Result<Option<Request<'a>>, Error> {
     let salvage = words.get_flag("salvage");
     let frames = match words.get_str("frames") {
         Some(_) if salvage => {
@@ -185,11 +181,13 @@ fn play_request<'a>(
         },
         None => None,
     };
-    Ok(words.get_str("FILE").map(|file| Request::Play {
-        file,
-        frames,
-        salvage,
-    }))
+    Ok(
+        words.get_str("FILE").map(|file| Request::Play {
+            file,
+            frames,
+            salvage,
+        }),
+    )
 }
 
 /// What the words of `index` ask for, which `clap` has looked at.

@@ -64,7 +64,8 @@ pub const FRAMES_HELP: &str = "\
 The frames to play, from number A to number B, both of them too, counted from 0: A..B; or A, A.. to the end, ..B.
 The codestreams before A are stepped over by their markers, and none after B is read";
 
-pub const FRAMES_WANTED: &str = "--frames takes A, A.., ..B or A..B, of frame numbers from 0, A no greater than B";
+pub const FRAMES_WANTED: &str =
+    "--frames takes A, A.., ..B or A..B, of frame numbers from 0, A no greater than B";
 
 pub const SALVAGE_HELP: &str = "\
 Go on after a codestream at fault, at the next one that begins after it, and say of each gap on standard error
@@ -101,8 +102,8 @@ Decodes each codestream of FILE, a recording, and says of each that is damaged a
   frame N: FAULT: B bytes at O passed over
 and at the end
   FILE: N frames, M damaged
-N frames are whole. The status is 1 if any is damaged. JPEG-LS has no checksums, so a bit that has changed may decode
-as other samples: that only an index shows.";
+The status is 1 if any is damaged. JPEG-LS has no checksums, so a bit that has changed may decode as other samples:
+that only an index shows.";
 
 pub const INDEX_FILE_HELP: &str = "\
 The recording's index, as `index` wrote it: each codestream has to be where it stood, and to have its sum";

@@ -1,0 +1,60 @@
+//! Playing a recording: all of it, or a part.
+use crate::console::Console;
+use crate::program::{conclude, open_film};
+use ls_command::Frames;
+use ls_film::{MOST_FRAMES, Part, PartFault, play, play_part};
+use ls_frame::{Counted, Feed, Outlet};
+use std::alloc::Global;
+use std::io::Write;
+use std::rt::Files;
+
+/// Plays a recording, or the frames of it that are asked for.
+pub fn show<R, W, E>(
+    rt: &R,
+    file: &str,
+    frames: Option<Frames>,
+    output: &mut Counted<W>,
+    console: &mut Console<'_, E>,
+) -> u8
+where
+    R: Eprint + Files + AllocGlobal,
+    W: Write,
+    E: Outlet,
+{
+    let mut recording = match open_film(rt, file, console) {
+        Ok(recording) => recording,
+        Err(status) => return status,
+    };
+    let result = match frames {
+        Some(frames) => play_frames(rt.alloc(), frames, &mut recording, output),
+        None => play_all(rt.alloc(), &mut recording, output),
+    };
+    conclude(file, result, &recording, output.last_failure(), console)
+}
+
+/// Plays a recording that is lent to a writer that is lent.
+fn play_all<R: Feed, W: Outlet>(
+    alloc: Global,
+    recording: &mut R,
+    output: &mut W,
+) -> Result<u64, PartFault> {
+    match play(alloc, recording, output) {
+        Ok((frames, _, _)) => Ok(frames),
+        Err((fault, _, _)) => Err(PartFault::Play(fault)),
+    }
+}
+
+/// Plays the frames that are asked for; of ones that are out of order, which the words can't ask for, none.
+fn play_frames<R: Feed, W: Outlet>(
+    alloc: Global,
+    frames: Frames,
+    recording: &mut R,
+    output: &mut W,
+) -> Result<u64, PartFault> {
+    let first = u64::from(frames.first);
+    let last = frames.last.map(u64::from);
+    if first >= MOST_FRAMES || last.is_some_and(|last| last < first || last >= MOST_FRAMES) {
+        return Ok(0);
+    }
+    play_part(alloc, Part { first, last }, recording, output)
+}
