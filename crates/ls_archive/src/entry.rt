@@ -1,0 +1,135 @@
+//! A codestream that was taken off a reader, and what its headers say.
+ghost use Rattle.std.specs.Prelude.{◌≡◌, ◌⊎◌, ◌≤◌, ◌++◌, ℕ, List, length, Err, IfOk, IfErr, IfSome, IfNone};
+ghost use Rattle.ls_frame.specs.Picture.{Picture};
+ghost use Rattle.ls_frame.specs.View.Devices.{count_after};
+ghost use Rattle.ls_frame.specs.View.Known.{WasAtEnd};
+ghost use Rattle.ls_stream.specs.Grammar.{Spells, most_bytes};
+ghost use Rattle.ls_stream.specs.View.Outlines.{outline_of, IsFirstFault};
+ghost use Rattle.ls_archive.specs.Index.{columns};
+ghost use Rattle.ls_archive.specs.View.Entries.{GaveEntry, HasHeaders};
+ghost use Rattle.ls_archive.specs.View.Indexing.{StopsNext, failed_reader};
+
+use crate::faults::IndexFault;
+use ls_frame::{Feed, Kind, Presets};
+use ls_stream::laws::outlines_follow_the_grammar;
+use ls_stream::{NextFault, Opening, StreamFault, next_stream};
+use std::alloc::Global;
+use std::marker::Model;
+
+/// A codestream, and what its headers say.
+#[derive(Drop)]
+pub struct Indexed {
+    /// The codestream, with nothing after it if the reader's bytes are known.
+    bytes: Vec<u8>,
+    headers: Headers,
+}
+
+impl Model for Indexed {
+    ghost use Rattle.std.specs.Prelude.{◌≤◌, length};
+    ghost use Rattle.ls_stream.specs.Grammar.{most_bytes};
+    ghost use Rattle.ls_archive.specs.Index.{Entry};
+    ghost use Rattle.ls_archive.specs.View.Entries.{entry_of};
+
+    ghost Value = { Entry };
+
+    ghost view = { λ i. entry_of i.bytes.items i.headers };
+
+    ghost invariant = { λ i. (i.headers.used ≤ length i.bytes.items) × (i.headers.used ≤ most_bytes) };
+}
+
+/// What the headers of a codestream say.
+#[derive(Clone, Copy)]
+pub struct Headers {
+    /// How many bytes it has.
+    used: usize,
+    /// The bits a sample (P).
+    precision: u8,
+    kind: Kind,
+    width: u16,
+    height: u16,
+    presets: Presets,
+}
+
+impl Indexed {
+    /// Takes the next codestream off a reader, and looks at its headers; `None` exactly at the end of input.
+    ///
+    /// Fails if it isn't complete by its markers and headers, with its number, and where a read or an allocation fails.
+    pub fn next<R: Feed>(
+        alloc: Global,
+        reader: &mut R,
+        number: u64,
+    ) -> Result<Option<Indexed>, IndexFault>
+        ensures entry { IfOk result (λ next. IfSome next (GaveEntry (R.remaining reader.old) (R.remaining reader.new))) }
+        ensures end { IfOk result (λ next. IfNone next (WasAtEnd (R.remaining reader.old) (R.remaining reader.new))) }
+        ensures stops { IfErr result (StopsNext (R.remaining reader.old) number) }
+        ensures failures { R.failed_reads reader.new ≡ count_after (failed_reader result) (R.failed_reads reader.old) }
+    {
+        let bytes = match next_stream(alloc, reader) {
+            Ok(Some(bytes)) => bytes,
+            Ok(None) => return Ok(None),
+            Err(NextFault::TooLarge) => {
+                return Err(IndexFault::Stream(number, StreamFault::TooLarge));
+            }
+            Err(NextFault::Io) => return Err(IndexFault::Io(number)),
+            Err(NextFault::NoMemory) => return Err(IndexFault::NoMemory),
+        };
+        match headers_of(&bytes) {
+            Ok(headers) => Ok(Some(Indexed { bytes, headers })),
+            Err(fault) => Err(IndexFault::of(number, fault)),
+        }
+    }
+
+    /// The codestream.
+    pub fn bytes(&self) -> &[u8]
+        ensures value { result.now ≡ self.now.bytes }
+        ensures few { length result.now ≤ most_bytes }
+    {
+        &self.bytes[..self.headers.used]
+    }
+
+    /// Gray or colour.
+    pub fn kind(&self) -> Kind
+        ensures { result ≡ self.now.kind }
+    {
+        self.headers.kind
+    }
+
+    /// The numbers of its line after the kind.
+    pub fn columns(&self) -> [u32; 8]
+        ensures { result ≡ columns self.now }
+    {
+        let presets = self.headers.presets;
+        [
+            u32::from(self.headers.width),
+            u32::from(self.headers.height),
+            u32::from(presets.maxval()),
+            u32::from(self.headers.precision),
+            u32::from(presets.t1()),
+            u32::from(presets.t2()),
+            u32::from(presets.t3()),
+            u32::from(presets.reset()),
+        ]
+    }
+}
+
+/// The headers of the codestream at the front of bytes, whose data isn't decoded; or why there is none.
+fn headers_of(bytes: &[u8]) -> Result<Headers, StreamFault>
+    ensures ok { IfOk result (HasHeaders bytes.now) }
+    ensures none { IfErr result (λ fault. (front rest : List ℕ) (f : Picture) → bytes.now ≡ front ++ rest → Spells front f → ⊥) }
+    ensures fault { IfErr result (λ fault. IsFirstFault bytes.now fault ⊎ (outline_of bytes.now ≡ Err fault)) }
+{
+    outlines_follow_the_grammar();
+    let opening = Opening::read(bytes)?;
+    let used = match opening.skip() {
+        Ok(used) => used,
+        Err(fault) => return Err(fault),
+    };
+    Ok(Headers {
+        used,
+        precision: opening.precision(),
+        kind: opening.kind(),
+        width: opening.width(),
+        height: opening.height(),
+        presets: *opening.presets(),
+    })
+}

@@ -1,0 +1,54 @@
+//! Why the making of an index stopped, and what is said of it.
+use ls_stream::StreamFault;
+use std::alloc::AllocError;
+use thiserror::Error;
+
+/// Why the making of an index stopped.
+///
+/// The lines of exactly the codestreams before the one at fault were written, except after `Output`. No more than
+/// `ls_film::MOST_FRAMES` lines were.
+#[derive(Clone, Copy, Debug, Drop, PartialEq, Eq, Error)]
+pub enum IndexFault {
+    /// After so many codestreams comes none that is complete by its markers and headers; the fault is never
+    /// `StreamFault::NoMemory`.
+    #[error("frame {0}: {1}")]
+    Stream(u64, StreamFault),
+    /// A read failed when so many lines had been written.
+    #[error("read failed")]
+    Io(u64),
+    /// A write failed when exactly so many bytes of the lines had gone out.
+    #[error("output failed after {0} bytes")]
+    Output(u64),
+    /// Memory was refused for a codestream or its line.
+    #[error("no memory")]
+    NoMemory,
+    /// A codestream numbered 4,294,967,295.
+    #[error("too many frames")]
+    TooMany,
+}
+
+impl IndexFault {
+    ghost use Rattle.std.specs.Prelude.{◌≡◌};
+    ghost use Rattle.ls_archive.specs.View.Indexing.{index_fault};
+
+    /// What a fault of the codestream of this number is to an index.
+    pub(crate) fn of(number: u64, fault: StreamFault) -> IndexFault
+        ensures { result ≡ index_fault number fault }
+    {
+        match fault {
+            StreamFault::NoMemory => IndexFault::NoMemory,
+            _ => IndexFault::Stream(number, fault),
+        }
+    }
+}
+
+impl From<AllocError> for IndexFault {
+    ghost use Rattle.std.specs.Prelude.{◌≡◌};
+    ghost use Rattle.ls_archive.specs.declared.faults.IndexFault.TheVariants.{NoMemory};
+
+    ghost from_gives = { λ _ fault. fault ≡ NoMemory };
+
+    fn from(_refused: AllocError) -> IndexFault {
+        IndexFault::NoMemory
+    }
+}

@@ -1,0 +1,32 @@
+//! Archives: what is asked of a recording that is kept. A recording is codestreams joined, with nothing between them.
+//!
+//! What it hands on: the index of a recording is a line for each codestream, found by markers and headers alone
+//! (`specs/Index.antt`); its making, where it stops, says which lines it wrote (`specs/View/Indexing.antt`).
+//!
+//! ```
+//! use ls_archive::{IndexFault, write_index};
+//! use ls_frame::Counted;
+//! use std::alloc::Global;
+//!
+//! /// The index of a recording, with sums.
+//! fn index(alloc: Global, recording: &[u8]) -> Result<Vec<u8>, IndexFault> {
+//!     let mut reader = recording;
+//!     let mut writer = Counted::new(Vec::new(alloc));
+//!     write_index(alloc, &mut reader, &mut writer, true)?;
+//!     Ok(writer.into_inner())
+//! }
+//! ```
+//!
+//! Over files the reader is a `Buffered::new(alloc, Counted::new(file))?` and the writer a `Counted::new(file)`, of
+//! `ls_frame`.
+//!
+//! In reading order: `faults` (why the making of an index stopped), `index` (the lines), `entry` (a codestream, and what
+//! its headers say).
+#![tactic(auto)]
+
+mod entry;
+pub mod faults;
+pub mod index;
+
+pub use faults::IndexFault;
+pub use index::{index_bytes, write_index};

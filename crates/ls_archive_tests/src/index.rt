@@ -1,0 +1,219 @@
+use crate::testing::{ANOTHER_FORM, BROKEN_DATA, MIXED};
+use ls_archive::{IndexFault, index_bytes, write_index};
+use ls_frame::{Counted, Feed, Outlet};
+use ls_stream::StreamFault;
+use ls_testing::films::{ANNEX_H, FIRST_CODESTREAM, TWO_CODESTREAMS};
+use ls_testing::{Mishap, Pieces, Sink};
+use std::alloc::Global;
+use std::process::Abort;
+
+/// What the making of an index answered, what was written, and how many of its reader's and its writer's calls failed.
+type Outcome<'a> = (Result<u64, IndexFault>, &'a [u8], u64, u64);
+
+/// That the making of an index ended so. Where memory may be refused it may say so, after whole lines.
+fn check_outcome(rt: &impl Abort, name: &str, got: Outcome<'_>, want: Outcome<'_>, ample: bool) {
+    let refused = !ample && got.0 == Err(IndexFault::NoMemory) && want.1.starts_with(got.1);
+    let want = if refused {
+        (Err(IndexFault::NoMemory), got.1, 0, 0)
+    } else {
+        want
+    };
+    assert_eq!(rt; got, want, "{name}");
+}
+
+/// Makes the index of what a reader gives, and checks how that ends.
+fn check_index(
+    rt: &impl Abort,
+    alloc: Global,
+    name: &str,
+    reader: Pieces<'_>,
+    writer: Sink,
+    sums: bool,
+    want: Outcome<'_>,
+    ample: bool,
+) {
+    let mut reader = Counted::new(reader);
+    let mut writer = Counted::new(writer);
+    let ended = write_index(alloc, &mut reader, &mut writer, sums);
+    let reads = Feed::failures(&reader);
+    let writes = Outlet::failures(&writer);
+    let sink = writer.into_inner();
+    let got = (ended, sink.written(), reads, writes);
+    check_outcome(rt, name, got, want, ample);
+}
+
+/// What a recording is, its bytes, what the making of its index answers, and the index with sums and without. The sums
+/// are those of `sha256sum`.
+type Case = (
+    &'static str,
+    &'static [u8],
+    Result<u64, IndexFault>,
+    &'static [u8],
+    &'static [u8],
+);
+
+const RECORDINGS: [Case; 8] = [
+    ("no codestream", b"", Ok(0), b"", b""),
+    (
+        "one codestream",
+        FIRST_CODESTREAM,
+        Ok(1),
+        b"0 0 28 gray 1 1 255 8 3 7 21 64 14c5eaab40e8fcaf165a37d64d027b1357eb15846597672e4e87ef4c04547aa1\n",
+        b"0 0 28 gray 1 1 255 8 3 7 21 64\n",
+    ),
+    (
+        "the picture of Annex H.3",
+        ANNEX_H,
+        Ok(1),
+        b"0 0 57 gray 4 4 255 8 3 7 21 64 06ff7ac46b7ec27f62f4bf3271ed59f7c900bf60e4b7b0a67a5cf586d7adb829\n",
+        b"0 0 57 gray 4 4 255 8 3 7 21 64\n",
+    ),
+    (
+        "three codestreams of other kinds and maxvals",
+        MIXED,
+        Ok(3),
+        b"0 0 56 color 1 1 255 8 3 7 21 64 98909a4bb8eca74ae69b90ebbfd16f283f425332f82ea59226adc5154379dc4b\n\
+1 56 43 gray 1 1 1 2 1 1 1 64 c46740c0d93901da94f104f3cbcc31f60c5a1eebcbe9f2c8e467bc451d9e4fa9\n\
+2 99 29 gray 1 1 65535 16 18 67 276 64 94b1fb3f67dd7a9a0b5561c90b2c840450fd0e7f167d87c4e1eb3207fb5c2ab8\n",
+        b"0 0 56 color 1 1 255 8 3 7 21 64\n\
+1 56 43 gray 1 1 1 2 1 1 1 64\n\
+2 99 29 gray 1 1 65535 16 18 67 276 64\n",
+    ),
+    (
+        "headers of another form",
+        ANOTHER_FORM,
+        Ok(1),
+        b"0 0 48 gray 1 1 255 8 3 7 21 32 317275ba4089eb07fcc2512d7e4483b4069ad3e3958961b2fcb0032aa8196325\n",
+        b"0 0 48 gray 1 1 255 8 3 7 21 32\n",
+    ),
+    (
+        "data that isn't decoded",
+        BROKEN_DATA,
+        Ok(1),
+        b"0 0 28 gray 1 1 255 8 3 7 21 64 695e0c278247cd81705e644300fecae27dacbefc5365980e6ff81d4c037dbd1d\n",
+        b"0 0 28 gray 1 1 255 8 3 7 21 64\n",
+    ),
+    (
+        "another byte after a codestream",
+        b"\xff\xd8\
+\xff\xf7\x00\x0b\x08\x00\x01\x00\x01\x01\x01\x11\x00\
+\xff\xda\x00\x08\x01\x01\x00\x00\x00\x00\x80\xff\xd9A",
+        Err(IndexFault::Stream(1, StreamFault::NotSoi)),
+        b"0 0 28 gray 1 1 255 8 3 7 21 64 14c5eaab40e8fcaf165a37d64d027b1357eb15846597672e4e87ef4c04547aa1\n",
+        b"0 0 28 gray 1 1 255 8 3 7 21 64\n",
+    ),
+    (
+        "a codestream whose second scan is missing",
+        b"\xff\xd8\
+\xff\xf7\x00\x11\x08\x00\x01\x00\x01\x03\x01\x11\x00\x02\x11\x00\x03\x11\x00\
+\xff\xda\x00\x08\x01\x01\x00\x00\x00\x00\x80\xff\xd9",
+        Err(IndexFault::Stream(0, StreamFault::BadSegment)),
+        b"",
+        b"",
+    ),
+];
+
+fn check_recordings(rt: &impl Abort, alloc: Global, ample: bool) {
+    for (name, recording, result, with_sums, without) in RECORDINGS {
+        for (sums, lines) in [(true, with_sums), (false, without)] {
+            let reader = Pieces::new(recording, 3, None);
+            let writer = Sink::new(2, Mishap::Nothing);
+            let want = (result, lines, 0, 0);
+            check_index(rt, alloc, name, reader, writer, sums, want, ample);
+        }
+    }
+}
+
+#[test]
+fn each_codestream_has_its_line_with_ample_memory(rt: HostRuntime) {
+    check_recordings(&rt, rt.alloc(), true);
+}
+
+#[test]
+fn each_codestream_has_its_line_or_memory_is_refused(rt: HostRuntime) {
+    check_recordings(&rt, rt.alloc(), false);
+}
+
+/// That the index of a recording in memory is this one.
+fn check_in_memory(
+    rt: &impl Abort,
+    alloc: Global,
+    name: &str,
+    recording: &[u8],
+    sums: bool,
+    want: (Result<u64, IndexFault>, &[u8]),
+) {
+    let (written, ended) = index_bytes(alloc, recording, sums);
+    let got = (ended, written.as_slice(), 0, 0);
+    check_outcome(rt, name, got, (want.0, want.1, 0, 0), true);
+}
+
+#[test]
+fn recordings_in_memory_have_their_index_with_ample_memory(rt: HostRuntime) {
+    for (name, recording, result, with_sums, without) in RECORDINGS {
+        check_in_memory(&rt, rt.alloc(), name, recording, true, (result, with_sums));
+        check_in_memory(&rt, rt.alloc(), name, recording, false, (result, without));
+    }
+}
+
+/// The lines of `TWO_CODESTREAMS`, without sums.
+const TWO_LINES: &[u8] = b"0 0 28 gray 1 1 255 8 3 7 21 64\n1 28 28 gray 1 1 255 8 3 7 21 64\n";
+
+/// How long the first of them is.
+const FIRST_LINE: usize = 32;
+
+/// How the index of so many of the first bytes of `TWO_CODESTREAMS` ends, and how long it is.
+fn end_of_front(len: usize) -> (Result<u64, IndexFault>, usize) {
+    match len {
+        0 => (Ok(0), 0),
+        1..=27 => (Err(IndexFault::Stream(0, StreamFault::Truncated)), 0),
+        28 => (Ok(1), FIRST_LINE),
+        29..=55 => (
+            Err(IndexFault::Stream(1, StreamFault::Truncated)),
+            FIRST_LINE,
+        ),
+        _ => (Ok(2), TWO_LINES.len()),
+    }
+}
+
+#[test]
+fn recordings_that_break_off_are_truncated_with_ample_memory(rt: HostRuntime) {
+    for len in 0..=TWO_CODESTREAMS.len() {
+        let (result, lines) = end_of_front(len);
+        let want = (result, &TWO_LINES[..lines]);
+        let front = &TWO_CODESTREAMS[..len];
+        check_in_memory(&rt, rt.alloc(), "a front", front, false, want);
+    }
+}
+
+#[test]
+fn a_failed_write_ends_the_index_with_ample_memory(rt: HostRuntime) {
+    for i in 0..TWO_LINES.len() {
+        let reader = Pieces::new(TWO_CODESTREAMS, 4096, None);
+        let writer = Sink::new(1, Mishap::Fails(i));
+        let want = Err(IndexFault::Output(i as u64));
+        let want = (want, &TWO_LINES[..i], 0, 1);
+        check_index(
+            &rt,
+            rt.alloc(),
+            "a write",
+            reader,
+            writer,
+            false,
+            want,
+            true,
+        );
+    }
+}
+
+#[test]
+fn a_failed_read_ends_the_index_with_ample_memory(rt: HostRuntime) {
+    for i in 0..TWO_CODESTREAMS.len() {
+        let reader = Pieces::new(TWO_CODESTREAMS, 1, Some(i));
+        let writer = Sink::new(4096, Mishap::Nothing);
+        let (number, lines) = if i < 28 { (0, 0) } else { (1, FIRST_LINE) };
+        let want = Err(IndexFault::Io(number));
+        let want = (want, &TWO_LINES[..lines], 1, 0);
+        check_index(&rt, rt.alloc(), "a read", reader, writer, false, want, true);
+    }
+}
