@@ -1,3 +1,4 @@
+pub mod CheckLemmas
 pub mod EntryLemmas
 pub mod FormLemmas
 pub mod IndexLemmas

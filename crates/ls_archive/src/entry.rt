@@ -6,7 +6,7 @@ ghost use Rattle.ls_frame.specs.View.Known.{WasAtEnd};
 ghost use Rattle.ls_stream.specs.Grammar.{Spells, most_bytes};
 ghost use Rattle.ls_stream.specs.View.Outlines.{outline_of, IsFirstFault};
 ghost use Rattle.ls_archive.specs.Index.{columns};
-ghost use Rattle.ls_archive.specs.View.Entries.{GaveEntry, HasHeaders};
+ghost use Rattle.ls_archive.specs.View.Entries.{IsEntry, GaveEntry, HasHeaders};
 ghost use Rattle.ls_archive.specs.View.Indexing.{StopsNext, failed_reader};
 
 use crate::faults::IndexFault;
@@ -76,6 +76,23 @@ impl Indexed {
         match headers_of(&bytes) {
             Ok(headers) => Ok(Some(Indexed { bytes, headers })),
             Err(fault) => Err(IndexFault::of(number, fault)),
+        }
+    }
+
+    /// The codestream that bytes are, if they are one by its markers and headers and nothing follows it.
+    pub fn of(bytes: Vec<u8>) -> Option<Indexed>
+        ensures entry { IfSome result (λ entry. IsEntry entry × (entry.bytes ≡ bytes.items)) }
+        ensures none { IfNone result ((f : Picture) → Spells bytes.items f → ⊥) }
+    {
+        outlines_follow_the_grammar();
+        match headers_of(&bytes) {
+            Ok(headers) => {
+                if headers.used < bytes.len() {
+                    return None;
+                }
+                Some(Indexed { bytes, headers })
+            }
+            Err(_) => None,
         }
     }
 

@@ -76,7 +76,7 @@ pub fn index_bytes(
 }
 
 /// The line of the codestream of this number, from 0, which begins at this offset. Fails only if an allocation fails.
-fn line(
+pub(crate) fn line(
     alloc: Global,
     sums: bool,
     number: u64,

@@ -24,9 +24,11 @@
 //! its headers say).
 #![tactic(auto)]
 
+pub mod checking;
 mod entry;
 pub mod faults;
 pub mod index;
 
+pub use checking::{CheckFault, Checked, Damage, Finding, Findings, check};
 pub use faults::IndexFault;
 pub use index::{index_bytes, write_index};

@@ -1,0 +1,224 @@
+-- What is read of an index and of a recording, and which codestreams are good.
+use Rattle.std.proofs.Common.{◌≡◌, ◌⊎◌, ◌<◌, ◌≤◌, ◌+◌, ℕ, Bool, true, false, inl, inr, List, [], ◌∷◌, ◌++◌, length, take, drop, Option, None, Some, Ok, refl, sym, ap, subst, ◌∙◌, arith, append_assoc, append-nil, length-append}
+use Rattle.std.proofs.lemmas.List.{take_at, take_all, drop_at, drop_all, drop-drop, length_push, length-drop}
+use Rattle.std.specs.Prelude.{◌↔◌, IsTrue}
+use Rattle.ls_film.specs.Film.{most_frames}
+use Rattle.ls_frame.specs.declared.frame.Kind.{Kind}
+use Rattle.ls_frame.specs.Picture.{Picture}
+use Rattle.ls_frame.specs.Parameters.{Parameters}
+use Rattle.ls_frame.specs.View.Known.{Tells, Gave, WasAtEnd, TakesUntil, known}
+use Rattle.ls_frame.proofs.KnownLemmas.{known-consumed}
+use Rattle.ls_stream.specs.Grammar.{Spells}
+use Rattle.ls_stream.specs.View.Reading.{Take}
+use Rattle.ls_stream.specs.View.Outlines.{Outline, outline_of, SpellingsHaveBoundedOutlines}
+use Rattle.ls_stream.proofs.StepLemmas.{same_ok}
+use Rattle.ls_archive.specs.Index.{Entry, line}
+use Rattle.ls_archive.specs.declared.checking.Finding.{Finding}
+use Rattle.ls_archive.specs.Checking.{Line, beginning, AreLines, texts, IsGood, AreFound, size_of}
+use Rattle.ls_archive.specs.View.Checks.{FindsMore, GaveAtMost, HasLooked, HasChecked, IsChecked}
+use Rattle.ls_archive.specs.View.Entries.{IsEntry}
+
+-- ---- reading
+
+-- bytes that were taken up to a mark, after those before
+pub given_on : (mark most : ℕ) (first old new : Option (List ℕ)) (bytes after : List ℕ) (last : ℕ) → (Tells first → Tells old × (known first ≡ bytes ++ known old))
+    → TakesUntil mark most old new bytes after last → Tells first → Tells new × (known first ≡ after ++ known new)
+given_on mark most first old new bytes after last read taken told =
+    let before = read told in
+    let given = known-consumed old new (taken.run ++ last ∷ []) before.0 taken.given in (
+      given.0,
+      before.1 ∙ ap (λ bs. bytes ++ bs) given.1 ∙ sym (append_assoc bytes (taken.run ++ last ∷ []) (known new)) ∙ ap (λ bs. bs ++ known new) (sym taken.appended),
+    )
+
+-- they are as many as there was room for, or fewer
+pub given_few : (mark most : ℕ) (old new : Option (List ℕ)) (bytes after : List ℕ) (last : ℕ) → TakesUntil mark most old new bytes after last
+    → (length after ≤ length bytes + most) × (length bytes < length after)
+given_few mark most old new bytes after last taken =
+    let few = taken.few in
+    let size = ap length taken.appended in (
+      omega (arith, few, size, length-append bytes (taken.run ++ last ∷ []), length-append taken.run (last ∷ [])),
+      omega (arith, size, length-append bytes (taken.run ++ last ∷ []), length-append taken.run (last ∷ [])),
+    )
+
+-- so many bytes were given, or all that were left
+pub gave_at_most : (old new : Option (List ℕ)) (most : ℕ) (bytes : List ℕ) → (Tells old → Tells new × (known old ≡ bytes ++ known new)) → length bytes ≤ most
+    → (length bytes ≡ most) ⊎ (Tells old → known new ≡ []) → GaveAtMost old new most bytes
+gave_at_most old new most bytes gave few (inl all) = record {
+  tells = λ told. (gave told).0;
+  taken = λ told. sym (ap (take most) (gave told).1 ∙ take_at bytes (known new) most all);
+  left = λ told. sym (ap (drop most) (gave told).1 ∙ drop_at bytes (known new) most all);
+}
+gave_at_most old new most bytes gave few (inr end) = record {
+  tells = λ told. (gave told).0;
+  taken = λ told.
+      let whole = (gave told).1 ∙ ap (λ s. bytes ++ s) (end told) ∙ append-nil bytes in
+      sym (ap (take most) whole ∙ take_all most bytes few);
+  left = λ told.
+      let whole = (gave told).1 ∙ ap (λ s. bytes ++ s) (end told) ∙ append-nil bytes in
+      end told ∙ sym (ap (drop most) whole ∙ drop_all most bytes few);
+}
+
+-- ---- codestreams
+
+same_read : (a b : Outline) (rest more : List ℕ) → ◌≡◌ {A = Take Outline} (Ok (a, rest)) (Ok (b, more)) → (a ≡ b) × (rest ≡ more)
+same_read a b rest more e =
+    let same = same_ok {A = Outline × List ℕ} _ _ e in
+    (ap (λ (p : Outline × List ℕ). p.0) same, ap (λ (p : Outline × List ℕ). p.1) same)
+
+-- a codestream of a frame leaves nothing
+pub spelled_whole : SpellingsHaveBoundedOutlines → (bytes left : List ℕ) (o : Outline) (f : Picture) → outline_of bytes ≡ Ok (o, left) → Spells bytes f → left ≡ []
+spelled_whole law bytes left o f read spells =
+    let found = law bytes [] f spells in
+    (same_read o found.0 left [] (sym read ∙ ap outline_of (sym (append-nil bytes)) ∙ found.1)).1
+
+-- a front that is one is all of it
+pub spelled_front : SpellingsHaveBoundedOutlines → (bytes front rest : List ℕ) (o : Outline) (f : Picture) → outline_of bytes ≡ Ok (o, []) → bytes ≡ front ++ rest → Spells front f
+    → Spells bytes f
+spelled_front law bytes front rest o f read whole spells =
+    let found = law front rest f spells in
+    let none : rest ≡ [] = sym (same_read o found.0 [] rest (sym read ∙ ap outline_of whole ∙ found.1)).1 in
+    subst (λ bs. Spells bs f) (sym (whole ∙ ap (λ s. front ++ s) none ∙ append-nil front)) spells
+
+-- bytes have one entry
+abbrev made : List ℕ → Kind → ℕ → ℕ → ℕ → Parameters → Entry
+made bytes kind width height precision parameters = record { bytes = bytes; kind = kind; width = width; height = height; precision = precision; parameters = parameters }
+
+same_entry : (a b : Entry) → a.bytes ≡ b.bytes → a.kind ≡ b.kind → a.width ≡ b.width → a.height ≡ b.height → a.precision ≡ b.precision → a.parameters ≡ b.parameters → a ≡ b
+same_entry a b bytes kind width height precision parameters =
+    ap (λ (x : List ℕ). made x a.kind a.width a.height a.precision a.parameters) bytes
+    ∙ ap (λ (x : Kind). made b.bytes x a.width a.height a.precision a.parameters) kind
+    ∙ ap (λ (x : ℕ). made b.bytes b.kind x a.height a.precision a.parameters) width
+    ∙ ap (λ (x : ℕ). made b.bytes b.kind b.width x a.precision a.parameters) height
+    ∙ ap (λ (x : ℕ). made b.bytes b.kind b.width b.height x a.parameters) precision
+    ∙ ap (λ (x : Parameters). made b.bytes b.kind b.width b.height b.precision x) parameters
+
+pub one_entry : (a b : Entry) → IsEntry a → IsEntry b → a.bytes ≡ b.bytes → a ≡ b
+one_entry a b is other bytes =
+    let o : is.outline ≡ other.outline = (same_read is.outline other.outline [] [] (sym is.complete ∙ ap outline_of bytes ∙ other.complete)).0 in
+    same_entry a b bytes
+    (sym is.says.kind ∙ ap (λ (o : Outline). o.header.kind) o ∙ other.says.kind)
+    (sym is.says.width ∙ ap (λ (o : Outline). o.header.width) o ∙ other.says.width)
+    (sym is.says.height ∙ ap (λ (o : Outline). o.header.height) o ∙ other.says.height)
+    (sym is.says.precision ∙ ap (λ (o : Outline). o.header.precision) o ∙ other.says.precision)
+    (sym is.says.parameters ∙ ap (λ (o : Outline). o.parameters) o ∙ other.says.parameters)
+
+-- a good one has its line
+by_sums : (n place : ℕ) (e : Entry) (text : List ℕ) (sums : Bool) → text ≡ line sums n place e → (text ≡ line true n place e) ⊎ (text ≡ line false n place e)
+by_sums n place e text true is = inl is
+by_sums n place e text false is = inr is
+
+pub good_line : (n place : ℕ) (e : Entry) (text bytes : List ℕ) → IsEntry e → e.bytes ≡ bytes → IsGood n place text bytes → (text ≡ line true n place e) ⊎ (text ≡ line false n place e)
+good_line n place e text bytes is bytes_are good =
+    let same : good.entry ≡ e = one_entry good.entry e good.is_entry is (good.bytes_are ∙ sym bytes_are) in
+    by_sums n place e text good.sums (good.text_is ∙ ap (line good.sums n place) same)
+
+-- and one that has it and is a codestream of a frame is good
+pub is_good : (n place : ℕ) (e : Entry) (text bytes : List ℕ) (f : Picture) → IsEntry e → e.bytes ≡ bytes → Spells bytes f → (text ≡ line true n place e) ⊎ (text ≡ line false n place e)
+    → IsGood n place text bytes
+is_good n place e text bytes f is bytes_are spells (inl with) = record { entry = e; is_entry = is; bytes_are = bytes_are; sums = true; text_is = with; frame = f; spells = spells }
+is_good n place e text bytes f is bytes_are spells (inr without) = record { entry = e; is_entry = is; bytes_are = bytes_are; sums = false; text_is = without; frame = f; spells = spells }
+
+-- ---- a check, line by line
+
+finds-none : (found : Option (List Finding)) → FindsMore found found []
+finds-none None = refl
+finds-none (Some told) = ap (λ s. Some s) (sym (append-nil told))
+
+finds-more : (found mid new : Option (List Finding)) (one more : List Finding) → FindsMore found mid one → FindsMore mid new more → FindsMore found new (one ++ more)
+finds-more None mid new one more first second = subst (λ m. FindsMore m new more) first second
+finds-more (Some told) mid new one more first second =
+    let after : new ≡ Some ((told ++ one) ++ more) = subst (λ m. FindsMore m new more) first second in
+    after ∙ ap (λ s. Some s) (append_assoc told one more)
+
+-- before the first line
+pub checked-none : (index recording : Option (List ℕ)) (found : Option (List Finding)) → HasChecked index index recording recording found found 0 0 0
+checked-none index recording found = record {
+  lines = [];
+  count = refl;
+  few = omega arith;
+  size = refl;
+  more_lines = λ more are. are;
+  gave = λ told. (told, [], refl, refl);
+  findings = [];
+  damaged_are = refl;
+  told = finds-none found;
+  tells = λ told. told;
+  more_found = λ told more besides are. are;
+  left = λ told. refl;
+}
+
+texts-push : (lines : List Line) (l : Line) → texts (lines ++ l ∷ []) ≡ texts lines ++ l.text
+texts-push [] l = append-nil l.text
+texts-push (first ∷ lines) l = ap (λ s. first.text ++ s) (texts-push lines l) ∙ sym (append_assoc first.text (texts lines) l.text)
+
+size-push : (lines : List Line) (l : Line) → size_of (lines ++ l ∷ []) ≡ size_of lines + l.size
+size-push [] l = omega arith
+size-push (first ∷ lines) l = omega (arith, size-push lines l)
+
+-- what is found of a line, and of those after it
+found_by : (n place : ℕ) (l : Line) (all bytes : List ℕ) (found found' : Option (List Finding)) (d : ℕ) → bytes ≡ take l.size all → (looked : HasLooked n place l bytes found found' d)
+    (more : List Line) (besides : List Finding) → AreFound (n + 1) (place + l.size) more (drop l.size all) besides → AreFound n place (l ∷ more) all (looked.findings ++ besides)
+found_by n place l all bytes found found' d same looked more besides are = elim looked.are [
+  | inl good ↦
+      inl (subst (IsGood n place l.text) same good.0, subst (AreFound (n + 1) (place + l.size) more (drop l.size all)) (ap (λ s. s ++ besides) (sym good.1)) are)
+  | inr bad ↦
+      inr (bad.1.0, besides, ap (λ s. s ++ besides) bad.1.1, bad.1.2, (λ good. bad.0 (subst (IsGood n place l.text) (sym same) good)), are)
+]
+
+-- one line more
+pub checked-more : (index mid index' recording half recording' : Option (List ℕ)) (found some found' : Option (List Finding)) (n place damaged d : ℕ) (l : Line) (bytes : List ℕ)
+    → HasChecked index mid recording half found some n place damaged → n < most_frames → (rest : List ℕ) × (l.text ≡ beginning n place l.size ++ rest)
+    → Gave mid index' (λ read. l.text ≡ read) → GaveAtMost half recording' l.size bytes → HasLooked n place l bytes some found' d
+    → HasChecked index index' recording recording' found found' (n + 1) (place + l.size) (damaged + d)
+checked-more index mid index' recording half recording' found some found' n place damaged d l bytes run room begins line taken looked =
+    let lines : List Line = run.lines in
+    record {
+      lines = lines ++ l ∷ [];
+      count = length_push lines l ∙ ap (λ k. k + 1) run.count;
+      few = omega (arith, length_push lines l, run.count, room);
+      size = size-push lines l ∙ ap (λ k. k + l.size) run.size;
+      more_lines = λ more are. subst (AreLines 0 0) (sym (append_assoc lines (l ∷ []) more)) (run.more_lines (l ∷ more) (begins, are));
+      gave = λ told.
+          let front = run.gave told in
+          let one = line front.0 in (
+            one.0,
+            front.1 ++ one.1,
+            front.2 ∙ ap (λ s. front.1 ++ s) one.2 ∙ sym (append_assoc front.1 one.1 (known index')),
+            ap (λ s. s ++ one.1) front.3 ∙ ap (λ s. texts lines ++ s) (sym one.3) ∙ sym (texts-push lines l),
+          );
+      findings = run.findings ++ looked.findings;
+      damaged_are = length-append run.findings looked.findings ∙ ap (λ k. k + length looked.findings) run.damaged_are ∙ ap (λ k. damaged + k) looked.damaged_are;
+      told = finds-more found some found' run.findings looked.findings run.told looked.told;
+      tells = λ told. taken.tells (run.tells told);
+      more_found = λ told more besides are.
+          let half_told = run.tells told in
+          let after = subst (λ bs. AreFound (n + 1) (place + l.size) more bs besides) (taken.left half_told) are in
+          let here = found_by n place l (known half) bytes some found' d (taken.taken half_told) looked more besides after in
+          let all = run.more_found told (l ∷ more) (looked.findings ++ besides) here in
+          subst (λ ls. AreFound 0 0 ls (known recording) ((run.findings ++ looked.findings) ++ besides)) (sym (append_assoc lines (l ∷ []) more))
+          (subst (AreFound 0 0 (lines ++ l ∷ more) (known recording)) (sym (append_assoc run.findings looked.findings besides)) all);
+      left = λ told. taken.left (run.tells told) ∙ ap (drop l.size) (run.left told) ∙ drop-drop l.size place (known recording);
+    }
+
+-- the end of the index
+pub checked-end : (index mid index' recording half : Option (List ℕ)) (found found' : Option (List Finding)) (n place damaged : ℕ) (more : Bool) → HasChecked index mid recording half found found' n place damaged
+    → WasAtEnd mid index' → (Tells half → IsTrue more ↔ (0 < length (known half))) → IsChecked index recording found found' (record { frames = n; damaged = damaged; more = more })
+checked-end index mid index' recording half found found' n place damaged more run end goes_on = record {
+  lines = run.lines;
+  are_lines = subst (AreLines 0 0) (append-nil run.lines) (run.more_lines [] tt);
+  count = run.count;
+  few = run.few;
+  index_is = λ told.
+      let front = run.gave told in
+      front.2 ∙ ap (λ s. front.1 ++ s) (end front.0).1 ∙ append-nil front.1 ∙ front.3;
+  findings = run.findings;
+  damaged = run.damaged_are;
+  told = run.told;
+  are_found = λ told.
+      subst (λ ls. AreFound 0 0 ls (known recording) run.findings) (append-nil run.lines)
+      (subst (AreFound 0 0 (run.lines ++ []) (known recording)) (append-nil run.findings) (run.more_found told [] [] refl));
+  more = λ told.
+      let size = ap length (run.left told) ∙ length-drop place (known recording) in
+      let both = goes_on (run.tells told) in
+      ((λ is. let some = both.0 is in omega (arith, some, size, run.size)), (λ less. both.1 (omega (arith, less, size, run.size))));
+}

@@ -1,0 +1,87 @@
+-- What a check by an index says of its two readers and of whom it tells its findings.
+use Rattle.std.specs.Prelude.{◌≡◌, ◌⊎◌, ◌↔◌, ℕ, ◌<◌, ◌≤◌, Bool, true, false, IsTrue, List, [], ◌∷◌, ◌++◌, length, take, drop, Option, None, Some, Result, Ok, Err}
+use Rattle.ls_film.specs.Film.{most_frames}
+use Rattle.ls_frame.specs.View.Known.{Tells, Gave, known}
+use Rattle.ls_archive.specs.declared.checking.Finding.{Finding}
+use Rattle.ls_archive.specs.declared.checking.Checked.{Checked}
+use Rattle.ls_archive.specs.declared.checking.CheckFault.{CheckFault}
+use Rattle.ls_archive.specs.declared.checking.CheckFault.TheVariants as fault
+use Rattle.ls_archive.specs.Checking.{Line, AreLines, texts, IsGood, IsOf, AreFound, size_of}
+
+-- ---- what is told
+
+-- those that were told, and one more
+abbrev pub FindsMore : Option (List Finding) → Option (List Finding) → List Finding → Type 0
+FindsMore None new more = new ≡ None
+FindsMore (Some told) new more = new ≡ Some (told ++ more)
+
+-- ---- what is read
+
+-- The reader gave as many bytes, or all that were left.
+pub record GaveAtMost (old new : Option (List ℕ)) (most : ℕ) (bytes : List ℕ) : Type 0 where
+  pub tells : Tells old → Tells new
+  pub taken : Tells old → bytes ≡ take most (known old)
+  pub left : Tells old → known new ≡ drop most (known old)
+
+-- ---- a check
+
+-- The index is these lines, the findings are those of the recording, and it is said whether the recording goes on after them.
+pub record IsChecked (index recording : Option (List ℕ)) (found found' : Option (List Finding)) (checked : Checked) : Type 0 where
+  pub lines : List Line
+  pub are_lines : AreLines 0 0 lines
+  pub count : length lines ≡ checked.frames
+  pub few : length lines ≤ most_frames
+  pub index_is : Tells index → known index ≡ texts lines
+  pub findings : List Finding
+  pub damaged : length findings ≡ checked.damaged
+  pub told : FindsMore found found' findings
+  pub are_found : Tells recording → AreFound 0 0 lines (known recording) findings
+  pub more : Tells recording → IsTrue checked.more ↔ (size_of lines < length (known recording))
+
+-- The bytes of a line were looked at: they are good, and nothing was told; or they aren't, and one finding was.
+pub record HasLooked (n place : ℕ) (l : Line) (bytes : List ℕ) (found found' : Option (List Finding)) (damaged : ℕ) : Type 0 where
+  pub findings : List Finding
+  pub damaged_are : length findings ≡ damaged
+  pub few : damaged ≤ 1
+  pub told : FindsMore found found' findings
+  pub are : (IsGood n place l.text bytes × (findings ≡ [])) ⊎ ((IsGood n place l.text bytes → ⊥) × ((finding : Finding) × (findings ≡ finding ∷ []) × IsOf n place l finding))
+
+-- So far n lines were read, of which the next one begins at this place, and what the bytes before it have was found. What is found in
+-- what is left is what is found besides.
+pub record HasChecked (index index' recording recording' : Option (List ℕ)) (found found' : Option (List Finding)) (n place damaged : ℕ) : Type 0 where
+  pub lines : List Line
+  pub count : length lines ≡ n
+  pub few : length lines ≤ most_frames
+  pub size : size_of lines ≡ place
+  pub more_lines : (more : List Line) → AreLines n place more → AreLines 0 0 (lines ++ more)
+  pub gave : Gave index index' (λ bytes. bytes ≡ texts lines)
+  pub findings : List Finding
+  pub damaged_are : length findings ≡ damaged
+  pub told : FindsMore found found' findings
+  pub tells : Tells recording → Tells recording'
+  pub more_found : Tells recording → (more : List Line) (besides : List Finding) → AreFound n place more (known recording') besides
+      → AreFound 0 0 (lines ++ more) (known recording) (findings ++ besides)
+  pub left : Tells recording → known recording' ≡ drop place (known recording)
+
+-- whether a check failed by its index's device, and by its recording's
+abbrev pub blames_index : CheckFault → Bool
+blames_index (fault.Line n) = false
+blames_index fault.IndexIo = true
+blames_index fault.Io = false
+blames_index fault.NoMemory = false
+blames_index fault.TooMany = false
+
+abbrev pub blames_recording : CheckFault → Bool
+blames_recording (fault.Line n) = false
+blames_recording fault.IndexIo = false
+blames_recording fault.Io = true
+blames_recording fault.NoMemory = false
+blames_recording fault.TooMany = false
+
+abbrev pub failed_index : {X : Type 0} → Result X CheckFault → Bool
+failed_index (Ok x) = false
+failed_index (Err why) = blames_index why
+
+abbrev pub failed_recording : {X : Type 0} → Result X CheckFault → Bool
+failed_recording (Ok x) = false
+failed_recording (Err why) = blames_recording why

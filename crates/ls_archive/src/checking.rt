@@ -1,0 +1,343 @@
+//! Checking a recording by its index.
+//!
+//! A line of the index says where its codestream begins and how many bytes it has. So damage, also to markers, keeps no other codestream
+//! from being looked at.
+ghost use Rattle.std.specs.Prelude.{◌≡◌, ◌≢◌, ◌⊎◌, ◌+◌, ◌*◌, ◌^◌, ◌<◌, ◌≤◌, ◌++◌, ◌∷◌, ◌↔◌, ℕ, List, [], Option, Some, IsTrue, IfOk, IfErr, IfSome, IfNone, OnOk, length, true, false};
+ghost use Rattle.ls_frame.specs.Picture.{Picture};
+ghost use Rattle.ls_frame.specs.View.Devices.{count_after, failed_read};
+ghost use Rattle.ls_frame.specs.View.Known.{Tells, Gave, WasAtEnd, known};
+ghost use Rattle.ls_stream.specs.Grammar.{Spells};
+ghost use Rattle.ls_archive.specs.Checking.{Line, beginning, IsGood};
+ghost use Rattle.ls_archive.specs.Index.{line};
+ghost use Rattle.ls_archive.specs.View.Checks.{FindsMore, GaveAtMost, HasLooked, IsChecked, failed_index, failed_recording};
+ghost use Rattle.ls_archive.specs.declared.checking.Finding.{Finding};
+
+use crate::entry::Indexed;
+use crate::index::line;
+use ls_film::MOST_FRAMES;
+use ls_frame::{Feed, FeedFault};
+use ls_stream::laws::outlines_follow_the_grammar;
+use ls_stream::{StreamFault, decode_frame};
+use std::alloc::{AllocError, Global};
+use std::str::from_utf8;
+use thiserror::Error;
+
+/// What is wrong with a codestream.
+#[derive(Clone, Copy, Debug, Drop, PartialEq, Eq, Error)]
+pub enum Damage {
+    /// The recording ends before it does.
+    #[error("truncated")]
+    Truncated,
+    /// Its bytes aren't those that the index was made of.
+    #[error("changed")]
+    Changed,
+    /// They are, and can't be decoded.
+    #[error("{0}")]
+    Fault(StreamFault),
+}
+
+/// A codestream that is damaged.
+#[derive(Clone, Copy, Debug, Drop, PartialEq, Eq)]
+pub struct Finding {
+    /// Its number in the index.
+    pub number: u64,
+    /// Where it should begin.
+    pub place: u64,
+    /// How many bytes it should have.
+    pub count: u64,
+    pub damage: Damage,
+}
+
+/// What is told of findings.
+pub trait Findings {
+    /// Those that it was told of, in order, if they are known.
+    ghost found: { Self → Option (List Finding) };
+
+    /// Tells of one finding more. If an allocation fails, nothing is said of what was told.
+    fn tell(&mut self, finding: Finding) -> Result<(), AllocError>
+        ensures { OnOk result (FindsMore (found self.old) (found self.new) (finding ∷ [])) };
+}
+
+/// Findings in memory, in order.
+impl Findings for Vec<Finding> {
+    ghost use Rattle.std.specs.Prelude.{Some};
+
+    ghost found = { λ findings. Some findings.items };
+
+    fn tell(&mut self, finding: Finding) -> Result<(), AllocError> {
+        match self.push(finding) {
+            Ok(()) => Ok(()),
+            Err(_) => Err(AllocError),
+        }
+    }
+}
+
+/// What a check by an index came to.
+#[derive(Clone, Copy, Debug, PartialEq, Eq)]
+pub struct Checked {
+    /// How many codestreams the index has.
+    pub frames: u64,
+    /// How many of them are damaged.
+    pub damaged: u64,
+    /// Whether the recording has bytes after those that the index speaks of.
+    pub more: bool,
+}
+
+/// Why a check stopped.
+#[derive(Clone, Copy, Debug, Drop, PartialEq, Eq, Error)]
+pub enum CheckFault {
+    /// The line of this number, from 0, isn't one of an index, or doesn't go on where the line before it ends.
+    #[error("line {0}: not of an index")]
+    Line(u64),
+    /// A read of the index failed.
+    #[error("read failed")]
+    IndexIo,
+    /// A read of the recording failed.
+    #[error("read failed")]
+    Io,
+    /// An allocation failed.
+    #[error("no memory")]
+    NoMemory,
+    /// A line numbered 4,294,967,295.
+    #[error("too many frames")]
+    TooMany,
+}
+
+impl From<AllocError> for CheckFault {
+    ghost use Rattle.std.specs.Prelude.{◌≡◌};
+    ghost use Rattle.ls_archive.specs.declared.checking.CheckFault.TheVariants.{NoMemory};
+
+    ghost from_gives = { λ _ fault. fault ≡ NoMemory };
+
+    fn from(_refused: AllocError) -> CheckFault {
+        CheckFault::NoMemory
+    }
+}
+
+/// Looks at each codestream that an index has a line of: whether it stands in the recording where the line says, has the bytes that the
+/// line was made of, and is a codestream of a frame. Tells of each that isn't.
+///
+/// The bytes are those if the line is the one that `write_index` writes of them, with their SHA-256 or without. One codestream is in
+/// memory at a time. If the bytes of both readers are known (as in memory), the clauses say which were read. After a fault nothing is said
+/// of either's place.
+pub fn check<I: Feed, R: Feed, F: Findings>(
+    alloc: Global,
+    index: &mut I,
+    recording: &mut R,
+    findings: &mut F,
+) -> Result<Checked, CheckFault>
+    ensures checked { IfOk result (IsChecked (I.remaining index.old) (R.remaining recording.old) (F.found findings.old) (F.found findings.new)) }
+    ensures index_reads { I.failed_reads index.new ≡ count_after (failed_index result) (I.failed_reads index.old) }
+    ensures reads { R.failed_reads recording.new ≡ count_after (failed_recording result) (R.failed_reads recording.old) }
+{
+    let mut place = 0;
+    let mut damaged = 0;
+    for number in 0..MOST_FRAMES {
+        let Some(line) = next_line(alloc, index, number, place)? else {
+            let more = has_more(alloc, recording)?;
+            return Ok(Checked {
+                frames: number,
+                damaged,
+                more,
+            });
+        };
+        let bytes = take_bytes(alloc, recording, line.size as usize)?;
+        damaged += look_at(alloc, number, place, &line, bytes, findings)?;
+        place += u64::from(line.size);
+    }
+    let None = next_line(alloc, index, MOST_FRAMES, place)? else {
+        return Err(CheckFault::TooMany);
+    };
+    let more = has_more(alloc, recording)?;
+    Ok(Checked {
+        frames: MOST_FRAMES,
+        damaged,
+        more,
+    })
+}
+
+/// A line of an index, and how many bytes it says that its codestream has.
+#[derive(Drop)]
+struct IndexLine {
+    text: Vec<u8>,
+    size: u32,
+}
+
+/// The most bytes of a line.
+const MOST_LINE: usize = 1024;
+
+/// Takes the next line off an index; `None` at its end. It has to be that of the codestream of this number, which begins at this place.
+fn next_line<I: Feed>(
+    alloc: Global,
+    index: &mut I,
+    number: u64,
+    place: u64,
+) -> Result<Option<IndexLine>, CheckFault>
+    ensures begins { IfOk result (λ next. IfSome next (λ line. (rest : List ℕ) × (line.text.items ≡ beginning number place line.size ++ rest))) }
+    ensures gave { IfOk result (λ next. IfSome next (λ line. Gave (I.remaining index.old) (I.remaining index.new) (λ bytes. line.text.items ≡ bytes))) }
+    ensures end { IfOk result (λ next. IfNone next (WasAtEnd (I.remaining index.old) (I.remaining index.new))) }
+    ensures blame { IfErr result (λ fault. fault ≢ CheckFault.Io) }
+    ensures failures { I.failed_reads index.new ≡ count_after (failed_index result) (I.failed_reads index.old) }
+{
+    let text = match take_line(alloc, index) {
+        Ok(Some(text)) => text,
+        Ok(None) => return Ok(None),
+        Err(FeedFault::Io) => return Err(CheckFault::IndexIo),
+        Err(FeedFault::NoMemory) => return Err(CheckFault::NoMemory),
+    };
+    match size_in(alloc, number, place, &text)? {
+        Some(size) => Ok(Some(IndexLine { text, size })),
+        None => Err(CheckFault::Line(number)),
+    }
+}
+
+/// Takes the bytes up to the next line feed off a reader, or as many as a line may have, or all that are left; `None` at its end.
+fn take_line<I: Feed>(alloc: Global, reader: &mut I) -> Result<Option<Vec<u8>>, FeedFault>
+    ensures gave { IfOk result (λ next. IfSome next (λ line. Gave (I.remaining reader.old) (I.remaining reader.new) (λ bytes. line.items ≡ bytes))) }
+    ensures end { IfOk result (λ next. IfNone next (WasAtEnd (I.remaining reader.old) (I.remaining reader.new))) }
+    ensures failures { I.failed_reads reader.new ≡ count_after (failed_read result) (I.failed_reads reader.old) }
+{
+    let mut line = Vec::new(alloc);
+    while line.len() < MOST_LINE {
+        match reader.feed_until(b'\n', MOST_LINE - line.len(), &mut line)? {
+            Some(b'\n') => return Ok(Some(line)),
+            Some(_) => {}
+            None if line.is_empty() => return Ok(None),
+            None => return Ok(Some(line)),
+        }
+    }
+    Ok(Some(line))
+}
+
+/// How many bytes the line of the codestream of this number, which begins at this place, says that it has; `None` if the text isn't the
+/// beginning of one.
+fn size_in(alloc: Global, number: u64, place: u64, text: &[u8]) -> Result<Option<u32>, AllocError>
+    ensures { IfOk result (λ found. IfSome found (λ size. (rest : List ℕ) × (text.now ≡ beginning number place size ++ rest))) }
+{
+    let Some(size) = third_number(text) else {
+        return Ok(None);
+    };
+    let wanted = format!(in alloc; "{number} {place} {size} ")?;
+    if text.starts_with(wanted.as_bytes()) {
+        Ok(Some(size))
+    } else {
+        Ok(None)
+    }
+}
+
+/// The third of the numbers that a text has with blanks between, if there is one.
+fn third_number(text: &[u8]) -> Option<u32> {
+    let text = from_utf8(text).ok()?;
+    text.split(' ').nth(2)?.parse().ok()
+}
+
+/// Takes so many bytes off a reader, or all that are left.
+fn take_bytes<R: Feed>(alloc: Global, reader: &mut R, most: usize) -> Result<Vec<u8>, CheckFault>
+    ensures taken { IfOk result (λ bytes. GaveAtMost (R.remaining reader.old) (R.remaining reader.new) most bytes.items) }
+    ensures blame { IfErr result (λ fault. fault ≢ CheckFault.IndexIo) }
+    ensures failures { R.failed_reads reader.new ≡ count_after (failed_recording result) (R.failed_reads reader.old) }
+{
+    let mut bytes = Vec::new(alloc);
+    while bytes.len() < most {
+        match reader.feed_until(0xFF, most - bytes.len(), &mut bytes) {
+            Ok(Some(_)) => {}
+            Ok(None) => return Ok(bytes),
+            Err(FeedFault::Io) => return Err(CheckFault::Io),
+            Err(FeedFault::NoMemory) => return Err(CheckFault::NoMemory),
+        }
+    }
+    Ok(bytes)
+}
+
+/// Whether a reader has a byte left; it takes one.
+fn has_more<R: Feed>(alloc: Global, reader: &mut R) -> Result<bool, CheckFault>
+    ensures more { IfOk result (λ more. Tells (R.remaining reader.old) → IsTrue more ↔ (0 < length (known (R.remaining reader.old)))) }
+    ensures blame { IfErr result (λ fault. fault ≢ CheckFault.IndexIo) }
+    ensures failures { R.failed_reads reader.new ≡ count_after (failed_recording result) (R.failed_reads reader.old) }
+{
+    let bytes = take_bytes(alloc, reader, 1)?;
+    Ok(!bytes.is_empty())
+}
+
+/// Looks at the bytes at the place of a line's codestream, tells of what is wrong with them, and says how many are damaged: 1 or none.
+fn look_at<F: Findings>(
+    alloc: Global,
+    number: u64,
+    place: u64,
+    line: &IndexLine,
+    bytes: Vec<u8>,
+    findings: &mut F,
+) -> Result<u64, AllocError>
+    ensures { IfOk result (HasLooked number place (record { text = line.now.text.items; size = line.now.size }) bytes.items
+        (F.found findings.old) (F.found findings.new)) }
+{
+    let Some(damage) = damage_of(alloc, number, place, line, bytes)? else {
+        return Ok(0);
+    };
+    findings.tell(Finding {
+        number,
+        place,
+        count: u64::from(line.size),
+        damage,
+    })?;
+    Ok(1)
+}
+
+/// What is wrong with the bytes at the place of a line's codestream; `None` if they are good.
+fn damage_of(
+    alloc: Global,
+    number: u64,
+    place: u64,
+    line: &IndexLine,
+    bytes: Vec<u8>,
+) -> Result<Option<Damage>, AllocError>
+    ensures good { IfOk result (λ found. IfNone found (IsGood number place line.now.text.items bytes.items)) }
+    ensures damaged { IfOk result (λ found. IfSome found (λ _. IsGood number place line.now.text.items bytes.items → ⊥)) }
+{
+    outlines_follow_the_grammar();
+    let is_short = bytes.len() < line.size as usize;
+    let Some(indexed) = Indexed::of(bytes) else {
+        return Ok(Some(changed(is_short)));
+    };
+    if !is_line_of(alloc, number, place, &line.text, &indexed)? {
+        return Ok(Some(changed(is_short)));
+    }
+    match decode_frame(alloc, indexed.bytes()) {
+        Ok(_) => Ok(None),
+        Err(fault) => undecoded(fault),
+    }
+}
+
+/// What a fault of decoding says of the bytes, unless it is that memory was refused.
+fn undecoded(fault: StreamFault) -> Result<Option<Damage>, AllocError>
+    ensures { IfOk result (λ found. (fault ≢ StreamFault.NoMemory) × (found ≡ Some (Damage.Fault fault))) }
+{
+    if fault == StreamFault::NoMemory {
+        return Err(AllocError);
+    }
+    Ok(Some(Damage::Fault(fault)))
+}
+
+/// What is said of bytes that aren't those of the index: the recording ends before them, or they were changed.
+fn changed(is_short: bool) -> Damage {
+    if is_short {
+        Damage::Truncated
+    } else {
+        Damage::Changed
+    }
+}
+
+/// Whether a text is the line of a codestream of this number and at this place, with its sum or without.
+fn is_line_of(
+    alloc: Global,
+    number: u64,
+    place: u64,
+    text: &[u8],
+    indexed: &Indexed,
+) -> Result<bool, AllocError>
+    ensures { IfOk result (λ is. IsTrue is ↔ ((text.now ≡ line true number place indexed.now) ⊎ (text.now ≡ line false number place indexed.now))) }
+{
+    let with_sum = line(alloc, true, number, place, indexed)?;
+    let without = line(alloc, false, number, place, indexed)?;
+    Ok(text == with_sum.as_bytes() || text == without.as_bytes())
+}
