@@ -1,0 +1,3 @@
+pub mod SalvageLemmas
+pub mod SkipLemmas
+pub mod StartLemmas
