@@ -1,3 +1,5 @@
+pub mod PartLemmas
+pub mod RunLemmas
 pub mod SalvageLemmas
 pub mod SkipLemmas
 pub mod StartLemmas

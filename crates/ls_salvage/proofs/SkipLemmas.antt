@@ -8,7 +8,8 @@ use Rattle.std.specs.Io.KnownBytes.{Consumes, prepend_known}
 use Rattle.ls_salvage.specs.declared.starts.Matched.{Matched}
 use Rattle.ls_salvage.specs.declared.starts.Matched.TheVariants.{Nothing, Fill, Image, Marker}
 use Rattle.ls_salvage.specs.Starts.{may_follow_soi, is_start, to_start}
-use Rattle.ls_salvage.specs.View.Skipping.{held, GoesOn, Found, HasPassed, HasSkipped, most_place}
+use Rattle.ls_salvage.specs.View.Skipping.{held, GoesOn, Found, HasPassed, HasSkipped}
+use Rattle.ls_salvage.specs.View.Ends.{most_place}
 use Rattle.ls_salvage.proofs.StartLemmas.{to_start-none, to_start-here}
 
 -- ---- bytes that begin no start

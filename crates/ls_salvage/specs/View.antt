@@ -1,2 +1,6 @@
 -- How the code's values are seen.
+pub mod Ends
+pub mod Parts
+pub mod Runs
 pub mod Skipping
+pub mod Telling

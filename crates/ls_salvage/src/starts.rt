@@ -5,38 +5,18 @@ ghost use Rattle.ls_frame.specs.View.Chunks.{left_in, inner_reader};
 ghost use Rattle.ls_frame.specs.View.Devices.{count_after};
 ghost use Rattle.ls_frame.specs.View.Known.{Tells, TakesUntil, WasAtEnd, known};
 ghost use Rattle.ls_salvage.specs.Starts.{may_follow_soi};
-ghost use Rattle.ls_salvage.specs.View.Skipping.{GoesOn, Found, HasSkipped, most_place, failed_skip};
+ghost use Rattle.ls_salvage.specs.View.Ends.{most_place, failed_read};
+ghost use Rattle.ls_salvage.specs.View.Skipping.{GoesOn, Found, HasSkipped};
 
+use crate::faults::ReadFault;
 use ls_frame::{Buffered, Feed, FeedFault};
-use std::alloc::{AllocError, Global};
+use std::alloc::Global;
 
 /// The bytes that are asked of the reader at once.
 const MOST_AT_ONCE: usize = 65_536;
 
 /// The most bytes that are passed over: 2^62.
 pub const MOST_PLACE: u64 = 4_611_686_018_427_387_904;
-
-/// Why no start was looked for any more.
-#[derive(Clone, Copy, Debug, Drop, PartialEq, Eq)]
-pub enum SkipFault {
-    /// A read failed.
-    Io,
-    /// An allocation failed.
-    NoMemory,
-    /// 2^62 bytes were passed over.
-    TooMuch,
-}
-
-impl From<AllocError> for SkipFault {
-    ghost use Rattle.std.specs.Prelude.{◌≡◌};
-    ghost use Rattle.ls_salvage.specs.declared.starts.SkipFault.TheVariants.{NoMemory};
-
-    ghost from_gives = { λ _ fault. fault ≡ NoMemory };
-
-    fn from(_refused: AllocError) -> SkipFault {
-        SkipFault::NoMemory
-    }
-}
 
 /// How much of FF D8 FF was just read.
 #[derive(Clone, Copy)]
@@ -53,13 +33,13 @@ pub enum Matched {
 /// Takes the bytes up to the next start off a reader, or all if there is none, and says how many they were.
 ///
 /// It keeps 64 KiB of them at most. After a fault nothing is said of the reader's place.
-pub fn skip_to_start<R: Feed>(alloc: Global, reader: &mut Buffered<R>) -> Result<u64, SkipFault>
+pub fn skip_to_start<R: Feed>(alloc: Global, reader: &mut Buffered<R>) -> Result<u64, ReadFault>
     ensures skipped { IfOk result (λ count. Tells (left_in R.remaining reader.old)
         → Tells (left_in R.remaining reader.new) × HasSkipped count (known (left_in R.remaining reader.old)) (known (left_in R.remaining reader.new))) }
     ensures small { IfOk result (λ count. count ≤ most_place + 65536) }
-    ensures too_much { IfErr result (λ fault. fault ≡ SkipFault.TooMuch → Tells (left_in R.remaining reader.old)
+    ensures too_much { IfErr result (λ fault. fault ≡ ReadFault.TooMuch → Tells (left_in R.remaining reader.old)
         → most_place ≤ length (known (left_in R.remaining reader.old))) }
-    ensures failures { R.failed_reads (inner_reader reader.new) ≡ count_after (failed_skip result) (R.failed_reads (inner_reader reader.old)) }
+    ensures failures { R.failed_reads (inner_reader reader.new) ≡ count_after (failed_read result) (R.failed_reads (inner_reader reader.old)) }
 {
     let mut run = Vec::new(alloc);
     let mut place = Matched::Nothing;
@@ -79,7 +59,7 @@ pub fn skip_to_start<R: Feed>(alloc: Global, reader: &mut Buffered<R>) -> Result
             }
         }
     }
-    Err(SkipFault::TooMuch)
+    Err(ReadFault::TooMuch)
 }
 
 /// Takes bytes up to and with the first FF, `most` at most, and answers the last of them; `None` at the end of input.
@@ -87,19 +67,19 @@ fn next_bytes<R: Feed>(
     reader: &mut R,
     most: usize,
     bytes: &mut Vec<u8>,
-) -> Result<Option<u8>, SkipFault>
+) -> Result<Option<u8>, ReadFault>
     requires some { 0 < most }
     ensures taken { IfOk result (λ next. IfSome next
         (TakesUntil 255 most (R.remaining reader.old) (R.remaining reader.new) bytes.old.items bytes.new.items)) }
     ensures end { IfOk result (λ next. IfNone next
         ((bytes.new.items ≡ bytes.old.items) × WasAtEnd (R.remaining reader.old) (R.remaining reader.new))) }
-    ensures fault { IfErr result (λ fault. fault ≢ SkipFault.TooMuch) }
-    ensures failures { R.failed_reads reader.new ≡ count_after (failed_skip result) (R.failed_reads reader.old) }
+    ensures fault { IfErr result (λ fault. fault ≢ ReadFault.TooMuch) }
+    ensures failures { R.failed_reads reader.new ≡ count_after (failed_read result) (R.failed_reads reader.old) }
 {
     match reader.feed_until(0xFF, most, bytes) {
         Ok(next) => Ok(next),
-        Err(FeedFault::Io) => Err(SkipFault::Io),
-        Err(FeedFault::NoMemory) => Err(SkipFault::NoMemory),
+        Err(FeedFault::Io) => Err(ReadFault::Io),
+        Err(FeedFault::NoMemory) => Err(ReadFault::NoMemory),
     }
 }
 

@@ -1,10 +1,7 @@
 -- Looking for the next start, byte by byte: how much of one was just read.
-use Rattle.std.specs.Prelude.{◌≡◌, ℕ, ◌+◌, ◌≤◌, ◌^◌, Bool, true, false, List, [], ◌∷◌, ◌++◌, length, Result, Ok, Err}
-use Rattle.ls_frame.specs.View.Known.{Tells, known}
+use Rattle.std.specs.Prelude.{◌≡◌, ℕ, ◌+◌, true, List, [], ◌∷◌, ◌++◌, length}
 use Rattle.ls_salvage.specs.declared.starts.Matched.{Matched}
 use Rattle.ls_salvage.specs.declared.starts.Matched.TheVariants.{Nothing, Fill, Image, Marker}
-use Rattle.ls_salvage.specs.declared.starts.SkipFault.{SkipFault}
-use Rattle.ls_salvage.specs.declared.starts.SkipFault.TheVariants.{Io, NoMemory, TooMuch}
 use Rattle.ls_salvage.specs.Starts.{is_start, to_start}
 
 -- the bytes of a start that were just read
@@ -38,16 +35,3 @@ pub record HasSkipped (count : ℕ) (old new : List ℕ) : Type 0 where
   pub split : old ≡ passed ++ new
   pub count_is : length passed ≡ count
   pub far : count ≡ to_start old
-
--- the most bytes that are passed over, or that a recording's parts have before the last of them
-abbrev pub most_place : ℕ
-most_place = 2 ^ 62
-
-abbrev pub is_io : SkipFault → Bool
-is_io Io = true
-is_io NoMemory = false
-is_io TooMuch = false
-
-abbrev pub failed_skip : {X : Type 0} → Result X SkipFault → Bool
-failed_skip (Ok x) = false
-failed_skip (Err fault) = is_io fault

@@ -1,6 +1,7 @@
 use Rattle.std.proofs.Common.{◌≡◌, ◌-◌, ◌+◌, ◌≤◌, length}
 use Rattle.ls_frame.specs.View.Chunks.{left_in, inner_reader}
-use Rattle.ls_salvage.specs.View.Skipping.{held, most_place}
+use Rattle.ls_salvage.specs.View.Ends.{most_place}
+use Rattle.ls_salvage.specs.View.Skipping.{held}
 use Rattle.ls_salvage.proofs.SkipLemmas.{HasGivenPassed}
 use Rattle.ls_salvage.proofs.starts.skip_to_start.Given as goal
 
