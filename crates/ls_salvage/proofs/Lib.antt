@@ -1,3 +1,4 @@
+pub mod MemoryLemmas
 pub mod PartLemmas
 pub mod RunLemmas
 pub mod SalvageLemmas
