@@ -36,7 +36,7 @@ some_taken bytes used f spells = omega (arith, length-take used bytes, some_byte
 
 -- ---- a fault
 
-no_refusal : (fault : StreamFault) → is_refusal fault ≡ false → fault ≡ stream.NoMemory → ⊥
+pub no_refusal : (fault : StreamFault) → is_refusal fault ≡ false → fault ≡ stream.NoMemory → ⊥
 no_refusal fault other is = let refused : is_refusal fault ≡ true = ap is_refusal is in let clash : ⊥ = cc in absurd clash
 
 -- where the codestream that was read begins with none, so do all bytes; and their first fault is that of it

@@ -5,7 +5,7 @@ use Rattle.std.specs.List.{AllByRecursion}
 use Rattle.std.proofs.KnownBytes.{Appends-nil, Appends-trans}
 use Rattle.std.proofs.Math.Seq.{take-append-add}
 use Rattle.std.proofs.lemmas.List.{length-append, length_push, take-append-drop}
-use Rattle.ls_frame.specs.Picture.{Picture, IsFrame}
+use Rattle.ls_frame.specs.Picture.{Picture}
 use Rattle.ls_frame.specs.View.Known.{Tells, WasAtEnd, known}
 use Rattle.ls_stream.specs.Grammar.{Spells}
 use Rattle.ls_stream.specs.declared.faults.StreamFault.{StreamFault}
@@ -90,7 +90,7 @@ module _ (text : List Picture → List ℕ) (read : Option (List ℕ)) (written 
           parts = parts ++ frame count f ∷ [];
           gave = gave_more read mid new parts (frame count f) run.gave gave;
           handed_on = record {
-            lawful = rw frames (all_more IsFrame (frames_of parts) f run.handed_on.lawful lawful);
+            lawful = all_more IsLawful parts (frame count f) run.handed_on.lawful lawful;
             wrote = subst (Appends written out) (sym grows) (Appends-trans written midway out (text (frames_of parts)) chunk run.handed_on.wrote hands.3);
             tells = subst (TellsMore told full) (sym (frame_more parts count f)) (subst (λ s. TellsMore told s (gaps_of parts)) (sym kept) run.handed_on.tells);
           };
@@ -109,7 +109,7 @@ module _ (text : List Picture → List ℕ) (read : Option (List ℕ)) (written 
           parts = parts ++ gap count fault ∷ [];
           gave = gave_more read mid new parts (gap count fault) run.gave gave;
           handed_on = record {
-            lawful = rw frames run.handed_on.lawful;
+            lawful = all_more IsLawful parts (gap count fault) run.handed_on.lawful lawful;
             wrote = subst (Appends written out) (sym (ap text frames)) (subst (λ s. Appends written s (text (frames_of parts))) (sym kept) run.handed_on.wrote);
             tells = subst (TellsMore told full) (sym more) (TellsMore-trans told half full (gaps_of parts) _ run.handed_on.tells hands.1);
           };
@@ -172,7 +172,7 @@ module _ (text : List Picture → List ℕ) (read : Option (List ℕ)) (written 
             count = count;
             last = f;
             begins = λ tells. let all = gave_more read mid new parts (frame count f) run.gave gave tells in (known new, all.1, tt);
-            lawful = all_more IsFrame (frames_of parts) f run.handed_on.lawful lawful;
+            lawful = all_more IsLawful parts (frame count f) run.handed_on.lawful lawful;
             later = omega (arith, at);
             part = omega (arith, size, stops.3, stops.4);
             wrote = subst (Appends written out) (sym front) (Appends-trans written midway out (text (frames_of parts)) (take here chunk) run.handed_on.wrote stops.5);

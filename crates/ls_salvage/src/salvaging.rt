@@ -28,15 +28,15 @@ pub struct Salvaged {
 
 /// How far a salvage is.
 #[derive(Clone, Copy)]
-pub struct Progress {
+struct Progress {
     /// The frames that were written.
-    pub frames: u64,
+    frames: u64,
     /// The gaps that were told.
-    pub gaps: u64,
+    gaps: u64,
     /// The bytes of the parts so far.
-    pub place: u64,
+    place: u64,
     /// The bytes of the text so far.
-    pub written: u64,
+    written: u64,
 }
 
 /// Writes the text of the frames of a recording, wherever a whole codestream of one stands, tells of the gaps between them, and says how

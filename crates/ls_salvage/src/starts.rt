@@ -20,7 +20,7 @@ pub const MOST_PLACE: u64 = 4_611_686_018_427_387_904;
 
 /// How much of FF D8 FF was just read.
 #[derive(Clone, Copy)]
-pub enum Matched {
+enum Matched {
     Nothing,
     /// FF.
     Fill,

@@ -1,5 +1,5 @@
 -- The next part of a recording, as the code answers it.
-use Rattle.std.specs.Prelude.{◌≡◌, ℕ, ◌<◌, ◌≤◌, ◌^◌, Bool, true, false, List, [], ◌∷◌, length, drop, Option}
+use Rattle.std.specs.Prelude.{◌≡◌, ◌≢◌, ℕ, ◌<◌, ◌≤◌, ◌^◌, Bool, true, false, List, [], ◌∷◌, length, drop, Option}
 use Rattle.ls_frame.specs.Picture.{Picture, IsFrame}
 use Rattle.ls_frame.specs.View.Known.{Tells, Gave, known}
 use Rattle.ls_stream.specs.declared.faults.StreamFault.{StreamFault}
@@ -29,7 +29,7 @@ is_refusal stream.NoMemory = true
 abbrev pub IsFound : Option (List ℕ) → Option (List ℕ) → Found → Type 0
 IsFound read read' (found.Frame f count) = IsFrame f × (0 < count) × (count < 2 ^ 63) × Gave read read' (λ bytes. (length bytes ≡ count) × Spells bytes f)
 IsFound read read' (found.Fault fault bytes) =
-    (Tells read → BreakBy fault (known read)) × Gave read read' (λ front. (front ≡ bytes.items) × (0 < length front))
+    (fault ≢ stream.NoMemory) × (Tells read → BreakBy fault (known read)) × Gave read read' (λ front. (front ≡ bytes.items) × (0 < length front))
 
 -- So many of these bytes were passed over, and the others are left.
 abbrev pub HasPassed : List ℕ → ℕ → Option (List ℕ) → Type 0
@@ -44,9 +44,10 @@ part_of (next.Gap count fault) = gap count fault
 abbrev pub GavePart : Option (List ℕ) → Option (List ℕ) → Part → Type 0
 GavePart read read' part = Tells read → Tells read' × AreParts (known read) (part ∷ []) (known read')
 
+-- A frame within the recorder's limits; or a gap whose fault is of the bytes.
 abbrev pub IsLawful : Part → Type 0
 IsLawful (frame count f) = IsFrame f
-IsLawful (gap count fault) = Unit {0}
+IsLawful (gap count fault) = fault ≢ stream.NoMemory
 
 -- No codestream begins the bytes, and they are more than a codestream has.
 abbrev pub HasNoEnd : List ℕ → Type 0

@@ -2,7 +2,7 @@
 use Rattle.std.specs.Prelude.{◌≡◌, ◌⊎◌, ℕ, ◌+◌, ◌*◌, ◌<◌, ◌≤◌, ◌^◌, List, [], ◌∷◌, ◌++◌, length, take, Option}
 use Rattle.std.specs.Io.KnownBytes.{Appends}
 use Rattle.std.specs.List.{AllByRecursion}
-use Rattle.ls_frame.specs.Picture.{Picture, IsFrame}
+use Rattle.ls_frame.specs.Picture.{Picture}
 use Rattle.ls_frame.specs.View.Known.{Tells, known}
 use Rattle.ls_stream.specs.Grammar.{Spells}
 use Rattle.ls_film.specs.Film.{most_frames}
@@ -14,13 +14,13 @@ use Rattle.ls_salvage.specs.declared.salvaging.Progress.{Progress}
 use Rattle.ls_salvage.specs.declared.salvaging.Salvaged.{Salvaged}
 use Rattle.ls_salvage.specs.Salvage.{Part, frame, gap, AreParts, IsSalvaged, bytes_of, frames_of, gaps_of}
 use Rattle.ls_salvage.specs.View.Ends.{most_place}
-use Rattle.ls_salvage.specs.View.Parts.{HasNoEnd}
+use Rattle.ls_salvage.specs.View.Parts.{IsLawful, HasNoEnd}
 use Rattle.ls_salvage.specs.View.Telling.{TellsMore}
 
 module _ (text : List Picture → List ℕ) (written written' : Option (List ℕ)) (told told' : Option (List Gap)) where
   -- Of these parts the frames' text was written, and the gaps were told, and nothing else.
   pub record HasHandedOn (parts : List Part) : Type 0 where
-    pub lawful : AllByRecursion IsFrame (frames_of parts)
+    pub lawful : AllByRecursion IsLawful parts
     pub wrote : Appends written written' (text (frames_of parts))
     pub tells : TellsMore told told' (gaps_of parts)
 
@@ -60,7 +60,7 @@ module _ (text : List Picture → List ℕ) (written written' : Option (List ℕ
       pub count : ℕ
       pub last : Picture
       pub begins : BeginWith (parts ++ frame count last ∷ []) (λ rest. Unit {0})
-      pub lawful : AllByRecursion IsFrame (frames_of parts ++ last ∷ [])
+      pub lawful : AllByRecursion IsLawful (parts ++ frame count last ∷ [])
       pub later : length (text (frames_of parts)) ≤ bytes
       pub part : bytes < length (text (frames_of parts ++ last ∷ []))
       pub wrote : Appends written written' (take bytes (text (frames_of parts ++ last ∷ [])))

@@ -1,5 +1,5 @@
 use Rattle.std.proofs.Common.{◌≡◌, ◌<◌, ◌^◌, ◌∙◌, length, sym, ap, arith}
-use Rattle.ls_salvage.proofs.PartLemmas.{gave_frame, some_taken, breaks, gave_bytes, no_end, first_alike}
+use Rattle.ls_salvage.proofs.PartLemmas.{no_refusal, gave_frame, some_taken, breaks, gave_bytes, no_end, first_alike}
 use Rattle.ls_stream.specs.declared.faults.StreamFault.TheVariants as stream
 use Rattle.ls_salvage.proofs.parts.find_next.Goals as goal
 
@@ -29,6 +29,7 @@ returns-in-Err-2-clause-found g c =
     let none = rw c.shrink_to_fit.ensures.items at fitted in
     let first = first_alike (c.in-Err.fault ≡ stream.NoMemory) c.deref.result.now c.in-Ok-Some.bytes.items c.in-Err.fault (c.deref.ensures.value ∙ c.shrink_to_fit.ensures.items) c.in-Err.ensures.first in
     let other = sym c.is_refusal.ensures ∙ c.if-is_refusal.false in (
+      no_refusal c.in-Err.fault other,
       breaks _ _ c.in-Ok-Some.bytes.items c.in-Err.fault _ gives (λ front next. next.some) only alike none first other,
       gave_bytes _ _ c.in-Ok-Some.bytes.items c.shrink_to_fit.new.self.items _ gives (λ front next. next.some) c.shrink_to_fit.ensures.items,
     )
