@@ -1,0 +1,3 @@
+pub mod Salvage
+pub mod Starts
+pub mod View

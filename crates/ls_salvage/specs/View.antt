@@ -1,0 +1,7 @@
+-- How the code's values are seen.
+pub mod Ends
+pub mod Memory
+pub mod Parts
+pub mod Runs
+pub mod Skipping
+pub mod Telling

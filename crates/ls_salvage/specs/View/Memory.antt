@@ -1,0 +1,29 @@
+-- The salvage of a recording in memory, where nothing is left unknown.
+use Rattle.std.specs.Prelude.{◌≡◌, ◌⊎◌, ℕ, List, ◌++◌, length}
+use Rattle.ls_frame.specs.Picture.{Picture}
+use Rattle.ls_stream.specs.Grammar.{Spells}
+use Rattle.ls_film.specs.Showing.{show}
+use Rattle.ls_salvage.specs.declared.faults.SalvageFault.{SalvageFault}
+use Rattle.ls_salvage.specs.declared.faults.SalvageFault.TheVariants.{Io, Output, NoMemory, TooMuch}
+use Rattle.ls_salvage.specs.declared.gaps.Gap.{Gap}
+use Rattle.ls_salvage.specs.declared.salvaging.Salvaged.{Salvaged}
+use Rattle.ls_salvage.specs.Salvage.{Part, IsSalvaged, frames_of, gaps_of, IsShownAt, IsHeld}
+
+-- Out shows the frames of the recording's parts, and these are its gaps. Wherever a whole codestream of a frame stands, it is shown, or a
+-- codestream that is shown holds its beginning.
+pub record IsSalvageOf (recording out : List ℕ) (gaps : List Gap) (salvaged : Salvaged) : Type 0 where
+  pub parts : List Part
+  pub salvage : IsSalvaged recording parts
+  pub shown : out ≡ show (frames_of parts)
+  pub gaps_are : gaps ≡ gaps_of parts
+  pub frame_count : salvaged.frames ≡ length (frames_of parts)
+  pub gap_count : salvaged.gaps ≡ length gaps
+  pub whole : (before front rest : List ℕ) (f : Picture) → recording ≡ before ++ (front ++ rest) → Spells front f
+      → IsShownAt parts (length before) (length front) f ⊎ IsHeld parts (length before)
+
+-- Memory was refused, for a frame, for a gap or for what is written.
+abbrev pub IsOutOfMemory : SalvageFault → Type 0
+IsOutOfMemory (Io frames) = ⊥
+IsOutOfMemory (Output bytes) = Unit {0}
+IsOutOfMemory NoMemory = Unit {0}
+IsOutOfMemory TooMuch = ⊥

@@ -1,0 +1,54 @@
+-- The next part of a recording, as the code answers it.
+use Rattle.std.specs.Prelude.{◌≡◌, ◌≢◌, ℕ, ◌<◌, ◌≤◌, ◌^◌, Bool, true, false, List, [], ◌∷◌, length, drop, Option}
+use Rattle.ls_frame.specs.Picture.{Picture, IsFrame}
+use Rattle.ls_frame.specs.View.Known.{Tells, Gave, known}
+use Rattle.ls_stream.specs.declared.faults.StreamFault.{StreamFault}
+use Rattle.ls_stream.specs.declared.faults.StreamFault.TheVariants as stream
+use Rattle.ls_stream.specs.Grammar.{Spells, most_bytes}
+use Rattle.ls_film.specs.View.Playing.{BeginsWithNone}
+use Rattle.ls_salvage.specs.declared.parts.Found.{Found}
+use Rattle.ls_salvage.specs.declared.parts.Found.TheVariants as found
+use Rattle.ls_salvage.specs.declared.parts.NextPart.{NextPart}
+use Rattle.ls_salvage.specs.declared.parts.NextPart.TheVariants as next
+use Rattle.ls_salvage.specs.Starts.{to_next}
+use Rattle.ls_salvage.specs.Salvage.{Part, frame, gap, BreakBy, AreParts, size_of}
+
+-- whether memory was refused, which is no fault of the bytes
+abbrev pub is_refusal : StreamFault → Bool
+is_refusal stream.Truncated = false
+is_refusal stream.NotSoi = false
+is_refusal stream.BadSegment = false
+is_refusal (stream.Unsupported what) = false
+is_refusal (stream.BadPresets fault) = false
+is_refusal stream.TooLarge = false
+is_refusal (stream.BadCode component) = false
+is_refusal (stream.LeftoverBits component) = false
+is_refusal stream.NoMemory = true
+
+-- What was found with the next codestream: its frame, of so many bytes, which were read; or a fault, and the bytes that were read.
+abbrev pub IsFound : Option (List ℕ) → Option (List ℕ) → Found → Type 0
+IsFound read read' (found.Frame f count) = IsFrame f × (0 < count) × (count < 2 ^ 63) × Gave read read' (λ bytes. (length bytes ≡ count) × Spells bytes f)
+IsFound read read' (found.Fault fault bytes) =
+    (fault ≢ stream.NoMemory) × (Tells read → BreakBy fault (known read)) × Gave read read' (λ front. (front ≡ bytes.items) × (0 < length front))
+
+-- So many of these bytes were passed over, and the others are left.
+abbrev pub HasPassed : List ℕ → ℕ → Option (List ℕ) → Type 0
+HasPassed bytes count read' = Tells read' × (count ≡ to_next bytes) × (known read' ≡ drop count bytes)
+
+-- the part that it is
+abbrev pub part_of : NextPart → Part
+part_of (next.Frame f count) = frame count f
+part_of (next.Gap count fault) = gap count fault
+
+-- The reader gave this part.
+abbrev pub GavePart : Option (List ℕ) → Option (List ℕ) → Part → Type 0
+GavePart read read' part = Tells read → Tells read' × AreParts (known read) (part ∷ []) (known read')
+
+-- A frame within the recorder's limits; or a gap whose fault is of the bytes.
+abbrev pub IsLawful : Part → Type 0
+IsLawful (frame count f) = IsFrame f
+IsLawful (gap count fault) = fault ≢ stream.NoMemory
+
+-- No codestream begins the bytes, and they are more than a codestream has.
+abbrev pub HasNoEnd : List ℕ → Type 0
+HasNoEnd bytes = BeginsWithNone bytes × (most_bytes ≤ length bytes)

@@ -1,0 +1,50 @@
+//! Laws: each is the contract of a function. They are over the definitions alone.
+ghost use Rattle.std.specs.Prelude.{◌≡◌, ◌⊎◌, ◌++◌, ℕ, true, List, [], length};
+ghost use Rattle.ls_frame.specs.Picture.{Picture};
+ghost use Rattle.ls_bits.specs.Bits.{AreBytes};
+ghost use Rattle.ls_stream.specs.Grammar.{Spells};
+ghost use Rattle.ls_film.specs.Film.{IsFilm};
+ghost use Rattle.ls_salvage.specs.Starts.{is_start};
+ghost use Rattle.ls_salvage.specs.Salvage.{Part, IsSalvaged, frames_of, gaps_of, IsShownAt, IsHeld};
+
+use ls_stream::laws::{bytes_have_one_first_fault, no_codestream_begins_another, one_frame_each};
+
+/// Bytes have one salvage: its frames, its gaps and their faults are settled by them.
+pub fn one_salvage()
+    ensures { (bytes : List ℕ) (parts others : List Part) → AreBytes bytes → IsSalvaged bytes parts → IsSalvaged bytes others → parts ≡ others }
+{
+    no_codestream_begins_another();
+    one_frame_each();
+    bytes_have_one_first_fault();
+}
+
+/// Wherever a whole codestream of a frame stands in a recording, its frame is shown; or a codestream that is shown begins before it and
+/// ends after its beginning, and so holds it in a segment.
+pub fn whole_ones_are_shown()
+    ensures { (bytes before front rest : List ℕ) (f : Picture) (parts : List Part) → bytes ≡ before ++ (front ++ rest) → Spells front f
+        → IsSalvaged bytes parts → IsShownAt parts (length before) (length front) f ⊎ IsHeld parts (length before) }
+{
+    no_codestream_begins_another();
+    one_frame_each();
+}
+
+/// The codestream of each frame that is shown stands in the recording, at the place that the parts before it end at.
+pub fn what_is_shown_stands_there()
+    ensures { (bytes : List ℕ) (parts : List Part) (place count : ℕ) (f : Picture) → IsSalvaged bytes parts → IsShownAt parts place count f
+        → (before : List ℕ) × (front : List ℕ) × (rest : List ℕ) × (bytes ≡ before ++ (front ++ rest))
+        × (length before ≡ place) × (length front ≡ count) × Spells front f }
+{}
+
+/// Of a recording that is codestreams of frames and nothing else, these are shown and there is no gap: it is what playing shows.
+pub fn undamaged_ones_are_shown_whole()
+    ensures { (bytes : List ℕ) (frames : List Picture) (parts : List Part) → IsFilm Spells bytes frames → IsSalvaged bytes parts
+        → (frames_of parts ≡ frames) × (gaps_of parts ≡ []) }
+{
+    no_codestream_begins_another();
+    one_frame_each();
+}
+
+/// A codestream of a frame is a start, whatever stands after it.
+pub fn codestreams_are_starts()
+    ensures { (front rest : List ℕ) (f : Picture) → Spells front f → is_start (front ++ rest) ≡ true }
+{}

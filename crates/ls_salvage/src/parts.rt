@@ -1,0 +1,119 @@
+//! The next part of a recording: a frame's codestream, or a gap.
+ghost use Rattle.std.specs.Prelude.{◌≡◌, ◌<◌, ◌≤◌, ◌^◌, ◌++◌, length, drop, IfOk, IfErr, IfSome, IfNone};
+ghost use Rattle.ls_frame.specs.View.Chunks.{left_in, inner_reader};
+ghost use Rattle.ls_frame.specs.View.Devices.{count_after};
+ghost use Rattle.ls_frame.specs.View.Known.{Tells, WasAtEnd, known};
+ghost use Rattle.ls_salvage.specs.Salvage.{size_of};
+ghost use Rattle.ls_salvage.specs.View.Ends.{most_place, failed_read};
+ghost use Rattle.ls_salvage.specs.View.Parts.{IsFound, is_refusal, HasPassed, part_of, GavePart, IsLawful, HasNoEnd};
+
+use crate::faults::ReadFault;
+use crate::starts::skip_to_start;
+use ls_frame::{Buffered, Feed, Frame};
+use ls_stream::{NextFault, StreamFault, decode_frame, next_stream};
+use std::alloc::Global;
+
+/// What is found where a codestream is due.
+#[derive(Drop)]
+enum Found {
+    /// A frame, and how many bytes its codestream has.
+    Frame(Frame, u64),
+    /// Why there is none, and the bytes that were read.
+    Fault(StreamFault, Vec<u8>),
+}
+
+/// The next part of a recording.
+#[derive(Drop)]
+pub enum NextPart {
+    /// A frame, and how many bytes its codestream has.
+    Frame(Frame, u64),
+    /// How many bytes were passed over, and why.
+    Gap(u64, StreamFault),
+}
+
+/// Takes the next part of a recording off a reader, and not a byte more; `None` exactly at the end.
+///
+/// After a fault nothing is said of the reader's place.
+pub fn next_part<R: Feed>(
+    alloc: Global,
+    reader: &mut Buffered<R>,
+) -> Result<Option<NextPart>, ReadFault>
+    ensures part { IfOk result (λ next. IfSome next (λ part.
+        GavePart (left_in R.remaining reader.old) (left_in R.remaining reader.new) (part_of part))) }
+    ensures lawful { IfOk result (λ next. IfSome next (λ part. IsLawful (part_of part))) }
+    ensures some { IfOk result (λ next. IfSome next (λ part. 0 < size_of (part_of part))) }
+    ensures small { IfOk result (λ next. IfSome next (λ part. size_of (part_of part) < 2 ^ 63)) }
+    ensures end { IfOk result (λ next. IfNone next (WasAtEnd (left_in R.remaining reader.old) (left_in R.remaining reader.new))) }
+    ensures too_much { IfErr result (λ fault. fault ≡ ReadFault.TooMuch → Tells (left_in R.remaining reader.old)
+        → HasNoEnd (known (left_in R.remaining reader.old))) }
+    ensures failures { R.failed_reads (inner_reader reader.new) ≡ count_after (failed_read result) (R.failed_reads (inner_reader reader.old)) }
+{
+    match find_next(alloc, reader)? {
+        None => Ok(None),
+        Some(Found::Frame(frame, count)) => Ok(Some(NextPart::Frame(frame, count))),
+        Some(Found::Fault(fault, bytes)) => {
+            let count = pass_gap(alloc, reader, &bytes)?;
+            Ok(Some(NextPart::Gap(count, fault)))
+        }
+    }
+}
+
+/// Takes the next codestream off a reader and decodes it; `None` exactly at the end. That memory is refused is no fault of the bytes.
+fn find_next<R: Feed>(alloc: Global, reader: &mut R) -> Result<Option<Found>, ReadFault>
+    ensures found { IfOk result (λ next. IfSome next (λ found. IsFound (R.remaining reader.old) (R.remaining reader.new) found)) }
+    ensures end { IfOk result (λ next. IfNone next (WasAtEnd (R.remaining reader.old) (R.remaining reader.new))) }
+    ensures too_much { IfErr result (λ fault. fault ≡ ReadFault.TooMuch → Tells (R.remaining reader.old)
+        → HasNoEnd (known (R.remaining reader.old))) }
+    ensures failures { R.failed_reads reader.new ≡ count_after (failed_read result) (R.failed_reads reader.old) }
+{
+    let mut bytes = match next_stream(alloc, reader) {
+        Ok(Some(bytes)) => bytes,
+        Ok(None) => return Ok(None),
+        Err(NextFault::TooLarge) => return Err(ReadFault::TooMuch),
+        Err(NextFault::Io) => return Err(ReadFault::Io),
+        Err(NextFault::NoMemory) => return Err(ReadFault::NoMemory),
+    };
+    // The frame's memory can begin behind the codestream then, and not behind room for more of it.
+    bytes.shrink_to_fit();
+    match decode_frame(alloc, &bytes) {
+        Ok(decoded) => Ok(Some(Found::Frame(decoded.frame, bytes.len() as u64))),
+        Err(fault) if is_refusal(fault) => Err(ReadFault::NoMemory),
+        Err(fault) => Ok(Some(Found::Fault(fault, bytes))),
+    }
+}
+
+/// Whether memory was refused, which is no fault of the bytes.
+fn is_refusal(fault: StreamFault) -> bool
+    ensures { result ≡ is_refusal fault }
+{
+    match fault {
+        StreamFault::NoMemory => true,
+        _ => false,
+    }
+}
+
+/// Passes over bytes that were read, of which no front is a codestream, and those after them up to the next start, and says how many
+/// they are. All but the first of those that were read are put back for that.
+fn pass_gap<R: Feed>(alloc: Global, reader: &mut Buffered<R>, read: &[u8]) -> Result<u64, ReadFault>
+    ensures passed { IfOk result (λ count. Tells (left_in R.remaining reader.old) → 0 < length read.now
+        → HasPassed (read.now ++ known (left_in R.remaining reader.old)) count (left_in R.remaining reader.new)) }
+    ensures some { IfOk result (λ count. 0 < count) }
+    ensures small { IfOk result (λ count. count < 2 ^ 63) }
+    ensures too_much { IfErr result (λ fault. fault ≡ ReadFault.TooMuch → Tells (left_in R.remaining reader.old)
+        → most_place ≤ length (read.now ++ known (left_in R.remaining reader.old))) }
+    ensures failures { R.failed_reads (inner_reader reader.new) ≡ count_after (failed_read result) (R.failed_reads (inner_reader reader.old)) }
+{
+    reader.put_back(alloc, after_first(read))?;
+    let count = skip_to_start(alloc, reader)?;
+    Ok(count + 1)
+}
+
+/// All bytes but the first.
+fn after_first(bytes: &[u8]) -> &[u8]
+    ensures { result.now ≡ drop 1 bytes.now }
+{
+    match bytes.split_first() {
+        Some((_, more)) => more,
+        None => bytes,
+    }
+}

@@ -1,0 +1,272 @@
+//! What is shown of recordings with damage of each kind, and the gaps that are told.
+use crate::testing::{
+    BLACK, BLACK_IMAGE, Outcome, WHITE, WHITE_IMAGE, check, check_outcome, ended, gap, joined,
+};
+use ls_salvage::{Gap, salvage_bytes};
+use ls_stream::{StreamFault, What};
+use std::alloc::Global;
+use std::process::Abort;
+
+/// A recording: its bytes in parts, the images of the frames that are shown, and the gaps.
+#[derive(Drop)]
+struct Case {
+    name: &'static str,
+    parts: [&'static [u8]; 4],
+    images: [&'static [u8]; 3],
+    frames: u64,
+    gaps: &'static [Gap],
+}
+
+const NONE: &[u8] = b"";
+
+/// A black sample, after an APP0 segment that is all of the white one's codestream.
+const HOLDING: &[u8] = b"\xff\xd8\xff\xe0\x00\x1e\
+\xff\xd8\
+\xff\xf7\x00\x0b\x08\x00\x01\x00\x01\x01\x01\x11\x00\
+\xff\xda\x00\x08\x01\x01\x00\x00\x00\x00\x40\xff\xd9\
+\xff\xf7\x00\x0b\x08\x00\x01\x00\x01\x01\x01\x11\x00\
+\xff\xda\x00\x08\x01\x01\x00\x00\x00\x00\x80\xff\xd9";
+
+/// The same without the last byte.
+const HOLDING_CUT: &[u8] = b"\xff\xd8\xff\xe0\x00\x1e\
+\xff\xd8\
+\xff\xf7\x00\x0b\x08\x00\x01\x00\x01\x01\x01\x11\x00\
+\xff\xda\x00\x08\x01\x01\x00\x00\x00\x00\x40\xff\xd9\
+\xff\xf7\x00\x0b\x08\x00\x01\x00\x01\x01\x01\x11\x00\
+\xff\xda\x00\x08\x01\x01\x00\x00\x00\x00\x80\xff";
+
+const CASES: [Case; 13] = [
+    Case {
+        name: "nothing",
+        parts: [NONE, NONE, NONE, NONE],
+        images: [NONE, NONE, NONE],
+        frames: 0,
+        gaps: &[],
+    },
+    Case {
+        name: "no damage",
+        parts: [BLACK, WHITE, BLACK, NONE],
+        images: [BLACK_IMAGE, WHITE_IMAGE, BLACK_IMAGE],
+        frames: 3,
+        gaps: &[],
+    },
+    Case {
+        name: "other bytes in front",
+        parts: [b"junk", BLACK, WHITE, NONE],
+        images: [BLACK_IMAGE, WHITE_IMAGE, NONE],
+        frames: 2,
+        gaps: &[Gap {
+            frame: 0,
+            place: 0,
+            count: 4,
+            fault: StreamFault::NotSoi,
+        }],
+    },
+    Case {
+        name: "other bytes between",
+        parts: [BLACK, b"\x00\xff\xd8", WHITE, NONE],
+        images: [BLACK_IMAGE, WHITE_IMAGE, NONE],
+        frames: 2,
+        gaps: &[Gap {
+            frame: 1,
+            place: 28,
+            count: 3,
+            fault: StreamFault::NotSoi,
+        }],
+    },
+    Case {
+        name: "other bytes at the end",
+        parts: [BLACK, WHITE, b"\xff", NONE],
+        images: [BLACK_IMAGE, WHITE_IMAGE, NONE],
+        frames: 2,
+        gaps: &[Gap {
+            frame: 2,
+            place: 56,
+            count: 1,
+            fault: StreamFault::Truncated,
+        }],
+    },
+    Case {
+        name: "other bytes alone",
+        parts: [b"\xff\xff\xd8\xff", NONE, NONE, NONE],
+        images: [NONE, NONE, NONE],
+        frames: 0,
+        gaps: &[Gap {
+            frame: 0,
+            place: 0,
+            count: 4,
+            fault: StreamFault::NotSoi,
+        }],
+    },
+    Case {
+        name: "a codestream that ends in its scan header",
+        parts: [
+            b"\xff\xd8\xff\xf7\x00\x0b\x08\x00\x01\x00\x01\x01\x01\x11\x00\xff\xda\x00\x08\x01",
+            WHITE,
+            BLACK,
+            NONE,
+        ],
+        images: [WHITE_IMAGE, BLACK_IMAGE, NONE],
+        frames: 2,
+        gaps: &[Gap {
+            frame: 0,
+            place: 0,
+            count: 20,
+            fault: StreamFault::Unsupported(What::ScanOrder),
+        }],
+    },
+    Case {
+        name: "a codestream without its end",
+        parts: [
+            WHITE,
+            b"\xff\xd8\xff\xf7\x00\x0b\x08\x00\x01\x00\x01\x01\x01\x11\x00\
+\xff\xda\x00\x08\x01\x01\x00\x00\x00\x00\x80",
+            WHITE,
+            NONE,
+        ],
+        images: [WHITE_IMAGE, WHITE_IMAGE, NONE],
+        frames: 2,
+        gaps: &[Gap {
+            frame: 1,
+            place: 28,
+            count: 26,
+            fault: StreamFault::Unsupported(What::Marker(0xd8)),
+        }],
+    },
+    Case {
+        name: "a codestream that the input ends",
+        parts: [BLACK, b"\xff\xd8\xff\xf7\x00", NONE, NONE],
+        images: [BLACK_IMAGE, NONE, NONE],
+        frames: 1,
+        gaps: &[Gap {
+            frame: 1,
+            place: 28,
+            count: 5,
+            fault: StreamFault::Truncated,
+        }],
+    },
+    Case {
+        name: "starts that no codestream follows",
+        parts: [
+            b"\xff\xd8\xff\xf7\x00\x00",
+            b"\xff\xd8\xff\xd8\xff\xfe\x00\x01",
+            BLACK,
+            NONE,
+        ],
+        images: [BLACK_IMAGE, NONE, NONE],
+        frames: 1,
+        gaps: &[
+            Gap {
+                frame: 0,
+                place: 0,
+                count: 8,
+                fault: StreamFault::BadSegment,
+            },
+            Gap {
+                frame: 0,
+                place: 8,
+                count: 6,
+                fault: StreamFault::BadSegment,
+            },
+        ],
+    },
+    Case {
+        name: "a start in an APP segment of a whole codestream",
+        parts: [WHITE, HOLDING, WHITE, NONE],
+        images: [WHITE_IMAGE, BLACK_IMAGE, WHITE_IMAGE],
+        frames: 3,
+        gaps: &[],
+    },
+    Case {
+        name: "a codestream in an APP segment of one that is cut",
+        parts: [HOLDING_CUT, BLACK, NONE, NONE],
+        images: [WHITE_IMAGE, BLACK_IMAGE, NONE],
+        frames: 2,
+        gaps: &[
+            Gap {
+                frame: 0,
+                place: 0,
+                count: 6,
+                fault: StreamFault::Unsupported(What::Marker(0xd8)),
+            },
+            Gap {
+                frame: 1,
+                place: 34,
+                count: 25,
+                fault: StreamFault::NotSoi,
+            },
+        ],
+    },
+    Case {
+        name: "damage on both sides of a frame",
+        parts: [b"\x00", BLACK, b"\xff\xd8\xff", b"\xff"],
+        images: [BLACK_IMAGE, NONE, NONE],
+        frames: 1,
+        gaps: &[
+            Gap {
+                frame: 0,
+                place: 0,
+                count: 1,
+                fault: StreamFault::NotSoi,
+            },
+            Gap {
+                frame: 1,
+                place: 29,
+                count: 4,
+                fault: StreamFault::Truncated,
+            },
+        ],
+    },
+];
+
+/// That the recording in these parts is salvaged so.
+fn check_salvaged(rt: &impl Abort, alloc: Global, name: &str, recording: &[u8], want: Outcome<'_>) {
+    let (shown, gaps, salvaged) = salvage_bytes(alloc, recording);
+    check_outcome(rt, name, (salvaged, &shown, &gaps), want);
+}
+
+#[test]
+fn what_is_whole_is_shown_with_ample_memory(rt: HostRuntime) {
+    for case in CASES {
+        let recording = joined(rt.alloc(), &case.parts).expect(&rt, "memory");
+        let images = joined(rt.alloc(), &case.images).expect(&rt, "memory");
+        let count = ended(case.frames, case.gaps.len() as u64);
+        let want = (count, images.as_slice(), case.gaps);
+        check_salvaged(&rt, rt.alloc(), case.name, &recording, want);
+    }
+}
+
+/// Whether the salvage of a recording shows images that begin with the first ones and end with the last.
+fn shows(alloc: Global, recording: &[u8], first: &[u8], last: &[u8]) -> bool {
+    let (shown, _gaps, salvaged) = salvage_bytes(alloc, recording);
+    salvaged.is_ok() && shown.starts_with(first) && shown.ends_with(last)
+}
+
+/// What is done to a byte.
+const FLIPS: [u8; 4] = [0xff, 0x01, 0x10, 0x80];
+
+#[test]
+fn a_byte_changed_costs_no_other_frame_with_ample_memory(rt: HostRuntime) {
+    let mut recording = joined(rt.alloc(), &[BLACK, WHITE, BLACK]).expect(&rt, "memory");
+    for place in 0..56 {
+        let first = if place < 28 { NONE } else { BLACK_IMAGE };
+        for flip in FLIPS {
+            recording[place] ^= flip;
+            let shown = shows(rt.alloc(), &recording, first, BLACK_IMAGE);
+            check(&rt, "a byte changed", shown);
+            recording[place] ^= flip;
+        }
+    }
+}
+
+#[test]
+fn long_gaps_are_passed_over_with_ample_memory(rt: HostRuntime) {
+    for (byte, fault) in [(0x00, StreamFault::NotSoi), (0xff, StreamFault::NotSoi)] {
+        let junk = vec![in rt.alloc(); byte; 70_000].expect(&rt, "memory");
+        let recording = joined(rt.alloc(), &[BLACK, &junk, WHITE]).expect(&rt, "memory");
+        let images = joined(rt.alloc(), &[BLACK_IMAGE, WHITE_IMAGE]).expect(&rt, "memory");
+        let gaps = [gap(1, 28, 70_000, fault)];
+        let want = (ended(2, 1), images.as_slice(), gaps.as_slice());
+        check_salvaged(&rt, rt.alloc(), "a long gap", &recording, want);
+    }
+}
