@@ -1,7 +1,9 @@
 //! What faults come of.
+use ls_archive::{CheckFault, IndexFault};
 use ls_film::{FilmFault, PartFault, PlayFault};
 use ls_frame::NetpbmFault;
 use ls_recorder::LaneFault;
+use ls_salvage::SalvageFault;
 use ls_stream::StreamFault;
 
 /// What a fault comes of.
@@ -57,6 +59,36 @@ impl Caused for PartFault {
         match self {
             PartFault::Play(fault) => fault.cause(),
             PartFault::TooFew(_) => Cause::Other,
+        }
+    }
+}
+
+impl Caused for SalvageFault {
+    fn cause(&self) -> Cause {
+        match self {
+            SalvageFault::Io(_) => Cause::Reading,
+            SalvageFault::Output(_) => Cause::Writing,
+            _ => Cause::Other,
+        }
+    }
+}
+
+impl Caused for IndexFault {
+    fn cause(&self) -> Cause {
+        match self {
+            IndexFault::Stream(0, StreamFault::NotSoi) => Cause::Format,
+            IndexFault::Io(_) => Cause::Reading,
+            IndexFault::Output(_) => Cause::Writing,
+            _ => Cause::Other,
+        }
+    }
+}
+
+impl Caused for CheckFault {
+    fn cause(&self) -> Cause {
+        match self {
+            CheckFault::Io => Cause::Reading,
+            _ => Cause::Other,
         }
     }
 }

@@ -1,4 +1,5 @@
 //! The whole program over its words, its files and its two streams.
+mod archive;
 mod playing;
 mod progress;
 mod recording;
@@ -7,7 +8,8 @@ mod watch;
 
 use crate::cause::{Cause, Caused};
 use crate::console::Console;
-use crate::program::playing::show;
+use crate::program::archive::{check_recording, index};
+use crate::program::playing::{show, show_whole};
 use crate::program::recording::{Task, record_films};
 use ls_command::{Answer, Request, misuse, read_words};
 use ls_files::{Opener, Opens, Source, likeness_of};
@@ -25,9 +27,9 @@ use std::time::Clock;
 use std::{env, io};
 
 /// The statuses that the program ends with.
-const DONE: u8 = 0;
+pub(crate) const DONE: u8 = 0;
 
-const FAILED: u8 = 1;
+pub(crate) const FAILED: u8 = 1;
 
 const USAGE: u8 = 2;
 
@@ -111,7 +113,11 @@ where
             file,
             frames,
             salvage,
-        } => show(rt, file, frames, output, console),
+        } if !salvage => show(rt, file, frames, output, console),
+        Request::Play { file, .. } => show_whole(rt, file, output, console),
+        Request::Index { file, sums } => index(rt, file, sums, output, console),
+        Request::Check { file, index } => check_recording(rt, file, index, output, console),
+        Request::Verify { film, recording } => verify_files(rt, film, recording, console),
         Request::Record {
             workers,
             queue,
@@ -391,7 +397,7 @@ fn write_text<W: Write, E: Outlet>(
 
 /// Flushes `output`, unless a write to it has failed, and says the status to end with: that of a failure if the
 /// flush is refused.
-fn finish<W: Write, E: Outlet>(
+pub(crate) fn finish<W: Write, E: Outlet>(
     status: u8,
     output: &mut Counted<W>,
     console: &mut Console<'_, E>,
@@ -406,14 +412,14 @@ fn finish<W: Write, E: Outlet>(
 }
 
 /// Says that standard output failed.
-fn say_unwritten<E: Outlet>(failure: Option<Failed>, console: &mut Console<'_, E>) -> u8 {
+pub(crate) fn say_unwritten<E: Outlet>(failure: Option<Failed>, console: &mut Console<'_, E>) -> u8 {
     console.say("output failed");
     console.blame("standard output", failure);
     FAILED
 }
 
 /// Says that memory was refused before there was a request.
-fn no_memory<E: Outlet>(console: &mut Console<'_, E>) -> u8 {
+pub(crate) fn no_memory<E: Outlet>(console: &mut Console<'_, E>) -> u8 {
     console.say_no_memory();
     FAILED
 }

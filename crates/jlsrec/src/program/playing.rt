@@ -1,10 +1,11 @@
-//! Playing a recording: all of it, or a part.
+//! Playing a recording: all of it, a part, or what stands whole of one that is damaged.
 use crate::console::Console;
-use crate::program::{conclude, open_film};
+use crate::program::{DONE, FAILED, conclude, open_film};
 use ls_command::Frames;
 use ls_film::{MOST_FRAMES, Part, PartFault, play, play_part};
 use ls_frame::{Counted, Feed, Outlet};
-use std::alloc::Global;
+use ls_salvage::{Gap, Gaps, ImageText, salvage};
+use std::alloc::{AllocError, Global};
 use std::io::Write;
 use std::rt::Files;
 
@@ -57,4 +58,54 @@ fn play_frames<R: Feed, W: Outlet>(
         return Ok(0);
     }
     play_part(alloc, Part { first, last }, recording, output)
+}
+
+/// Plays what stands whole of a recording, and says what is passed over.
+pub fn show_whole<R, W, E>(
+    rt: &R,
+    file: &str,
+    output: &mut Counted<W>,
+    console: &mut Console<'_, E>,
+) -> u8
+where
+    R: Eprint + Files + AllocGlobal,
+    W: Write,
+    E: Outlet,
+{
+    let mut recording = match open_film(rt, file, console) {
+        Ok(recording) => recording,
+        Err(status) => return status,
+    };
+    let mut gaps = SaidGaps { file, console };
+    match salvage::<ImageText, _, _, _>(rt.alloc(), &mut recording, output, &mut gaps) {
+        Ok(salvaged) if salvaged.gaps == 0 => DONE,
+        Ok(_) => FAILED,
+        Err(fault) => conclude(file, Err(fault), &recording, output.last_failure(), console),
+    }
+}
+
+/// Gaps of a file that are said on standard error.
+struct SaidGaps<'c, 'e, E> {
+    file: &'c str,
+    console: &'c mut Console<'e, E>,
+}
+
+impl<'c, 'e, E: Outlet> Gaps for SaidGaps<'c, 'e, E> {
+    ghost use Rattle.std.specs.Prelude.{None};
+
+    ghost told = { λ _. None };
+
+    fn tell(&mut self, gap: Gap) -> Result<(), AllocError> {
+        let Gap {
+            frame,
+            place,
+            count,
+            fault,
+        } = gap;
+        let file = self.file;
+        self.console.say(format_args!(
+            "{file}: frame {frame}: {fault}: {count} bytes at {place} passed over"
+        ));
+        Ok(())
+    }
 }

@@ -1,0 +1,218 @@
+//! What is asked of a recording that is kept: its index, whether it is damaged, and whether it is of a film.
+use crate::console::Console;
+use crate::program::{DONE, FAILED, conclude, finish, no_memory, open_film, say_unwritten};
+use ls_archive::{CheckFault, Checked, Finding, Findings, check, write_index};
+use ls_frame::{Counted, Outlet, write_bytes};
+use ls_salvage::{Gap, Gaps, NoText, salvage};
+use std::alloc::{AllocError, Global};
+use std::fmt::Display;
+use std::io::{BufWriter, Write};
+use std::rt::Files;
+
+/// Writes the index of a recording.
+pub fn index<R, W, E>(
+    rt: &R,
+    file: &str,
+    sums: bool,
+    output: &mut Counted<W>,
+    console: &mut Console<'_, E>,
+) -> u8
+where
+    R: Eprint + Files + AllocGlobal,
+    W: Write,
+    E: Outlet,
+{
+    let Ok(buffered) = BufWriter::new(rt.alloc(), output) else {
+        return no_memory(console);
+    };
+    let mut lines = Counted::new(buffered);
+    let status = match open_film(rt, file, console) {
+        Ok(mut recording) => {
+            let result = write_index(rt.alloc(), &mut recording, &mut lines, sums);
+            conclude(file, result, &recording, lines.last_failure(), console)
+        }
+        Err(status) => status,
+    };
+    let status = finish(status, &mut lines, console);
+    // A buffer that is dropped writes again what couldn't be written.
+    let (_output, _unwritten) = lines.into_inner().into_parts();
+    status
+}
+
+/// Looks for what is damaged of a recording, by its index if one is named, and writes a line of each by way of a buffer.
+pub fn check_recording<R, W, E>(
+    rt: &R,
+    file: &str,
+    index: Option<&str>,
+    output: &mut Counted<W>,
+    console: &mut Console<'_, E>,
+) -> u8
+where
+    R: Eprint + Files + AllocGlobal,
+    W: Write,
+    E: Outlet,
+{
+    let Ok(buffered) = BufWriter::new(rt.alloc(), output) else {
+        return no_memory(console);
+    };
+    let mut lines = Counted::new(buffered);
+    let status = match index {
+        Some(index) => check_by(rt, file, index, &mut lines, console),
+        None => check_alone(rt, file, &mut lines, console),
+    };
+    let status = if Outlet::failures(&lines) > 0 {
+        say_unwritten(lines.last_failure(), console)
+    } else {
+        finish(status, &mut lines, console)
+    };
+    // A buffer that is dropped writes again what couldn't be written.
+    let (_output, _unwritten) = lines.into_inner().into_parts();
+    status
+}
+
+/// Looks for what is damaged of a recording by its index.
+fn check_by<R, L, E>(
+    rt: &R,
+    file: &str,
+    index: &str,
+    lines: &mut L,
+    console: &mut Console<'_, E>,
+) -> u8
+where
+    R: Eprint + Files + AllocGlobal,
+    L: Outlet,
+    E: Outlet,
+{
+    let mut recording = match open_film(rt, file, console) {
+        Ok(recording) => recording,
+        Err(status) => return status,
+    };
+    let mut wanted = match open_film(rt, index, console) {
+        Ok(wanted) => wanted,
+        Err(status) => return status,
+    };
+    let mut report = Report::new(rt.alloc(), lines);
+    match check(rt.alloc(), &mut wanted, &mut recording, &mut report) {
+        Ok(checked) => report.end(file, checked, console),
+        Err(CheckFault::Io) => {
+            conclude(file, Err(CheckFault::Io), &recording, None, console)
+        }
+        Err(fault) => conclude(index, Err(fault), &wanted, None, console),
+    }
+}
+
+/// Looks for what can't be decoded of a recording, and says that there is no index to compare it with.
+fn check_alone<R, L, E>(
+    rt: &R,
+    file: &str,
+    lines: &mut L,
+    console: &mut Console<'_, E>,
+) -> u8
+where
+    R: Eprint + Files + AllocGlobal,
+    L: Outlet,
+    E: Outlet,
+{
+    let mut recording = match open_film(rt, file, console) {
+        Ok(recording) => recording,
+        Err(status) => return status,
+    };
+    let mut report = Report::new(rt.alloc(), lines);
+    let mut nothing = Counted::new(Vec::new(rt.alloc()));
+    match salvage::<NoText, _, _, _>(rt.alloc(), &mut recording, &mut nothing, &mut report) {
+        Ok(salvaged) => {
+            console.say(format_args!("{file}: only decoded: no index is named"));
+            let checked = Checked {
+                frames: salvaged.frames.saturating_add(salvaged.gaps),
+                damaged: salvaged.gaps,
+                more: false,
+            };
+            report.end(file, checked, console)
+        }
+        Err(fault) => conclude(file, Err(fault), &recording, None, console),
+    }
+}
+
+/// The lines of a check.
+struct Report<'l, L> {
+    alloc: Global,
+    lines: &'l mut L,
+    /// How many gaps were told of.
+    gaps: u64,
+}
+
+impl<'l, L: Outlet> Report<'l, L> {
+    fn new(alloc: Global, lines: &'l mut L) -> Report<'l, L> {
+        Report {
+            alloc,
+            lines,
+            gaps: 0,
+        }
+    }
+
+    /// Writes a line. That it can't be written is seen at the end.
+    fn write<D: Display + Drop>(&mut self, text: D) -> Result<(), AllocError> {
+        let line = format!(in self.alloc; "{text}\n")?;
+        let _refused = write_bytes(self.lines, line.as_bytes());
+        Ok(())
+    }
+
+    /// Writes what the check came to, and says the status.
+    fn end<E: Outlet>(&mut self, file: &str, checked: Checked, console: &mut Console<'_, E>) -> u8 {
+        match self.write_end(file, checked) {
+            Ok(()) if checked.damaged == 0 && !checked.more => DONE,
+            Ok(()) => FAILED,
+            Err(AllocError) => no_memory(console),
+        }
+    }
+
+    fn write_end(&mut self, file: &str, checked: Checked) -> Result<(), AllocError> {
+        let Checked {
+            frames,
+            damaged,
+            more,
+        } = checked;
+        if more {
+            self.write(format_args!("{file}: more bytes than the index has"))?;
+        }
+        self.write(format_args!("{file}: {frames} frames, {damaged} damaged"))
+    }
+}
+
+impl<'l, L: Outlet> Findings for Report<'l, L> {
+    ghost use Rattle.std.specs.Prelude.{None};
+
+    ghost found = { λ _. None };
+
+    fn tell(&mut self, finding: Finding) -> Result<(), AllocError> {
+        let Finding {
+            number,
+            place,
+            count,
+            damage,
+        } = finding;
+        self.write(format_args!(
+            "frame {number}: {damage}: {count} bytes at {place}"
+        ))
+    }
+}
+
+impl<'l, L: Outlet> Gaps for Report<'l, L> {
+    ghost use Rattle.std.specs.Prelude.{None};
+
+    ghost told = { λ _. None };
+
+    fn tell(&mut self, gap: Gap) -> Result<(), AllocError> {
+        let Gap {
+            frame,
+            place,
+            count,
+            fault,
+        } = gap;
+        let number = frame.saturating_add(self.gaps);
+        self.gaps = self.gaps.saturating_add(1);
+        self.write(format_args!(
+            "frame {number}: {fault}: {count} bytes at {place} passed over"
+        ))
+    }
+}
