@@ -1,3 +1,6 @@
 pub mod EntryLemmas
 pub mod FormLemmas
 pub mod IndexLemmas
+pub mod VerdictLaws
+pub mod VerdictLemmas
+pub mod VerifyLemmas

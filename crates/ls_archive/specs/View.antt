@@ -1,3 +1,4 @@
 -- How a reader, a writer and the code's faults are seen as recordings and what is said of them.
 pub mod Entries
 pub mod Indexing
+pub mod Verifying
