@@ -1,5 +1,5 @@
 //! What faults come of.
-use ls_archive::{CheckFault, IndexFault};
+use ls_archive::{CheckFault, IndexFault, VerifyFault};
 use ls_film::{FilmFault, PartFault, PlayFault};
 use ls_frame::NetpbmFault;
 use ls_recorder::LaneFault;
@@ -88,6 +88,17 @@ impl Caused for CheckFault {
     fn cause(&self) -> Cause {
         match self {
             CheckFault::Io => Cause::Reading,
+            _ => Cause::Other,
+        }
+    }
+}
+
+impl Caused for VerifyFault {
+    fn cause(&self) -> Cause {
+        match self {
+            VerifyFault::Film(number, fault) => cause_of_input(*number, *fault),
+            VerifyFault::Recording(0, StreamFault::NotSoi) => Cause::Format,
+            VerifyFault::RecordingIo(_) => Cause::Reading,
             _ => Cause::Other,
         }
     }

@@ -8,7 +8,7 @@ mod watch;
 
 use crate::cause::{Cause, Caused};
 use crate::console::Console;
-use crate::program::archive::{check_recording, index};
+use crate::program::archive::{check_recording, index, verify_files};
 use crate::program::playing::{show, show_whole};
 use crate::program::recording::{Task, record_films};
 use ls_command::{Answer, Request, misuse, read_words};

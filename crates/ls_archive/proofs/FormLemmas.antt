@@ -50,6 +50,11 @@ zip-length [] (f ∷ frames) all = absurd all
 zip-length (entry ∷ entries) [] all = absurd all
 zip-length (entry ∷ entries) (f ∷ frames) all = ap suc (zip-length entries frames all.1)
 
+-- what follows the first frames begins with a codestream, or nothing follows
+pub no_break : (rest : List ℕ) (more : List Picture) → IsFilm Spells rest more → BeginsWithNone rest → ⊥
+no_break rest [] none broken = absurd (omega (arith, ap length none, broken.some))
+no_break rest (f ∷ more) film broken = broken.none film.0 film.1 f film.2 film.3
+
 module _ (law : SpellingsHaveBoundedOutlines) where
   -- where a codestream that is complete stands, and one of a frame, they are one
   entry_frame : (entry : Entry) (rest codestream more : List ℕ) (f : Picture) → IsEntry entry → entry.bytes ++ rest ≡ codestream ++ more → Spells codestream f
@@ -99,11 +104,6 @@ module _ (law : SpellingsHaveBoundedOutlines) where
       let none : film.1 ≡ [] = no_bytes film.1 (omega (arith, size)) in
       absurd (omega (arith, size, length-append film.0 film.1, some_outlined (film.0 ++ film.1) read.0 (read.1 ∙ ap (λ left. Ok (read.0, left)) none)))
 
-  -- what follows the first frames begins with a codestream, or nothing follows
-  no_break : (rest : List ℕ) (more : List Picture) → IsFilm Spells rest more → BeginsWithNone rest → ⊥
-  no_break rest [] none broken = absurd (omega (arith, ap length none, broken.some))
-  no_break rest (f ∷ more) film broken = broken.none film.0 film.1 f film.2 film.3
-
   module _ (sums : Bool) (recording out : List ℕ) (frames : List Picture) (few : length frames ≤ most_frames) (film : IsFilm Spells recording frames) where
     indexed : (n : ℕ) → IsIndexOf sums recording out n → IsIndexOfFrames sums recording frames out n
     indexed n index =
@@ -142,7 +142,7 @@ pub index_of : (sums : Bool) (recording out : List ℕ) (left : Option (List ℕ
 index_of sums recording out left n run = record { entries = run.entries; count = run.count; few = run.few; are = (run.gave refl).2; wrote = run.wrote }
 
 -- a count that stays at 0 says that no call failed
-no_failure : (failed : Bool) → 0 ≡ count_after failed 0 → failed ≡ false
+pub no_failure : (failed : Bool) → 0 ≡ count_after failed 0 → failed ≡ false
 no_failure false stays = refl
 no_failure true stays = absurd (omega arith)
 

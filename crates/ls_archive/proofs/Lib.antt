@@ -2,3 +2,6 @@ pub mod CheckLemmas
 pub mod EntryLemmas
 pub mod FormLemmas
 pub mod IndexLemmas
+pub mod VerdictLaws
+pub mod VerdictLemmas
+pub mod VerifyLemmas

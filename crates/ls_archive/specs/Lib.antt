@@ -1,3 +1,4 @@
 pub mod Checking
 pub mod Index
+pub mod Verify
 pub mod View

@@ -2,3 +2,4 @@
 pub mod Checks
 pub mod Entries
 pub mod Indexing
+pub mod Verifying

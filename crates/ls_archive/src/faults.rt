@@ -1,4 +1,5 @@
-//! Why the making of an index stopped, and what is said of it.
+//! Why the making of an index, or a comparison, stopped, and what is said of it.
+use ls_frame::NetpbmFault;
 use ls_stream::StreamFault;
 use std::alloc::AllocError;
 use thiserror::Error;
@@ -50,5 +51,52 @@ impl From<AllocError> for IndexFault {
 
     fn from(_refused: AllocError) -> IndexFault {
         IndexFault::NoMemory
+    }
+}
+
+/// Why a film can't be compared with a recording.
+///
+/// All frames before the one at fault were equal. No more than `ls_film::MOST_FRAMES` of each were read.
+#[derive(Clone, Copy, Debug, Drop, PartialEq, Eq, Error)]
+pub enum VerifyFault {
+    /// The film's frame of this number, from 0, can't be read; the fault is never `NetpbmFault::NoMemory`.
+    #[error("frame {0}: {1}")]
+    Film(u64, NetpbmFault),
+    /// After so many codestreams comes none that can be decoded; the fault is never `StreamFault::NoMemory`.
+    #[error("frame {0}: {1}")]
+    Recording(u64, StreamFault),
+    /// A read of the recording failed after so many codestreams.
+    #[error("read failed")]
+    RecordingIo(u64),
+    /// Memory was refused for a frame of the film, when its header had been read, or for a codestream or its frame.
+    #[error("no memory")]
+    NoMemory,
+    /// All frames are equal, and one numbered 4,294,967,295 comes.
+    #[error("too many frames")]
+    TooMany,
+}
+
+impl VerifyFault {
+    ghost use Rattle.std.specs.Prelude.{◌≡◌};
+    ghost use Rattle.ls_archive.specs.View.Verifying.{film_fault, recording_fault};
+
+    /// What a fault of the film's frame of this number is to a comparison.
+    pub(crate) fn of_film(number: u64, fault: NetpbmFault) -> VerifyFault
+        ensures { result ≡ film_fault number fault }
+    {
+        match fault {
+            NetpbmFault::NoMemory => VerifyFault::NoMemory,
+            _ => VerifyFault::Film(number, fault),
+        }
+    }
+
+    /// What a fault of the codestream of this number is to a comparison.
+    pub(crate) fn of_recording(number: u64, fault: StreamFault) -> VerifyFault
+        ensures { result ≡ recording_fault number fault }
+    {
+        match fault {
+            StreamFault::NoMemory => VerifyFault::NoMemory,
+            _ => VerifyFault::Recording(number, fault),
+        }
     }
 }

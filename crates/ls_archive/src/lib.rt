@@ -1,7 +1,9 @@
 //! Archives: what is asked of a recording that is kept. A recording is codestreams joined, with nothing between them.
 //!
 //! What it hands on: the index of a recording is a line for each codestream, found by markers and headers alone
-//! (`specs/Index.antt`); its making, where it stops, says which lines it wrote (`specs/View/Indexing.antt`).
+//! (`specs/Index.antt`); its making, where it stops, says which lines it wrote (`specs/View/Indexing.antt`). A film is
+//! compared with its recording frame by frame, whatever the form of the headers on both sides; the verdict says whether
+//! their frames are equal, or where they aren't (`specs/Verify.antt`, `specs/View/Verifying.antt`).
 //!
 //! ```
 //! use ls_archive::{IndexFault, write_index};
@@ -20,15 +22,19 @@
 //! Over files the reader is a `Buffered::new(alloc, Counted::new(file))?` and the writer a `Counted::new(file)`, of
 //! `ls_frame`.
 //!
-//! In reading order: `faults` (why the making of an index stopped), `index` (the lines), `entry` (a codestream, and what
-//! its headers say).
+//! In reading order: `faults` (why the making of an index, or a comparison, stopped), `index` (the lines), `entry` (a
+//! codestream, and what its headers say), `checking` (a recording and its index), `verifying` (a film and its recording),
+//! `laws`.
 #![tactic(auto)]
 
 pub mod checking;
 mod entry;
 pub mod faults;
 pub mod index;
+pub mod laws;
+pub mod verifying;
 
 pub use checking::{CheckFault, Checked, Damage, Finding, Findings, check};
-pub use faults::IndexFault;
+pub use faults::{IndexFault, VerifyFault};
 pub use index::{index_bytes, write_index};
+pub use verifying::{Verdict, verify, verify_bytes};

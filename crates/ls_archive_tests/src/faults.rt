@@ -1,10 +1,10 @@
 use crate::testing::check_text;
-use ls_archive::IndexFault;
-use ls_frame::PresetFault;
+use ls_archive::{IndexFault, VerifyFault};
+use ls_frame::{NetpbmFault, PresetFault};
 use ls_stream::{StreamFault, What};
 
-/// Faults, and their texts.
-const TEXTS: [(IndexFault, &str); 10] = [
+/// Faults of an index, and their texts.
+const INDEX_TEXTS: [(IndexFault, &str); 10] = [
     (
         IndexFault::Stream(3, StreamFault::Truncated),
         "frame 3: truncated",
@@ -35,9 +35,31 @@ const TEXTS: [(IndexFault, &str); 10] = [
     (IndexFault::TooMany, "too many frames"),
 ];
 
+/// Faults of a comparison, and their texts.
+const VERIFY_TEXTS: [(VerifyFault, &str); 6] = [
+    (
+        VerifyFault::Film(3, NetpbmFault::Truncated),
+        "frame 3: truncated",
+    ),
+    (
+        VerifyFault::Film(0, NetpbmFault::Io),
+        "frame 0: read failed",
+    ),
+    (
+        VerifyFault::Recording(3, StreamFault::BadCode(2)),
+        "frame 3: bad code in component 2",
+    ),
+    (VerifyFault::RecordingIo(3), "read failed"),
+    (VerifyFault::NoMemory, "no memory"),
+    (VerifyFault::TooMany, "too many frames"),
+];
+
 #[test]
 fn faults_have_their_texts(rt: HostRuntime) {
-    for (fault, text) in TEXTS {
+    for (fault, text) in INDEX_TEXTS {
+        check_text(&rt, fault, text);
+    }
+    for (fault, text) in VERIFY_TEXTS {
         check_text(&rt, fault, text);
     }
 }

@@ -11,3 +11,5 @@ mod index;
 mod page;
 #[cfg(test)]
 mod testing;
+#[cfg(test)]
+mod verifying;

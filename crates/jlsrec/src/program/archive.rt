@@ -1,7 +1,9 @@
 //! What is asked of a recording that is kept: its index, whether it is damaged, and whether it is of a film.
 use crate::console::Console;
 use crate::program::{DONE, FAILED, conclude, finish, no_memory, open_film, say_unwritten};
-use ls_archive::{CheckFault, Checked, Finding, Findings, check, write_index};
+use ls_archive::{
+    CheckFault, Checked, Finding, Findings, Verdict, VerifyFault, check, verify, write_index,
+};
 use ls_frame::{Counted, Outlet, write_bytes};
 use ls_salvage::{Gap, Gaps, NoText, salvage};
 use std::alloc::{AllocError, Global};
@@ -131,6 +133,44 @@ where
         }
         Err(fault) => conclude(file, Err(fault), &recording, None, console),
     }
+}
+
+/// Compares a recording with its film, and says where they differ.
+pub fn verify_files<R, E>(rt: &R, film: &str, recording: &str, console: &mut Console<'_, E>) -> u8
+where
+    R: Eprint + Files + AllocGlobal,
+    E: Outlet,
+{
+    let mut images = match open_film(rt, film, console) {
+        Ok(images) => images,
+        Err(status) => return status,
+    };
+    let mut codestreams = match open_film(rt, recording, console) {
+        Ok(codestreams) => codestreams,
+        Err(status) => return status,
+    };
+    match verify(rt.alloc(), &mut images, &mut codestreams) {
+        Ok(verdict) => say_verdict(recording, verdict, console),
+        Err(fault @ VerifyFault::Film(..)) => conclude(film, Err(fault), &images, None, console),
+        Err(fault) => conclude(recording, Err(fault), &codestreams, None, console),
+    }
+}
+
+/// Says how a recording differs from its film, if it does, and answers the status.
+fn say_verdict<E: Outlet>(recording: &str, verdict: Verdict, console: &mut Console<'_, E>) -> u8 {
+    match verdict {
+        Verdict::Same(_frames) => return DONE,
+        Verdict::Differs(number) => {
+            console.say(format_args!("{recording}: frame {number} differs"));
+        }
+        Verdict::Missing(number) => {
+            console.say(format_args!("{recording}: frame {number} is missing"));
+        }
+        Verdict::Extra(number) => {
+            console.say(format_args!("{recording}: frame {number} is too many"));
+        }
+    }
+    FAILED
 }
 
 /// The lines of a check.

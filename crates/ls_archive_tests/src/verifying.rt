@@ -1,0 +1,220 @@
+use crate::testing::{ANOTHER_FORM, BROKEN_DATA};
+use ls_archive::{Verdict, VerifyFault, verify, verify_bytes};
+use ls_frame::{Counted, Feed, NetpbmFault};
+use ls_stream::StreamFault;
+use ls_testing::Pieces;
+use ls_testing::films::{
+    BLACK, FILM, FILM_CODESTREAMS, FIRST_CODESTREAM, TWO_CODESTREAMS, TWO_IMAGES,
+};
+use std::alloc::Global;
+use std::process::Abort;
+
+/// What a comparison answered, and how many reads of the film and of the recording failed.
+type Outcome = (Result<Verdict, VerifyFault>, u64, u64);
+
+/// That a comparison ended so. Where memory may be refused it may say so.
+fn check_outcome(rt: &impl Abort, name: &str, got: Outcome, want: Outcome, ample: bool) {
+    let refused = !ample && got.0 == Err(VerifyFault::NoMemory);
+    let want = if refused {
+        (Err(VerifyFault::NoMemory), 0, 0)
+    } else {
+        want
+    };
+    assert_eq!(rt; got, want, "{name}");
+}
+
+/// Compares what two readers give, and checks how that ends.
+fn check_verified(
+    rt: &impl Abort,
+    alloc: Global,
+    name: &str,
+    film: Pieces<'_>,
+    recording: Pieces<'_>,
+    want: Outcome,
+    ample: bool,
+) {
+    let mut film = Counted::new(film);
+    let mut recording = Counted::new(recording);
+    let ended = verify(alloc, &mut film, &mut recording);
+    let got = (ended, Feed::failures(&film), Feed::failures(&recording));
+    check_outcome(rt, name, got, want, ample);
+}
+
+/// What a film and a recording are, their bytes, and what comparing them answers.
+type Case = (
+    &'static str,
+    &'static [u8],
+    &'static [u8],
+    Result<Verdict, VerifyFault>,
+);
+
+const CASES: [Case; 18] = [
+    ("no frames", b"", b"", Ok(Verdict::Same(0))),
+    ("three frames", FILM, FILM_CODESTREAMS, Ok(Verdict::Same(3))),
+    (
+        "a recording of another form",
+        BLACK,
+        ANOTHER_FORM,
+        Ok(Verdict::Same(1)),
+    ),
+    (
+        "a film of another form",
+        b"P5\t#black\n1 1\r255 \x00",
+        FIRST_CODESTREAM,
+        Ok(Verdict::Same(1)),
+    ),
+    (
+        "another second sample",
+        b"P5\n1 1\n255\n\x00P5\n1 1\n255\n\xfe",
+        TWO_CODESTREAMS,
+        Ok(Verdict::Differs(1)),
+    ),
+    (
+        "another first sample",
+        b"P5\n1 1\n255\n\x01P5\n1 1\n255\n\xff",
+        TWO_CODESTREAMS,
+        Ok(Verdict::Differs(0)),
+    ),
+    (
+        "another maxval",
+        b"P5\n1 1\n254\n\x00",
+        FIRST_CODESTREAM,
+        Ok(Verdict::Differs(0)),
+    ),
+    (
+        "another kind",
+        b"P6\n1 1\n255\n\x00\x00\x00",
+        FIRST_CODESTREAM,
+        Ok(Verdict::Differs(0)),
+    ),
+    (
+        "another size",
+        b"P5\n2 1\n255\n\x00\x00",
+        FIRST_CODESTREAM,
+        Ok(Verdict::Differs(0)),
+    ),
+    (
+        "a recording without the last frame",
+        TWO_IMAGES,
+        FIRST_CODESTREAM,
+        Ok(Verdict::Missing(1)),
+    ),
+    (
+        "a recording without frames",
+        BLACK,
+        b"",
+        Ok(Verdict::Missing(0)),
+    ),
+    (
+        "a film without the last frame",
+        BLACK,
+        TWO_CODESTREAMS,
+        Ok(Verdict::Extra(1)),
+    ),
+    (
+        "a film without frames",
+        b"",
+        FIRST_CODESTREAM,
+        Ok(Verdict::Extra(0)),
+    ),
+    (
+        "a film that breaks off",
+        b"P5\n1 1\n255\n\x00P5\n1 1\n255\n",
+        TWO_CODESTREAMS,
+        Err(VerifyFault::Film(1, NetpbmFault::Truncated)),
+    ),
+    (
+        "two that are neither: the film is named",
+        b"A",
+        b"A",
+        Err(VerifyFault::Film(0, NetpbmFault::BadMagic)),
+    ),
+    (
+        "another byte after the codestreams",
+        BLACK,
+        b"\xff\xd8\
+\xff\xf7\x00\x0b\x08\x00\x01\x00\x01\x01\x01\x11\x00\
+\xff\xda\x00\x08\x01\x01\x00\x00\x00\x00\x80\xff\xd9A",
+        Err(VerifyFault::Recording(1, StreamFault::NotSoi)),
+    ),
+    (
+        "data that is no plane's",
+        BLACK,
+        BROKEN_DATA,
+        Err(VerifyFault::Recording(0, StreamFault::BadCode(0))),
+    ),
+    (
+        "a recording that breaks off after the film has ended",
+        b"",
+        b"\xff",
+        Err(VerifyFault::Recording(0, StreamFault::Truncated)),
+    ),
+];
+
+fn check_cases(rt: &impl Abort, alloc: Global, ample: bool) {
+    for (name, film, recording, result) in CASES {
+        let film = Pieces::new(film, 3, None);
+        let recording = Pieces::new(recording, 2, None);
+        check_verified(rt, alloc, name, film, recording, (result, 0, 0), ample);
+    }
+}
+
+#[test]
+fn films_are_compared_with_ample_memory(rt: HostRuntime) {
+    check_cases(&rt, rt.alloc(), true);
+}
+
+#[test]
+fn films_are_compared_or_memory_is_refused(rt: HostRuntime) {
+    check_cases(&rt, rt.alloc(), false);
+}
+
+#[test]
+fn films_in_memory_are_compared_with_ample_memory(rt: HostRuntime) {
+    for (name, film, recording, result) in CASES {
+        let got = verify_bytes(rt.alloc(), film, recording);
+        check_outcome(&rt, name, (got, 0, 0), (result, 0, 0), true);
+    }
+}
+
+/// How comparing `TWO_IMAGES` with so many of the first bytes of `TWO_CODESTREAMS` ends.
+fn end_of_front(len: usize) -> Result<Verdict, VerifyFault> {
+    match len {
+        0 => Ok(Verdict::Missing(0)),
+        1..=27 => Err(VerifyFault::Recording(0, StreamFault::Truncated)),
+        28 => Ok(Verdict::Missing(1)),
+        29..=55 => Err(VerifyFault::Recording(1, StreamFault::Truncated)),
+        _ => Ok(Verdict::Same(2)),
+    }
+}
+
+#[test]
+fn recordings_that_break_off_are_told_from_short_ones_with_ample_memory(rt: HostRuntime) {
+    for len in 0..=TWO_CODESTREAMS.len() {
+        let got = verify_bytes(rt.alloc(), TWO_IMAGES, &TWO_CODESTREAMS[..len]);
+        let want = (end_of_front(len), 0, 0);
+        check_outcome(&rt, "a front", (got, 0, 0), want, true);
+    }
+}
+
+#[test]
+fn a_failed_read_of_the_recording_ends_the_comparison_with_ample_memory(rt: HostRuntime) {
+    for i in 0..TWO_CODESTREAMS.len() {
+        let film = Pieces::new(TWO_IMAGES, 4096, None);
+        let recording = Pieces::new(TWO_CODESTREAMS, 1, Some(i));
+        let number = if i < 28 { 0 } else { 1 };
+        let want = (Err(VerifyFault::RecordingIo(number)), 0, 1);
+        check_verified(&rt, rt.alloc(), "a read", film, recording, want, true);
+    }
+}
+
+#[test]
+fn a_failed_read_of_the_film_ends_the_comparison_with_ample_memory(rt: HostRuntime) {
+    for i in 0..TWO_IMAGES.len() {
+        let film = Pieces::new(TWO_IMAGES, 1, Some(i));
+        let recording = Pieces::new(TWO_CODESTREAMS, 4096, None);
+        let number = if i < 12 { 0 } else { 1 };
+        let want = (Err(VerifyFault::Film(number, NetpbmFault::Io)), 1, 0);
+        check_verified(&rt, rt.alloc(), "a read", film, recording, want, true);
+    }
+}
