@@ -412,7 +412,10 @@ pub(crate) fn finish<W: Write, E: Outlet>(
 }
 
 /// Says that standard output failed.
-pub(crate) fn say_unwritten<E: Outlet>(failure: Option<Failed>, console: &mut Console<'_, E>) -> u8 {
+pub(crate) fn say_unwritten<E: Outlet>(
+    failure: Option<Failed>,
+    console: &mut Console<'_, E>,
+) -> u8 {
     console.say("output failed");
     console.blame("standard output", failure);
     FAILED

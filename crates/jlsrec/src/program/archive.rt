@@ -96,20 +96,13 @@ where
     let mut report = Report::new(rt.alloc(), lines);
     match check(rt.alloc(), &mut wanted, &mut recording, &mut report) {
         Ok(checked) => report.end(file, checked, console),
-        Err(CheckFault::Io) => {
-            conclude(file, Err(CheckFault::Io), &recording, None, console)
-        }
+        Err(CheckFault::Io) => { conclude(file, Err(CheckFault::Io), &recording, None, console) }
         Err(fault) => conclude(index, Err(fault), &wanted, None, console),
     }
 }
 
 /// Looks for what can't be decoded of a recording, and says that there is no index to compare it with.
-fn check_alone<R, L, E>(
-    rt: &R,
-    file: &str,
-    lines: &mut L,
-    console: &mut Console<'_, E>,
-) -> u8
+fn check_alone<R, L, E>(rt: &R, file: &str, lines: &mut L, console: &mut Console<'_, E>) -> u8
 where
     R: Eprint + Files + AllocGlobal,
     L: Outlet,
@@ -174,6 +167,7 @@ fn say_verdict<E: Outlet>(recording: &str, verdict: Verdict, console: &mut Conso
 }
 
 /// The lines of a check.
+#[derive(Drop)]
 struct Report<'l, L> {
     alloc: Global,
     lines: &'l mut L,
@@ -231,9 +225,7 @@ impl<'l, L: Outlet> Findings for Report<'l, L> {
             count,
             damage,
         } = finding;
-        self.write(format_args!(
-            "frame {number}: {damage}: {count} bytes at {place}"
-        ))
+        self.write(format_args!("frame {number}: {damage}: {count} bytes at {place}"))
     }
 }
 
@@ -251,8 +243,6 @@ impl<'l, L: Outlet> Gaps for Report<'l, L> {
         } = gap;
         let number = frame.saturating_add(self.gaps);
         self.gaps = self.gaps.saturating_add(1);
-        self.write(format_args!(
-            "frame {number}: {fault}: {count} bytes at {place} passed over"
-        ))
+        self.write(format_args!("frame {number}: {fault}: {count} bytes at {place} passed over"))
     }
 }

@@ -85,6 +85,7 @@ where
 }
 
 /// Gaps of a file that are said on standard error.
+#[derive(Drop)]
 struct SaidGaps<'c, 'e, E> {
     file: &'c str,
     console: &'c mut Console<'e, E>,
