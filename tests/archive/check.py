@@ -1,0 +1,297 @@
+"""Runs the program over recordings: check.py PROGRAM FAIL_CALL, in a folder of its own. Prints each case that fails, and how many
+passed."""
+
+import hashlib
+import os
+import subprocess
+import sys
+
+program, fail_call = sys.argv[1:]
+passed = failed = 0
+
+
+def write(name, content):
+    with open(name, "wb") as file:
+        file.write(content)
+    return name
+
+
+def run(*words, **environment):
+    """The status, standard output and standard error of the program."""
+    ended = subprocess.run(
+        [program, *words], stdin=subprocess.DEVNULL, capture_output=True, env={**os.environ, **environment}
+    )
+    return ended.returncode, ended.stdout, ended.stderr.decode()
+
+
+def count(name, holds, shown):
+    global passed, failed
+    if holds:
+        passed += 1
+    else:
+        failed += 1
+        print(f"FAILED {name}: {shown}")
+
+
+def says(status, output, said, *words, **environment):
+    """A case: the words, and what comes of them."""
+    wanted = (status, output if isinstance(output, bytes) else output.encode(), said)
+    got = run(*words, **environment)
+    count(" ".join(words), got == wanted, f"{got} and not {wanted}")
+
+
+# ---- codestreams, written out by T.87 Annex C
+
+def segment(code, contents):
+    return bytes([0xFF, code]) + (len(contents) + 2).to_bytes(2, "big") + contents
+
+
+def codestream(precision, width, height, data, presets=b"", before=b"", components=1):
+    """One whose data was made elsewhere: of its components the scans, each with its stuffed bytes."""
+    header = bytes([precision]) + height.to_bytes(2, "big") + width.to_bytes(2, "big") + bytes([components])
+    header += b"".join(bytes([component, 0x11, 0]) for component in range(1, components + 1))
+    scans = b"".join(
+        segment(0xDA, bytes([1, component, 0, 0, 0, 0])) + data[component - 1] for component in range(1, components + 1)
+    )
+    return b"\xff\xd8" + before + segment(0xF7, header) + presets + scans + b"\xff\xd9"
+
+
+def image(magic, width, height, maxval, samples):
+    return b"%s\n%d %d\n%d\n" % (magic, width, height, maxval) + samples
+
+
+# The picture of T.87's Annex H.3; a sample of two values, of sixteen bits, and of colour. Each with its image, and with the columns of
+# its line after its size.
+ANNEX_H = (
+    codestream(8, 4, 4, [bytes.fromhex("c000006c80208e01c0000057400000" "6ee6000001bc18000005d800009160")]),
+    image(b"P5", 4, 4, 255, bytes.fromhex("00005a4a44322bcd4091919164919191")),
+    "gray 4 4 255 8 3 7 21 64",
+)
+TWO_VALUES = (
+    codestream(2, 1, 1, [b"\x40"], presets=segment(0xF8, bytes.fromhex("0100010001000100010040"))),
+    image(b"P5", 1, 1, 1, b"\x01"),
+    "gray 1 1 1 2 1 1 1 64",
+)
+SIXTEEN = (
+    codestream(16, 1, 1, [b"\x40\x00"]),
+    image(b"P5", 1, 1, 65535, b"\xff\xff"),
+    "gray 1 1 65535 16 18 67 276 64",
+)
+COLOUR = (
+    codestream(8, 1, 1, [b"\x80", b"\x80", b"\x80"], components=3),
+    image(b"P6", 1, 1, 255, b"\x00\x00\x00"),
+    "color 1 1 255 8 3 7 21 64",
+)
+BLACK = (codestream(8, 1, 1, [b"\x80"]), image(b"P5", 1, 1, 255, b"\x00"), "gray 1 1 255 8 3 7 21 64")
+WHITE = (codestream(8, 1, 1, [b"\x40"]), image(b"P5", 1, 1, 255, b"\xff"), "gray 1 1 255 8 3 7 21 64")
+# The same picture with other headers: a comment before the frame header, and RESET told.
+BLACK_AGAIN = (
+    codestream(8, 1, 1, [b"\x80"], presets=segment(0xF8, bytes.fromhex("0100000000000000000020")), before=segment(0xFE, b"A")),
+    BLACK[1],
+    "gray 1 1 255 8 3 7 21 32",
+)
+MIXED = [ANNEX_H, TWO_VALUES, SIXTEEN, COLOUR, BLACK]
+
+
+def recording(frames):
+    return b"".join(frame[0] for frame in frames)
+
+
+def film(frames):
+    return b"".join(frame[1] for frame in frames)
+
+
+def index_of(frames, sums=True):
+    lines, offset = "", 0
+    for number, (stream, _, columns) in enumerate(frames):
+        lines += f"{number} {offset} {len(stream)} {columns}"
+        lines += f" {hashlib.sha256(stream).hexdigest()}\n" if sums else "\n"
+        offset += len(stream)
+    return lines
+
+
+# ---- the index
+
+for name, frames in [("none", []), ("one", [BLACK]), ("mixed", MIXED), ("many", [BLACK, WHITE] * 100)]:
+    write(f"{name}.jls", recording(frames))
+    says(0, index_of(frames), "", "index", f"{name}.jls")
+    says(0, index_of(frames, sums=False), "", "index", "--no-sums", f"{name}.jls")
+    says(0, film(frames), "", "play", f"{name}.jls")
+    write(f"{name}.index", index_of(frames).encode())
+    write(f"{name}.sizes", index_of(frames, sums=False).encode())
+    for index in (f"{name}.index", f"{name}.sizes"):
+        says(0, f"{name}.jls: {len(frames)} frames, 0 damaged\n", "", "check", "--index", index, f"{name}.jls")
+    told = f"jlsrec: {name}.jls: only decoded: no index is named\n"
+    says(0, f"{name}.jls: {len(frames)} frames, 0 damaged\n", told, "check", f"{name}.jls")
+    says(0, film(frames), "", "play", "--salvage", f"{name}.jls")
+
+whole = recording(MIXED)
+ends = [sum(len(frame[0]) for frame in MIXED[:number]) for number in range(len(MIXED) + 1)]
+for length in range(len(whole)):
+    write("cut.jls", whole[:length])
+    frames = max(number for number, end in enumerate(ends) if end <= length)
+    if length in ends:
+        says(0, index_of(MIXED[:frames]), "", "index", "cut.jls")
+    else:
+        says(1, index_of(MIXED[:frames]), f"jlsrec: cut.jls: frame {frames}: truncated\n", "index", "cut.jls")
+        gap = f"frame {frames}: truncated: {length - ends[frames]} bytes at {ends[frames]} passed over\n"
+        says(1, film(MIXED[:frames]), f"jlsrec: cut.jls: {gap}", "play", "--salvage", "cut.jls")
+    found = "".join(
+        f"frame {number}: truncated: {len(frame[0])} bytes at {ends[number]}\n"
+        for number, frame in enumerate(MIXED)
+        if number >= frames
+    )
+    says(1, f"{found}cut.jls: 5 frames, {5 - frames} damaged\n", "", "check", "--index", "mixed.index", "cut.jls")
+
+says(1, "", "jlsrec: none.pgm: can't open\n", "index", "none.pgm")
+says(1, "", "jlsrec: .: read failed\n", "index", ".")
+write("film.pgm", film([BLACK]))
+says(1, "", "jlsrec: film.pgm: frame 0: no SOI\n", "index", "film.pgm")
+write("odd.jls", BLACK[0] + BLACK[0][:3] + b"\xc0" + BLACK[0][4:])
+says(1, index_of([BLACK]), "jlsrec: odd.jls: frame 1: unsupported: marker c0\n", "index", "odd.jls")
+preload = {"LD_PRELOAD": fail_call}
+says(1, "", "jlsrec: mixed.jls: read failed\n", "index", "mixed.jls", FAIL_READ="1", **preload)
+says(1, "", "jlsrec: output failed\n", "index", "mixed.jls", FAIL_WRITE="1", **preload)
+
+# ---- checks
+
+# Each bit of a small recording is turned in turn: the check by an index finds the frame that it is of, and no other; and a salvage
+# shows each of the others.
+damaged_ends = [0, len(ANNEX_H[0]), len(ANNEX_H[0]) + len(BLACK[0]), len(ANNEX_H[0]) + len(BLACK[0]) + len(COLOUR[0])]
+three = [ANNEX_H, BLACK, COLOUR]
+write("three.index", index_of(three).encode())
+content = recording(three)
+for bit in range(8 * len(content)):
+    changed = bytearray(content)
+    changed[bit // 8] ^= 1 << bit % 8
+    write("changed.jls", bytes(changed))
+    number = max(number for number in range(3) if damaged_ends[number] <= bit // 8)
+    found = f"frame {number}: changed: {len(three[number][0])} bytes at {damaged_ends[number]}\n"
+    says(1, f"{found}changed.jls: 3 frames, 1 damaged\n", "", "check", "--index", "three.index", "changed.jls")
+    status, shown, said = run("play", "--salvage", "changed.jls")
+    others = [frame[1] for place, frame in enumerate(three) if place != number]
+    place = 0
+    for other in others:
+        place = shown.find(other, place)
+        if place < 0:
+            break
+        place += len(other)
+    count(f"salvage with bit {bit} turned", place >= 0 and status in (0, 1), (status, shown, said))
+
+write("more.jls", whole + b"more")
+says(
+    1,
+    "more.jls: more bytes than the index has\nmore.jls: 5 frames, 0 damaged\n",
+    "",
+    "check", "--index", "mixed.index", "more.jls",
+)
+swapped = [TWO_VALUES, ANNEX_H] + MIXED[2:]
+write("swapped.jls", recording(swapped))
+status, output, said = run("check", "--index", "mixed.index", "swapped.jls")
+count("frames that were swapped", status == 1 and b"frame 0: changed" in output and b"frame 1: changed" in output, output)
+for line, name in [(0, "0 0 28\n"), (1, index_of([BLACK]) + "0 28 28 gray\n"), (0, "1 0 28 gray\n"), (0, "x"), (0, "\n")]:
+    write("bad.index", name.encode())
+    says(1, "", f"jlsrec: bad.index: line {line}: not of an index\n", "check", "--index", "bad.index", "one.jls")
+says(1, "", "jlsrec: none.index: can't open\n".replace("none", "no"), "check", "--index", "no.index", "one.jls")
+says(1, "", "jlsrec: one.index: read failed\n", "check", "--index", "one.index", "one.jls", FAIL_READ="1", **preload)
+says(1, "", "jlsrec: one.jls: read failed\n", "check", "--index", "one.index", "one.jls", FAIL_READ="2", **preload)
+says(1, "", "jlsrec: output failed\n", "check", "--index", "one.index", "one.jls", FAIL_WRITE="1", **preload)
+# The index as it was made of a recording that can't be decoded: it is as it was.
+broken = (codestream(8, 1, 1, [b"\x00"]), b"", "gray 1 1 255 8 3 7 21 64")
+write("broken.jls", recording([broken, BLACK]))
+write("broken.index", index_of([broken, BLACK]).encode())
+says(
+    1,
+    "frame 0: bad code in component 0: 28 bytes at 0\nbroken.jls: 2 frames, 1 damaged\n",
+    "",
+    "check", "--index", "broken.index", "broken.jls",
+)
+
+# ---- films and their recordings
+
+def verdict(frames, others, said):
+    write("film.pgm", film(frames))
+    write("of.jls", recording(others))
+    says(1 if said else 0, "", f"jlsrec: of.jls: {said}\n" if said else "", "verify", "film.pgm", "of.jls")
+
+
+verdict([], [], "")
+verdict(MIXED, MIXED, "")
+verdict([BLACK, BLACK], [BLACK_AGAIN, BLACK], "")
+verdict([BLACK, WHITE], [BLACK, BLACK], "frame 1 differs")
+verdict([ANNEX_H], [BLACK], "frame 0 differs")
+verdict([BLACK], [COLOUR], "frame 0 differs")
+verdict([TWO_VALUES], [(WHITE[0], b"", "")], "frame 0 differs")
+verdict([BLACK, WHITE], [BLACK], "frame 1 is missing")
+verdict([BLACK], [], "frame 0 is missing")
+verdict([BLACK], [BLACK, WHITE], "frame 1 is too many")
+verdict([], [BLACK], "frame 0 is too many")
+verdict([BLACK, WHITE], [BLACK, (WHITE[0][:-1], b"", "")], "frame 1: truncated")
+write("film.pgm", b"P5 # a comment\n1   1\n255\n\x00")
+write("of.jls", recording([BLACK]))
+says(0, "", "", "verify", "film.pgm", "of.jls")
+write("film.pgm", film([BLACK])[:-1])
+says(1, "", "jlsrec: film.pgm: frame 0: truncated\n", "verify", "film.pgm", "of.jls")
+says(1, "", "jlsrec: no.pgm: can't open\n", "verify", "no.pgm", "of.jls")
+says(1, "", "jlsrec: no.jls: can't open\n", "verify", "film.pgm", "no.jls")
+
+# ---- frames by their numbers
+
+many = [BLACK, WHITE] * 100
+for text, first, last in [("0", 0, 0), ("137", 137, 137), ("199", 199, 199), ("5..7", 5, 7), ("198..", 198, 199), ("..2", 0, 2), ("0..199", 0, 199)]:
+    says(0, film(many[first:last + 1]), "", "play", "--frames", text, "many.jls")
+for text, first in [("200", 200), ("7000..7001", 200), ("200..", 200), ("198..300", 198)]:
+    says(1, film(many[first:]), "jlsrec: many.jls: only 200 frames\n", "play", "--frames", text, "many.jls")
+# A fault of the data before the first frame isn't looked for, one of the markers is; and none after the last is.
+write("some.jls", recording([broken, BLACK, broken]))
+says(0, film([BLACK]), "", "play", "--frames", "1", "some.jls")
+says(1, film([BLACK]), "jlsrec: some.jls: frame 2: bad code in component 0\n", "play", "--frames", "1..", "some.jls")
+says(1, "", "jlsrec: some.jls: frame 0: bad code in component 0\n", "play", "--frames", "0", "some.jls")
+for text in ["", "x", "1..x", "2..1", "..", "-1", "+1", "1.2", "4294967295", "1...2"]:
+    status, output, said = run("play", f"--frames={text}", "many.jls")
+    count(f"--frames={text}", status == 2 and not output and "--frames takes" in said, (status, output, said))
+status, output, said = run("play", "--frames", "1", "--salvage", "many.jls")
+count("--frames and --salvage", status == 2 and "don't go together" in said, (status, output, said))
+
+# ---- past damage
+
+def salvages(name, parts):
+    """Parts of a recording: a frame; or bytes, which are passed over for a reason."""
+    content, said, shown = b"", "", 0
+    for part in parts:
+        if len(part) == 3:
+            shown += 1
+            content += part[0]
+        else:
+            reason, damage = part
+            said += f"jlsrec: damaged.jls: frame {shown}: {reason}: {len(damage)} bytes at {len(content)} passed over\n"
+            content += damage
+    write("damaged.jls", content)
+    frames = [part for part in parts if len(part) == 3]
+    says(1 if said else 0, film(frames), said, "play", "--salvage", "damaged.jls")
+
+
+noise = bytes(range(1, 200)) * 40
+held = (codestream(8, 1, 1, [b"\x80"], before=segment(0xE0, BLACK[0])), BLACK[1], BLACK[2])
+salvages("garbage in front", [("no SOI", noise), BLACK])
+salvages("garbage between", [ANNEX_H, ("no SOI", noise), BLACK, COLOUR])
+salvages("garbage at the end", [BLACK, ("no SOI", noise)])
+salvages("two gaps", [BLACK, ("no SOI", b"A"), WHITE, ("no SOI", b"\xff\xd8\xff"[1:] + b"B"), BLACK])
+salvages("a frame without its end", [BLACK, ("unsupported: marker d8", ANNEX_H[0][:-2]), WHITE])
+salvages("data that is damaged", [ANNEX_H, ("bad code in component 0", broken[0]), BLACK])
+salvages("two of them", [("bad code in component 0", broken[0]), ("bad code in component 0", broken[0]), BLACK])
+salvages("a codestream in a segment of a whole one", [held, WHITE])
+salvages("a lone FF at the end", [BLACK, ("truncated", b"\xff")])
+says(1, film([BLACK]), "jlsrec: one.jls: read failed\n", "play", "--salvage", "one.jls", FAIL_READ="2", **preload)
+says(1, "", "jlsrec: one.jls: output failed after 0 bytes\n", "play", "--salvage", "one.jls", FAIL_WRITE="1", **preload)
+write("damaged.jls", BLACK[0] + noise + broken[0] + WHITE[0])
+says(
+    1,
+    f"frame 1: no SOI: {len(noise)} bytes at 28 passed over\n"
+    f"frame 2: bad code in component 0: 28 bytes at {28 + len(noise)} passed over\ndamaged.jls: 4 frames, 2 damaged\n",
+    "jlsrec: damaged.jls: only decoded: no index is named\n",
+    "check", "damaged.jls",
+)
+
+print(f"{passed} passed, {failed} failed")
+sys.exit(failed > 0)
