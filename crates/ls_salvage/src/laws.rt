@@ -19,8 +19,8 @@ pub fn one_salvage()
     bytes_have_one_first_fault();
 }
 
-/// Wherever a whole codestream of a frame stands in a recording, its frame is shown; or a codestream that is shown begins before it and
-/// ends after its beginning, and so holds it in a segment.
+/// Wherever a whole codestream of a frame stands in a recording, its frame is shown; or a codestream that is shown
+/// begins before it and ends after its beginning, and so holds it in a segment.
 pub fn whole_ones_are_shown()
     ensures { (bytes before front rest : List ℕ) (f : Picture) (parts : List Part) → bytes ≡ before ++ (front ++ rest) → Spells front f
         → IsSalvaged bytes parts → IsShownAt parts (length before) (length front) f ⊎ IsHeld parts (length before) }
@@ -36,7 +36,8 @@ pub fn what_is_shown_stands_there()
         × (length before ≡ place) × (length front ≡ count) × Spells front f }
 {}
 
-/// Of a recording that is codestreams of frames and nothing else, these are shown and there is no gap: it is what playing shows.
+/// Of a recording that is codestreams of frames and nothing else, these are shown and there is no gap: it is what
+/// playing shows.
 pub fn undamaged_ones_are_shown_whole()
     ensures { (bytes : List ℕ) (frames : List Picture) (parts : List Part) → IsFilm Spells bytes frames → IsSalvaged bytes parts
         → (frames_of parts ≡ frames) × (gaps_of parts ≡ []) }
@@ -45,8 +46,8 @@ pub fn undamaged_ones_are_shown_whole()
     one_frame_each();
 }
 
-/// Each gap that is told stands at its place: there no codestream of a frame begins, its fault is the first of the bytes from there on, and
-/// it goes up to the next start after its first byte, or to the end.
+/// Each gap that is told stands at its place: there no codestream of a frame begins, its fault is the first of the
+/// bytes from there on, and it goes up to the next start after its first byte, or to the end.
 pub fn gaps_stand_where_they_are_told()
     ensures { (bytes : List ℕ) (parts : List Part) → IsSalvaged bytes parts → AllByRecursion (IsGapOf bytes) (gaps_of parts) }
 {}

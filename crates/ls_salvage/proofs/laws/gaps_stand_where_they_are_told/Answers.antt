@@ -1,4 +1,4 @@
-use Rattle.std.proofs.Common.{◌≤◌, [], length, refl, arith}
+use Rattle.std.proofs.Common.{[], refl, arith}
 use Rattle.ls_salvage.proofs.SalvageLemmas.{gaps_stand}
 use Rattle.ls_salvage.proofs.laws.gaps_stand_where_they_are_told.Goals as goal
 
