@@ -1,5 +1,5 @@
 -- The salvage of a recording in memory; and of one with no damage.
-use Rattle.std.proofs.Common.{◌≡◌, ◌⊎◌, inl, inr, ℕ, ◌+◌, ◌<◌, ◌≤◌, List, [], ◌∷◌, ◌++◌, length, take, drop, Option, Some, Result, Ok, Err, MatchResult, IfOk, IfErr, refl, sym, ap, subst, ◌∙◌, arith, append-nil}
+use Rattle.std.proofs.Common.{◌≡◌, inl, inr, ℕ, ◌<◌, ◌≤◌, List, [], ◌∷◌, ◌++◌, length, take, drop, Option, Some, Result, Ok, Err, MatchResult, IfOk, IfErr, refl, sym, ap, subst, ◌∙◌, arith}
 use Rattle.std.proofs.lemmas.List.{length-append, length-take-le, take-append-drop}
 use Rattle.ls_frame.specs.Picture.{Picture}
 use Rattle.ls_frame.specs.View.Devices.{count_after}
@@ -10,7 +10,7 @@ use Rattle.ls_salvage.specs.declared.faults.SalvageFault.{SalvageFault}
 use Rattle.ls_salvage.specs.declared.faults.SalvageFault.TheVariants.{Io, Output, NoMemory, TooMuch}
 use Rattle.ls_salvage.specs.declared.gaps.Gap.{Gap}
 use Rattle.ls_salvage.specs.declared.salvaging.Salvaged.{Salvaged}
-use Rattle.ls_salvage.specs.Salvage.{Part, frame, gap, AreParts, bytes_of, frames_of, gaps_of}
+use Rattle.ls_salvage.specs.Salvage.{Part, frame, gap, AreParts, frames_of, gaps_of}
 use Rattle.ls_salvage.specs.View.Ends.{most_place, blames_reader, failed_reader}
 use Rattle.ls_salvage.specs.View.Memory.{IsSalvageOf, IsOutOfMemory}
 use Rattle.ls_salvage.specs.View.Parts.{HasNoEnd}

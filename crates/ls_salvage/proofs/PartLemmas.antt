@@ -1,6 +1,6 @@
 -- The next part of a recording: what taking its bytes, decoding them and looking for the next start give together.
-use Rattle.std.proofs.Common.{Some, None, true, false, min, ◌≡◌, ◌⊎◌, inl, inr, ◌<◌, ◌≤◌, ◌+◌, ◌↔◌, ℕ, List, [], ◌∷◌, ◌++◌, length, take, drop, Option, refl, sym, ap, subst, ◌∙◌, arith, append_assoc, append-nil}
-use Rattle.std.proofs.lemmas.List.{length-append, length-drop, length-take, take-append-drop, drop_at}
+use Rattle.std.proofs.Common.{Some, None, true, false, ◌≡◌, ◌⊎◌, inl, inr, ◌<◌, ◌≤◌, ◌+◌, ◌↔◌, ℕ, List, [], ◌∷◌, ◌++◌, length, take, drop, Option, refl, sym, ap, subst, ◌∙◌, arith, append_assoc, append-nil}
+use Rattle.std.proofs.lemmas.List.{length-append, length-take, take-append-drop, drop_at}
 use Rattle.std.specs.Io.KnownBytes.{prepend_known}
 use Rattle.ls_bits.specs.Bits.{AreBytes}
 use Rattle.ls_frame.specs.Picture.{Picture}

@@ -1,5 +1,5 @@
 -- A salvage, part by part, and why it stops.
-use Rattle.std.proofs.Common.{◌≡◌, ◌⊎◌, inl, inr, ℕ, ◌+◌, ◌*◌, ◌^◌, ◌<◌, ◌≤◌, List, [], ◌∷◌, ◌++◌, length, take, Option, None, Some, refl, sym, ap, subst, ◌∙◌, arith, append_assoc, append-nil}
+use Rattle.std.proofs.Common.{◌≡◌, inl, inr, ℕ, ◌+◌, ◌<◌, ◌≤◌, List, [], ◌∷◌, ◌++◌, length, take, Option, None, Some, refl, sym, ap, subst, ◌∙◌, arith, append_assoc, append-nil}
 use Rattle.std.specs.Io.KnownBytes.{Appends}
 use Rattle.std.specs.List.{AllByRecursion}
 use Rattle.std.proofs.KnownBytes.{Appends-nil, Appends-trans}
@@ -7,21 +7,18 @@ use Rattle.std.proofs.Math.Seq.{take-append-add}
 use Rattle.std.proofs.lemmas.List.{length-append, length_push, take-append-drop}
 use Rattle.ls_frame.specs.Picture.{Picture}
 use Rattle.ls_frame.specs.View.Known.{Tells, WasAtEnd, known}
-use Rattle.ls_stream.specs.Grammar.{Spells}
 use Rattle.ls_stream.specs.declared.faults.StreamFault.{StreamFault}
-use Rattle.ls_film.specs.Film.{most_frames}
 use Rattle.ls_salvage.specs.declared.faults.ReadFault.{ReadFault}
 use Rattle.ls_salvage.specs.declared.faults.ReadFault.TheVariants as read_fault
 use Rattle.ls_salvage.specs.declared.faults.SalvageFault.{SalvageFault}
 use Rattle.ls_salvage.specs.declared.faults.SalvageFault.TheVariants.{Io, Output, NoMemory, TooMuch}
 use Rattle.ls_salvage.specs.declared.gaps.Gap.{Gap}
 use Rattle.ls_salvage.specs.declared.salvaging.Progress.{Progress}
-use Rattle.ls_salvage.specs.declared.salvaging.Salvaged.{Salvaged}
-use Rattle.ls_salvage.specs.Salvage.{Part, frame, gap, AreParts, size_of, bytes_of, frames_of, gaps_after, gaps_of}
+use Rattle.ls_salvage.specs.Salvage.{Part, frame, gap, AreParts, size_of, bytes_of, frames_of, gaps_of}
 use Rattle.ls_salvage.specs.View.Ends.{most_place, salvage_fault}
 use Rattle.ls_salvage.specs.View.Parts.{GavePart, IsLawful, HasNoEnd}
 use Rattle.ls_salvage.specs.View.Telling.{TellsMore}
-use Rattle.ls_salvage.specs.View.Runs.{HasHandedOn, Completes, HasRun, StopsAfter, StopsAtOutput, Anything, BeginsWithOne, IsTooMuch, Stops, IsSmall, no_progress, after_frame, after_gap, HandsOn, StopsHandingOn}
+use Rattle.ls_salvage.specs.View.Runs.{Completes, HasRun, StopsAfter, Anything, BeginsWithOne, IsTooMuch, Stops, IsSmall, no_progress, after_frame, after_gap, HandsOn, StopsHandingOn}
 use Rattle.ls_salvage.proofs.SalvageLemmas.{parts_then, bytes_of-append, frames_of-append, gaps_after-append}
 
 -- ---- gaps that were told

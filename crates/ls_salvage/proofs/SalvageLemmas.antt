@@ -1,16 +1,15 @@
 -- What the parts of a recording are: where one of them stands, and that they are settled by the bytes.
-use Rattle.std.proofs.Common.{◌≡◌, ◌⊎◌, inl, inr, ℕ, zero, suc, ◌+◌, ◌<◌, ◌≤◌, ltb, List, [], ◌∷◌, ◌++◌, length, take, drop, refl, sym, ap, subst, ◌∙◌, arith, append_assoc, append-nil}
+use Rattle.std.proofs.Common.{drop-drop, ◌≡◌, ◌⊎◌, inl, inr, ℕ, zero, suc, ◌+◌, ◌<◌, ◌≤◌, ltb, List, [], ◌∷◌, ◌++◌, length, take, drop, refl, sym, ap, subst, ◌∙◌, arith, append_assoc, append-nil}
 use Rattle.std.proofs.lemmas.Bool.{cases_Bool, ltb-true, ltb-false}
-use Rattle.std.proofs.lemmas.List.{length-append, length-drop, length-take-le, take-append-drop, take_all, drop_all, drop-append-le, drop_at, take_at}
+use Rattle.std.proofs.lemmas.List.{length-append, length-drop, length-take-le, take-append-drop, drop-append-le}
 use Rattle.std.specs.List.{AllByRecursion}
 use Rattle.ls_frame.specs.Picture.{Picture}
 use Rattle.ls_bits.specs.Bits.{AreBytes}
 use Rattle.ls_stream.specs.Grammar.{codestream_bytes, Spells}
 use Rattle.ls_stream.specs.View.Outlines.{OneFirstFault}
 use Rattle.ls_film.specs.Film.{IsFilm}
-use Rattle.ls_salvage.specs.declared.gaps.Gap.{Gap}
-use Rattle.ls_salvage.specs.Starts.{is_start, to_next}
-use Rattle.ls_salvage.specs.Salvage.{Part, frame, gap, AreParts, IsSalvaged, size_of, bytes_of, frames_of, gaps_after, gaps_of, IsShownAt, IsHeld}
+use Rattle.ls_salvage.specs.Starts.{to_next}
+use Rattle.ls_salvage.specs.Salvage.{Part, frame, gap, BreakBy, IsGapOf, AreParts, IsSalvaged, size_of, bytes_of, frames_of, gaps_after, IsShownAt, IsHeld}
 use Rattle.ls_salvage.proofs.StartLemmas.{spelled_start, to_next-most, to_next-near}
 
 -- ---- one part after the other
@@ -49,6 +48,23 @@ parts_length bytes rest [] are = omega (arith, ap length are)
 parts_length bytes rest (frame count f ∷ parts) are = omega (arith, are.0, length-drop count bytes, parts_length (drop count bytes) rest parts are.2)
 parts_length bytes rest (gap count fault ∷ parts) are =
     omega (arith, are.0, to_next-most bytes, length-drop count bytes, parts_length (drop count bytes) rest parts are.2)
+
+-- the gaps stand at their places in all bytes, from this place on
+pub gaps_stand : (all bytes rest : List ℕ) (frames place : ℕ) (parts : List Part) → place ≤ length all → drop place all ≡ bytes → AreParts bytes parts rest
+    → AllByRecursion (IsGapOf all) (gaps_after frames place parts)
+gaps_stand all bytes rest frames place [] far here are = tt
+gaps_stand all bytes rest frames place (frame count f ∷ parts) far here are =
+    gaps_stand all (drop count bytes) rest (frames + 1) (place + count) parts (omega (arith, are.0, ap length here, length-drop place all))
+    (sym (drop-drop count place all) ∙ ap (drop count) here) are.2
+gaps_stand all bytes rest frames place (gap count fault ∷ parts) far here are = (
+  record {
+    within = omega (arith, are.1.none.some, ap length here, length-drop place all);
+    breaks = subst (BreakBy fault) (sym here) are.1;
+    count_is = are.0 ∙ ap to_next (sym here);
+  },
+  gaps_stand all (drop count bytes) rest frames (place + count) parts (omega (arith, are.0, to_next-most bytes, ap length here, length-drop place all))
+      (sym (drop-drop count place all) ∙ ap (drop count) here) are.2,
+)
 
 -- ---- where a frame is shown
 

@@ -1,5 +1,5 @@
 -- Where a codestream may begin, and that each codestream of a frame begins so.
-use Rattle.std.proofs.Common.{◌≡◌, inl, inr, eqb, ℕ, zero, suc, ◌<◌, ◌≤◌, Bool, true, false, cond, ◌||◌, List, [], ◌∷◌, ◌++◌, length, drop, refl, sym, ap, ◌∙◌, arith, append_assoc}
+use Rattle.std.proofs.Common.{◌⊎◌, ◌≡◌, inl, inr, eqb, ℕ, zero, suc, ◌<◌, ◌≤◌, Bool, true, false, ◌||◌, List, [], ◌∷◌, ◌++◌, length, drop, refl, ap, ◌∙◌, arith}
 use Rattle.std.specs.Prelude.{IsTrue}
 use Rattle.std.proofs.lemmas.Bool.{cases_Bool, cond-true, cond-false}
 use Rattle.std.specs.List.{AllByRecursion}
@@ -108,3 +108,28 @@ pub to_next-near : (before bytes : List ℕ) → 0 < length before → is_start 
 unfolding to_next
 to_next-near [] bytes some is = absurd (omega arith)
 to_next-near (byte ∷ before) bytes some is = omega (arith, to_start-near before bytes is)
+
+-- ---- it is the first
+
+pub ends_at_start : (bytes : List ℕ) → (to_start bytes ≡ length bytes) ⊎ (is_start (drop (to_start bytes) bytes) ≡ true)
+unfolding to_start
+ends_at_start [] = inl refl
+ends_at_start (byte ∷ bytes) = elim (cases_Bool (is_start (byte ∷ bytes))) [
+  | inl here ↦ inr (ap (λ n. is_start (drop n (byte ∷ bytes))) (to_start-here (byte ∷ bytes) here) ∙ here)
+  | inr none ↦ elim (ends_at_start bytes) [
+    | inl all ↦ inl (to_start-none byte bytes none ∙ ap suc all)
+    | inr start ↦ inr (ap (λ n. is_start (drop n (byte ∷ bytes))) (to_start-none byte bytes none) ∙ start)
+  ]
+]
+
+pub none_before : (bytes : List ℕ) (count : ℕ) → count < to_start bytes → is_start (drop count bytes) ≡ false
+unfolding to_start
+none_before [] count less = absurd (omega arith)
+none_before (byte ∷ bytes) zero less = elim (cases_Bool (is_start (byte ∷ bytes))) [
+  | inl here ↦ absurd (omega (arith, less, to_start-here (byte ∷ bytes) here))
+  | inr none ↦ none
+]
+none_before (byte ∷ bytes) (suc count) less = elim (cases_Bool (is_start (byte ∷ bytes))) [
+  | inl here ↦ absurd (omega (arith, less, to_start-here (byte ∷ bytes) here))
+  | inr none ↦ none_before bytes count (omega (arith, less, to_start-none byte bytes none))
+]

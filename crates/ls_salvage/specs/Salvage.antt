@@ -58,6 +58,12 @@ gaps_after frames place (gap count fault ∷ parts) =
 abbrev pub gaps_of : List Part → List Gap
 gaps_of parts = gaps_after 0 0 parts
 
+-- the gap as it stands in the bytes
+pub record IsGapOf (bytes : List ℕ) (one : Gap) : Type 0 where
+  pub within : one.place < length bytes
+  pub breaks : BreakBy one.fault (drop one.place bytes)
+  pub count_is : one.count ≡ to_next (drop one.place bytes)
+
 -- ---- where a frame is shown
 
 -- The frame's codestream is the part of so many bytes that stands at this place.

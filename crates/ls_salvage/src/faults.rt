@@ -29,7 +29,8 @@ impl From<AllocError> for ReadFault {
 
 /// Why the salvage of a recording stopped.
 ///
-/// The text of exactly the frames of the parts before was written, except after `Output`, and exactly their gaps were told.
+/// The text of exactly the frames of the parts before was written, except after `Output`, and exactly their gaps were
+/// told.
 #[derive(Clone, Copy, Debug, Drop, PartialEq, Eq, Error)]
 pub enum SalvageFault {
     /// A read failed when so many frames had been written.
@@ -38,11 +39,12 @@ pub enum SalvageFault {
     /// A write failed when exactly so many bytes of the text had gone out.
     #[error("output failed after {0} bytes")]
     Output(u64),
-    /// Memory was refused: for a codestream, its frame or its text, for bytes put back, or for telling of a gap. It is no damage.
+    /// Memory was refused: for a codestream, its frame or its text, for bytes put back, or for telling of a gap. It is
+    /// no damage.
     #[error("no memory")]
     NoMemory,
-    /// A frame numbered 4,294,967,295; a part after 2^62 bytes; or 4,294,967,295 bytes that show neither a codestream nor a fault,
-    /// which can't be put back.
+    /// A frame numbered 4,294,967,295; a part after 2^62 bytes; or 4,294,967,295 bytes that show neither a codestream
+    /// nor a fault, which can't be put back.
     #[error("too many frames")]
     TooMuch,
 }

@@ -1,11 +1,12 @@
 //! Laws: each is the contract of a function. They are over the definitions alone.
-ghost use Rattle.std.specs.Prelude.{◌≡◌, ◌⊎◌, ◌++◌, ℕ, true, List, [], length};
+ghost use Rattle.std.specs.Prelude.{◌≡◌, ◌⊎◌, ◌++◌, ◌<◌, ℕ, true, false, List, [], length, drop};
+ghost use Rattle.std.specs.List.{AllByRecursion};
 ghost use Rattle.ls_frame.specs.Picture.{Picture};
 ghost use Rattle.ls_bits.specs.Bits.{AreBytes};
 ghost use Rattle.ls_stream.specs.Grammar.{Spells};
 ghost use Rattle.ls_film.specs.Film.{IsFilm};
-ghost use Rattle.ls_salvage.specs.Starts.{is_start};
-ghost use Rattle.ls_salvage.specs.Salvage.{Part, IsSalvaged, frames_of, gaps_of, IsShownAt, IsHeld};
+ghost use Rattle.ls_salvage.specs.Starts.{is_start, to_start};
+ghost use Rattle.ls_salvage.specs.Salvage.{Part, IsSalvaged, frames_of, gaps_of, IsGapOf, IsShownAt, IsHeld};
 
 use ls_stream::laws::{bytes_have_one_first_fault, no_codestream_begins_another, one_frame_each};
 
@@ -18,8 +19,8 @@ pub fn one_salvage()
     bytes_have_one_first_fault();
 }
 
-/// Wherever a whole codestream of a frame stands in a recording, its frame is shown; or a codestream that is shown begins before it and
-/// ends after its beginning, and so holds it in a segment.
+/// Wherever a whole codestream of a frame stands in a recording, its frame is shown; or a codestream that is shown
+/// begins before it and ends after its beginning, and so holds it in a segment.
 pub fn whole_ones_are_shown()
     ensures { (bytes before front rest : List ℕ) (f : Picture) (parts : List Part) → bytes ≡ before ++ (front ++ rest) → Spells front f
         → IsSalvaged bytes parts → IsShownAt parts (length before) (length front) f ⊎ IsHeld parts (length before) }
@@ -35,7 +36,8 @@ pub fn what_is_shown_stands_there()
         × (length before ≡ place) × (length front ≡ count) × Spells front f }
 {}
 
-/// Of a recording that is codestreams of frames and nothing else, these are shown and there is no gap: it is what playing shows.
+/// Of a recording that is codestreams of frames and nothing else, these are shown and there is no gap: it is what
+/// playing shows.
 pub fn undamaged_ones_are_shown_whole()
     ensures { (bytes : List ℕ) (frames : List Picture) (parts : List Part) → IsFilm Spells bytes frames → IsSalvaged bytes parts
         → (frames_of parts ≡ frames) × (gaps_of parts ≡ []) }
@@ -43,6 +45,18 @@ pub fn undamaged_ones_are_shown_whole()
     no_codestream_begins_another();
     one_frame_each();
 }
+
+/// Each gap that is told stands at its place: there no codestream of a frame begins, its fault is the first of the
+/// bytes from there on, and it goes up to the next start after its first byte, or to the end.
+pub fn gaps_stand_where_they_are_told()
+    ensures { (bytes : List ℕ) (parts : List Part) → IsSalvaged bytes parts → AllByRecursion (IsGapOf bytes) (gaps_of parts) }
+{}
+
+/// A start is the first: none stands before it. If there is none, all bytes stand before it.
+pub fn starts_are_the_first()
+    ensures start { (bytes : List ℕ) → (to_start bytes ≡ length bytes) ⊎ (is_start (drop (to_start bytes) bytes) ≡ true) }
+    ensures first { (bytes : List ℕ) (count : ℕ) → count < to_start bytes → is_start (drop count bytes) ≡ false }
+{}
 
 /// A codestream of a frame is a start, whatever stands after it.
 pub fn codestreams_are_starts()

@@ -1,10 +1,10 @@
 //! Salvage: the frames of a recording that is damaged, and the gaps between them.
 //!
-//! What it hands on: a recording's bytes are parts, each a frame's codestream or a gap, and they are settled by the bytes
-//! (`specs/Salvage.antt`); a gap goes up to the next place where a codestream may begin (`specs/Starts.antt`). A salvage writes
-//! the frames and tells of the gaps, or says which parts it got through (`specs/View/Runs.antt`). Wherever a whole codestream
-//! of a frame stands, it is shown, unless one that is shown holds its beginning in a segment; and with no damage a salvage
-//! shows what `ls_film::play` does (`laws`).
+//! What it hands on: a recording's bytes are parts, each a frame's codestream or a gap, and they are settled by the
+//! bytes (`specs/Salvage.antt`); a gap goes up to the next place where a codestream may begin (`specs/Starts.antt`). A
+//! salvage writes the frames and tells of the gaps, or says which parts it got through (`specs/View/Runs.antt`).
+//! Wherever a whole codestream of a frame stands, it is shown, unless one that is shown holds its beginning in a
+//! segment; and with no damage a salvage shows what `ls_film::play` does (`laws`).
 //!
 //! ```
 //! use ls_salvage::{Gap, SalvageFault, salvage_bytes};
@@ -18,12 +18,13 @@
 //! }
 //! ```
 //!
-//! Over files, `salvage` takes a `Buffered::new(alloc, Counted::new(file))?` and a `Counted::new(file)`, of `ls_frame`, a text
-//! (`ImageText`, or `NoText` to look for damage alone), and who is told of the gaps (`Gaps`; a `Vec<Gap>` is one).
+//! Over files, `salvage` takes a `Buffered::new(alloc, Counted::new(file))?` and a `Counted::new(file)`, of `ls_frame`,
+//! a text (`ImageText`, or `NoText` to look for damage alone), and who is told of the gaps (`Gaps`; a `Vec<Gap>` is
+//! one).
 //!
-//! In reading order: `salvaging` (part by part), `parts` (the next part), `starts` (the next place where a codestream may
-//! begin), `gaps` (who is told of them), `texts` (what is written of frames), `faults` (why a salvage stopped), `memory` (over
-//! bytes in memory), `laws`.
+//! In reading order: `salvaging` (part by part), `parts` (the next part), `starts` (the next place where a codestream
+//! may begin), `gaps` (who is told of them), `texts` (what is written of frames), `faults` (why a salvage stopped),
+//! `memory` (over bytes in memory), `laws`.
 #![tactic(auto)]
 
 pub mod faults;

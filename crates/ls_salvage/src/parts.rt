@@ -58,7 +58,8 @@ pub fn next_part<R: Feed>(
     }
 }
 
-/// Takes the next codestream off a reader and decodes it; `None` exactly at the end. That memory is refused is no fault of the bytes.
+/// Takes the next codestream off a reader and decodes it; `None` exactly at the end. That memory is refused is no fault
+/// of the bytes.
 fn find_next<R: Feed>(alloc: Global, reader: &mut R) -> Result<Option<Found>, ReadFault>
     ensures found { IfOk result (λ next. IfSome next (λ found. IsFound (R.remaining reader.old) (R.remaining reader.new) found)) }
     ensures end { IfOk result (λ next. IfNone next (WasAtEnd (R.remaining reader.old) (R.remaining reader.new))) }
@@ -92,8 +93,8 @@ fn is_refusal(fault: StreamFault) -> bool
     }
 }
 
-/// Passes over bytes that were read, of which no front is a codestream, and those after them up to the next start, and says how many
-/// they are. All but the first of those that were read are put back for that.
+/// Passes over bytes that were read, of which no front is a codestream, and those after them up to the next start, and
+/// says how many they are. All but the first of those that were read are put back for that.
 fn pass_gap<R: Feed>(alloc: Global, reader: &mut Buffered<R>, read: &[u8]) -> Result<u64, ReadFault>
     ensures passed { IfOk result (λ count. Tells (left_in R.remaining reader.old) → 0 < length read.now
         → HasPassed (read.now ++ known (left_in R.remaining reader.old)) count (left_in R.remaining reader.new)) }

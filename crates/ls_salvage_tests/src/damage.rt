@@ -242,19 +242,26 @@ fn shows(alloc: Global, recording: &[u8], first: &[u8], last: &[u8]) -> bool {
     salvaged.is_ok() && shown.starts_with(first) && shown.ends_with(last)
 }
 
-/// What is done to a byte.
-const FLIPS: [u8; 4] = [0xff, 0x01, 0x10, 0x80];
+/// Changes the bits of a mask in the byte at a place.
+fn change(bytes: &mut [u8], place: usize, mask: u8) {
+    if let Some(byte) = bytes.get_mut(place) {
+        *byte ^= mask;
+    }
+}
+
+/// The bits of a byte that are changed.
+const MASKS: [u8; 4] = [0xff, 0x01, 0x10, 0x80];
 
 #[test]
 fn a_byte_changed_costs_no_other_frame_with_ample_memory(rt: HostRuntime) {
     let mut recording = joined(rt.alloc(), &[BLACK, WHITE, BLACK]).expect(&rt, "memory");
     for place in 0..56 {
         let first = if place < 28 { NONE } else { BLACK_IMAGE };
-        for flip in FLIPS {
-            recording[place] ^= flip;
+        for mask in MASKS {
+            change(&mut recording, place, mask);
             let shown = shows(rt.alloc(), &recording, first, BLACK_IMAGE);
             check(&rt, "a byte changed", shown);
-            recording[place] ^= flip;
+            change(&mut recording, place, mask);
         }
     }
 }

@@ -1,6 +1,6 @@
 -- The next part of a recording, as the code answers it.
 use Rattle.std.specs.Prelude.{◌≡◌, ◌≢◌, ℕ, ◌<◌, ◌≤◌, ◌^◌, Bool, true, false, List, [], ◌∷◌, length, drop, Option}
-use Rattle.ls_frame.specs.Picture.{Picture, IsFrame}
+use Rattle.ls_frame.specs.Picture.{IsFrame}
 use Rattle.ls_frame.specs.View.Known.{Tells, Gave, known}
 use Rattle.ls_stream.specs.declared.faults.StreamFault.{StreamFault}
 use Rattle.ls_stream.specs.declared.faults.StreamFault.TheVariants as stream
@@ -11,7 +11,7 @@ use Rattle.ls_salvage.specs.declared.parts.Found.TheVariants as found
 use Rattle.ls_salvage.specs.declared.parts.NextPart.{NextPart}
 use Rattle.ls_salvage.specs.declared.parts.NextPart.TheVariants as next
 use Rattle.ls_salvage.specs.Starts.{to_next}
-use Rattle.ls_salvage.specs.Salvage.{Part, frame, gap, BreakBy, AreParts, size_of}
+use Rattle.ls_salvage.specs.Salvage.{Part, frame, gap, BreakBy, AreParts}
 
 -- whether memory was refused, which is no fault of the bytes
 abbrev pub is_refusal : StreamFault → Bool

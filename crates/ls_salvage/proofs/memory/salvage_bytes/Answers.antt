@@ -1,4 +1,4 @@
-use Rattle.std.proofs.Common.{◌≡◌, [], Some, sym, ap, ◌∙◌}
+use Rattle.std.proofs.Common.{sym, ap, ◌∙◌}
 use Rattle.std.proofs.lemmas.Result.{IfOk-weaker}
 use Rattle.ls_salvage.proofs.MemoryLemmas.{salvage_of, salvaged_whole}
 use Rattle.ls_salvage.proofs.memory.salvage_bytes.Goals as goal

@@ -1,8 +1,7 @@
-use Rattle.std.proofs.Common.{◌≡◌, ◌<◌, ◌+◌, sym, arith, rules}
+use Rattle.std.proofs.Common.{rules}
 use Rattle.std.proofs.lemmas.Result.{err_from_is_err_and}
-use Rattle.ls_frame.specs.View.Chunks.{left_in}
 use Rattle.ls_salvage.specs.View.Parts.{part_of}
-use Rattle.ls_salvage.proofs.RunLemmas.{run_none, run_more, run_completes, stops_reading, stops_far, stops_handing_on, small_none, small_more, place_more}
+use Rattle.ls_salvage.proofs.RunLemmas.{run_none, run_more, stops_reading, stops_handing_on, small_none, small_more}
 use Rattle.ls_salvage.proofs.salvaging.salvage.Goals as goal
 
 pub parts-init : goal.parts-init

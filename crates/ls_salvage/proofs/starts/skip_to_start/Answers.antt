@@ -1,5 +1,4 @@
-use Rattle.std.proofs.Common.{◌≡◌, ◌+◌, ◌-◌, ◌∙◌, length, arith, rules}
-use Rattle.ls_frame.specs.View.Chunks.{left_in}
+use Rattle.std.proofs.Common.{◌≡◌, ◌+◌, ◌-◌, length, arith, rules}
 use Rattle.ls_salvage.proofs.SkipLemmas.{run_length, run_few, read_on, given_passed, held_few, three_held, given_found, given_end}
 use Rattle.ls_salvage.proofs.starts.skip_to_start.Goals as goal
 
