@@ -1,5 +1,6 @@
 -- The index of a recording of frames: each entry says its frame's form.
 use Rattle.std.proofs.Common.{◌≡◌, ℕ, suc, ◌+◌, ◌-◌, ◌≤◌, Bool, true, false, List, [], ◌∷◌, ◌++◌, length, take, inl, inr, Option, Some, Result, Ok, Err, IfOk, IfErr, MatchResult, refl, sym, ap, ◌∙◌, arith, append_assoc, append-nil, length-append}
+use Rattle.std.proofs.Math.Seq.{take-append_seam}
 use Rattle.std.proofs.lemmas.List.{length_push}
 use Rattle.std.specs.List.{AllByRecursion, AllZip}
 use Rattle.ls_frame.specs.Picture.{Picture}
@@ -17,7 +18,7 @@ use Rattle.ls_film.specs.View.Playing.{BeginsWithNone}
 use Rattle.ls_archive.specs.declared.faults.IndexFault.{IndexFault}
 use Rattle.ls_archive.specs.declared.faults.IndexFault.TheVariants.{Stream, Io, Output, NoMemory, TooMany}
 use Rattle.ls_archive.specs.Index.{Entry, joined}
-use Rattle.ls_archive.specs.View.Entries.{IsEntry, IsOfFrame}
+use Rattle.ls_archive.specs.View.Entries.{Says, IsEntry, IsOfFrame, OneIndex}
 use Rattle.ls_archive.specs.View.Indexing.{Completes, Stops, IsIndexOf, StopsOver, IsIndexOfFrames, IsOutOfMemory, blames_reader, failed_reader}
 use Rattle.ls_archive.proofs.EntryLemmas.{outline_few, some_outlined}
 
@@ -42,6 +43,48 @@ same_read : (a b : Outline) (rest more : List ℕ) → ◌≡◌ {A = Take Outli
 same_read a b rest more e =
     let same = same_ok {A = Outline × List ℕ} _ _ e in
     (ap (λ (p : Outline × List ℕ). p.0) same, ap (λ (p : Outline × List ℕ). p.1) same)
+
+-- ---- one index
+
+-- what stands before the same is the same
+same_front : (a b rest : List ℕ) → a ++ rest ≡ b ++ rest → a ≡ b
+same_front a b rest same =
+    let size : length a ≡ length b = omega (arith, ap length same, length-append a rest, length-append b rest) in
+    sym (take-append_seam a rest) ∙ ap (take (length a)) same ∙ ap (λ n. take n (b ++ rest)) size ∙ take-append_seam b rest
+
+-- entries of the same bytes that say the same headers are the same
+same_entry : (a b : Entry) (one : Outline) (two : Outline) → a.bytes ≡ b.bytes → one ≡ two → Says one a → Says two b → a ≡ b
+same_entry a b one two bytes same says says' =
+    let kind = sym says.kind ∙ ap (λ (o : Outline). o.header.kind) same ∙ says'.kind in
+    let width = sym says.width ∙ ap (λ (o : Outline). o.header.width) same ∙ says'.width in
+    let height = sym says.height ∙ ap (λ (o : Outline). o.header.height) same ∙ says'.height in
+    let precision = sym says.precision ∙ ap (λ (o : Outline). o.header.precision) same ∙ says'.precision in
+    let parameters = sym says.parameters ∙ ap (λ (o : Outline). o.parameters) same ∙ says'.parameters in
+    λ i. record { bytes = bytes i; kind = kind i; width = width i; height = height i; precision = precision i; parameters = parameters i }
+
+-- of two entries at the front of the same bytes
+first_same : (a b : Entry) (rest more : List ℕ) → IsEntry a → IsEntry b → a.bytes ++ rest ≡ b.bytes ++ more → (a ≡ b) × (rest ≡ more)
+first_same a b rest more is is' same =
+    let one = same_read is.outline is'.outline rest more
+    (sym (outline_more a.bytes rest is.outline is.short is.complete) ∙ ap outline_of same ∙ outline_more b.bytes more is'.outline is'.short is'.complete) in
+    let bytes = same_front a.bytes b.bytes more (ap (λ s. a.bytes ++ s) (sym one.1) ∙ same) in
+    (same_entry a b is.outline is'.outline bytes one.0 is.says is'.says, one.1)
+
+same_entries : (a b : List Entry) → AllByRecursion IsEntry a → AllByRecursion IsEntry b → joined a ≡ joined b → a ≡ b
+same_entries [] [] each each' same = refl
+same_entries [] (entry ∷ b) each each' same =
+    absurd (omega (arith, ap length same, length-append entry.bytes (joined b), some_outlined entry.bytes each'.0.outline each'.0.complete))
+same_entries (entry ∷ a) [] each each' same =
+    absurd (omega (arith, ap length same, length-append entry.bytes (joined a), some_outlined entry.bytes each.0.outline each.0.complete))
+same_entries (entry ∷ a) (other ∷ b) each each' same =
+    let first = first_same entry other (joined a) (joined b) each.0 each'.0 same in
+    let rest = same_entries a b each.1 each'.1 first.1 in
+    λ i. first.0 i ∷ rest i
+
+pub one_index : OneIndex
+one_index bytes entries others are also = same_entries entries others are.each also.each (sym are.whole ∙ also.whole)
+
+-- ---- recordings of frames
 
 -- the number of elements of two lists whose elements belong together
 zip-length : (entries : List Entry) (frames : List Picture) → AllZip IsOfFrame entries frames → length entries ≡ length frames

@@ -1,5 +1,11 @@
 //! Laws: each is the contract of a function with nothing to do.
 ghost use Rattle.ls_archive.specs.Verify.{OneVerdict, SomeVerdict};
+ghost use Rattle.ls_archive.specs.View.Entries.{OneIndex};
+
+/// A recording has one index: its bytes are codestreams with one list of entries alone.
+pub fn recordings_have_one_index()
+    ensures { OneIndex }
+{}
 
 /// The frames of a film and those of a recording have exactly one verdict.
 pub fn frames_have_one_verdict()

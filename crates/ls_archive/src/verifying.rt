@@ -33,8 +33,8 @@ pub enum Verdict {
 
 /// Whether a recording has the frames of a film of Netpbm images, whatever the form of the headers on both sides.
 ///
-/// A frame of each is read in turn, the film's first, up to the first that differ. If the bytes are known (as in memory),
-/// the clauses say which were read. After a fault nothing is said of the readers' places.
+/// A frame of each is read in turn, the film's first, up to the first that differ. If the bytes are known (as in
+/// memory), the clauses say which were read. After a fault nothing is said of the readers' places.
 pub fn verify<F: Feed, R: Feed>(
     alloc: Global,
     film: &mut F,

@@ -159,29 +159,28 @@ fn recordings_in_memory_have_their_index_with_ample_memory(rt: HostRuntime) {
 /// The lines of `TWO_CODESTREAMS`, without sums.
 const TWO_LINES: &[u8] = b"0 0 28 gray 1 1 255 8 3 7 21 64\n1 28 28 gray 1 1 255 8 3 7 21 64\n";
 
-/// How long the first of them is.
-const FIRST_LINE: usize = 32;
+/// The first of them.
+const FIRST_LINE: &[u8] = b"0 0 28 gray 1 1 255 8 3 7 21 64\n";
 
-/// How the index of so many of the first bytes of `TWO_CODESTREAMS` ends, and how long it is.
-fn end_of_front(len: usize) -> (Result<u64, IndexFault>, usize) {
+/// How the making of the index of so many of the first bytes of `TWO_CODESTREAMS` ends, and the index.
+fn index_of_front(len: usize) -> (Result<u64, IndexFault>, &'static [u8]) {
     match len {
-        0 => (Ok(0), 0),
-        1..=27 => (Err(IndexFault::Stream(0, StreamFault::Truncated)), 0),
+        0 => (Ok(0), b""),
+        1..=27 => (Err(IndexFault::Stream(0, StreamFault::Truncated)), b""),
         28 => (Ok(1), FIRST_LINE),
         29..=55 => (
             Err(IndexFault::Stream(1, StreamFault::Truncated)),
             FIRST_LINE,
         ),
-        _ => (Ok(2), TWO_LINES.len()),
+        _ => (Ok(2), TWO_LINES),
     }
 }
 
 #[test]
 fn recordings_that_break_off_are_truncated_with_ample_memory(rt: HostRuntime) {
     for len in 0..=TWO_CODESTREAMS.len() {
-        let (result, lines) = end_of_front(len);
-        let want = (result, &TWO_LINES[..lines]);
         let front = &TWO_CODESTREAMS[..len];
+        let want = index_of_front(len);
         check_in_memory(&rt, rt.alloc(), "a front", front, false, want);
     }
 }
@@ -211,9 +210,12 @@ fn a_failed_read_ends_the_index_with_ample_memory(rt: HostRuntime) {
     for i in 0..TWO_CODESTREAMS.len() {
         let reader = Pieces::new(TWO_CODESTREAMS, 1, Some(i));
         let writer = Sink::new(4096, Mishap::Nothing);
-        let (number, lines) = if i < 28 { (0, 0) } else { (1, FIRST_LINE) };
-        let want = Err(IndexFault::Io(number));
-        let want = (want, &TWO_LINES[..lines], 1, 0);
+        let (number, lines) = if i < 28 {
+            (0, b"".as_slice())
+        } else {
+            (1, FIRST_LINE)
+        };
+        let want = (Err(IndexFault::Io(number)), lines, 1, 0);
         check_index(&rt, rt.alloc(), "a read", reader, writer, false, want, true);
     }
 }

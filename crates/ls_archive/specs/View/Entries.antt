@@ -93,3 +93,9 @@ pub record HasHeaders (bytes : List ℕ) (headers : Headers) : Type 0 where
   pub size : headers.used + length left ≡ length bytes
   pub few : headers.used ≤ most_bytes
   pub says : Says outline (entry_of bytes headers)
+
+-- ---- laws
+
+-- Bytes are codestreams with one list of entries alone.
+abbrev pub OneIndex : Type 0
+OneIndex = (bytes : List ℕ) (entries others : List Entry) → AreEntriesOf bytes entries → AreEntriesOf bytes others → entries ≡ others
