@@ -1,0 +1,230 @@
+use crate::testing::{BROKEN_DATA, check_text};
+use ls_archive::{CheckFault, Checked, Damage, Finding, check};
+use ls_frame::{Counted, Feed};
+use ls_stream::StreamFault;
+use ls_testing::Pieces;
+use ls_testing::films::TWO_CODESTREAMS;
+use std::alloc::Global;
+use std::process::Abort;
+
+/// What a check answered, its first finding, and how many reads of the index and of the recording failed.
+type Outcome = (Result<Checked, CheckFault>, Option<Finding>, u64, u64);
+
+/// That a check ended so. Where memory may be refused it may say so.
+fn check_outcome(rt: &impl Abort, name: &str, got: Outcome, want: Outcome, ample: bool) {
+    let refused = !ample && got.0 == Err(CheckFault::NoMemory);
+    let want = if refused {
+        (Err(CheckFault::NoMemory), got.1, 0, 0)
+    } else {
+        want
+    };
+    assert_eq!(rt; got, want, "{name}");
+}
+
+/// Checks what a reader gives by an index, and looks at how that ends.
+fn check_checked(
+    rt: &impl Abort,
+    alloc: Global,
+    name: &str,
+    index: Pieces<'_>,
+    recording: Pieces<'_>,
+    want: Outcome,
+    ample: bool,
+) {
+    let mut index = Counted::new(index);
+    let mut recording = Counted::new(recording);
+    let mut findings: Vec<Finding> = Vec::new(alloc);
+    let ended = check(alloc, &mut index, &mut recording, &mut findings);
+    let first = findings.as_slice().first().copied();
+    let got = (
+        ended,
+        first,
+        Feed::failures(&index),
+        Feed::failures(&recording),
+    );
+    check_outcome(rt, name, got, want, ample);
+}
+
+/// What a check came to.
+fn checked(frames: u64, damaged: u64, more: bool) -> Checked {
+    Checked {
+        frames,
+        damaged,
+        more,
+    }
+}
+
+/// A finding on one of two codestreams of 28 bytes each.
+fn found(place: u64, damage: Damage) -> Finding {
+    Finding {
+        number: place / 28,
+        place,
+        count: 28,
+        damage,
+    }
+}
+
+/// The index of `TWO_CODESTREAMS` without sums, and with those of `sha256sum`.
+const SIZES: &[u8] = b"0 0 28 gray 1 1 255 8 3 7 21 64\n1 28 28 gray 1 1 255 8 3 7 21 64\n";
+
+const SUMS: &[u8] = b"0 0 28 gray 1 1 255 8 3 7 21 64 \
+14c5eaab40e8fcaf165a37d64d027b1357eb15846597672e4e87ef4c04547aa1\n\
+1 28 28 gray 1 1 255 8 3 7 21 64 \
+0efbec04d1400b04eceb24a245c12e080c3916e4fa2379af048299d12b0a0953\n";
+
+/// The second codestream has another sample.
+const CHANGED: &[u8] = b"\xff\xd8\
+\xff\xf7\x00\x0b\x08\x00\x01\x00\x01\x01\x01\x11\x00\
+\xff\xda\x00\x08\x01\x01\x00\x00\x00\x00\x80\xff\xd9\
+\xff\xd8\
+\xff\xf7\x00\x0b\x08\x00\x01\x00\x01\x01\x01\x11\x00\
+\xff\xda\x00\x08\x01\x01\x00\x00\x00\x00\x80\xff\xd9";
+
+/// What a case is, the index, the recording, what the check comes to: frames, damaged ones, and whether there are more bytes;
+/// and where the first finding is, and what.
+type Case = (
+    &'static str,
+    &'static [u8],
+    &'static [u8],
+    Result<(u64, u64, bool), CheckFault>,
+    Option<(u64, Damage)>,
+);
+
+const CASES: [Case; 12] = [
+    ("nothing", b"", b"", Ok((0, 0, false)), None),
+    ("sizes", SIZES, TWO_CODESTREAMS, Ok((2, 0, false)), None),
+    ("sums", SUMS, TWO_CODESTREAMS, Ok((2, 0, false)), None),
+    (
+        "a change that sizes don't show",
+        SIZES,
+        CHANGED,
+        Ok((2, 0, false)),
+        None,
+    ),
+    (
+        "a change",
+        SUMS,
+        CHANGED,
+        Ok((2, 1, false)),
+        Some((28, Damage::Changed)),
+    ),
+    (
+        "no recording",
+        SUMS,
+        b"",
+        Ok((2, 2, false)),
+        Some((0, Damage::Truncated)),
+    ),
+    (
+        "data that can't be decoded",
+        b"0 0 28 gray 1 1 255 8 3 7 21 64\n",
+        BROKEN_DATA,
+        Ok((1, 1, false)),
+        Some((0, Damage::Fault(StreamFault::BadCode(0)))),
+    ),
+    (
+        "more than the index has",
+        b"0 0 28 gray 1 1 255 8 3 7 21 64\n",
+        TWO_CODESTREAMS,
+        Ok((1, 0, true)),
+        None,
+    ),
+    ("no index", b"", TWO_CODESTREAMS, Ok((0, 0, true)), None),
+    (
+        "a line of another number",
+        b"1 0 28 gray\n",
+        TWO_CODESTREAMS,
+        Err(CheckFault::Line(0)),
+        None,
+    ),
+    (
+        "a line of another place",
+        b"0 0 28 gray 1 1 255 8 3 7 21 64\n1 29 28 gray\n",
+        TWO_CODESTREAMS,
+        Err(CheckFault::Line(1)),
+        None,
+    ),
+    (
+        "no line",
+        b"x",
+        TWO_CODESTREAMS,
+        Err(CheckFault::Line(0)),
+        None,
+    ),
+];
+
+fn check_cases(rt: &impl Abort, alloc: Global, ample: bool) {
+    for (name, index, recording, result, first) in CASES {
+        let index = Pieces::new(index, 7, None);
+        let recording = Pieces::new(recording, 5, None);
+        let result = result.map(|(frames, damaged, more)| checked(frames, damaged, more));
+        let first = first.map(|(place, damage)| found(place, damage));
+        check_checked(
+            rt,
+            alloc,
+            name,
+            index,
+            recording,
+            (result, first, 0, 0),
+            ample,
+        );
+    }
+}
+
+#[test]
+fn recordings_are_checked_with_ample_memory(rt: HostRuntime) {
+    check_cases(&rt, rt.alloc(), true);
+}
+
+#[test]
+fn recordings_are_checked_or_memory_is_refused(rt: HostRuntime) {
+    check_cases(&rt, rt.alloc(), false);
+}
+
+#[test]
+fn failed_reads_end_a_check_with_ample_memory(rt: HostRuntime) {
+    for at in 0..SUMS.len() {
+        let index = Pieces::new(SUMS, 1, Some(at));
+        let recording = Pieces::new(TWO_CODESTREAMS, 4096, None);
+        let want = (Err(CheckFault::IndexIo), None, 1, 0);
+        check_checked(
+            &rt,
+            rt.alloc(),
+            "a read of the index",
+            index,
+            recording,
+            want,
+            true,
+        );
+    }
+    for at in 0..TWO_CODESTREAMS.len() {
+        let index = Pieces::new(SUMS, 4096, None);
+        let recording = Pieces::new(TWO_CODESTREAMS, 1, Some(at));
+        let want = (Err(CheckFault::Io), None, 0, 1);
+        check_checked(
+            &rt,
+            rt.alloc(),
+            "a read of the recording",
+            index,
+            recording,
+            want,
+            true,
+        );
+    }
+}
+
+#[test]
+fn damage_and_faults_have_their_texts(rt: HostRuntime) {
+    check_text(&rt, Damage::Truncated, "truncated");
+    check_text(&rt, Damage::Changed, "changed");
+    check_text(
+        &rt,
+        Damage::Fault(StreamFault::BadCode(0)),
+        "bad code in component 0",
+    );
+    check_text(&rt, CheckFault::Line(3), "line 3: not of an index");
+    check_text(&rt, CheckFault::Io, "read failed");
+    check_text(&rt, CheckFault::IndexIo, "read failed");
+    check_text(&rt, CheckFault::NoMemory, "no memory");
+    check_text(&rt, CheckFault::TooMany, "too many frames");
+}
