@@ -88,6 +88,7 @@ impl Caused for CheckFault {
     fn cause(&self) -> Cause {
         match self {
             CheckFault::Io => Cause::Reading,
+            CheckFault::IndexIo => Cause::Reading,
             _ => Cause::Other,
         }
     }

@@ -96,9 +96,14 @@ where
     let mut report = Report::new(rt.alloc(), lines);
     match check(rt.alloc(), &mut wanted, &mut recording, &mut report) {
         Ok(checked) => report.end(file, checked, console),
-        Err(CheckFault::Io) => { conclude(file, Err(CheckFault::Io), &recording, None, console) }
-        Err(fault) => conclude(index, Err(fault), &wanted, None, console),
+        Err(fault) if is_of_index(fault) => conclude(index, Err(fault), &wanted, None, console),
+        Err(fault) => conclude(file, Err(fault), &recording, None, console),
     }
+}
+
+/// Whether a check stopped for its index.
+fn is_of_index(fault: CheckFault) -> bool {
+    matches!(fault, CheckFault::Line(_) | CheckFault::IndexIo)
 }
 
 /// Looks for what can't be decoded of a recording, and says that there is no index to compare it with.
