@@ -86,12 +86,12 @@ where
 
 /// Gaps of a file that are said on standard error.
 #[derive(Drop)]
-struct SaidGaps<'c, 'e, E> {
-    file: &'c str,
+struct SaidGaps<'f, 'c, 'e, E> {
+    file: &'f str,
     console: &'c mut Console<'e, E>,
 }
 
-impl<'c, 'e, E: Outlet> Gaps for SaidGaps<'c, 'e, E> {
+impl<'f, 'c, 'e, E: Outlet> Gaps for SaidGaps<'f, 'c, 'e, E> {
     ghost use Rattle.std.specs.Prelude.{None};
 
     ghost told = { λ _. None };
