@@ -11,7 +11,7 @@ use Rattle.ls_stream.specs.declared.faults.StreamFault.{StreamFault}
 use Rattle.ls_stream.specs.declared.faults.StreamFault.TheVariants as stream
 use Rattle.ls_stream.specs.declared.next.NextFault.TheVariants as next_fault
 use Rattle.ls_salvage.specs.Starts.{to_start, to_next}
-use Rattle.ls_salvage.specs.Salvage.{BreakBy}
+use Rattle.ls_salvage.specs.Salvage.{FailsBy}
 use Rattle.ls_salvage.specs.View.Parts.{is_refusal, HasPassed, HasNoEnd}
 use Rattle.ls_salvage.specs.View.Skipping.{HasSkipped}
 use Rattle.ls_salvage.proofs.SalvageLemmas.{some_bytes}
@@ -46,7 +46,7 @@ pub breaks : (read read' : Option (List ℕ)) (bytes : List ℕ) (fault : Stream
     → (Tells read → AreBytes (known read) → (other : StreamFault) → IsFirstFault bytes other ↔ IsFirstFault (known read) other)
     → ((fault ≡ stream.NoMemory) ⊎ ((front rest : List ℕ) (f : Picture) → bytes ≡ front ++ rest → Spells front f → ⊥))
     → ((fault ≡ stream.NoMemory) ⊎ IsFirstFault bytes fault) → is_refusal fault ≡ false
-    → Tells read → BreakBy fault (known read)
+    → Tells read → FailsBy fault (known read)
 breaks read read' bytes fault P gives some only alike (inl memory) first other = absurd (no_refusal fault other memory)
 breaks read read' bytes fault P gives some only alike (inr none) (inl memory) other = absurd (no_refusal fault other memory)
 breaks read read' bytes fault P gives some only alike (inr none) (inr first) other = λ told.

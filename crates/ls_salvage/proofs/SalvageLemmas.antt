@@ -9,7 +9,7 @@ use Rattle.ls_stream.specs.Grammar.{codestream_bytes, Spells}
 use Rattle.ls_stream.specs.View.Outlines.{OneFirstFault}
 use Rattle.ls_film.specs.Film.{IsFilm}
 use Rattle.ls_salvage.specs.Starts.{to_next}
-use Rattle.ls_salvage.specs.Salvage.{Part, frame, gap, BreakBy, IsGapOf, AreParts, IsSalvaged, size_of, bytes_of, frames_of, gaps_after, IsShownAt, IsHeld}
+use Rattle.ls_salvage.specs.Salvage.{Part, frame, gap, FailsBy, IsGapOf, AreParts, IsSalvaged, size_of, bytes_of, frames_of, gaps_after, IsShownAt, IsHeld}
 use Rattle.ls_salvage.proofs.StartLemmas.{spelled_start, to_next-most, to_next-near}
 
 -- ---- one part after the other
@@ -59,7 +59,7 @@ gaps_stand all bytes rest frames place (frame count f ∷ parts) far here are =
 gaps_stand all bytes rest frames place (gap count fault ∷ parts) far here are = (
   record {
     within = omega (arith, are.1.none.some, ap length here, length-drop place all);
-    breaks = subst (BreakBy fault) (sym here) are.1;
+    breaks = subst (FailsBy fault) (sym here) are.1;
     count_is = are.0 ∙ ap to_next (sym here);
   },
   gaps_stand all (drop count bytes) rest frames (place + count) parts (omega (arith, are.0, to_next-most bytes, ap length here, length-drop place all))

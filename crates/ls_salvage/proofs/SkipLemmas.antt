@@ -8,7 +8,7 @@ use Rattle.std.specs.Io.KnownBytes.{Consumes, prepend_known}
 use Rattle.ls_salvage.specs.declared.starts.Matched.{Matched}
 use Rattle.ls_salvage.specs.declared.starts.Matched.TheVariants.{Nothing, Fill, Image, Marker}
 use Rattle.ls_salvage.specs.Starts.{may_follow_soi, is_start, to_start}
-use Rattle.ls_salvage.specs.View.Skipping.{held, GoesOn, Found, HasPassed, HasSkipped}
+use Rattle.ls_salvage.specs.View.Skipping.{held, GoesOn, FoundStart, IsPassing, HasSkipped}
 use Rattle.ls_salvage.specs.View.Ends.{most_place}
 use Rattle.ls_salvage.proofs.StartLemmas.{to_start-none, to_start-here}
 
@@ -78,7 +78,7 @@ nothing_after_image byte other =
 
 pub ruleset after_lemmas = (fill_after_nothing, nothing_after_nothing, image_after_fill, fill_after_fill, nothing_after_fill, marker_after_image, nothing_after_image)
 
-pub found_after_marker : (byte : ℕ) → may_follow_soi byte ≡ true → Found Marker byte
+pub found_after_marker : (byte : ℕ) → may_follow_soi byte ≡ true → FoundStart Marker byte
 unfolding is_start
 found_after_marker byte may = record { four = refl; start = λ bytes. may }
 
@@ -115,7 +115,7 @@ pub record HasRead (place : Matched) (count : ℕ) (old new : List ℕ) (last : 
   pub count_is : count ≡ length passed + length (held place)
   pub far : to_start old ≡ length passed + to_start (held place ++ last ∷ new)
 
-read_more : (place : Matched) (count : ℕ) (old new run : List ℕ) (last : ℕ) → HasPassed place count old (run ++ last ∷ new) → (place ≡ Nothing) ⊎ (run ≡ [])
+read_more : (place : Matched) (count : ℕ) (old new run : List ℕ) (last : ℕ) → IsPassing place count old (run ++ last ∷ new) → (place ≡ Nothing) ⊎ (run ≡ [])
     → AllByRecursion (λ byte. byte ≡ 255 → ⊥) run → HasRead place (count + length run) old new last
 read_more place count old new run last before (inl none) unmarked = rw none (record {
   passed = before.passed ++ run;
@@ -151,7 +151,7 @@ run_few most last mid new before items none taken =
 
 -- so far, whatever the reader's first bytes were
 abbrev pub HasGivenPassed : Matched → ℕ → Option (List ℕ) → Option (List ℕ) → Type 0
-HasGivenPassed place count old new = Tells old → Tells new × HasPassed place count (known old) (known new)
+HasGivenPassed place count old new = Tells old → Tells new × IsPassing place count (known old) (known new)
 
 abbrev pub HasGivenRead : Matched → ℕ → Option (List ℕ) → Option (List ℕ) → ℕ → Type 0
 HasGivenRead place count old new last = Tells old → Tells new × HasRead place count (known old) (known new) last
@@ -167,7 +167,7 @@ read_on place most count last old mid new before items none passed one taken = �
 with_last : (place : Matched) (last : ℕ) (new : List ℕ) → held place ++ last ∷ new ≡ (held place ++ last ∷ []) ++ new
 with_last place last new = sym (append_assoc (held place) (last ∷ []) new)
 
-passed_on : (place next : Matched) (count : ℕ) (old new : List ℕ) (last : ℕ) → HasRead place count old new last → GoesOn place last next → HasPassed next (count + 1) old new
+passed_on : (place next : Matched) (count : ℕ) (old new : List ℕ) (last : ℕ) → HasRead place count old new last → GoesOn place last next → IsPassing next (count + 1) old new
 passed_on place next count old new last read go = record {
   passed = read.passed ++ go.passed;
   split =
@@ -195,14 +195,14 @@ pub held_few : (place next : Matched) (last count more : ℕ) → GoesOn place l
 held_few place next last count more go few some =
     omega (arith, few, some, ap length go.split, length-append (held place) (last ∷ []), length-append go.passed (held next))
 
-pub three_held : (place : Matched) (last : ℕ) → Found place last → length (held place) ≡ 3
+pub three_held : (place : Matched) (last : ℕ) → FoundStart place last → length (held place) ≡ 3
 three_held place last found = omega (arith, ap length found.four, length-append (held place) (last ∷ []))
 
 put_four : (a b c d : ℕ) (new bytes : Option (List ℕ)) → bytes ≡ prepend_known (a ∷ b ∷ c ∷ d ∷ []) new → Tells new → Tells bytes × (known bytes ≡ a ∷ b ∷ c ∷ d ∷ known new)
 put_four a b c d (Some x) bytes is told = rw is (refl, refl)
 put_four a b c d None bytes is told = absurd (let clash : ⊥ = cc in clash)
 
-found_here : (place : Matched) (count : ℕ) (old new : List ℕ) (last : ℕ) → HasRead place count old new last → Found place last → (skipped : ℕ) → skipped + 3 ≡ count
+found_here : (place : Matched) (count : ℕ) (old new : List ℕ) (last : ℕ) → HasRead place count old new last → FoundStart place last → (skipped : ℕ) → skipped + 3 ≡ count
     → HasSkipped skipped old (255 ∷ 216 ∷ 255 ∷ last ∷ new)
 found_here place count old new last read found skipped is =
     let four : held place ++ last ∷ new ≡ 255 ∷ 216 ∷ 255 ∷ last ∷ new = with_last place last new ∙ ap (λ s. s ++ new) found.four in record {
@@ -212,7 +212,7 @@ found_here place count old new last read found skipped is =
       far = omega (arith, is, read.count_is, read.far, ap to_start four, to_start-here (255 ∷ 216 ∷ 255 ∷ last ∷ new) (found.start new), three_held place last found);
     }
 
-pub given_found : (place : Matched) (count skipped : ℕ) (old new bytes : Option (List ℕ)) (last : ℕ) → HasGivenRead place count old new last → Found place last → skipped + 3 ≡ count
+pub given_found : (place : Matched) (count skipped : ℕ) (old new bytes : Option (List ℕ)) (last : ℕ) → HasGivenRead place count old new last → FoundStart place last → skipped + 3 ≡ count
     → bytes ≡ prepend_known (255 ∷ 216 ∷ 255 ∷ last ∷ []) new → Tells old → Tells bytes × HasSkipped skipped (known old) (known bytes)
 given_found place count skipped old new bytes last read found is back = λ told.
     let first = read told in

@@ -17,7 +17,7 @@ pub data Part : Type 0 where
   gap : (count : ℕ) → (fault : StreamFault) → Part
 
 -- No front of the bytes is a codestream of a frame, and this is their first fault.
-pub record BreakBy (fault : StreamFault) (bytes : List ℕ) : Type 0 where
+pub record FailsBy (fault : StreamFault) (bytes : List ℕ) : Type 0 where
   pub none : BeginsWithNone bytes
   pub first : AreBytes bytes → IsFirstFault bytes fault
 
@@ -25,7 +25,7 @@ pub record BreakBy (fault : StreamFault) (bytes : List ℕ) : Type 0 where
 abbrev pub AreParts : List ℕ → List Part → List ℕ → Type 0
 AreParts bytes [] rest = bytes ≡ rest
 AreParts bytes (frame count f ∷ parts) rest = (count ≤ length bytes) × Spells (take count bytes) f × AreParts (drop count bytes) parts rest
-AreParts bytes (gap count fault ∷ parts) rest = (count ≡ to_next bytes) × BreakBy fault bytes × AreParts (drop count bytes) parts rest
+AreParts bytes (gap count fault ∷ parts) rest = (count ≡ to_next bytes) × FailsBy fault bytes × AreParts (drop count bytes) parts rest
 
 -- All bytes are these parts.
 abbrev pub IsSalvaged : List ℕ → List Part → Type 0
@@ -61,7 +61,7 @@ gaps_of parts = gaps_after 0 0 parts
 -- the gap as it stands in the bytes
 pub record IsGapOf (bytes : List ℕ) (one : Gap) : Type 0 where
   pub within : one.place < length bytes
-  pub breaks : BreakBy one.fault (drop one.place bytes)
+  pub breaks : FailsBy one.fault (drop one.place bytes)
   pub count_is : one.count ≡ to_next (drop one.place bytes)
 
 -- ---- where a frame is shown
@@ -70,6 +70,7 @@ pub record IsGapOf (bytes : List ℕ) (one : Gap) : Type 0 where
 abbrev pub IsShownAt : List Part → ℕ → ℕ → Picture → Type 0
 IsShownAt parts place count f = (before : List Part) × (after : List Part) × (parts ≡ before ++ frame count f ∷ after) × (bytes_of before ≡ place)
 
--- A shown frame's codestream begins before this place and goes on after it: it holds the place in one of its segments.
+-- A shown frame's codestream begins before this place and ends after it. (Where a codestream begins within another, it does so in a
+-- segment: FF is followed by a byte below 80 in data.)
 abbrev pub IsHeld : List Part → ℕ → Type 0
 IsHeld parts place = (start : ℕ) × (count : ℕ) × (f : Picture) × IsShownAt parts start count f × (start < place) × (place < start + count)

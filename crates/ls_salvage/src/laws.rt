@@ -20,7 +20,8 @@ pub fn one_salvage()
 }
 
 /// Wherever a whole codestream of a frame stands in a recording, its frame is shown; or a codestream that is shown
-/// begins before it and ends after its beginning, and so holds it in a segment.
+/// begins before it and ends after its beginning, and so holds it (in a segment: FF is followed by a byte below 80 in
+/// data).
 pub fn whole_ones_are_shown()
     ensures { (bytes before front rest : List ℕ) (f : Picture) (parts : List Part) → bytes ≡ before ++ (front ++ rest) → Spells front f
         → IsSalvaged bytes parts → IsShownAt parts (length before) (length front) f ⊎ IsHeld parts (length before) }

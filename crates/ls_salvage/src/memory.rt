@@ -19,9 +19,9 @@ use std::alloc::Global;
 /// The canonical Netpbm images of a recording's frames, as far as they were written, its gaps, as far as they were
 /// told, and how the salvage ended.
 ///
-/// Each whole codestream of a frame is shown, unless one that is shown holds its beginning in a segment. A fault says
-/// what `salvage` says of it. If the recording is the codestreams of frames and nothing else, these are shown and there
-/// is no gap; or memory was refused.
+/// Each whole codestream of a frame is shown, unless one that is shown holds its beginning. A fault says what `salvage`
+/// says of it. If the recording is the codestreams of frames and nothing else, these are shown and there is no gap; or
+/// memory was refused.
 pub fn salvage_bytes(
     alloc: Global,
     recording: &[u8],

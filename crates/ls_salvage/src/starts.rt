@@ -6,7 +6,7 @@ ghost use Rattle.ls_frame.specs.View.Devices.{count_after};
 ghost use Rattle.ls_frame.specs.View.Known.{Tells, TakesUntil, WasAtEnd, known};
 ghost use Rattle.ls_salvage.specs.Starts.{may_follow_soi};
 ghost use Rattle.ls_salvage.specs.View.Ends.{most_place, failed_read};
-ghost use Rattle.ls_salvage.specs.View.Skipping.{GoesOn, Found, HasSkipped};
+ghost use Rattle.ls_salvage.specs.View.Skipping.{GoesOn, FoundStart, HasSkipped};
 
 use crate::faults::ReadFault;
 use ls_frame::{Buffered, Feed, FeedFault};
@@ -100,7 +100,7 @@ impl Matched {
     #[tactic(auto, using(crate::proofs::SkipLemmas::after_lemmas))]
     fn after(self, byte: u8) -> Option<Matched>
         ensures goes_on { IfSome result (λ next. GoesOn self byte next) }
-        ensures found { IfNone result (Found self byte) }
+        ensures found { IfNone result (FoundStart self byte) }
     {
         match self {
             Matched::Marker => after_marker(byte),
@@ -116,7 +116,7 @@ impl Matched {
 #[tactic(auto, using(crate::proofs::SkipLemmas::after_marker_lemmas))]
 fn after_marker(byte: u8) -> Option<Matched>
     ensures goes_on { IfSome result (λ next. GoesOn Matched.Marker byte next) }
-    ensures found { IfNone result (Found Matched.Marker byte) }
+    ensures found { IfNone result (FoundStart Matched.Marker byte) }
 {
     if may_follow_soi(byte) {
         return None;

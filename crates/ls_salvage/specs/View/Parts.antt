@@ -11,7 +11,7 @@ use Rattle.ls_salvage.specs.declared.parts.Found.TheVariants as found
 use Rattle.ls_salvage.specs.declared.parts.NextPart.{NextPart}
 use Rattle.ls_salvage.specs.declared.parts.NextPart.TheVariants as next
 use Rattle.ls_salvage.specs.Starts.{to_next}
-use Rattle.ls_salvage.specs.Salvage.{Part, frame, gap, BreakBy, AreParts}
+use Rattle.ls_salvage.specs.Salvage.{Part, frame, gap, FailsBy, AreParts}
 
 -- whether memory was refused, which is no fault of the bytes
 abbrev pub is_refusal : StreamFault → Bool
@@ -29,7 +29,7 @@ is_refusal stream.NoMemory = true
 abbrev pub IsFound : Option (List ℕ) → Option (List ℕ) → Found → Type 0
 IsFound read read' (found.Frame f count) = IsFrame f × (0 < count) × (count < 2 ^ 63) × Gave read read' (λ bytes. (length bytes ≡ count) × Spells bytes f)
 IsFound read read' (found.Fault fault bytes) =
-    (fault ≢ stream.NoMemory) × (Tells read → BreakBy fault (known read)) × Gave read read' (λ front. (front ≡ bytes.items) × (0 < length front))
+    (fault ≢ stream.NoMemory) × (Tells read → FailsBy fault (known read)) × Gave read read' (λ front. (front ≡ bytes.items) × (0 < length front))
 
 -- So many of these bytes were passed over, and the others are left.
 abbrev pub HasPassed : List ℕ → ℕ → Option (List ℕ) → Type 0

@@ -18,12 +18,12 @@ pub record GoesOn (place : Matched) (byte : ℕ) (next : Matched) : Type 0 where
   pub far : (bytes : List ℕ) → to_start (held place ++ byte ∷ bytes) ≡ length passed + to_start (held next ++ bytes)
 
 -- With this byte a start was read, of four bytes.
-pub record Found (place : Matched) (byte : ℕ) : Type 0 where
+pub record FoundStart (place : Matched) (byte : ℕ) : Type 0 where
   pub four : held place ++ byte ∷ [] ≡ 255 ∷ 216 ∷ 255 ∷ byte ∷ []
   pub start : (bytes : List ℕ) → is_start (255 ∷ 216 ∷ 255 ∷ byte ∷ bytes) ≡ true
 
 -- Of the bytes so many were read: those passed over, and then those held. New ones are left.
-pub record HasPassed (place : Matched) (count : ℕ) (old new : List ℕ) : Type 0 where
+pub record IsPassing (place : Matched) (count : ℕ) (old new : List ℕ) : Type 0 where
   pub passed : List ℕ
   pub split : old ≡ passed ++ (held place ++ new)
   pub count_is : count ≡ length passed + length (held place)
