@@ -14,7 +14,7 @@ use Rattle.ls_stream.specs.View.Extents.{Left, IsNext, extent_at, with_left}
 use Rattle.ls_stream.proofs.StepLemmas.{same_ok}
 use Rattle.ls_stream.proofs.ExtentLaws.{outlines_have_extents}
 use Rattle.ls_archive.specs.declared.entry.Headers.{Headers}
-use Rattle.ls_archive.specs.View.Entries.{GaveEntry, BreaksBy, IsSome, entry_of, HasHeaders}
+use Rattle.ls_archive.specs.View.Entries.{GaveEntry, BreaksBy, HasBytes, entry_of, HasHeaders}
 use Rattle.ls_archive.specs.View.Indexing.{StopsNext, index_fault}
 
 -- ---- outlines
@@ -76,7 +76,7 @@ none_outlined law bytes fault breaks front rest f whole spells =
     no_outline (outline_of bytes) read.0 rest fault (ap outline_of whole ∙ read.1) breaks
 
 -- where the next codestream, which was looked at, has a fault, all that was left has it
-pub breaks_by : (old new : Option (List ℕ)) (bytes seen : List ℕ) (fault : StreamFault) → seen ≡ bytes → (Tells old → IsSome (known old))
+pub breaks_by : (old new : Option (List ℕ)) (bytes seen : List ℕ) (fault : StreamFault) → seen ≡ bytes → (Tells old → HasBytes (known old))
     → (Tells old → (front rest : List ℕ) (f : Picture) → known old ≡ front ++ rest → Spells front f → bytes ≡ front)
     → (Tells old → AreBytes (known old) → (other : StreamFault) → IsFirstFault bytes other ↔ IsFirstFault (known old) other)
     → (Tells old → outline_of (known old) ≡ with_left (known new) (outline_of bytes))
@@ -97,13 +97,13 @@ breaks_by old new bytes seen fault is some only alike outlines none by told = (
 no_extent : (r : Left) → r ≡ Err stream.Truncated → r ≡ Ok [] → ⊥
 no_extent r err ok = let clash : ⊥ = cc in absurd clash
 
-pub some_outlined : (bytes : List ℕ) (o : Outline) → outline_of bytes ≡ Ok (o, []) → IsSome bytes
+pub some_outlined : (bytes : List ℕ) (o : Outline) → outline_of bytes ≡ Ok (o, []) → HasBytes bytes
 unfolding extent_at start_at
 some_outlined [] o read = absurd (no_extent (extent_at []) refl (outlines_have_extents [] [] o (sym (outline_few [] (omega arith)) ∙ read)))
 some_outlined (byte ∷ bytes) o read = omega arith
 
 -- what such a fault is to an index
-pub stops_by : (read : Option (List ℕ)) (n : ℕ) (fault : StreamFault) → (Tells read → IsSome (known read)) → (Tells read → BreaksBy fault (known read))
+pub stops_by : (read : Option (List ℕ)) (n : ℕ) (fault : StreamFault) → (Tells read → HasBytes (known read)) → (Tells read → BreaksBy fault (known read))
     → StopsNext read n (index_fault n fault)
 stops_by read n stream.Truncated some breaks = (refl, (λ is. let clash : ⊥ = cc in clash), breaks)
 stops_by read n stream.NotSoi some breaks = (refl, (λ is. let clash : ⊥ = cc in clash), breaks)

@@ -10,7 +10,7 @@ use Rattle.ls_film.proofs.FilmLemmas.{all-more}
 use Rattle.ls_archive.specs.declared.faults.IndexFault.{IndexFault}
 use Rattle.ls_archive.specs.declared.faults.IndexFault.TheVariants.{Stream, Io, Output, NoMemory, TooMany}
 use Rattle.ls_archive.specs.Index.{Entry, joined, line, lines_from, lines}
-use Rattle.ls_archive.specs.View.Entries.{IsEntry, AreEntriesOf, GaveEntries, GaveEntry, IsSome}
+use Rattle.ls_archive.specs.View.Entries.{IsEntry, AreEntriesOf, GaveEntries, GaveEntry, HasBytes}
 use Rattle.ls_archive.specs.View.Indexing.{Completes, StopsAt, StopsAtMost, HasRun, Stops, StopsNext, StopsLine}
 
 -- ---- lines, one more at a time
@@ -131,7 +131,7 @@ module _ (sums : Bool) where
       (stops_at read mid new written out m offset bytes _ (rw why.0 run) why.2, why.1)
   stops-next read mid new written out n offset bytes (Io m) run why = stops_at read mid new written out m offset bytes _ (rw why run) (λ told. tt)
   stops-next read mid new written out n offset bytes (Output count) run why = absurd why
-  stops-next read mid new written out n offset bytes NoMemory run why = (n, stops_at read mid new written out n offset bytes IsSome run why)
+  stops-next read mid new written out n offset bytes NoMemory run why = (n, stops_at read mid new written out n offset bytes HasBytes run why)
   stops-next read mid new written out n offset bytes TooMany run why = absurd why
 
   -- memory was refused for the line of a codestream that was read
@@ -139,7 +139,7 @@ module _ (sums : Bool) where
       → (IsEntry entry → 0 < length entry.bytes) → Stops sums read new written out NoMemory
   stops-memory read mid new written out n offset bytes entry run next some = (
     n,
-    stops_at read mid new written out n offset bytes IsSome run
+    stops_at read mid new written out n offset bytes HasBytes run
         (λ told. let gave = next told in omega (arith, ap length gave.2, length-append gave.1 (known new), ap length gave.3.0, some gave.3.1)),
   )
 

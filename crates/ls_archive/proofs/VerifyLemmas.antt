@@ -18,7 +18,7 @@ use Rattle.ls_film.specs.View.Playing.{BreaksBy}
 use Rattle.ls_film.proofs.FilmLemmas.{GaveFrames-none, GaveFrames-more, GaveFilm-end, IsBrokenAfter-next}
 use Rattle.ls_archive.specs.declared.faults.VerifyFault.{VerifyFault}
 use Rattle.ls_archive.specs.declared.faults.VerifyFault.TheVariants.{Film, Recording, RecordingIo, NoMemory, TooMany}
-use Rattle.ls_archive.specs.View.Entries.{IsSome}
+use Rattle.ls_archive.specs.View.Entries.{HasBytes}
 use Rattle.ls_archive.specs.declared.verifying.Verdict.{Verdict}
 use Rattle.ls_archive.specs.declared.verifying.Verdict.TheVariants.{Same, Differs, Missing, Extra}
 use Rattle.ls_archive.specs.View.Verifying.{BeginsWithImage, HaveRun, Finds, StopsAfter, Stops, GaveNext, verdict_at, IsCompared, at_most, StopsFilm, StopsRecording, film_fault, recording_fault}
@@ -148,7 +148,7 @@ module _ (film mid film' recording midway recording' : Option (List ℕ)) (n : �
   at_recording (Film m fault) why = absurd why
   at_recording (Recording m fault) why = (rw why.0 (stops_after AnyBytes _ (any mid) why.2), why.1)
   at_recording (RecordingIo m) why = rw why (stops_after AnyBytes AnyBytes (any mid) (any midway))
-  at_recording NoMemory why = (n, inr (stops_after AnyBytes IsSome (any mid) why))
+  at_recording NoMemory why = (n, inr (stops_after AnyBytes HasBytes (any mid) why))
   at_recording TooMany why = absurd why
 
   pub run-stops : (fault : VerifyFault) → StopsFilm mid n fault ⊎ StopsRecording midway n fault → Stops film recording fault
@@ -219,7 +219,7 @@ coded_fault read n fault other (inl memory) = absurd (other memory)
 coded_fault read n fault other (inr breaks) = (refl, other, breaks)
 
 -- what a fault of it is to a comparison
-pub stops_coded : (read : Option (List ℕ)) (n : ℕ) (fault : StreamFault) → (Tells read → IsSome (known read)) → (fault ≡ stream.NoMemory) ⊎ (Tells read → BreaksBy fault (known read))
+pub stops_coded : (read : Option (List ℕ)) (n : ℕ) (fault : StreamFault) → (Tells read → HasBytes (known read)) → (fault ≡ stream.NoMemory) ⊎ (Tells read → BreaksBy fault (known read))
     → StopsRecording read n (recording_fault n fault)
 stops_coded read n stream.Truncated some why = coded_fault read n stream.Truncated (λ is. let clash : ⊥ = cc in clash) why
 stops_coded read n stream.NotSoi some why = coded_fault read n stream.NotSoi (λ is. let clash : ⊥ = cc in clash) why

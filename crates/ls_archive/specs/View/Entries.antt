@@ -60,7 +60,8 @@ BeginsWithEntries old entries P = Tells old →
 
 -- ---- the next codestream
 
--- It is a fault of the bytes: the first that their headers or the decoding show, or that of their markers and headers alone.
+-- It is a fault of the bytes: the first, as decoding has it, or that of their markers and headers alone; or there are as many as a
+-- codestream may have, and it says that they are too many.
 abbrev pub IsFaultBy : List ℕ → StreamFault → Type 0
 IsFaultBy bytes fault = IsFaultOf bytes fault ⊎ (outline_of bytes ≡ Err fault)
 
@@ -69,8 +70,8 @@ abbrev pub BreaksBy : StreamFault → List ℕ → Type 0
 BreaksBy fault bytes = BeginsWithNone bytes × IsFaultBy bytes fault
 
 -- there are bytes
-abbrev pub IsSome : List ℕ → Type 0
-IsSome bytes = 0 < length bytes
+abbrev pub HasBytes : List ℕ → Type 0
+HasBytes bytes = 0 < length bytes
 
 -- ---- headers
 

@@ -11,7 +11,7 @@ use Rattle.ls_film.specs.View.Memory.{AnyBytes}
 use Rattle.ls_archive.specs.declared.faults.IndexFault.{IndexFault}
 use Rattle.ls_archive.specs.declared.faults.IndexFault.TheVariants.{Stream, Io, Output, NoMemory, TooMany}
 use Rattle.ls_archive.specs.Index.{Entry, joined, lines}
-use Rattle.ls_archive.specs.View.Entries.{AreEntriesOf, IsOfFrame, GaveEntries, GaveIndexed, BeginsWithEntries, BreaksBy, IsSome}
+use Rattle.ls_archive.specs.View.Entries.{AreEntriesOf, IsOfFrame, GaveEntries, GaveIndexed, BeginsWithEntries, BreaksBy, HasBytes}
 
 module _ (sums : Bool) (read read' written written' : Option (List ℕ)) where
   -- The reader is at its end, it gave n codestreams, and the lines of these were written and nothing else.
@@ -62,7 +62,7 @@ module _ (sums : Bool) (read read' written written' : Option (List ℕ)) where
   Stops (Stream m fault) = StopsAt m (BreaksBy fault) × (fault ≢ stream.NoMemory)
   Stops (Io m) = StopsAt m AnyBytes
   Stops (Output bytes) = StopsAtOutput bytes
-  Stops NoMemory = (m : ℕ) × StopsAt m IsSome
+  Stops NoMemory = (m : ℕ) × StopsAt m HasBytes
   Stops TooMany = StopsAtMost
 
 -- ---- the steps
@@ -84,7 +84,7 @@ abbrev pub StopsNext : Option (List ℕ) → ℕ → IndexFault → Type 0
 StopsNext read n (Stream m fault) = (m ≡ n) × (fault ≢ stream.NoMemory) × (Tells read → BreaksBy fault (known read))
 StopsNext read n (Io m) = m ≡ n
 StopsNext read n (Output bytes) = ⊥
-StopsNext read n NoMemory = Tells read → IsSome (known read)
+StopsNext read n NoMemory = Tells read → HasBytes (known read)
 StopsNext read n TooMany = ⊥
 
 -- what an end at a line that is written after so many bytes says: its first bytes went out

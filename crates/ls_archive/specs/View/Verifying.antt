@@ -15,7 +15,7 @@ use Rattle.ls_film.specs.View.Memory.{AnyBytes}
 use Rattle.ls_film.specs.View.Playing.{BreaksBy}
 use Rattle.ls_archive.specs.declared.faults.VerifyFault.{VerifyFault}
 use Rattle.ls_archive.specs.declared.faults.VerifyFault.TheVariants.{Film, Recording, RecordingIo, NoMemory, TooMany}
-use Rattle.ls_archive.specs.View.Entries.{IsSome}
+use Rattle.ls_archive.specs.View.Entries.{HasBytes}
 use Rattle.ls_archive.specs.declared.verifying.Verdict.{Verdict}
 use Rattle.ls_archive.specs.declared.verifying.Verdict.TheVariants.{Same, Differs, Missing, Extra}
 
@@ -88,7 +88,7 @@ module _ (film recording : Option (List ℕ)) where
   Stops (Film m fault) = StopsAfter m (λ rest. IsTrue (blames_bytes fault) → IsBroken rest fault) AnyBytes × (fault ≢ netpbm.NoMemory)
   Stops (Recording m fault) = StopsAfter m AnyBytes (BreaksBy fault) × (fault ≢ stream.NoMemory)
   Stops (RecordingIo m) = StopsAfter m AnyBytes AnyBytes
-  Stops NoMemory = (m : ℕ) × (StopsAfter m BeginsWithHeading AnyBytes ⊎ StopsAfter m AnyBytes IsSome)
+  Stops NoMemory = (m : ℕ) × (StopsAfter m BeginsWithHeading AnyBytes ⊎ StopsAfter m AnyBytes HasBytes)
   Stops TooMany = StopsAfter most_frames (BeginsWithImage IsImageOf) AnyBytes ⊎ StopsAfter most_frames AnyBytes (BeginsWithImage Spells)
 
 -- ---- the steps
@@ -158,7 +158,7 @@ abbrev pub StopsRecording : Option (List ℕ) → ℕ → VerifyFault → Type 0
 StopsRecording recording n (Film m fault) = ⊥
 StopsRecording recording n (Recording m fault) = (m ≡ n) × (fault ≢ stream.NoMemory) × (Tells recording → BreaksBy fault (known recording))
 StopsRecording recording n (RecordingIo m) = m ≡ n
-StopsRecording recording n NoMemory = Tells recording → IsSome (known recording)
+StopsRecording recording n NoMemory = Tells recording → HasBytes (known recording)
 StopsRecording recording n TooMany = ⊥
 
 -- ---- devices
