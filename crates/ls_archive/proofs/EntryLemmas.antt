@@ -1,15 +1,14 @@
 -- What the headers of the next codestream say of all that a reader had left.
-use Rattle.std.proofs.Common.{◌≡◌, ◌⊎◌, ◌↔◌, ◌+◌, ◌-◌, ◌≤◌, ltb, ℕ, List, [], ◌∷◌, ◌++◌, length, take, drop, inl, inr, Option, Ok, Err, refl, sym, ap, subst, ◌∙◌, arith, append-nil, length-append, length-drop}
+use Rattle.std.proofs.Common.{◌≡◌, ◌+◌, ◌-◌, ◌≤◌, ltb, ℕ, List, [], ◌∷◌, ◌++◌, length, take, drop, inl, Option, Ok, Err, refl, sym, ap, ◌∙◌, arith, append-nil, length-append, length-drop}
 use Rattle.std.proofs.lemmas.Bool.{cond-false, le-ltb}
 use Rattle.std.proofs.lemmas.List.{take_all, drop_all}
-use Rattle.ls_bits.specs.Bits.{AreBytes}
 use Rattle.ls_frame.specs.Picture.{Picture}
 use Rattle.ls_frame.specs.View.Known.{Tells, Gave, known}
 use Rattle.ls_stream.specs.declared.faults.StreamFault.{StreamFault}
 use Rattle.ls_stream.specs.declared.faults.StreamFault.TheVariants as stream
 use Rattle.ls_stream.specs.Grammar.{Spells, most_bytes}
 use Rattle.ls_stream.specs.View.Reading.{Take, start_at}
-use Rattle.ls_stream.specs.View.Outlines.{Outline, past_most, of_all, outline_at, outline_of, IsFirstFault, SpellingsHaveBoundedOutlines}
+use Rattle.ls_stream.specs.View.Outlines.{Outline, past_most, of_all, outline_at, outline_of, SpellingsHaveBoundedOutlines}
 use Rattle.ls_stream.specs.View.Extents.{Left, IsNext, extent_at, with_left}
 use Rattle.ls_stream.proofs.StepLemmas.{same_ok}
 use Rattle.ls_stream.proofs.ExtentLaws.{outlines_have_extents}
@@ -78,19 +77,15 @@ none_outlined law bytes fault breaks front rest f whole spells =
 -- where the next codestream, which was looked at, has a fault, all that was left has it
 pub breaks_by : (old new : Option (List ℕ)) (bytes seen : List ℕ) (fault : StreamFault) → seen ≡ bytes → (Tells old → HasBytes (known old))
     → (Tells old → (front rest : List ℕ) (f : Picture) → known old ≡ front ++ rest → Spells front f → bytes ≡ front)
-    → (Tells old → AreBytes (known old) → (other : StreamFault) → IsFirstFault bytes other ↔ IsFirstFault (known old) other)
     → (Tells old → outline_of (known old) ≡ with_left (known new) (outline_of bytes))
-    → ((front rest : List ℕ) (f : Picture) → seen ≡ front ++ rest → Spells front f → ⊥) → IsFirstFault seen fault ⊎ (outline_of seen ≡ Err fault)
+    → ((front rest : List ℕ) (f : Picture) → seen ≡ front ++ rest → Spells front f → ⊥) → outline_of seen ≡ Err fault
     → Tells old → BreaksBy fault (known old)
-breaks_by old new bytes seen fault is some only alike outlines none by told = (
+breaks_by old new bytes seen fault is some only outlines none breaks told = (
   record {
     some = some told;
     none = λ front rest f whole spells. none front [] f (is ∙ only told front rest f whole spells ∙ sym (append-nil front)) spells;
   },
-  elim by [
-    | inl first ↦ inl (inl (λ are. (alike told are fault).0 (subst (λ s. IsFirstFault s fault) is first)))
-    | inr breaks ↦ inr (outlines told ∙ ap (λ s. with_left (known new) (outline_of s)) (sym is) ∙ ap (with_left (known new)) breaks)
-  ],
+  inl (outlines told ∙ ap (λ s. with_left (known new) (outline_of s)) (sym is) ∙ ap (with_left (known new)) breaks),
 )
 
 -- no bytes are no codestream

@@ -1,10 +1,10 @@
 //! A codestream that was taken off a reader, and what its headers say.
-ghost use Rattle.std.specs.Prelude.{◌≡◌, ◌⊎◌, ◌≤◌, ◌++◌, ℕ, List, length, Err, IfOk, IfErr, IfSome, IfNone};
+ghost use Rattle.std.specs.Prelude.{◌≡◌, ◌≤◌, ◌++◌, ℕ, List, length, Err, IfOk, IfErr, IfSome, IfNone};
 ghost use Rattle.ls_frame.specs.Picture.{Picture};
 ghost use Rattle.ls_frame.specs.View.Devices.{count_after};
 ghost use Rattle.ls_frame.specs.View.Known.{WasAtEnd};
 ghost use Rattle.ls_stream.specs.Grammar.{Spells, most_bytes};
-ghost use Rattle.ls_stream.specs.View.Outlines.{outline_of, IsFirstFault};
+ghost use Rattle.ls_stream.specs.View.Outlines.{outline_of};
 ghost use Rattle.ls_archive.specs.Index.{columns};
 ghost use Rattle.ls_archive.specs.View.Entries.{IsEntry, GaveEntry, HasHeaders};
 ghost use Rattle.ls_archive.specs.View.Indexing.{StopsNext, failed_reader};
@@ -133,7 +133,7 @@ impl Indexed {
 fn headers_of(bytes: &[u8]) -> Result<Headers, StreamFault>
     ensures ok { IfOk result (HasHeaders bytes.now) }
     ensures none { IfErr result (λ fault. (front rest : List ℕ) (f : Picture) → bytes.now ≡ front ++ rest → Spells front f → ⊥) }
-    ensures fault { IfErr result (λ fault. IsFirstFault bytes.now fault ⊎ (outline_of bytes.now ≡ Err fault)) }
+    ensures fault { IfErr result (λ fault. outline_of bytes.now ≡ Err fault) }
 {
     outlines_follow_the_grammar();
     let opening = Opening::read(bytes)?;

@@ -5,7 +5,7 @@ use Rattle.ls_frame.specs.Picture.{Picture}
 use Rattle.ls_film.specs.Film.{IsFilm}
 
 -- of two fronts one begins the other
-two_fronts : (a b c d : List ℕ) → a ++ b ≡ c ++ d
+pub two_fronts : (a b c d : List ℕ) → a ++ b ≡ c ++ d
     → ((s : List ℕ) × (c ≡ a ++ s) × (b ≡ s ++ d)) ⊎ ((s : List ℕ) × (a ≡ c ++ s) × (d ≡ s ++ b))
 two_fronts [] b c d whole = inl (c, refl, whole)
 two_fronts (x ∷ a) b [] d whole = inr (x ∷ a, refl, sym whole)

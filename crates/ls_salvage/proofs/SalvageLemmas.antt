@@ -8,6 +8,7 @@ use Rattle.ls_bits.specs.Bits.{AreBytes}
 use Rattle.ls_stream.specs.Grammar.{codestream_bytes, Spells}
 use Rattle.ls_stream.specs.View.Outlines.{OneFirstFault}
 use Rattle.ls_film.specs.Film.{IsFilm}
+use Rattle.ls_film.proofs.OneFilmLemmas.{two_fronts}
 use Rattle.ls_salvage.specs.Starts.{to_next}
 use Rattle.ls_salvage.specs.Salvage.{Part, frame, gap, FailsBy, IsGapOf, AreParts, IsSalvaged, size_of, bytes_of, frames_of, gaps_after, IsShownAt, IsHeld}
 use Rattle.ls_salvage.proofs.StartLemmas.{spelled_start, to_next-most, to_next-near}
@@ -116,19 +117,6 @@ bytes_after (suc count) (byte ∷ bytes) are = bytes_after count bytes are.1
 -- two parts, each with what follows it
 same_parts : {A : Type 0} (one other : A) (parts others : List A) → one ≡ other → parts ≡ others → one ∷ parts ≡ other ∷ others
 same_parts one other parts others is are = cc
-
--- of two fronts one begins the other
-two_fronts : (a b c d : List ℕ) → a ++ b ≡ c ++ d
-    → ((s : List ℕ) × (c ≡ a ++ s) × (b ≡ s ++ d)) ⊎ ((s : List ℕ) × (a ≡ c ++ s) × (d ≡ s ++ b))
-two_fronts [] b c d whole = inl (c, refl, whole)
-two_fronts (x ∷ a) b [] d whole = inr (x ∷ a, refl, sym whole)
-two_fronts (x ∷ a) b (y ∷ c) d whole =
-    let head : x ≡ y = cc in
-    let tail : a ++ b ≡ c ++ d = cc in
-    elim (two_fronts a b c d tail) [
-      | inl first ↦ inl (first.0, cc, first.2)
-      | inr second ↦ inr (second.0, cc, second.2)
-    ]
 
 module _ (only : (one other rest : List ℕ) (f g : Picture) → Spells one f → Spells other g → other ≡ one ++ rest → rest ≡ [])
     (same : (bytes : List ℕ) (f g : Picture) → Spells bytes f → Spells bytes g → f ≡ g) where

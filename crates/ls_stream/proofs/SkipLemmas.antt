@@ -75,6 +75,14 @@ skipped opened header p rest left are opens reads precision kind width height pa
     let says : IsOutlineFrom opened o = record { precision = sym precision; kind = sym kind; width = sym width; height = sym height; parameters = sym parameters } in
     (few, (o, left ++ more, ap (of_all bytes) read, omega (arith, few, sizes, length-append left more), says))
 
+-- there is none
+pub not_opened : (bytes first : List ℕ) (fault : StreamFault) → first ≡ take most_bytes bytes → opening_at first ≡ Err fault → outline_of bytes ≡ Err (fault_of bytes fault)
+unfolding outline_of outline_at
+not_opened bytes first fault same opens =
+    ap (λ (r : Result (FrameHeader × Parameters × List ℕ) StreamFault).
+    of_all bytes (r >>= λ opened. scans_at (drop 1 (ids_in opened.0)) opened.2 >>= λ found. Ok (outline opened found.0, found.1)))
+    (ap opening_at (sym same) ∙ opens)
+
 -- they have a fault
 pub not_skipped : (bytes : List ℕ) (header : FrameHeader) (p : Parameters) (rest : List ℕ) (fault : StreamFault) → opening_at (take most_bytes bytes) ≡ Ok (header, p, rest)
     → rest_of (scans_at (drop 1 (ids_in header)) rest) ≡ Err fault → outline_of bytes ≡ Err (fault_of bytes fault)

@@ -111,6 +111,7 @@ impl<'a> Opening<'a> {
             → IsOfForm opening f) }
         ensures none { IfErr result (λ fault. (front rest : List ℕ) (f : Picture) → bytes.now ≡ front ++ rest → Spells front f → ⊥) }
         ensures first { IfErr result (λ fault. IsFirstFault bytes.now fault) }
+        ensures outline { IfErr result (λ fault. outline_of bytes.now ≡ Err fault) }
         ensures memory { IfErr result (λ fault. fault ≢ StreamFault.NoMemory) }
     {
         match read_opening(first_bytes(bytes)) {

@@ -4,9 +4,10 @@ use Rattle.std.specs.List.{AllByRecursion}
 use Rattle.ls_frame.specs.Picture.{Picture}
 use Rattle.ls_frame.specs.View.Known.{Tells, Gave, known}
 use Rattle.ls_stream.specs.declared.faults.StreamFault.{StreamFault}
+use Rattle.ls_stream.specs.declared.faults.StreamFault.TheVariants as stream
 use Rattle.ls_stream.specs.Grammar.{most_bytes}
 use Rattle.ls_stream.specs.View.Outlines.{Outline, outline_of}
-use Rattle.ls_film.specs.View.Playing.{BeginsWithNone, IsFaultOf}
+use Rattle.ls_film.specs.View.Playing.{BeginsWithNone}
 use Rattle.ls_archive.specs.declared.entry.Headers.{Headers}
 use Rattle.ls_archive.specs.Index.{Entry, joined}
 
@@ -60,10 +61,10 @@ BeginsWithEntries old entries P = Tells old →
 
 -- ---- the next codestream
 
--- It is a fault of the bytes: the first, as decoding has it, or that of their markers and headers alone; or there are as many as a
--- codestream may have, and it says that they are too many.
+-- It is the first fault of their markers and headers; or there are as many bytes as a codestream may have, and it says that they are
+-- too many.
 abbrev pub IsFaultBy : List ℕ → StreamFault → Type 0
-IsFaultBy bytes fault = IsFaultOf bytes fault ⊎ (outline_of bytes ≡ Err fault)
+IsFaultBy bytes fault = (outline_of bytes ≡ Err fault) ⊎ ((fault ≡ stream.TooLarge) × (most_bytes ≤ length bytes))
 
 -- They begin with no codestream of a frame, and have this fault.
 abbrev pub BreaksBy : StreamFault → List ℕ → Type 0

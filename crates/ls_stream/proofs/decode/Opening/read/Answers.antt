@@ -5,6 +5,7 @@ use Rattle.ls_stream.specs.View.Outlines.{DecodingStops, at_opening}
 use Rattle.ls_stream.proofs.FaultLaws.{opening_begins, stops_are_first_faults}
 use Rattle.ls_stream.proofs.MemoryLemmas.{memory_of_first, opening_needs_none}
 use Rattle.ls_stream.proofs.FrameReadingLemmas.{are_bytes, bytes_take, no_opening}
+use Rattle.ls_stream.proofs.SkipLemmas.{not_opened}
 use Rattle.ls_stream.proofs.OpeningLemmas.{no_front, of_form, opening_says}
 use Rattle.ls_stream.proofs.decode.Opening.read.Goals as goal
 
@@ -36,6 +37,10 @@ returns-in-Err-clause-first c =
       stops_are_first_faults (take most_bytes bytes) c.in-Err.fault are
           (subst (λ first. DecodingStops first c.in-Err.fault) c.first_bytes.ensures (at_opening c.in-Err.ensures.value)),
     )
+
+pub returns-in-Err-clause-outline : goal.returns-in-Err-clause-outline
+returns-in-Err-clause-outline c =
+    not_opened c.args.bytes.now c.first_bytes.result.now c.in-Err.fault c.first_bytes.ensures c.in-Err.ensures.value ∙ ap Err (sym c.fault_of.ensures)
 
 pub returns-in-Err-clause-memory : goal.returns-in-Err-clause-memory
 returns-in-Err-clause-memory c = λ e.
