@@ -16,7 +16,7 @@ const LIKENESSES: [(usize, &[u8], &str); 18] = [
     (
         0,
         b"\xff\xd8\xff\xf7",
-        "this seems to be a recording: play it",
+        "this seems to be a recording: play it, or list it by index",
     ),
     (0, b"\xff\xd8\xff\xe8", "this seems to be JPEG-LS: play it"),
     (
