@@ -1,5 +1,7 @@
 -- How a reader, a writer and the code's faults are seen as recordings and what is said of them.
 pub mod Checks
 pub mod Entries
+pub mod Followed
+pub mod Following
 pub mod Indexing
 pub mod Verifying

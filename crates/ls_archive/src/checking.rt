@@ -296,7 +296,8 @@ fn damage_of(
 {
     outlines_follow_the_grammar();
     let is_short = bytes.len() < line.size as usize;
-    let Some(indexed) = Indexed::of(bytes) else {
+    let mut bytes = bytes;
+    let Some(indexed) = Indexed::take(alloc, &mut bytes) else {
         return Ok(Some(changed(is_short)));
     };
     if !is_line_of(alloc, number, place, &line.text, &indexed)? {

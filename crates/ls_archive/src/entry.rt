@@ -1,5 +1,5 @@
 //! A codestream that was taken off a reader, and what its headers say.
-ghost use Rattle.std.specs.Prelude.{◌≡◌, ◌≤◌, ◌++◌, ℕ, List, length, Err, IfOk, IfErr, IfSome, IfNone};
+ghost use Rattle.std.specs.Prelude.{◌≡◌, ◌≤◌, ◌++◌, ℕ, List, [], length, Err, IfOk, IfErr, IfSome, IfNone};
 ghost use Rattle.ls_frame.specs.Picture.{Picture};
 ghost use Rattle.ls_frame.specs.View.Devices.{count_after};
 ghost use Rattle.ls_frame.specs.View.Known.{WasAtEnd};
@@ -15,6 +15,7 @@ use ls_stream::laws::outlines_follow_the_grammar;
 use ls_stream::{NextFault, Opening, StreamFault, next_stream};
 use std::alloc::Global;
 use std::marker::Model;
+use std::mem::replace;
 
 /// A codestream, and what its headers say.
 #[derive(Drop)]
@@ -79,17 +80,20 @@ impl Indexed {
         }
     }
 
-    /// The codestream that bytes are, if they are one by its markers and headers and nothing follows it.
-    pub fn of(bytes: Vec<u8>) -> Option<Indexed>
-        ensures entry { IfSome result (λ entry. IsEntry entry × (entry.bytes ≡ bytes.items)) }
-        ensures none { IfNone result ((f : Picture) → Spells bytes.items f → ⊥) }
+    /// Takes the bytes, if they are a codestream by its markers and headers and nothing follows it; else leaves them.
+    pub fn take(alloc: Global, bytes: &mut Vec<u8>) -> Option<Indexed>
+        ensures entry { IfSome result (λ entry. IsEntry entry × (entry.bytes ≡ bytes.old.items)) }
+        ensures taken { IfSome result (λ entry. bytes.new.items ≡ []) }
+        ensures none { IfNone result ((f : Picture) → Spells bytes.old.items f → ⊥) }
+        ensures left { IfNone result (bytes.new.items ≡ bytes.old.items) }
     {
         outlines_follow_the_grammar();
-        match headers_of(&bytes) {
+        match headers_of(bytes.as_slice()) {
             Ok(headers) => {
                 if headers.used < bytes.len() {
                     return None;
                 }
+                let bytes = replace(bytes, Vec::new(alloc));
                 Some(Indexed { bytes, headers })
             }
             Err(_) => None,

@@ -30,11 +30,13 @@
 pub mod checking;
 mod entry;
 pub mod faults;
+pub mod following;
 pub mod index;
 pub mod laws;
 pub mod verifying;
 
 pub use checking::{CheckFault, Checked, Damage, Finding, Findings, check};
 pub use faults::{IndexFault, VerifyFault};
+pub use following::Follower;
 pub use index::{index_bytes, write_index};
 pub use verifying::{Verdict, verify, verify_bytes};

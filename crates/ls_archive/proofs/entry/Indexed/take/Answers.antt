@@ -1,6 +1,6 @@
 use Rattle.std.proofs.Common.{[], length, ap, sym, ◌∙◌, append-nil, arith}
 use Rattle.ls_archive.proofs.CheckLemmas.{spelled_whole}
-use Rattle.ls_archive.proofs.entry.Indexed.of.Goals as goal
+use Rattle.ls_archive.proofs.entry.Indexed.take.Goals as goal
 
 pub returns-then-headers-len-clause-none : goal.returns-then-headers-len-clause-none
 returns-then-headers-len-clause-none c = λ f spells.

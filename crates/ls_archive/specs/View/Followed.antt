@@ -1,0 +1,29 @@
+-- How far a recording was followed whose index is written while it is.
+use Rattle.std.specs.Prelude.{ℕ, ◌+◌, ◌*◌, ◌^◌, ◌≤◌, List, []}
+use Rattle.ls_film.specs.Film.{most_frames}
+
+-- The bytes since the last whole codestream, which are held back; and of the codestreams before them: how many, of how many bytes
+-- in all, and with lines of how many.
+pub record Followed : Type 0 where
+  pub pending : List ℕ
+  pub number : ℕ
+  pub offset : ℕ
+  pub written : ℕ
+
+-- before the first byte
+abbrev pub nothing : Followed
+nothing = record { pending = []; number = 0; offset = 0; written = 0 }
+
+-- the same with other bytes held back
+abbrev pub holding : List ℕ → Followed → Followed
+holding pending f = record { pending = pending; number = f.number; offset = f.offset; written = f.written }
+
+-- with a codestream more, of so many bytes, and so many bytes of lines
+abbrev pub stepped : ℕ → ℕ → Followed → Followed
+stepped size written f = record { pending = f.pending; number = f.number + 1; offset = f.offset + size; written = written }
+
+-- The counts are of codestreams and lines that there may be.
+pub record IsFollowed (f : Followed) : Type 0 where
+  pub few : f.number ≤ most_frames
+  pub near : f.offset ≤ 2 ^ 32 * f.number
+  pub small : f.written ≤ 2 ^ 32 * f.number

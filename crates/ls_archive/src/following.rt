@@ -1,0 +1,142 @@
+//! The index of a recording that is being written.
+ghost use Rattle.std.specs.Prelude.{◌≡◌, ◌≤◌, ◌<◌, ◌+◌, ◌*◌, ◌^◌, ◌++◌, List, [], length, take, None, OnOk, IfOk, IfErr, IfSome, IfNone, is_err};
+ghost use Rattle.std.specs.Io.{WritesAtMost};
+ghost use Rattle.std.specs.Io.KnownBytes.{Keeps, WriteAppends};
+ghost use Rattle.ls_frame.specs.View.Devices.{count_after};
+ghost use Rattle.ls_stream.specs.Grammar.{most_bytes};
+ghost use Rattle.ls_film.specs.Film.{most_frames};
+ghost use Rattle.ls_archive.specs.View.Entries.{IsEntry};
+ghost use Rattle.ls_archive.specs.View.Indexing.{failed_writer};
+ghost use Rattle.ls_archive.specs.View.Followed.{nothing, holding, stepped};
+ghost use Rattle.ls_archive.specs.View.Following.{index_of, followed, HasFollowed, FollowsOn, BreaksOff};
+
+use crate::entry::Indexed;
+use crate::faults::IndexFault;
+use crate::index::{line, write_line};
+use ls_film::MOST_FRAMES;
+use ls_frame::{Failed, Outlet};
+use std::alloc::{AllocError, Global};
+use std::io;
+use std::io::Write;
+use std::marker::Model;
+
+/// The last two bytes of a codestream: EOI (T.87, C.1.1).
+const EOI: [u8; 2] = [0xFF, 0xD9];
+
+/// How far a recording was followed.
+#[derive(Drop)]
+pub struct Progress {
+    /// The bytes since the last whole codestream.
+    pending: Vec<u8>,
+    /// How many codestreams were whole.
+    number: u64,
+    /// How many bytes these have.
+    offset: u64,
+    /// How many bytes their lines have.
+    written: u64,
+}
+
+impl Model for Progress {
+    ghost use Rattle.ls_archive.specs.View.Followed.{Followed, IsFollowed};
+
+    ghost Value = { Followed };
+
+    ghost view = { λ p. record { pending = p.pending.items; number = p.number; offset = p.offset; written = p.written } };
+
+    ghost invariant = { λ p. IsFollowed (record { pending = p.pending.items; number = p.number; offset = p.offset; written = p.written }) };
+}
+
+impl Progress {
+    /// Before the first byte.
+    fn new(alloc: Global) -> Progress
+        ensures { result ≡ nothing }
+    {
+        Progress {
+            pending: Vec::new(alloc),
+            number: 0,
+            offset: 0,
+            written: 0,
+        }
+    }
+
+    /// Takes the recording's next bytes, and gives the codestream that ends with them, if one does. Fails only if an
+    /// allocation fails.
+    fn take(&mut self, alloc: Global, bytes: &[u8]) -> Result<Option<Indexed>, AllocError>
+        ensures whole { IfOk result (λ next. IfSome next (λ entry. IsEntry entry × (entry.bytes ≡ self.old.pending ++ bytes.now))) }
+        ensures none { IfOk result (λ next. IfSome next (λ entry. self.new ≡ holding [] self.old)) }
+        ensures held { IfOk result (λ next. IfNone next (self.new ≡ holding (self.old.pending ++ bytes.now) self.old)) }
+    {
+        self.pending.extend_from_slice(bytes)?;
+        if !self.pending.ends_with(&EOI) {
+            return Ok(None);
+        }
+        Ok(Indexed::take(alloc, &mut self.pending))
+    }
+
+    /// Counts a codestream of so many bytes, with whose line so many bytes of lines were written.
+    fn step(&mut self, size: usize, written: u64)
+        requires room { self.old.number < most_frames }
+        requires few { size ≤ most_bytes }
+        requires small { written ≤ 2 ^ 32 * (self.old.number + 1) }
+        ensures { self.new ≡ stepped size written self.old }
+    {
+        self.number += 1;
+        self.offset += size as u64;
+        self.written = written;
+    }
+}
+
+/// An index that is written while its recording is: it is told the recording's bytes as they go out, and the line of a
+/// codestream is written once all of the codestream's bytes are.
+///
+/// The codestreams have to end where bytes that it is told end, as they do where each is written by itself.
+#[derive(Drop)]
+pub struct Follower<I> {
+    alloc: Global,
+    index: I,
+    progress: Progress,
+}
+
+impl<I: Outlet> Follower<I> {
+    /// An index of a recording of which nothing is written yet.
+    pub fn new(alloc: Global, index: I) -> Follower<I>
+        ensures index { index_of result ≡ index }
+        ensures none { followed result ≡ nothing }
+        ensures nothing { HasFollowed [] (I.contents index) (I.contents index) nothing }
+    {
+        Follower {
+            alloc,
+            index,
+            progress: Progress::new(alloc),
+        }
+    }
+
+    /// Takes the recording's next bytes; if a codestream ends with them, its line is written.
+    ///
+    /// Fails if the line can't be written, with `Output`, `NoMemory` or `TooMany`: then it isn't to be called any more.
+    pub fn follow(&mut self, bytes: &[u8]) -> Result<(), IndexFault>
+        ensures follows { OnOk result (FollowsOn bytes.now
+            (I.contents (index_of self.old)) (I.contents (index_of self.new)) (followed self.old) (followed self.new)) }
+        ensures failures { I.failed_writes (index_of self.new)
+            ≡ count_after (failed_writer result) (I.failed_writes (index_of self.old)) }
+    {
+        let Some(indexed) = self.progress.take(self.alloc, bytes)? else {
+            return Ok(());
+        };
+        let number = self.progress.number;
+        if number == MOST_FRAMES {
+            return Err(IndexFault::TooMany);
+        }
+        let line = line(self.alloc, true, number, self.progress.offset, &indexed)?;
+        let written = write_line(&mut self.index, line.as_bytes(), self.progress.written)?;
+        self.progress.step(indexed.bytes().len(), written);
+        Ok(())
+    }
+
+    /// What the index was written to.
+    pub fn into_inner(self) -> I
+        ensures { result ≡ index_of self }
+    {
+        self.index
+    }
+}
