@@ -1,5 +1,6 @@
 //! The whole program over its words, its files and its two streams.
 mod archive;
+mod indexing;
 mod playing;
 mod progress;
 mod recording;
@@ -9,8 +10,10 @@ mod watch;
 use crate::cause::{Cause, Caused};
 use crate::console::Console;
 use crate::program::archive::{check_recording, index, verify_files};
+use crate::program::indexing::{make_index, say_index_end};
 use crate::program::playing::{show, show_whole};
 use crate::program::recording::{Task, record_films};
+use ls_archive::{Follower, Indexing};
 use ls_command::{Answer, Request, misuse, read_words};
 use ls_files::{Opener, Opens, Source, likeness_of};
 use ls_film::{code_film, list_film};
@@ -108,7 +111,10 @@ where
 {
     match request {
         Request::List { file } => list(rt, file, output, console),
-        Request::Code { file } => code(rt, file, output, console),
+        Request::Code { file, index } => match index {
+            Some(index) => code_with_index(rt, file, index, output, console),
+            None => code(rt, file, output, console),
+        },
         Request::Play {
             file,
             frames,
@@ -127,6 +133,7 @@ where
             replace,
             progress,
             report,
+            index,
             files,
         } => {
             let task = Task {
@@ -138,6 +145,7 @@ where
                 replace,
                 progress: progress || console.is_terminal(),
                 report,
+                index,
                 files,
             };
             record_films(rt, opener, &task, output, console)
@@ -190,6 +198,40 @@ where
     };
     let result = code_film(rt.alloc(), &mut film, output);
     conclude(file, result, &film, output.last_failure(), console)
+}
+
+/// Codes a film, and writes the index of its codestreams to a file.
+fn code_with_index<R, W, E>(
+    rt: &R,
+    file: &str,
+    index: &str,
+    output: &mut Counted<W>,
+    console: &mut Console<'_, E>,
+) -> u8
+where
+    R: Eprint + Files + AllocGlobal,
+    W: Write,
+    E: Outlet,
+{
+    let mut film = match open_film(rt, file, console) {
+        Ok(film) => film,
+        Err(status) => return status,
+    };
+    let target = match make_index(rt, index, file, &film, console) {
+        Ok(target) => target,
+        Err(status) => return status,
+    };
+    let follower = Follower::new(rt.alloc(), Counted::new(target));
+    let mut indexing = Indexing::new(&mut *output, Some(follower));
+    let result = code_film(rt.alloc(), &mut film, &mut indexing);
+    let (_output, follower, broken) = indexing.into_parts();
+    let status = conclude(file, result, &film, output.last_failure(), console);
+    let Some(follower) = follower else {
+        return status;
+    };
+    let ended = say_index_end(index, follower.into_inner(), broken, console);
+    ended.target.release();
+    if ended.is_whole { status } else { FAILED }
 }
 
 /// Says why an engine over a file stopped, if it did, and answers the status. `written` is the last failure of what it wrote to.

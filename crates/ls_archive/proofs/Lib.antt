@@ -1,5 +1,6 @@
 pub mod CheckLemmas
 pub mod EntryLemmas
+pub mod FollowLemmas
 pub mod FormLemmas
 pub mod IndexLemmas
 pub mod VerdictLaws

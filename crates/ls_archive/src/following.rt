@@ -8,7 +8,7 @@ ghost use Rattle.ls_film.specs.Film.{most_frames};
 ghost use Rattle.ls_archive.specs.View.Entries.{IsEntry};
 ghost use Rattle.ls_archive.specs.View.Indexing.{failed_writer};
 ghost use Rattle.ls_archive.specs.View.Followed.{nothing, holding, stepped};
-ghost use Rattle.ls_archive.specs.View.Following.{index_of, followed, HasFollowed, FollowsOn, BreaksOff};
+ghost use Rattle.ls_archive.specs.View.Following.{index_of, followed, recording_of, following, broken, HasFollowed, FollowsOn};
 
 use crate::entry::Indexed;
 use crate::faults::IndexFault;
@@ -120,15 +120,21 @@ impl<I: Outlet> Follower<I> {
         ensures failures { I.failed_writes (index_of self.new)
             ≡ count_after (failed_writer result) (I.failed_writes (index_of self.old)) }
     {
-        let Some(indexed) = self.progress.take(self.alloc, bytes)? else {
+        let alloc = self.alloc;
+        let Some(indexed) = self.progress.take(alloc, bytes)? else {
             return Ok(());
         };
-        let number = self.progress.number;
+        let Progress {
+            number,
+            offset,
+            written,
+            ..
+        } = self.progress;
         if number == MOST_FRAMES {
             return Err(IndexFault::TooMany);
         }
-        let line = line(self.alloc, true, number, self.progress.offset, &indexed)?;
-        let written = write_line(&mut self.index, line.as_bytes(), self.progress.written)?;
+        let line = line(alloc, true, number, offset, &indexed)?;
+        let written = write_line(&mut self.index, line.as_bytes(), written)?;
         self.progress.step(indexed.bytes().len(), written);
         Ok(())
     }
@@ -138,5 +144,79 @@ impl<I: Outlet> Follower<I> {
         ensures { result ≡ index_of self }
     {
         self.index
+    }
+}
+
+/// A recording's writer that writes an index of it too, if there is one to write.
+///
+/// An index that breaks off leaves the recording as it is: no more of the index is written, and `into_parts` says why.
+#[derive(Drop)]
+pub struct Indexing<W, I> {
+    recording: W,
+    index: Option<Follower<I>>,
+    fault: Option<IndexFault>,
+}
+
+impl<W: Outlet, I: Outlet> Indexing<W, I> {
+    /// A recording of which nothing is written yet, and its index.
+    pub fn new(recording: W, index: Option<Follower<I>>) -> Indexing<W, I>
+        ensures recording { recording_of result ≡ recording }
+        ensures index { following result ≡ index }
+        ensures whole { broken result ≡ None }
+    {
+        Indexing {
+            recording,
+            index,
+            fault: None,
+        }
+    }
+
+    /// What the recording and its index were written to, and why the index broke off, if it did.
+    pub fn into_parts(self) -> (W, Option<Follower<I>>, Option<IndexFault>)
+        ensures recording { result.0 ≡ recording_of self }
+        ensures index { result.1 ≡ following self }
+        ensures fault { result.2 ≡ broken self }
+    {
+        (self.recording, self.index, self.fault)
+    }
+
+    /// Tells the index of the recording's next bytes, unless it broke off.
+    fn tell(&mut self, bytes: &[u8])
+        ensures recording { recording_of self.new ≡ recording_of self.old }
+    {
+        if self.fault.is_some() {
+            return;
+        }
+        if let Some(index) = &mut self.index {
+            self.fault = index.follow(bytes).err();
+        }
+    }
+}
+
+impl<W: Outlet, I: Outlet> Write for Indexing<W, I> {
+    ghost contents = { λ i. W.contents (recording_of i) };
+
+    fn write(&mut self, buf: &[u8]) -> io::Result<usize> {
+        let taken = self.recording.write(buf)?;
+        self.tell(&buf[..taken]);
+        Ok(taken)
+    }
+
+    fn flush(&mut self) -> io::Result<()> {
+        self.recording.flush()
+    }
+}
+
+impl<W: Outlet, I: Outlet> Outlet for Indexing<W, I> {
+    ghost failed_writes = { λ i. W.failed_writes (recording_of i) };
+
+    fn give(&mut self, buf: &[u8]) -> Result<usize, Failed> {
+        let taken = self.recording.give(buf)?;
+        self.tell(&buf[..taken]);
+        Ok(taken)
+    }
+
+    fn failures(&self) -> u64 {
+        Outlet::failures(&self.recording)
     }
 }

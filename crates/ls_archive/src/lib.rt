@@ -37,6 +37,6 @@ pub mod verifying;
 
 pub use checking::{CheckFault, Checked, Damage, Finding, Findings, check};
 pub use faults::{IndexFault, VerifyFault};
-pub use following::Follower;
+pub use following::{Follower, Indexing};
 pub use index::{index_bytes, write_index};
 pub use verifying::{Verdict, verify, verify_bytes};

@@ -1,7 +1,7 @@
 //! The commands and options, as `clap` is told of them.
 use crate::texts::{
     CAPACITY_HELP, CHECK_HELP, CODE_HELP, FILM_HELP, FILMS_HELP, FRAMES_HELP, INDEX_FILE_HELP,
-    INDEX_HELP, INTO_HELP, LIST_HELP, NO_SUMS_HELP, PLAY_HELP, PRESET_HELP, PROGRESS_HELP,
+    INDEX_HELP, INDEX_OF_CODE_HELP, INDEX_OF_RECORDING_HELP, INTO_HELP, LIST_HELP, NO_SUMS_HELP, PLAY_HELP, PRESET_HELP, PROGRESS_HELP,
     QUEUE_HELP, REASONS_HELP, RECORD_HELP, RECORDING_HELP, REPLACE_HELP, REPLAY_HELP, REPORT_HELP,
     SALVAGE_HELP, SOURCES_HELP, STEPS_HELP, VERIFY_HELP, WINDOW_HELP, WORKERS_HELP,
 };
@@ -11,7 +11,6 @@ use std::alloc::{AllocError, Global};
 /// The program's commands, options and help.
 pub fn command<'a>(alloc: Global) -> Result<Command<'a>, AllocError> {
     let list = "Lists the frames of a film";
-    let code = "Codes the frames of a film";
     Command::new(alloc, "jlsrec")
         .version("0.1.0")
         .about("A lossless recorder of image sequences: JPEG-LS, ITU-T T.87")
@@ -20,7 +19,7 @@ pub fn command<'a>(alloc: Global) -> Result<Command<'a>, AllocError> {
         .subcommand_required(true)
         .subcommand(record_command(alloc)?)?
         .subcommand(play_command(alloc)?)?
-        .subcommand(file_command(alloc, "code", code, CODE_HELP, FILM_HELP)?)?
+        .subcommand(code_command(alloc)?)?
         .subcommand(file_command(alloc, "list", list, LIST_HELP, FILM_HELP)?)?
         .subcommand(index_command(alloc)?)?
         .subcommand(check_command(alloc)?)?
@@ -39,6 +38,17 @@ fn file_command<'a>(
     command_with_help(alloc, name, about, help)
         .arg(reasons_flag(alloc))?
         .arg(file_argument(alloc, file_help))
+}
+
+/// The command that codes a film.
+fn code_command<'a>(alloc: Global) -> Result<Command<'a>, AllocError> {
+    let about = "Codes the frames of a film";
+    file_command(alloc, "code", about, CODE_HELP, FILM_HELP)?.arg(option(
+        alloc,
+        "index",
+        "INDEX",
+        INDEX_OF_CODE_HELP,
+    ))
 }
 
 /// The command that plays a recording.
@@ -98,6 +108,7 @@ fn record_command<'a>(alloc: Global) -> Result<Command<'a>, AllocError> {
         .arg(flag(alloc, "replace", REPLACE_HELP))?
         .arg(progress_flag(alloc))?
         .arg(report_option(alloc))?
+        .arg(flag(alloc, "index", INDEX_OF_RECORDING_HELP))?
         .arg(reasons_flag(alloc))?
         .arg(file_argument(alloc, FILMS_HELP).num_args(1..))
 }

@@ -37,9 +37,10 @@ pub enum Request<'a> {
     List {
         file: &'a str,
     },
-    /// The codestreams of a film's frames.
+    /// The codestreams of a film's frames, and their index if a file is named for it.
     Code {
         file: &'a str,
+        index: Option<&'a str>,
     },
     /// The frames of a recording: all, or some; or past damage.
     Play {
@@ -77,6 +78,8 @@ pub enum Request<'a> {
         progress: bool,
         /// The file for a report.
         report: Option<&'a str>,
+        /// Whether each recording gets an index.
+        index: bool,
         files: Vec<&'a str>,
     },
     /// The replies of a queue to the steps of a file.
@@ -157,7 +160,7 @@ fn request_of<'a>(
 ) -> Result<Option<Request<'a>>, Error> {
     match name {
         "list" => Ok(words.get_str("FILE").map(|file| Request::List { file })),
-        "code" => Ok(words.get_str("FILE").map(|file| Request::Code { file })),
+        "code" => Ok(code_request(words)),
         "play" => play_request(alloc, words),
         "index" => Ok(index_request(words)),
         "check" => Ok(check_request(words)),
@@ -166,6 +169,14 @@ fn request_of<'a>(
         "replay" => Ok(replay_request(words)),
         _ => Ok(None),
     }
+}
+
+/// What the words of `code` ask for, which `clap` has looked at.
+fn code_request<'a>(words: &ArgMatches<'a>) -> Option<Request<'a>> {
+    Some(Request::Code {
+        file: words.get_str("FILE")?,
+        index: words.get_str("index"),
+    })
 }
 
 /// What the words of `play` ask for, which `clap` has looked at.
@@ -234,6 +245,7 @@ fn recording_of<'a>(words: &ArgMatches<'a>, files: Vec<&'a str>) -> Option<Reque
         replace: words.get_flag("replace"),
         progress: words.get_flag("progress"),
         report: words.get_str("report"),
+        index: words.get_flag("index"),
         files,
     })
 }

@@ -95,6 +95,13 @@ The columns of a line, one blank between:
 
 Frame 137 alone, by its line: tail -c +$((OFFSET + 1)) FILE | head -c BYTES; or `jlsrec play --frames 137 FILE`.";
 
+pub const INDEX_OF_CODE_HELP: &str = "\
+The file for an index, as `index` writes it: the line of each codestream, as soon as the codestream is out";
+
+pub const INDEX_OF_RECORDING_HELP: &str = "\
+Write an index of each FILE.jls too, FILE.jls.index, as `index` writes it: the line of each codestream, as soon as that
+was written";
+
 pub const NO_SUMS_HELP: &str = "Leave the sum out, which is quicker";
 
 pub const CHECK_HELP: &str = "\

@@ -1,12 +1,14 @@
 //! The command `record`: films are opened, their recordings made, and what came of each is said.
 use crate::cause::Caused;
 use crate::console::{CLEARED, Console};
+use crate::program::indexing::{EndedIndex, say_index_end, say_unsynced};
 use crate::program::progress::tell_progress;
 use crate::program::report::{Report, write_report};
 use crate::program::watch::Watch;
 use crate::program::{
     DONE, FAILED, Reader, USAGE, buffered, explain, misused, no_memory, write_text,
 };
+use ls_archive::{Follower, Indexing};
 use ls_files::identity::last_part;
 use ls_files::{Identity, Opens, Place, Source, Spot, Target};
 use ls_frame::{Counted, Failed, Feed, Outlet, Tuning};
@@ -38,6 +40,8 @@ pub struct Task<'a> {
     pub progress: bool,
     /// The file for a report.
     pub report: Option<&'a str>,
+    /// Whether an index is written of each recording.
+    pub index: bool,
     pub files: Vec<&'a str>,
 }
 
@@ -59,11 +63,14 @@ impl<'a> Task<'a> {
     }
 }
 
-/// A film: what it is read by, the file that its codestreams are written to, and its tuning.
-type Film<'a, O> = (Reader<'a, O>, Counted<Target<'a, O>>, Tuning);
+/// The file that a film's codestreams are written to, and that of their index, if there is one.
+type Writer<'a, O> = Indexing<Counted<Target<'a, O>>, Counted<Target<'a, O>>>;
+
+/// A film: what it is read by, what its codestreams are written to, and its tuning.
+type Film<'a, O> = (Reader<'a, O>, Writer<'a, O>, Tuning);
 
 /// What came of a film.
-type FilmTrack<'a, O> = Track<Reader<'a, O>, Counted<Target<'a, O>>>;
+type FilmTrack<'a, O> = Track<Reader<'a, O>, Writer<'a, O>>;
 
 /// What came of all films; or why nothing did.
 type Recorded<R, W> = Result<Recording<R, W>, (RecordFault, Vec<(R, W, Tuning)>)>;
@@ -75,13 +82,24 @@ struct Opened<'a, O: Opens> {
     report: Option<Report<'a, O>>,
 }
 
-/// A film that is given: which file it is, where its name stands, and where its recording is to be made.
+/// The names of what is made for films, film by film, and what is said of each film on a terminal once its pipe is open.
+#[derive(Drop)]
+struct Names {
+    recordings: Vec<String>,
+    /// The indexes, if any are wanted.
+    indexes: Vec<String>,
+    notices: Vec<String>,
+}
+
+/// A film that is given: which file it is, where its name stands, and where its recording and the index of that are to be
+/// made.
 #[derive(Clone, Copy)]
 struct Given<'a> {
     file: &'a str,
     identity: Option<Identity>,
     spot: Option<Spot<'a>>,
     place: Place<'a>,
+    index: Option<Place<'a>>,
 }
 
 /// Records films, says what came of each, and answers the status.
@@ -107,10 +125,7 @@ where
     if files.len() > MOST_FILES {
         return misused(console, b"jlsrec: at most 16 files\n");
     }
-    let (Ok(names), Ok(notices)) = (
-        recording_names(alloc, files, task.into),
-        notices(alloc, files),
-    ) else {
+    let Ok(names) = names_of(alloc, task) else {
         return no_memory(console);
     };
     if let Some(file) = named_twice(files, &names) {
@@ -118,7 +133,7 @@ where
     }
     match named_as_report(files, &names, task.report) {
         Some(report) => given_twice(report, console),
-        None => record_named(rt, opener, task, tuning, &names, &notices, output, console),
+        None => record_named(rt, opener, task, tuning, &names, output, console),
     }
 }
 
@@ -128,8 +143,7 @@ fn record_named<'a, R, O, W, E>(
     opener: O,
     task: &'a Task<'a>,
     tuning: Tuning,
-    names: &'a [String],
-    notices: &'a [String],
+    names: &'a Names,
     output: &mut Counted<W>,
     console: &mut Console<'_, E>,
 ) -> u8
@@ -140,20 +154,19 @@ where
     W: Write,
     E: Outlet + Send,
 {
-    let Opened { films, report } = match open_films(
-        rt, opener, task, names, notices, tuning, console,
-    ) {
+    let Opened { films, report } = match open_films(rt, opener, task, names, tuning, console) {
         Ok(opened) => opened,
         Err(status) => return status,
     };
     if task.progress || report.is_some() {
-        record_watched(rt, task, films, report, output, console)
+        record_watched(rt, task, names, films, report, output, console)
     } else {
         let alloc = rt.alloc();
         let recorded = record_through(rt, alloc, films, task.sizes(), &OpenGate);
         say_recorded(
             alloc,
             &task.files,
+            &names.indexes,
             recorded,
             &[false; MOST_FILES],
             output,
@@ -167,6 +180,7 @@ where
 fn record_watched<'a, R, O, W, E>(
     rt: &R,
     task: &Task<'a>,
+    names: &Names,
     films: Vec<Film<'a, O>>,
     report: Option<Report<'a, O>>,
     output: &mut Counted<W>,
@@ -196,7 +210,15 @@ where
     );
     let mut told = [false; MOST_FILES];
     watch.told(&mut told);
-    let status = say_recorded(alloc, files, recorded, &told, output, console);
+    let status = say_recorded(
+        alloc,
+        files,
+        &names.indexes,
+        recorded,
+        &told,
+        output,
+        console,
+    );
     let reported = match report {
         Some(report) => write_report(alloc, report, &watch, files, task.workers, console),
         None => DONE,
@@ -328,7 +350,8 @@ where
 fn say_recorded<O, W, E>(
     alloc: Global,
     files: &[&str],
-    recorded: Recorded<Reader<'_, O>, Counted<Target<'_, O>>>,
+    indexes: &[String],
+    recorded: Recorded<Reader<'_, O>, Writer<'_, O>>,
     told: &[bool],
     output: &mut Counted<W>,
     console: &mut Console<'_, E>,
@@ -339,7 +362,15 @@ where
     E: Outlet,
 {
     match recorded {
-        Ok(recording) => say_tracks(alloc, files, recording.tracks, told, output, console),
+        Ok(recording) => say_tracks(
+            alloc,
+            files,
+            indexes,
+            recording.tracks,
+            told,
+            output,
+            console,
+        ),
         Err((fault, _films)) => {
             console.say(fault);
             FAILED
@@ -351,6 +382,24 @@ where
 fn given_twice<E: Outlet>(file: &str, console: &mut Console<'_, E>) -> u8 {
     console.say(format_args!("{file}: given twice"));
     USAGE
+}
+
+/// The names of what is made for each film, and what is said of it.
+fn names_of(alloc: Global, task: &Task<'_>) -> Result<Names, AllocError> {
+    let files = task.files.as_slice();
+    let recordings = recording_names(alloc, files, task.into)?;
+    let mut indexes = Vec::new(alloc);
+    if task.index {
+        for recording in &recordings {
+            indexes.push(format!(in alloc; "{recording}.index")?)?;
+        }
+    }
+    let notices = notices(alloc, files)?;
+    Ok(Names {
+        recordings,
+        indexes,
+        notices,
+    })
 }
 
 /// The name of each film's recording.
@@ -392,8 +441,7 @@ fn open_films<'a, R, O, E>(
     rt: &R,
     opener: O,
     task: &Task<'a>,
-    names: &'a [String],
-    notices: &'a [String],
+    names: &'a Names,
     tuning: Tuning,
     console: &mut Console<'_, E>,
 ) -> Result<Opened<'a, O>, u8>
@@ -414,11 +462,11 @@ where
         Some(path) => Some(make_report(rt, opener, path, &given, task.replace, console)?),
         None => None,
     };
-    let targets = make_targets(rt, opener, &given, task.replace, console)?;
-    let readers = buffered_sources(rt.alloc(), &task.files, sources, notices, console)?;
+    let writers = make_writers(rt, opener, &given, task.replace, console)?;
+    let readers = buffered_sources(rt.alloc(), &task.files, sources, &names.notices, console)?;
     let mut films = Vec::new(rt.alloc());
-    for (reader, target) in readers.into_iter().zip(targets) {
-        if films.push((reader, Counted::new(target), tuning)).is_err() {
+    for (reader, writer) in readers.into_iter().zip(writers) {
+        if films.push((reader, writer, tuning)).is_err() {
             return Err(no_memory(console));
         }
     }
@@ -458,7 +506,7 @@ where
 fn look_at<'a, R, O>(
     rt: &R,
     files: &[&'a str],
-    names: &'a [String],
+    names: &'a Names,
     sources: &[Source<'a, O>],
 ) -> Result<Vec<Given<'a>>, AllocError>
 where
@@ -466,12 +514,17 @@ where
     O: Opens,
 {
     let mut given = Vec::new(rt.alloc());
-    for ((file, name), source) in files.iter().zip(names).zip(sources) {
+    for ((file, name), source) in files.iter().zip(&names.recordings).zip(sources) {
+        let index = match names.indexes.get(given.len()) {
+            Some(index) => Some(Place::of(rt, index.as_str())),
+            None => None,
+        };
         given.push(Given {
             file: *file,
             identity: source.identity(),
             spot: Spot::of(rt, *file),
             place: Place::of(rt, name.as_str()),
+            index,
         })?;
     }
     Ok(given)
@@ -492,37 +545,48 @@ where
     E: Outlet,
 {
     let place = Place::of(rt, path);
-    if given.iter().any(|film| is_met(film, &place, replace)) {
+    if given
+        .iter()
+        .any(|film| is_met(film, &place, replace) || has_index_at(film, &place))
+    {
         return Err(given_twice(path, console));
     }
     let target = make_target(rt, opener, &place, given, replace, console)?;
     Ok(Report { path, target })
 }
 
-/// Makes the file of each recording; or says of the first that can't be made, and gives the status.
-fn make_targets<'a, R, O, E>(
+/// Makes the file of each recording, and that of its index if it is to have one; or says of the first that can't be made,
+/// and gives the status.
+fn make_writers<'a, R, O, E>(
     rt: &R,
     opener: O,
     given: &[Given<'a>],
     replace: bool,
     console: &mut Console<'_, E>,
-) -> Result<Vec<Target<'a, O>>, u8>
+) -> Result<Vec<Writer<'a, O>>, u8>
 where
     R: Files + AllocGlobal,
     O: Opens<File = R::File> + Copy,
     E: Outlet,
 {
-    let mut targets = Vec::new(rt.alloc());
+    let alloc = rt.alloc();
+    let mut writers = Vec::new(alloc);
     for film in given {
         let target = make_target(rt, opener, &film.place, given, replace, console)?;
-        if targets.push(target).is_err() {
+        let index = match &film.index {
+            Some(place) => Some(make_target(rt, opener, place, given, replace, console)?),
+            None => None,
+        };
+        let follower = index.map(|target| Follower::new(alloc, Counted::new(target)));
+        let writer = Indexing::new(Counted::new(target), follower);
+        if writers.push(writer).is_err() {
             return Err(no_memory(console));
         }
     }
-    Ok(targets)
+    Ok(writers)
 }
 
-/// Makes the file of a recording, or of the report, and says how what stood there is called now, if that is told; or
+/// Makes the file of a recording, of its index or of the report, and says how what stood there is called now, if that is told; or
 /// says why it can't be made, and gives the status.
 fn make_target<'a, R, O, E>(
     rt: &R,
@@ -579,11 +643,12 @@ where
     Ok(readers)
 }
 
-/// A recording whose lane has ended: how many frames it has, if it is whole, and its file.
+/// A recording whose lane has ended: how many frames it has, if it is whole, its file, and its index.
 #[derive(Drop)]
 struct Ended<'a, O: Opens> {
     frames: Option<u64>,
     target: Target<'a, O>,
+    index: Option<EndedIndex<'a, O>>,
 }
 
 /// Syncs each recording and says of each film whose recording stopped why it did, unless that was told, then of each
@@ -591,6 +656,7 @@ struct Ended<'a, O: Opens> {
 fn say_tracks<O, W, E>(
     alloc: Global,
     files: &[&str],
+    indexes: &[String],
     tracks: Vec<FilmTrack<'_, O>>,
     told: &[bool],
     output: &mut Counted<W>,
@@ -603,9 +669,11 @@ where
 {
     let mut recordings = Vec::new(alloc);
     for (file, track) in files.iter().zip(tracks) {
-        let was_told = is_told(told, recordings.len());
+        let number = recordings.len();
+        let was_told = is_told(told, number);
+        let index = indexes.get(number).map(String::as_str);
         if recordings
-            .push(say_end(*file, track, was_told, console))
+            .push(say_end(*file, index, track, was_told, console))
             .is_err()
         {
             return no_memory(console);
@@ -614,6 +682,9 @@ where
     let status = say_counts(alloc, files, &recordings, output, console);
     for recording in recordings {
         recording.target.release();
+        if let Some(index) = recording.index {
+            index.target.release();
+        }
     }
     status
 }
@@ -629,6 +700,7 @@ fn is_told(told: &[bool], film: usize) -> bool {
 /// Brings what was written of a film onto the disk, and says why its recording stopped, if it did and that wasn't told.
 fn say_end<'a, O, E>(
     file: &str,
+    index_file: Option<&str>,
     track: FilmTrack<'a, O>,
     was_told: bool,
     console: &mut Console<'_, E>,
@@ -637,14 +709,13 @@ where
     O: Opens + Copy,
     E: Outlet,
 {
-    let written = track.writer.last_failure();
-    let target = track.writer.into_inner();
+    let (writer, follower, broken) = track.writer.into_parts();
+    let written = writer.last_failure();
+    let target = writer.into_inner();
     let frames = match (track.result, target.sync()) {
         (Ok(frames), Ok(())) => Some(frames),
         (Ok(_), Err(fault)) => {
-            let bytes = target.written();
-            console.say(format_args!("{file}: output failed after {bytes} bytes"));
-            console.blame(file, Some(Failed::from(fault)));
+            say_unsynced(file, &target, Failed::from(fault), console);
             None
         }
         (Err(fault), _) => {
@@ -655,7 +726,17 @@ where
             None
         }
     };
-    Ended { frames, target }
+    let index = match (index_file, follower) {
+        (Some(path), Some(follower)) => {
+            Some(say_index_end(path, follower.into_inner(), broken, console))
+        }
+        _ => None,
+    };
+    Ended {
+        frames,
+        target,
+        index,
+    }
 }
 
 /// Says how many frames each recording has that is whole; answers the status of all.
@@ -682,8 +763,19 @@ where
             }
             None => status = FAILED,
         }
+        if is_broken(&recording.index) {
+            status = FAILED;
+        }
     }
     status
+}
+
+/// Whether there is an index and it isn't whole.
+fn is_broken<O: Opens>(index: &Option<EndedIndex<'_, O>>) -> bool {
+    match index {
+        Some(index) => !index.is_whole,
+        None => false,
+    }
 }
 
 /// Says how many frames of a film were recorded, and answers the status.
@@ -723,28 +815,33 @@ fn number_of(text: &str) -> Option<u16> {
     text.parse().ok()
 }
 
-/// The first name that is given twice, or is the name of another film's recording, or has a recording of a name with
-/// another's.
-fn named_twice<'a>(files: &[&'a str], names: &[String]) -> Option<&'a str> {
-    for (place, (file, recording)) in files.iter().zip(names).enumerate() {
-        for (other, (name, made)) in files.iter().zip(names).enumerate() {
+/// The first name that is given twice, or is the name of another film's recording or of an index, or has a recording of a
+/// name with another's.
+fn named_twice<'a>(files: &[&'a str], names: &Names) -> Option<&'a str> {
+    let recordings = &names.recordings;
+    for (place, (file, recording)) in files.iter().zip(recordings).enumerate() {
+        for (other, (name, made)) in files.iter().zip(recordings).enumerate() {
             if place != other && (file == name || *file == made.as_str() || recording == made) {
                 return Some(*file);
             }
+        }
+        if names.indexes.iter().any(|index| index.as_str() == *file) {
+            return Some(*file);
         }
     }
     None
 }
 
-/// The report's name, if it is that of a film or of a recording.
+/// The report's name, if it is that of a film, of a recording or of an index.
 fn named_as_report<'a>(
     files: &[&str],
-    names: &[String],
+    names: &Names,
     report: Option<&'a str>,
 ) -> Option<&'a str> {
     let report = report?;
     if files.iter().any(|file| *file == report)
-        || names.iter().any(|name| name.as_str() == report)
+        || names.recordings.iter().any(|name| name.as_str() == report)
+        || names.indexes.iter().any(|name| name.as_str() == report)
     {
         Some(report)
     } else {
@@ -752,12 +849,15 @@ fn named_as_report<'a>(
     }
 }
 
-/// The first film whose recording would be one file with another's, or that is another's recording, or that a recording
-/// would be written into.
+/// The first film whose recording or index would be one file with another's, or that is another's recording or an index, or
+/// that a recording or an index would be written into.
 fn written_twice<'a>(given: &[Given<'a>], replace: bool) -> Option<&'a str> {
     for (place, film) in given.iter().enumerate() {
         for (other, one) in given.iter().enumerate() {
-            if is_overwritten(film, one, replace) || (place != other && are_one(film, one)) {
+            if is_overwritten(film, one, replace)
+                || meets_index(film, one, replace)
+                || (place != other && are_one(film, one))
+            {
                 return Some(film.file);
             }
         }
@@ -773,17 +873,36 @@ fn is_overwritten(film: &Given<'_>, other: &Given<'_>, replace: bool) -> bool {
     }
 }
 
-/// Whether two films have one recording, or the first is where the other's is to be made.
+/// Whether two films have one recording or one index, or the first is where the other's recording is to be made.
 fn are_one(film: &Given<'_>, other: &Given<'_>) -> bool {
-    film.place.is_one_with(&other.place) || (film.spot.is_some() && film.spot == other.place.spot())
+    film.place.is_one_with(&other.place)
+        || (film.spot.is_some() && film.spot == other.place.spot())
+        || other.index.is_some_and(|index| has_index_at(film, &index))
 }
 
-/// Whether the report would be one file with a film's recording, is where the film stands, or would be written into the
-/// film.
-fn is_met(film: &Given<'_>, report: &Place<'_>, replace: bool) -> bool {
-    film.place.is_one_with(report)
-        || (film.spot.is_some() && film.spot == report.spot())
+/// Whether a film's index is to be made at this place.
+fn has_index_at(film: &Given<'_>, place: &Place<'_>) -> bool {
+    match &film.index {
+        Some(index) => index.is_one_with(place),
+        None => false,
+    }
+}
+
+/// Whether the index of `other` would be one file with this film's recording, is where the film stands, or would be written
+/// into the film.
+fn meets_index(film: &Given<'_>, other: &Given<'_>, replace: bool) -> bool {
+    match &other.index {
+        Some(index) => is_met(film, index, replace),
+        None => false,
+    }
+}
+
+/// Whether a report or an index would be one file with a film's recording, is where the film stands, or would be written
+/// into the film.
+fn is_met(film: &Given<'_>, place: &Place<'_>, replace: bool) -> bool {
+    film.place.is_one_with(place)
+        || (film.spot.is_some() && film.spot == place.spot())
         || film
             .identity
-            .is_some_and(|identity| report.would_write_into(identity, replace))
+            .is_some_and(|identity| place.would_write_into(identity, replace))
 }

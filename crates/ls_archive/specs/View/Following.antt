@@ -1,6 +1,7 @@
 -- An index that is written while its recording is.
 use Rattle.std.specs.Prelude.{ℕ, true, List, [], ◌++◌, Option, Some}
 use Rattle.ls_archive.specs.declared.following.Follower.{Follower}
+use Rattle.ls_archive.specs.declared.following.Indexing.{Indexing}
 use Rattle.ls_archive.specs.declared.faults.IndexFault.{IndexFault}
 use Rattle.ls_archive.specs.View.Followed.{Followed}
 use Rattle.ls_archive.specs.View.Indexing.{HasRun, Stops}
@@ -13,6 +14,19 @@ module _ {I : Type 0} where
   -- how far the recording was followed
   abbrev pub followed : Follower I → Followed
   followed f = f.progress
+
+module _ {W I : Type 0} where
+  -- what a recording is written to
+  abbrev pub recording_of : Indexing W I → W
+  recording_of i = i.recording
+
+  -- its index, if there is one to write
+  abbrev pub following : Indexing W I → Option (Follower I)
+  following i = i.index
+
+  -- why that broke off, if it did
+  abbrev pub broken : Indexing W I → Option IndexFault
+  broken i = i.fault
 
 -- The bytes are codestreams and then those that are held back, and exactly the codestreams' lines were written.
 abbrev pub HasFollowed : List ℕ → Option (List ℕ) → Option (List ℕ) → Followed → Type 0
