@@ -12,10 +12,10 @@ _jlsrec() {
         mapfile -t COMPREPLY < <(compgen -W 'record play code list index check verify replay' -- "$word")
         return
         ;;
-    record) options+=' --workers --queue --window --preset --into --replace --progress --report' ;;
+    record) options+=' --workers --queue --window --preset --into --replace --progress --report --index' ;;
     play) options+=' --frames --salvage' ;;
     index) options+=' --no-sums' ;;
-    check) options+=' --index' ;;
+    check | code) options+=' --index' ;;
     replay) options+=' --sources --capacity' ;;
     esac
     case $before in

@@ -20,6 +20,8 @@ complete -c jlsrec -n '__fish_seen_subcommand_from record' -x -l into -a '(__fis
 complete -c jlsrec -n '__fish_seen_subcommand_from record' -l replace -d 'Empty a FILE.jls that is there'
 complete -c jlsrec -n '__fish_seen_subcommand_from record' -l progress -d 'Say how far each film is'
 complete -c jlsrec -n '__fish_seen_subcommand_from record' -r -l report -d 'The file for a report'
+complete -c jlsrec -n '__fish_seen_subcommand_from record' -l index -d 'Write an index of each recording too'
+complete -c jlsrec -n '__fish_seen_subcommand_from code' -r -l index -d 'The file for an index'
 complete -c jlsrec -n '__fish_seen_subcommand_from play' -x -l frames -d 'The frames to play: A, A.., ..B or A..B'
 complete -c jlsrec -n '__fish_seen_subcommand_from play' -l salvage -d 'Go on after a codestream at fault'
 complete -c jlsrec -n '__fish_seen_subcommand_from index' -l no-sums -d 'Leave the sum out'

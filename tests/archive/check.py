@@ -125,6 +125,42 @@ for name, frames in [("none", []), ("one", [BLACK]), ("mixed", MIXED), ("many", 
     says(0, f"{name}.jls: {len(frames)} frames, 0 damaged\n", told, "check", f"{name}.jls")
     says(0, film(frames), "", "play", "--salvage", f"{name}.jls")
 
+# ---- an index that is written with its recording
+
+for name, frames in [("none", []), ("white", [WHITE]), ("films", [ANNEX_H, TWO_VALUES, SIXTEEN, COLOUR, BLACK]), ("long", [BLACK, WHITE] * 100)]:
+    write(f"{name}.film", film(frames))
+    says(0, f"{name}.film: {len(frames)} frames\n", "", "record", "--index", f"{name}.film")
+    with open(f"{name}.film.jls", "rb") as made, open(f"{name}.film.jls.index") as lines:
+        count(f"the index of {name}", (made.read(), lines.read()) == (recording(frames), index_of(frames)), "another")
+    says(0, recording(frames), "", "code", "--index", f"{name}.coded", f"{name}.film")
+    with open(f"{name}.coded") as lines:
+        count(f"the index of {name} coded", lines.read() == index_of(frames), "another")
+
+# Of a film that breaks off it has the whole codestreams.
+write("broken.film", film([BLACK, WHITE]) + b"P5")
+says(1, "", "jlsrec: broken.film: frame 2: truncated\n", "record", "--index", "broken.film")
+with open("broken.film.jls.index") as lines:
+    count("the index of a film that breaks off", lines.read() == index_of([BLACK, WHITE]), "another")
+
+# One that can't be written leaves the recording whole.
+os.symlink("/dev/full", "white.again.jls.index")
+write("white.again", film([WHITE]))
+said = "jlsrec: white.again.jls.index: output failed after 0 bytes\n"
+says(1, "white.again: 1 frames\n", said, "record", "--index", "white.again")
+with open("white.again.jls", "rb") as made:
+    count("a recording whose index failed", made.read() == recording([WHITE]), "another")
+says(1, recording([WHITE]), "jlsrec: /dev/full: output failed after 0 bytes\n", "code", "--index", "/dev/full", "white.film")
+
+# Nothing that is given is written over, and what an index takes the place of is kept.
+write("x", film([WHITE]))
+write("x.jls.index", film([WHITE]))
+says(2, "", "jlsrec: x.jls.index: given twice\n", "record", "--index", "x", "x.jls.index")
+report = "white.film.jls.index"
+says(2, "", f"jlsrec: {report}: given twice\n", "record", "--index", "--report", report, "white.film")
+says(2, "", "jlsrec: white.film: given twice\n", "code", "--index", "white.film", "white.film")
+said = "jlsrec: white.coded: renamed to white.coded.1\n"
+says(0, recording([WHITE]), said, "code", "--reasons", "--index", "white.coded", "white.film")
+
 whole = recording(MIXED)
 ends = [sum(len(frame[0]) for frame in MIXED[:number]) for number in range(len(MIXED) + 1)]
 for length in range(len(whole)):

@@ -8,6 +8,8 @@ mod checking;
 #[cfg(test)]
 mod faults;
 #[cfg(test)]
+mod following;
+#[cfg(test)]
 mod index;
 #[cfg(test)]
 mod page;
