@@ -142,7 +142,11 @@ fn kind_text(kind: Kind) -> &'static str
 }
 
 /// Writes a line after the `written` bytes before it, and says how many there are then.
-pub(crate) fn write_line<W: Outlet>(writer: &mut W, line: &[u8], written: u64) -> Result<u64, IndexFault>
+pub(crate) fn write_line<W: Outlet>(
+    writer: &mut W,
+    line: &[u8],
+    written: u64,
+) -> Result<u64, IndexFault>
     requires { written + length line.now < 2 ^ 64 }
     ensures all { OnOk result (Appends (W.contents writer.old) (W.contents writer.new) line.now) }
     ensures count { IfOk result (λ count. count ≡ written + length line.now) }

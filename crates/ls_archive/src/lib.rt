@@ -23,8 +23,8 @@
 //! `ls_frame`.
 //!
 //! In reading order: `faults` (why the making of an index, or a comparison, stopped), `index` (the lines), `entry` (a
-//! codestream, and what its headers say), `checking` (a recording and its index), `verifying` (a film and its recording),
-//! `laws`.
+//! codestream, and what its headers say), `following` (an index that is written with its recording), `checking` (a
+//! recording and its index), `verifying` (a film and its recording), `laws`.
 #![tactic(auto)]
 
 pub mod checking;

@@ -545,10 +545,7 @@ where
     E: Outlet,
 {
     let place = Place::of(rt, path);
-    if given
-        .iter()
-        .any(|film| is_met(film, &place, replace) || has_index_at(film, &place))
-    {
+    if given.iter().any(|film| is_met(film, &place, replace) || has_index_at(film, &place)) {
         return Err(given_twice(path, console));
     }
     let target = make_target(rt, opener, &place, given, replace, console)?;
@@ -833,11 +830,7 @@ fn named_twice<'a>(files: &[&'a str], names: &Names) -> Option<&'a str> {
 }
 
 /// The report's name, if it is that of a film, of a recording or of an index.
-fn named_as_report<'a>(
-    files: &[&str],
-    names: &Names,
-    report: Option<&'a str>,
-) -> Option<&'a str> {
+fn named_as_report<'a>(files: &[&str], names: &Names, report: Option<&'a str>) -> Option<&'a str> {
     let report = report?;
     if files.iter().any(|file| *file == report)
         || names.recordings.iter().any(|name| name.as_str() == report)
