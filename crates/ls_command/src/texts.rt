@@ -8,8 +8,6 @@ jlsrec records films without loss, several side by side, as JPEG-LS (ITU-T T.87)
   jlsrec code left.pgm > left.jls            codes a film to standard output
   jlsrec list left.pgm                       writes a line for each frame of a film
   jlsrec index left.pgm.jls                  writes a line for each codestream of a recording, with its sum
-  jlsrec check left.pgm.jls                  says what is damaged of a recording
-  jlsrec verify left.pgm left.pgm.jls        says whether a recording is of a film
 
 A film is binary Netpbm images (PGM or PPM, 1 to 16 bits a sample), one after the other.
 All commands: jlsrec --help. The options of one: jlsrec record --help.
