@@ -48,7 +48,7 @@ enum jlsrec_status {
 
     /* Bytes that can't be decoded: the first fault, from left to right. */
     JLSREC_TRUNCATED = 20,        /* the bytes end before the codestream does */
-    JLSREC_NO_SOI = 21,           /* the first two bytes aren't FF D8 (T.81 B.2.1) */
+    JLSREC_NO_SOI = 21,           /* the bytes don't begin with SOI (T.81 B.2.1) */
     JLSREC_BAD_SEGMENT = 22,      /* no marker where one is due, one in another's place, a length or a field that is wrong */
     JLSREC_UNSUPPORTED_MARKER = 23,     /* fault.marker: none of SOI in front, SOF55, LSE, SOS, EOI, APPn and COM */
     JLSREC_UNSUPPORTED_COMPONENTS = 24, /* fault.number components (Nf; T.87 C.2.2) */

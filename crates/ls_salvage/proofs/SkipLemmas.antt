@@ -36,7 +36,7 @@ other_fourth : (a b c byte : ℕ) (bytes : List ℕ) → may_follow_soi byte ≡
 unfolding is_start
 other_fourth a b c byte bytes other = and_right (eqb a 255) _ (and_right (eqb b 216) _ (and_right (eqb c 255) _ other))
 
--- one byte is passed over that isn't FF, or one before another than D8
+-- one byte is passed over that isn't FF, or one before another than the second of SOI
 passed_other : (byte : ℕ) (bytes : List ℕ) → (byte ≡ 255 → ⊥) → to_start (byte ∷ bytes) ≡ 1 + to_start bytes
 passed_other byte bytes other = omega (arith, to_start-none byte bytes (other_first byte bytes other))
 

@@ -6,7 +6,7 @@ use Rattle.ls_stream.specs.Markers.{is_application}
 abbrev pub may_follow_soi : ℕ → Bool
 may_follow_soi code = (code == 247) || ((code == 248) || ((code == 254) || ((code == 255) || is_application code)))
 
--- the bytes begin FF D8 FF and such a code
+-- the bytes begin with SOI, and then FF and such a code
 unfoldable pub is_start : List ℕ → Bool
 is_start [] = false
 is_start (a ∷ []) = false

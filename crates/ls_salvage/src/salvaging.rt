@@ -42,8 +42,8 @@ struct Progress {
 /// Writes the text of the frames of a recording, wherever a whole codestream of one stands, tells of the gaps between
 /// them, and says how many there were of each.
 ///
-/// After bytes that begin with no codestream it goes on at the next start after the first of them: FF D8 FF, and a code
-/// that may follow SOI. With no damage it writes what `ls_film::play` does. A frame is written whole before the next
+/// After bytes that begin with no codestream it goes on at the next start after the first of them: SOI, and FF with
+/// a code that may follow it. With no damage it writes what `ls_film::play` does. A frame is written whole before the next
 /// part is read. If the bytes of reader and writer are known (as in memory), and what was told, the clauses say which
 /// they were. After a fault nothing is said of the reader's place.
 ///

@@ -18,15 +18,15 @@ const MOST_AT_ONCE: usize = 65_536;
 /// The most bytes that are passed over: 2^62.
 pub const MOST_PLACE: u64 = 4_611_686_018_427_387_904;
 
-/// How much of FF D8 FF was just read.
+/// How much of SOI and the FF after it was just read.
 #[derive(Clone, Copy)]
 enum Matched {
     Nothing,
-    /// FF.
+    /// The first byte of SOI.
     Fill,
-    /// FF D8.
+    /// SOI.
     Image,
-    /// FF D8 FF.
+    /// SOI and FF.
     Marker,
 }
 
@@ -112,7 +112,7 @@ impl Matched {
     }
 }
 
-/// The same after FF D8 FF.
+/// The same after SOI and FF.
 #[tactic(auto, using(crate::proofs::SkipLemmas::after_marker_lemmas))]
 fn after_marker(byte: u8) -> Option<Matched>
     ensures goes_on { IfSome result (λ next. GoesOn Matched.Marker byte next) }
