@@ -179,10 +179,7 @@ where
         }
         Err(status) => status,
     };
-    let status = finish(status, &mut lines, console);
-    // A buffer that is dropped writes again what couldn't be written.
-    let (_output, _unwritten) = lines.into_inner().into_parts();
-    status
+    finish_lines(status, lines, console)
 }
 
 /// Codes a film.
@@ -403,10 +400,7 @@ where
             FAILED
         }
     };
-    let status = finish(status, &mut lines, console);
-    // A buffer that is dropped writes again what couldn't be written.
-    let (_output, _unwritten) = lines.into_inner().into_parts();
-    status
+    finish_lines(status, lines, console)
 }
 
 /// Shows what is answered in place of a request, and answers the status.
@@ -451,6 +445,18 @@ pub(crate) fn finish<W: Write, E: Outlet>(
         Ok(()) => status,
         Err(fault) => say_unwritten(Some(Failed::from(fault)), console),
     }
+}
+
+/// Flushes lines that were written by way of a buffer, as [`finish`] does, and gives up what couldn't be written.
+pub(crate) fn finish_lines<W: Write, E: Outlet>(
+    status: u8,
+    mut lines: Counted<BufWriter<&mut Counted<W>>>,
+    console: &mut Console<'_, E>,
+) -> u8 {
+    let status = finish(status, &mut lines, console);
+    // A buffer that is dropped writes again what couldn't be written.
+    let (_output, _unwritten) = lines.into_inner().into_parts();
+    status
 }
 
 /// Says that standard output failed.

@@ -1,6 +1,6 @@
 //! What is asked of a recording that is kept: its index, whether it is damaged, and whether it is of a film.
 use crate::console::Console;
-use crate::program::{DONE, FAILED, conclude, finish, no_memory, open_film, say_unwritten};
+use crate::program::{DONE, FAILED, conclude, finish_lines, no_memory, open_film, say_unwritten};
 use ls_archive::{
     CheckFault, Checked, Finding, Findings, Verdict, VerifyFault, check, verify, write_index,
 };
@@ -35,10 +35,7 @@ where
         }
         Err(status) => status,
     };
-    let status = finish(status, &mut lines, console);
-    // A buffer that is dropped writes again what couldn't be written.
-    let (_output, _unwritten) = lines.into_inner().into_parts();
-    status
+    finish_lines(status, lines, console)
 }
 
 /// Looks for what is damaged of a recording, by its index if one is named, and writes a line of each by way of a buffer.
@@ -65,11 +62,9 @@ where
     let status = if Outlet::failures(&lines) > 0 {
         say_unwritten(lines.last_failure(), console)
     } else {
-        finish(status, &mut lines, console)
+        status
     };
-    // A buffer that is dropped writes again what couldn't be written.
-    let (_output, _unwritten) = lines.into_inner().into_parts();
-    status
+    finish_lines(status, lines, console)
 }
 
 /// Looks for what is damaged of a recording by its index.

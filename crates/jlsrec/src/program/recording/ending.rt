@@ -1,0 +1,191 @@
+//! What came of each film, said once its recording has ended and is on the disk.
+use crate::cause::Caused;
+use crate::console::Console;
+use crate::program::indexing::{EndedIndex, say_index_end, say_unsynced};
+use crate::program::recording::{FilmTrack, Recorded, Writer};
+use crate::program::{DONE, FAILED, Reader, explain, no_memory, write_text};
+use ls_files::{Opens, Target};
+use ls_frame::{Counted, Failed, Outlet};
+use std::alloc::Global;
+use std::io::Write;
+
+/// Says what came of each film, or why nothing did; answers the status.
+pub fn say_recorded<O, W, E>(
+    alloc: Global,
+    files: &[&str],
+    indexes: &[String],
+    recorded: Recorded<Reader<'_, O>, Writer<'_, O>>,
+    told: &[bool],
+    output: &mut Counted<W>,
+    console: &mut Console<'_, E>,
+) -> u8
+where
+    O: Opens + Copy,
+    W: Write,
+    E: Outlet,
+{
+    match recorded {
+        Ok(recording) => say_tracks(
+            alloc,
+            files,
+            indexes,
+            recording.tracks,
+            told,
+            output,
+            console,
+        ),
+        Err((fault, _films)) => {
+            console.say(fault);
+            FAILED
+        }
+    }
+}
+
+/// A recording whose lane has ended: how many frames it has, if it is whole, its file, and its index.
+#[derive(Drop)]
+struct Ended<'a, O: Opens> {
+    frames: Option<u64>,
+    target: Target<'a, O>,
+    index: Option<EndedIndex<'a, O>>,
+}
+
+/// Syncs each recording and says of each film whose recording stopped why it did, unless that was told, then of each
+/// other film how many frames were recorded; answers the status.
+fn say_tracks<O, W, E>(
+    alloc: Global,
+    files: &[&str],
+    indexes: &[String],
+    tracks: Vec<FilmTrack<'_, O>>,
+    told: &[bool],
+    output: &mut Counted<W>,
+    console: &mut Console<'_, E>,
+) -> u8
+where
+    O: Opens + Copy,
+    W: Write,
+    E: Outlet,
+{
+    let mut recordings = Vec::new(alloc);
+    for (file, track) in files.iter().zip(tracks) {
+        let number = recordings.len();
+        let was_told = is_told(told, number);
+        let index = indexes.get(number).map(String::as_str);
+        if recordings
+            .push(say_end(*file, index, track, was_told, console))
+            .is_err()
+        {
+            return no_memory(console);
+        }
+    }
+    let status = say_counts(alloc, files, &recordings, output, console);
+    for recording in recordings {
+        recording.target.release();
+        if let Some(index) = recording.index {
+            index.target.release();
+        }
+    }
+    status
+}
+
+/// Whether it was told why the recording of the film of this number stopped.
+fn is_told(told: &[bool], film: usize) -> bool {
+    match told.get(film) {
+        Some(was_told) => *was_told,
+        None => false,
+    }
+}
+
+/// Brings what was written of a film onto the disk, and says why its recording stopped, if it did and that wasn't told.
+fn say_end<'a, O, E>(
+    file: &str,
+    index_file: Option<&str>,
+    track: FilmTrack<'a, O>,
+    was_told: bool,
+    console: &mut Console<'_, E>,
+) -> Ended<'a, O>
+where
+    O: Opens + Copy,
+    E: Outlet,
+{
+    let (writer, follower, broken) = track.writer.into_parts();
+    let written = writer.last_failure();
+    let target = writer.into_inner();
+    let frames = match (track.result, target.sync()) {
+        (Ok(frames), Ok(())) => Some(frames),
+        (Ok(_), Err(fault)) => {
+            say_unsynced(file, &target, Failed::from(fault), console);
+            None
+        }
+        (Err(fault), _) => {
+            if !was_told {
+                console.say(format_args!("{file}: {fault}"));
+            }
+            explain(file, fault.cause(), &track.reader, written, console);
+            None
+        }
+    };
+    let index = match (index_file, follower) {
+        (Some(path), Some(follower)) => {
+            Some(say_index_end(path, follower.into_inner(), broken, console))
+        }
+        _ => None,
+    };
+    Ended {
+        frames,
+        target,
+        index,
+    }
+}
+
+/// Says how many frames each recording has that is whole; answers the status of all.
+fn say_counts<O, W, E>(
+    alloc: Global,
+    files: &[&str],
+    recordings: &[Ended<'_, O>],
+    output: &mut Counted<W>,
+    console: &mut Console<'_, E>,
+) -> u8
+where
+    O: Opens,
+    W: Write,
+    E: Outlet,
+{
+    let mut status = DONE;
+    for (file, recording) in files.iter().zip(recordings) {
+        match recording.frames {
+            Some(frames) => {
+                let said = say_count(alloc, *file, frames, output, console);
+                if said != DONE {
+                    return said;
+                }
+            }
+            None => status = FAILED,
+        }
+        if is_broken(&recording.index) {
+            status = FAILED;
+        }
+    }
+    status
+}
+
+/// Whether there is an index and it isn't whole.
+fn is_broken<O: Opens>(index: &Option<EndedIndex<'_, O>>) -> bool {
+    match index {
+        Some(index) => !index.is_whole,
+        None => false,
+    }
+}
+
+/// Says how many frames of a film were recorded, and answers the status.
+fn say_count<W: Write, E: Outlet>(
+    alloc: Global,
+    file: &str,
+    frames: u64,
+    output: &mut Counted<W>,
+    console: &mut Console<'_, E>,
+) -> u8 {
+    match format!(in alloc; "{file}: {frames} frames\n") {
+        Ok(line) => write_text(line.as_bytes(), output, console),
+        Err(_) => no_memory(console),
+    }
+}
