@@ -12,9 +12,10 @@ use Rattle.ls_film.specs.declared.engine.Stopped.{Stopped}
 use Rattle.ls_film.specs.declared.engine.Stopped.TheVariants.{Input, Output, NoMemory, TooMany}
 use Rattle.ls_film.proofs.FilmLemmas.{IsBrokenAfter-next, BeginsWithFrames-gave}
 use Rattle.ls_film.specs.declared.playing.Unread.{Unread}
+use Rattle.ls_film.specs.declared.playing.PlayFault.TheVariants.{Io}
 use Rattle.ls_film.specs.declared.playing.Unread.TheVariants as unread
 use Rattle.ls_film.specs.Showing.{show}
-use Rattle.ls_film.specs.View.Playing.{BreaksBy, IsUnread, Stops, play_fault}
+use Rattle.ls_film.specs.View.Playing.{BreaksBy, IsUnread, Stops, play_fault, stream_fault}
 
 abbrev wants_memory : StreamFault → Bool
 wants_memory stream.Truncated = false
@@ -81,3 +82,11 @@ module _ (read read' written written' : Option (List ℕ)) where
   play-stops (Output bytes) why = why
   play-stops NoMemory why = (length why.frames, at_image why)
   play-stops TooMany why = why
+
+  -- the next codestream can't be decoded, or memory was refused for it; or a read failed
+  pub stream-stops : (mid : Option (List ℕ)) (m bytes : ℕ) (fault : StreamFault) → HasRun Spells show read mid written written' m bytes
+      → (fault ≡ stream.NoMemory) ⊎ (Tells mid → BreaksBy fault (known mid)) → Stops read read' written written' (stream_fault m fault)
+  stream-stops mid m bytes fault run why = play-stops (Input m (unread.Stream fault)) (mid, bytes, run, why)
+
+  pub io-stops : (mid : Option (List ℕ)) (m bytes : ℕ) → HasRun Spells show read mid written written' m bytes → Stops read read' written written' (Io m)
+  io-stops mid m bytes run = play-stops (Input m unread.Io) (mid, bytes, run, tt)

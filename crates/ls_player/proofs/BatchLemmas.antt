@@ -1,0 +1,55 @@
+-- Codestreams that were taken one after the other.
+use Rattle.std.proofs.Common.{◌≡◌, ◌⊎◌, ◌<◌, ℕ, suc, List, [], ◌∷◌, ◌++◌, length, Option, refl, sym, ap, subst, ◌∙◌, arith}
+use Rattle.std.specs.Prelude.{slice_index_or, remove}
+use Rattle.std.specs.List.{AllByRecursion}
+use Rattle.ls_frame.specs.Picture.{Picture}
+use Rattle.ls_frame.specs.View.Known.{Tells, Gave, known}
+use Rattle.ls_stream.specs.declared.next.NextFault.{NextFault}
+use Rattle.ls_stream.specs.declared.next.NextFault.TheVariants as next
+use Rattle.ls_stream.specs.Grammar.{Spells, most_bytes}
+use Rattle.ls_film.proofs.PartLemmas.{too-large-breaks}
+use Rattle.ls_player.specs.declared.job.Job.{Job}
+use Rattle.ls_player.specs.View.Jobs.{IsTaken, IsMade}
+use Rattle.ls_player.specs.View.Batches.{AreTaken, IsUntaken, codestreams_of}
+
+-- one more was taken
+pub taken-more : (read mid read' : Option (List ℕ)) (taken : List (List ℕ)) (bytes : List ℕ) → AreTaken read mid taken → IsTaken mid read' bytes
+    → AreTaken read read' (taken ++ bytes ∷ [])
+taken-more read mid read' [] bytes are is = (read', subst (λ r. IsTaken r read' bytes) (sym are) is, refl)
+taken-more read mid read' (first ∷ more) bytes are is = (are.0, are.1, taken-more are.0 mid read' more bytes are.2 is)
+
+-- the next can't be taken
+pub untaken : (read read' : Option (List ℕ)) (fault : NextFault) → (fault ≡ next.TooLarge → Gave read read' (λ bytes. length bytes ≡ most_bytes))
+    → (Tells read → (front rest : List ℕ) (f : Picture) → known read ≡ front ++ rest → Spells front f → (fault ≡ next.Io) ⊎ (fault ≡ next.NoMemory)) → IsUntaken read fault
+untaken read read' next.TooLarge large complete = too-large-breaks read read' next.TooLarge refl large complete
+untaken read read' next.Io large complete = tt
+untaken read read' next.NoMemory large complete = tt
+
+-- each job was made, of the same codestream
+abbrev pub IsMadeOf : Job → Job → Type 0
+IsMadeOf job job' = (job'.bytes ≡ job.bytes) × IsMade job'
+
+abbrev pub EachIsMade : List Job → List Job → Type 0
+EachIsMade jobs jobs' = (i : ℕ) (d : Job) → i < length jobs → IsMadeOf (slice_index_or jobs i d) (slice_index_or jobs' i d)
+
+later : (job job' : Job) (jobs jobs' : List Job) → EachIsMade (job ∷ jobs) (job' ∷ jobs') → EachIsMade jobs jobs'
+later job job' jobs jobs' each i d lt = each (suc i) d (omega arith)
+
+pub all-made : (jobs jobs' : List Job) → length jobs' ≡ length jobs → EachIsMade jobs jobs' → AllByRecursion IsMade jobs' × (codestreams_of jobs' ≡ codestreams_of jobs)
+all-made [] [] len each = (tt, refl)
+all-made [] (job' ∷ jobs') len each = let no : ⊥ = omega arith in absurd no
+all-made (job ∷ jobs) [] len each = let no : ⊥ = omega arith in absurd no
+all-made (job ∷ jobs) (job' ∷ jobs') len each =
+    let first : IsMadeOf job job' = each 0 job (omega arith) in
+    let rest = all-made jobs jobs' (omega arith) (later job job' jobs jobs' each) in
+    ((first.1, rest.0), ap (λ bytes. bytes.items ∷ codestreams_of jobs') first.0 ∙ ap (λ more. job.bytes.items ∷ more) rest.1)
+
+-- ---- jobs that are taken off the front
+
+pub first-and-rest : (jobs : List Job) (job : Job) (rest : List Job) → 0 < length jobs → job ≡ slice_index_or jobs 0 job → rest ≡ remove jobs 0 → jobs ≡ job ∷ rest
+first-and-rest [] job rest some is are = let no : ⊥ = omega arith in absurd no
+first-and-rest (first ∷ more) job rest some is are = ap (λ j. j ∷ more) (sym is) ∙ ap (λ js. job ∷ js) (sym are)
+
+pub none-left : (jobs : List Job) → length jobs ≡ 0 → jobs ≡ []
+none-left [] is = refl
+none-left (job ∷ jobs) is = let no : ⊥ = omega arith in absurd no

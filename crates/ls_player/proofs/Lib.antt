@@ -1,0 +1,3 @@
+pub mod JobLemmas
+pub mod BatchLemmas
+pub mod ShowLemmas

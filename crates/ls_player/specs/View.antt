@@ -1,0 +1,4 @@
+-- How the code's values are seen.
+pub mod Batches
+pub mod Jobs
+pub mod Playing
