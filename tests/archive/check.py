@@ -110,6 +110,25 @@ def index_of(frames, sums=True):
     return lines
 
 
+def images_in(content):
+    """How many images, with headers as the program writes them."""
+    images = 0
+    while content:
+        magic, size, maxval, content = content.split(b"\n", 3)
+        width, height = size.split()
+        values = int(width) * int(height) * (3 if magic == b"P6" else 1)
+        content = content[values * (2 if int(maxval) > 255 else 1):]
+        images += 1
+    return images
+
+
+def holds(name, content):
+    """A case: the content of a file."""
+    with open(name, "rb") as file:
+        got = file.read()
+    count(name, got == content, f"{got} and not {content}")
+
+
 # ---- the index
 
 for name, frames in [("none", []), ("one", [BLACK]), ("mixed", MIXED), ("many", [BLACK, WHITE] * 100)]:
@@ -160,6 +179,16 @@ says(2, "", f"jlsrec: {report}: given twice\n", "record", "--index", "--report",
 says(2, "", "jlsrec: white.film: given twice\n", "code", "--index", "white.film", "white.film")
 said = "jlsrec: white.coded: renamed to white.coded.1\n"
 says(0, recording([WHITE]), said, "code", "--reasons", "--index", "white.coded", "white.film")
+said = "jlsrec: white.film.jls: renamed to white.film.jls.1\njlsrec: white.film.jls.index: renamed to white.film.jls.index.1\n"
+says(0, "white.film: 1 frames\n", said, "record", "--reasons", "--index", "white.film")
+holds("white.film.jls.1", recording([WHITE]))
+holds("white.film.jls.index.1", index_of([WHITE]).encode())
+holds("white.film.jls.index", index_of([WHITE]).encode())
+says(0, "white.film: 1 frames\n", "", "record", "--reasons", "--replace", "--index", "white.film")
+holds("white.film.jls.index", index_of([WHITE]).encode())
+os.mkdir("kept")
+says(0, "white.film: 1 frames\n", "", "record", "--index", "--into", "kept", "white.film")
+holds("kept/white.film.jls.index", index_of([WHITE]).encode())
 
 whole = recording(MIXED)
 ends = [sum(len(frame[0]) for frame in MIXED[:number]) for number in range(len(MIXED) + 1)]
@@ -205,14 +234,11 @@ for bit in range(8 * len(content)):
     found = f"frame {number}: changed: {len(three[number][0])} bytes at {damaged_ends[number]}\n"
     says(1, f"{found}changed.jls: 3 frames, 1 damaged\n", "", "check", "--index", "three.index", "changed.jls")
     status, shown, said = run("play", "--salvage", "changed.jls")
-    others = [frame[1] for place, frame in enumerate(three) if place != number]
-    place = 0
-    for other in others:
-        place = shown.find(other, place)
-        if place < 0:
-            break
-        place += len(other)
-    count(f"salvage with bit {bit} turned", place >= 0 and status in (0, 1), (status, shown, said))
+    others = shown.startswith(film(three[:number])) and shown.endswith(film(three[number + 1:]))
+    is_gap = status == 1 and said.count("passed over") == 1
+    is_shown = status == 0 and not said
+    holds = others and (is_gap or is_shown) and images_in(shown) == (3 if is_shown else 2)
+    count(f"salvage with bit {bit} turned", holds, (status, shown, said))
 
 write("more.jls", whole + b"more")
 says(
@@ -225,13 +251,31 @@ swapped = [TWO_VALUES, ANNEX_H] + MIXED[2:]
 write("swapped.jls", recording(swapped))
 status, output, said = run("check", "--index", "mixed.index", "swapped.jls")
 count("frames that were swapped", status == 1 and b"frame 0: changed" in output and b"frame 1: changed" in output, output)
-for line, name in [(0, "0 0 28\n"), (1, index_of([BLACK]) + "0 28 28 gray\n"), (0, "1 0 28 gray\n"), (0, "x"), (0, "\n")]:
-    write("bad.index", name.encode())
+for line, lines in [
+    (0, "0 0 28\n"),
+    (1, index_of([BLACK]) + "0 28 28 gray\n"),
+    (0, "1 0 28 gray\n"),
+    (0, "x"),
+    (0, "\n"),
+    (0, index_of([BLACK])[:-1]),
+    (0, index_of([BLACK])[:-2]),
+    (0, film([BLACK]).decode("latin-1")),
+]:
+    write("bad.index", lines.encode())
     says(1, "", f"jlsrec: bad.index: line {line}: not of an index\n", "check", "--index", "bad.index", "one.jls")
 says(1, "", "jlsrec: none.index: can't open\n".replace("none", "no"), "check", "--index", "no.index", "one.jls")
 says(1, "", "jlsrec: one.index: read failed\n", "check", "--index", "one.index", "one.jls", FAIL_READ="1", **preload)
 says(1, "", "jlsrec: one.jls: read failed\n", "check", "--index", "one.index", "one.jls", FAIL_READ="2", **preload)
 says(1, "", "jlsrec: output failed\n", "check", "--index", "one.index", "one.jls", FAIL_WRITE="1", **preload)
+# Of a sum that is damaged; and of a change that an index without sums doesn't show.
+sums = index_of([BLACK])
+write("sum.index", (sums[:-2] + ("1" if sums[-2] == "0" else "0") + "\n").encode())
+found = "frame 0: changed: 28 bytes at 0\n"
+says(1, f"{found}one.jls: 1 frames, 1 damaged\n", "", "check", "--index", "sum.index", "one.jls")
+write("changed.jls", recording([WHITE]))
+says(1, f"{found}changed.jls: 1 frames, 1 damaged\n", "", "check", "--index", "one.index", "changed.jls")
+says(0, "changed.jls: 1 frames, 0 damaged\n", "", "check", "--index", "one.sizes", "changed.jls")
+says(1, "", "jlsrec: one.jls: read failed\n", "check", "one.jls", FAIL_READ="1", **preload)
 # The index as it was made of a recording that can't be decoded: it is as it was.
 broken = (codestream(8, 1, 1, [b"\x00"]), b"", "gray 1 1 255 8 3 7 21 64")
 write("broken.jls", recording([broken, BLACK]))
@@ -268,6 +312,10 @@ write("of.jls", recording([BLACK]))
 says(0, "", "", "verify", "film.pgm", "of.jls")
 write("film.pgm", film([BLACK])[:-1])
 says(1, "", "jlsrec: film.pgm: frame 0: truncated\n", "verify", "film.pgm", "of.jls")
+write("film.pgm", film([BLACK]))
+says(1, "", "jlsrec: of.jls: frame 0: bad magic\n", "verify", "of.jls", "film.pgm")
+says(1, "", "jlsrec: film.pgm: frame 0: read failed\n", "verify", "film.pgm", "of.jls", FAIL_READ="1", **preload)
+says(1, "", "jlsrec: of.jls: read failed\n", "verify", "film.pgm", "of.jls", FAIL_READ="2", **preload)
 says(1, "", "jlsrec: no.pgm: can't open\n", "verify", "no.pgm", "of.jls")
 says(1, "", "jlsrec: no.jls: can't open\n", "verify", "film.pgm", "no.jls")
 
@@ -286,6 +334,7 @@ says(1, "", "jlsrec: some.jls: frame 0: bad code in component 0\n", "play", "--f
 for text in ["", "x", "1..x", "2..1", "..", "-1", "+1", "1.2", "4294967295", "1...2"]:
     status, output, said = run("play", f"--frames={text}", "many.jls")
     count(f"--frames={text}", status == 2 and not output and "--frames takes" in said, (status, output, said))
+says(1, "", "jlsrec: many.jls: read failed\n", "play", "--frames", "1", "many.jls", FAIL_READ="1", **preload)
 status, output, said = run("play", "--frames", "1", "--salvage", "many.jls")
 count("--frames and --salvage", status == 2 and "don't go together" in said, (status, output, said))
 
@@ -328,6 +377,14 @@ says(
     "jlsrec: damaged.jls: only decoded: no index is named\n",
     "check", "damaged.jls",
 )
+
+# A file of another kind is said to be one.
+size = os.path.getsize("film.pgm")
+gap = f"frame 0: no SOI: {size} bytes at 0 passed over\n"
+likeness = "jlsrec: film.pgm: (this seems to be a film: list, code or record it)\n"
+says(1, "", f"jlsrec: film.pgm: {gap}{likeness}", "play", "--salvage", "--reasons", "film.pgm")
+told = "jlsrec: film.pgm: only decoded: no index is named\n"
+says(1, f"{gap}film.pgm: 1 frames, 1 damaged\n", f"{told}{likeness}", "check", "--reasons", "film.pgm")
 
 print(f"{passed} passed, {failed} failed")
 sys.exit(failed > 0)

@@ -66,7 +66,8 @@ pub const FRAMES_WANTED: &str =
     "--frames takes A, A.., ..B or A..B, of frame numbers from 0, A no greater than B";
 
 pub const SALVAGE_HELP: &str = "\
-Go on after a codestream at fault, at the next one that begins after it, and say of each gap on standard error
+Go on after a codestream at fault, at the next place after its first byte where one may begin, and say of each gap on
+standard error
   frame N: FAULT: B bytes at O passed over
 where N is the number of the next frame that is played. The status is 1 if there was a gap";
 
@@ -98,20 +99,25 @@ The file for an index, as `index` writes it: the line of each codestream, as soo
 
 pub const INDEX_OF_RECORDING_HELP: &str = "\
 Write an index of each FILE.jls too, FILE.jls.index, as `index` writes it: the line of each codestream, as soon as that
-was written";
+was written. One that can't be made keeps all from being recorded; one that breaks off leaves the recording as it is";
 
-pub const NO_SUMS_HELP: &str = "Leave the sum out, which is quicker";
+pub const NO_SUMS_HELP: &str = "\
+Leave the sum out, which is quicker; by such an index `check` doesn't see a bit that decodes as another sample";
 
 pub const CHECK_HELP: &str = "\
 Decodes each codestream of FILE, a recording, and says of each that is damaged a line on standard output:
   frame N: FAULT: B bytes at O passed over
+or, by an index, where FAULT is also `truncated` or `changed`,
+  frame N: FAULT: B bytes at O
+  FILE: more bytes than the index has
 and at the end
   FILE: N frames, M damaged
-The status is 1 if any is damaged. JPEG-LS has no checksums, so a bit that has changed may decode as other samples:
-that only an index shows.";
+The status is 0 if nothing else was written, else 1. JPEG-LS has no checksums, so a bit that has changed may decode as
+other samples: that only an index with sums shows, or `verify` with the film.";
 
 pub const INDEX_FILE_HELP: &str = "\
-The recording's index, as `index` wrote it: each codestream has to be where it stood, and to have its sum";
+The recording's index, as `index` wrote it: each codestream has to be where it stood, and to have its sum if the index
+has one";
 
 pub const VERIFY_HELP: &str = "\
 Compares the frames of FILE, a recording, with those of FILM, frame by frame. The status is 0 exactly if they are the

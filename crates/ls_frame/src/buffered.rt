@@ -34,8 +34,8 @@ pub struct Buffered<R> {
 impl<R: Read> Buffered<R> {
     ghost use Rattle.ls_frame.specs.View.Chunks.{in_chunk, inner_reader, left_in};
 
-    /// A reader of the bytes of another, of which none is taken yet. If an allocation fails, the other is dropped; later calls allocate
-    /// nothing.
+    /// A reader of the bytes of another, of which none is taken yet. If an allocation fails, the other is dropped. Later calls but
+    /// `put_back` allocate nothing.
     pub fn new(alloc: Global, inner: R) -> Result<Buffered<R>, AllocError>
     where
         R: Drop,
@@ -50,7 +50,8 @@ impl<R: Read> Buffered<R> {
         })
     }
 
-    /// Puts bytes before those that are left, as if they hadn't been handed out. If an allocation fails, nothing changes.
+    /// Puts bytes before those that are left, as if they hadn't been handed out. If an allocation fails, nothing changes. Chunks are from
+    /// then on as large as all that is left, if that is over 64 KiB.
     pub fn put_back(&mut self, alloc: Global, bytes: &[u8]) -> Result<(), AllocError>
         ensures back { OnOk result (left_in R.remaining self.new ≡ prepend_known bytes.now (left_in R.remaining self.old)) }
         ensures kept { OnErr result (left_in R.remaining self.new ≡ left_in R.remaining self.old) }

@@ -1,6 +1,9 @@
 //! What is asked of a recording that is kept: its index, whether it is damaged, and whether it is of a film.
+use crate::cause::Cause;
 use crate::console::Console;
-use crate::program::{DONE, FAILED, conclude, finish_lines, no_memory, open_film, say_unwritten};
+use crate::program::{
+    DONE, FAILED, conclude, explain, finish_lines, no_memory, open_film, say_unwritten,
+};
 use ls_archive::{
     CheckFault, Checked, Finding, Findings, Verdict, VerifyFault, check, verify, write_index,
 };
@@ -98,7 +101,10 @@ where
 
 /// Whether a check stopped for its index.
 fn is_of_index(fault: CheckFault) -> bool {
-    matches!(fault, CheckFault::Line(_) | CheckFault::IndexIo)
+    matches!(
+        fault,
+        CheckFault::Line(_) | CheckFault::IndexIo | CheckFault::TooMany
+    )
 }
 
 /// Looks for what can't be decoded of a recording, and says that there is no index to compare it with.
@@ -117,6 +123,9 @@ where
     match salvage::<NoText, _, _, _>(rt.alloc(), &mut recording, &mut nothing, &mut report) {
         Ok(salvaged) => {
             console.say(format_args!("{file}: only decoded: no index is named"));
+            if salvaged.frames == 0 {
+                explain(file, Cause::Format, &recording, None, console);
+            }
             let checked = Checked {
                 frames: salvaged.frames.saturating_add(salvaged.gaps),
                 damaged: salvaged.gaps,

@@ -1,6 +1,7 @@
 //! Playing a recording: all of it, a part, or what stands whole of one that is damaged.
+use crate::cause::Cause;
 use crate::console::Console;
-use crate::program::{DONE, FAILED, conclude, open_film};
+use crate::program::{DONE, FAILED, conclude, explain, open_film};
 use ls_command::Frames;
 use ls_film::{MOST_FRAMES, Part, PartFault, play, play_part};
 use ls_frame::{Counted, Feed, Outlet};
@@ -79,7 +80,12 @@ where
     let mut gaps = SaidGaps { file, console };
     match salvage::<ImageText, _, _, _>(rt.alloc(), &mut recording, output, &mut gaps) {
         Ok(salvaged) if salvaged.gaps == 0 => DONE,
-        Ok(_) => FAILED,
+        Ok(salvaged) => {
+            if salvaged.frames == 0 {
+                explain(file, Cause::Format, &recording, None, console);
+            }
+            FAILED
+        }
         Err(fault) => conclude(file, Err(fault), &recording, output.last_failure(), console),
     }
 }
