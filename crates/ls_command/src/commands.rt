@@ -2,9 +2,9 @@
 use crate::texts::{
     CAPACITY_HELP, CHECK_HELP, CODE_HELP, FILM_HELP, FILMS_HELP, FRAMES_HELP, INDEX_FILE_HELP,
     INDEX_HELP, INDEX_OF_CODE_HELP, INDEX_OF_RECORDING_HELP, INTO_HELP, LIST_HELP, NO_SUMS_HELP,
-    PLAY_HELP, PRESET_HELP, PROGRESS_HELP, QUEUE_HELP, REASONS_HELP, RECORD_HELP, RECORDING_HELP,
-    REPLACE_HELP, REPLAY_HELP, REPORT_HELP, SALVAGE_HELP, SOURCES_HELP, STEPS_HELP, VERIFY_HELP,
-    WINDOW_HELP, WORKERS_HELP,
+    PLAY_HELP, PLAYERS_HELP, PRESET_HELP, PROGRESS_HELP, QUEUE_HELP, REASONS_HELP, RECORD_HELP,
+    RECORDING_HELP, REPLACE_HELP, REPLAY_HELP, REPORT_HELP, SALVAGE_HELP, SOURCES_HELP, STEPS_HELP,
+    VERIFY_HELP, WINDOW_HELP, WORKERS_HELP,
 };
 use clap::{Arg, ArgAction, Command, value_parser};
 use std::alloc::{AllocError, Global};
@@ -62,7 +62,8 @@ fn play_command<'a>(alloc: Global) -> Result<Command<'a>, AllocError> {
         RECORDING_HELP,
     )?
     .arg(option(alloc, "frames", "A..B", FRAMES_HELP))?
-    .arg(flag(alloc, "salvage", SALVAGE_HELP))
+    .arg(flag(alloc, "salvage", SALVAGE_HELP))?
+    .arg(players_option(alloc))
 }
 
 /// The command that looks up a recording's codestreams.
@@ -167,6 +168,12 @@ fn progress_flag<'a>(alloc: Global) -> Arg<'a> {
 /// The option of `record` that names the file for a report.
 fn report_option<'a>(alloc: Global) -> Arg<'a> {
     option(alloc, "report", "REPORT", REPORT_HELP)
+}
+
+/// The option of `play` that says how many workers decode.
+fn players_option<'a>(alloc: Global) -> Arg<'a> {
+    let workers = value_parser!(u8).range(1..=16);
+    optional_count(alloc, "workers", "1", PLAYERS_HELP).value_parser(workers)
 }
 
 /// An option whose value is a count, `usual` if the option is left out.

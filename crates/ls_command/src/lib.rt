@@ -28,7 +28,7 @@ use commands::command;
 pub use frames::Frames;
 use frames::read_frames;
 use std::alloc::{AllocError, Global};
-use texts::{BEGINNING, FRAMES_WANTED};
+use texts::{BEGINNING, FRAMES_WANTED, PLAYERS_WANTED};
 
 /// What the words ask for.
 #[derive(Drop)]
@@ -47,6 +47,8 @@ pub enum Request<'a> {
         file: &'a str,
         frames: Option<Frames>,
         salvage: bool,
+        /// How many workers decode; one, if it is some or past damage.
+        workers: u8,
     },
     /// The lines of a recording's codestreams, with their sums or without.
     Index {
@@ -192,11 +194,16 @@ fn play_request<'a>(alloc: Global, words: &ArgMatches<'a>) -> Result<Option<Requ
         },
         None => None,
     };
+    let workers = words.get_one("workers").unwrap_or(1);
+    if workers > 1 && (frames.is_some() || salvage) {
+        return Err(usage_fault(alloc, PLAYERS_WANTED)?);
+    }
     Ok(
         words.get_str("FILE").map(|file| Request::Play {
             file,
             frames,
             salvage,
+            workers,
         }),
     )
 }

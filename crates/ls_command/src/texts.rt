@@ -71,6 +71,12 @@ standard error
   frame N: FAULT: B bytes at O passed over
 where N is the number of the next frame that is played. The status is 1 if there was a gap";
 
+pub const PLAYERS_HELP: &str = "\
+How many workers decode, 1 to 16. From 2 on twice as many codestreams are read at once, and their images written in
+order when all of them are made";
+
+pub const PLAYERS_WANTED: &str = "--workers goes with neither --frames nor --salvage";
+
 pub const INDEX_HELP: &str = "\
 Writes a line for each codestream of FILE, a recording, to standard output. It goes by markers and headers, and decodes
 nothing.

@@ -5,21 +5,27 @@ use crate::program::{DONE, FAILED, conclude, explain, open_film};
 use ls_command::Frames;
 use ls_film::{MOST_FRAMES, Part, PartFault, play, play_part};
 use ls_frame::{Counted, Feed, Outlet};
+use ls_player::play_by;
 use ls_salvage::{Gap, Gaps, ImageText, salvage};
 use std::alloc::{AllocError, Global};
 use std::io::Write;
 use std::rt::Files;
+use std::thread::Threads;
 
-/// Plays a recording, or the frames of it that are asked for.
+/// The most workers of a playing.
+const MOST_WORKERS: usize = 16;
+
+/// Plays a recording, by so many workers, or the frames of it that are asked for.
 pub fn show<R, W, E>(
     rt: &R,
     file: &str,
     frames: Option<Frames>,
+    workers: usize,
     output: &mut Counted<W>,
     console: &mut Console<'_, E>,
 ) -> u8
 where
-    R: Eprint + Files + AllocGlobal,
+    R: Eprint + Files + AllocGlobal + Threads + Sync,
     W: Write,
     E: Outlet,
 {
@@ -29,18 +35,25 @@ where
     };
     let result = match frames {
         Some(frames) => play_frames(rt.alloc(), frames, &mut recording, output),
-        None => play_all(rt.alloc(), &mut recording, output),
+        None => play_all(rt, rt.alloc(), workers, &mut recording, output),
     };
     conclude(file, result, &recording, output.last_failure(), console)
 }
 
-/// Plays a recording that is lent to a writer that is lent.
-fn play_all<R: Feed, W: Outlet>(
+/// Plays a recording that is lent to a writer that is lent, by so many workers: by one, each image is out before the next
+/// codestream is read.
+fn play_all<Rt: Threads + Sync, R: Feed, W: Outlet>(
+    rt: &Rt,
     alloc: Global,
+    workers: usize,
     recording: &mut R,
     output: &mut W,
 ) -> Result<u64, PartFault> {
-    match play(alloc, recording, output) {
+    let played = match workers {
+        0 | 1 => play(alloc, recording, output),
+        workers => play_by(rt, alloc, workers.min(MOST_WORKERS), recording, output),
+    };
+    match played {
         Ok((frames, _, _)) => Ok(frames),
         Err((fault, _, _)) => Err(PartFault::Play(fault)),
     }
