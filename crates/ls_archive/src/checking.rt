@@ -123,8 +123,8 @@ impl From<AllocError> for CheckFault {
 /// good if the line is the one that `write_index` writes of them, with their SHA-256 or without, and they are a codestream of a frame.
 /// Tells of all that aren't, in order.
 ///
-/// So by an index with sums any other bytes are found. By one without sums they are if they have another size, other headers, or data that
-/// can't be decoded; a changed byte that leaves these as they are isn't seen.
+/// So by an index with sums bytes of another SHA-256 are found. By one without sums they are if they have another size, other headers, or
+/// data that can't be decoded; a changed byte that leaves these as they are isn't seen.
 ///
 /// A line is the beginning `number offset size ` and what follows it up to LF; each begins where the one before it ends. One codestream is
 /// in memory at a time. If the bytes of both readers are known (as in memory), the clauses say what was found in them; if those of the
@@ -140,10 +140,10 @@ pub fn check<I: Feed, R: Feed, F: Findings>(
     ensures index_reads { I.failed_reads index.new ≡ count_after (failed_index result) (I.failed_reads index.old) }
     ensures reads { R.failed_reads recording.new ≡ count_after (failed_recording result) (R.failed_reads recording.old) }
 {
-    let mut place = 0;
+    let mut offset = 0;
     let mut damaged = 0;
     for number in 0..MOST_FRAMES {
-        let Some(line) = next_line(alloc, index, number, place)? else {
+        let Some(line) = next_line(alloc, index, number, offset)? else {
             let more = has_more(alloc, recording)?;
             return Ok(Checked {
                 frames: number,
@@ -152,10 +152,10 @@ pub fn check<I: Feed, R: Feed, F: Findings>(
             });
         };
         let bytes = take_bytes(alloc, recording, line.size as usize)?;
-        damaged += look_at(alloc, number, place, &line, bytes, findings)?;
-        place += u64::from(line.size);
+        damaged += look_at(alloc, number, offset, &line, bytes, findings)?;
+        offset += u64::from(line.size);
     }
-    let None = next_line(alloc, index, MOST_FRAMES, place)? else {
+    let None = next_line(alloc, index, MOST_FRAMES, offset)? else {
         return Err(CheckFault::TooMany);
     };
     let more = has_more(alloc, recording)?;
@@ -176,18 +176,18 @@ struct IndexLine {
 /// The most bytes of a line.
 const MOST_LINE: usize = 1024;
 
-/// Takes the next line off an index; `None` at its end. It has to be that of the codestream of this number, which begins at this place.
+/// Takes the next line off an index; `None` at its end. It has to be that of the codestream of this number, which begins at this offset.
 fn next_line<I: Feed>(
     alloc: Global,
     index: &mut I,
     number: u64,
-    place: u64,
+    offset: u64,
 ) -> Result<Option<IndexLine>, CheckFault>
-    ensures is { IfOk result (λ next. IfSome next (λ line. IsLine number place (record { text = line.text.items; size = line.size }))) }
+    ensures is { IfOk result (λ next. IfSome next (λ line. IsLine number offset (record { text = line.text.items; size = line.size }))) }
     ensures gave { IfOk result (λ next. IfSome next (λ line. Gave (I.remaining index.old) (I.remaining index.new) (λ bytes. line.text.items ≡ bytes))) }
     ensures end { IfOk result (λ next. IfNone next (WasAtEnd (I.remaining index.old) (I.remaining index.new))) }
     ensures blame { IfErr result (λ fault. fault ≢ CheckFault.Io) }
-    ensures stops { IfErr result (StopsNextLine (I.remaining index.old) number place) }
+    ensures stops { IfErr result (StopsNextLine (I.remaining index.old) number offset) }
     ensures failures { I.failed_reads index.new ≡ count_after (failed_index result) (I.failed_reads index.old) }
 {
     let text = match take_line(alloc, index) {
@@ -196,7 +196,7 @@ fn next_line<I: Feed>(
         Err(FeedFault::Io) => return Err(CheckFault::IndexIo),
         Err(FeedFault::NoMemory) => return Err(CheckFault::NoMemory),
     };
-    match size_in(alloc, number, place, &text)? {
+    match size_in(alloc, number, offset, &text)? {
         Some(size) => Ok(Some(IndexLine { text, size })),
         None => Err(CheckFault::Line(number)),
     }
@@ -222,10 +222,10 @@ fn take_line<I: Feed>(alloc: Global, reader: &mut I) -> Result<Option<Vec<u8>>, 
     Ok(Some(line))
 }
 
-/// How many bytes the line of the codestream of this number, which begins at this place, says that it has; `None` if the text doesn't
+/// How many bytes the line of the codestream of this number, which begins at this offset, says that it has; `None` if the text doesn't
 /// begin as one or doesn't end in LF.
-fn size_in(alloc: Global, number: u64, place: u64, text: &[u8]) -> Result<Option<u32>, AllocError>
-    ensures { IfOk result (λ found. IfSome found (λ size. (rest : List ℕ) × (text.now ≡ (beginning number place size ++ rest) ++ codes "\n"))) }
+fn size_in(alloc: Global, number: u64, offset: u64, text: &[u8]) -> Result<Option<u32>, AllocError>
+    ensures { IfOk result (λ found. IfSome found (λ size. (rest : List ℕ) × (text.now ≡ (beginning number offset size ++ rest) ++ codes "\n"))) }
 {
     let Some(columns) = text.strip_suffix(b"\n") else {
         return Ok(None);
@@ -233,7 +233,7 @@ fn size_in(alloc: Global, number: u64, place: u64, text: &[u8]) -> Result<Option
     let Some(size) = third_number(columns) else {
         return Ok(None);
     };
-    let wanted = format!(in alloc; "{number} {place} {size} ")?;
+    let wanted = format!(in alloc; "{number} {offset} {size} ")?;
     if columns.starts_with(wanted.as_bytes()) {
         Ok(Some(size))
     } else {
@@ -277,42 +277,42 @@ fn has_more<R: Feed>(alloc: Global, reader: &mut R) -> Result<bool, CheckFault>
     Ok(!bytes.is_empty())
 }
 
-/// Looks at the bytes at the place of a line's codestream, tells of what is wrong with them, and says how many are damaged: 1 or none.
+/// Looks at the bytes at the offset of a line's codestream, tells of what is wrong with them, and says how many are damaged: 1 or none.
 fn look_at<F: Findings>(
     alloc: Global,
     number: u64,
-    place: u64,
+    offset: u64,
     line: &IndexLine,
     bytes: Vec<u8>,
     findings: &mut F,
 ) -> Result<u64, AllocError>
-    ensures looked { IfOk result (HasLooked number place (record { text = line.now.text.items; size = line.now.size }) bytes.items
+    ensures looked { IfOk result (HasLooked number offset (record { text = line.now.text.items; size = line.now.size }) bytes.items
         (F.found findings.old) (F.found findings.new)) }
     ensures none { OnErr result (F.found findings.new ≡ F.found findings.old) }
 {
-    let Some(damage) = damage_of(alloc, number, place, line, bytes)? else {
+    let Some(damage) = damage_of(alloc, number, offset, line, bytes)? else {
         return Ok(0);
     };
     findings.tell(Finding {
         number,
-        place,
+        place: offset,
         count: u64::from(line.size),
         damage,
     })?;
     Ok(1)
 }
 
-/// What is wrong with the bytes at the place of a line's codestream; `None` if they are good.
+/// What is wrong with the bytes at the offset of a line's codestream; `None` if they are good.
 fn damage_of(
     alloc: Global,
     number: u64,
-    place: u64,
+    offset: u64,
     line: &IndexLine,
     bytes: Vec<u8>,
 ) -> Result<Option<Damage>, AllocError>
-    ensures good { IfOk result (λ found. IfNone found (IsGood number place line.now.text.items bytes.items)) }
-    ensures damaged { IfOk result (λ found. IfSome found (λ _. IsGood number place line.now.text.items bytes.items → ⊥)) }
-    ensures damage { IfOk result (λ found. IfSome found (IsDamage number place (record { text = line.now.text.items; size = line.now.size }) bytes.items)) }
+    ensures good { IfOk result (λ found. IfNone found (IsGood number offset line.now.text.items bytes.items)) }
+    ensures damaged { IfOk result (λ found. IfSome found (λ _. IsGood number offset line.now.text.items bytes.items → ⊥)) }
+    ensures damage { IfOk result (λ found. IfSome found (IsDamage number offset (record { text = line.now.text.items; size = line.now.size }) bytes.items)) }
 {
     outlines_follow_the_grammar();
     let is_short = bytes.len() < line.size as usize;
@@ -320,7 +320,7 @@ fn damage_of(
     let Some(indexed) = Indexed::take(alloc, &mut bytes) else {
         return Ok(Some(changed(is_short)));
     };
-    if !is_line_of(alloc, number, place, &line.text, &indexed)? {
+    if !is_line_of(alloc, number, offset, &line.text, &indexed)? {
         return Ok(Some(changed(is_short)));
     }
     match decode_frame(alloc, indexed.bytes()) {
@@ -350,17 +350,17 @@ fn changed(is_short: bool) -> Damage
     }
 }
 
-/// Whether a text is the line of a codestream of this number and at this place, with its sum or without.
+/// Whether a text is the line of a codestream of this number and at this offset, with its sum or without.
 fn is_line_of(
     alloc: Global,
     number: u64,
-    place: u64,
+    offset: u64,
     text: &[u8],
     indexed: &Indexed,
 ) -> Result<bool, AllocError>
-    ensures { IfOk result (λ is. IsTrue is ↔ ((text.now ≡ line true number place indexed.now) ⊎ (text.now ≡ line false number place indexed.now))) }
+    ensures { IfOk result (λ is. IsTrue is ↔ ((text.now ≡ line true number offset indexed.now) ⊎ (text.now ≡ line false number offset indexed.now))) }
 {
-    let with_sum = line(alloc, true, number, place, indexed)?;
-    let without = line(alloc, false, number, place, indexed)?;
+    let with_sum = line(alloc, true, number, offset, indexed)?;
+    let without = line(alloc, false, number, offset, indexed)?;
     Ok(text == with_sum.as_bytes() || text == without.as_bytes())
 }

@@ -46,29 +46,29 @@ pub record IsChecked (index recording : Option (List ℕ)) (found found' : Optio
   pub more : Tells recording → IsTrue checked.more ↔ (size_of lines < length (known recording))
 
 -- The bytes of a line were looked at: they are good, and nothing was told; or they aren't, and one finding was.
-pub record HasLooked (n place : ℕ) (l : Line) (bytes : List ℕ) (found found' : Option (List Finding)) (damaged : ℕ) : Type 0 where
+pub record HasLooked (n offset : ℕ) (l : Line) (bytes : List ℕ) (found found' : Option (List Finding)) (damaged : ℕ) : Type 0 where
   pub findings : List Finding
   pub damaged_are : length findings ≡ damaged
   pub few : damaged ≤ 1
   pub told : FindsMore found found' findings
-  pub are : (IsGood n place l.text bytes × (findings ≡ [])) ⊎ ((IsGood n place l.text bytes → ⊥) × ((finding : Finding) × (findings ≡ finding ∷ []) × IsOf n place l bytes finding))
+  pub are : (IsGood n offset l.text bytes × (findings ≡ [])) ⊎ ((IsGood n offset l.text bytes → ⊥) × ((finding : Finding) × (findings ≡ finding ∷ []) × IsOf n offset l bytes finding))
 
--- So far n lines were read, of which the next one begins at this place, and what the bytes before it have was found. What is found in
+-- So far n lines were read, of which the next one begins at this offset, and what the bytes before it have was found. What is found in
 -- what is left is what is found besides.
-pub record HasChecked (index index' recording recording' : Option (List ℕ)) (found found' : Option (List Finding)) (n place damaged : ℕ) : Type 0 where
+pub record HasChecked (index index' recording recording' : Option (List ℕ)) (found found' : Option (List Finding)) (n offset damaged : ℕ) : Type 0 where
   pub lines : List Line
   pub count : length lines ≡ n
   pub few : length lines ≤ most_frames
-  pub size : size_of lines ≡ place
-  pub more_lines : (more : List Line) → AreLines n place more → AreLines 0 0 (lines ++ more)
+  pub size : size_of lines ≡ offset
+  pub more_lines : (more : List Line) → AreLines n offset more → AreLines 0 0 (lines ++ more)
   pub gave : Gave index index' (λ bytes. bytes ≡ texts lines)
   pub findings : List Finding
   pub damaged_are : length findings ≡ damaged
   pub told : FindsMore found found' findings
   pub tells : Tells recording → Tells recording'
-  pub more_found : Tells recording → (more : List Line) (besides : List Finding) → AreFound n place more (known recording') besides
+  pub more_found : Tells recording → (more : List Line) (besides : List Finding) → AreFound n offset more (known recording') besides
       → AreFound 0 0 (lines ++ more) (known recording) (findings ++ besides)
-  pub left : Tells recording → known recording' ≡ drop place (known recording)
+  pub left : Tells recording → known recording' ≡ drop offset (known recording)
 
 -- ---- where a check stops
 
