@@ -1,5 +1,5 @@
 -- What is read of an index and of a recording, and which codestreams are good.
-use Rattle.std.proofs.Common.{◌≡◌, ◌⊎◌, ◌<◌, ◌≤◌, ◌+◌, ℕ, Bool, true, false, inl, inr, List, [], ◌∷◌, ◌++◌, length, take, drop, Option, None, Some, Ok, refl, sym, ap, subst, ◌∙◌, arith, append_assoc, append-nil, length-append}
+use Rattle.std.proofs.Common.{◌≡◌, ◌⊎◌, ◌<◌, ◌≤◌, ◌+◌, ℕ, Bool, true, false, inl, inr, List, [], ◌∷◌, ◌++◌, length, take, drop, Option, None, Some, Ok, Err, refl, sym, ap, subst, ◌∙◌, arith, append_assoc, append-nil, length-append}
 use Rattle.std.proofs.lemmas.List.{take_at, take_all, drop_at, drop_all, drop-drop, length_push, length-drop}
 use Rattle.std.specs.Prelude.{◌↔◌, IsTrue}
 use Rattle.ls_film.specs.Film.{most_frames}
@@ -8,14 +8,17 @@ use Rattle.ls_frame.specs.Picture.{Picture}
 use Rattle.ls_frame.specs.Parameters.{Parameters}
 use Rattle.ls_frame.specs.View.Known.{Tells, Gave, WasAtEnd, TakesUntil, known}
 use Rattle.ls_frame.proofs.KnownLemmas.{known-consumed}
+use Rattle.ls_stream.specs.declared.faults.StreamFault.{StreamFault}
 use Rattle.ls_stream.specs.Grammar.{Spells}
 use Rattle.ls_stream.specs.View.Reading.{Take}
 use Rattle.ls_stream.specs.View.Outlines.{Outline, outline_of, SpellingsHaveBoundedOutlines}
 use Rattle.ls_stream.proofs.StepLemmas.{same_ok}
 use Rattle.ls_archive.specs.Index.{Entry, line}
 use Rattle.ls_archive.specs.declared.checking.Finding.{Finding}
-use Rattle.ls_archive.specs.Checking.{Line, beginning, AreLines, texts, IsGood, AreFound, size_of}
-use Rattle.ls_archive.specs.View.Checks.{FindsMore, GaveAtMost, HasLooked, HasChecked, IsChecked}
+use Rattle.ls_archive.specs.View.Checking.{Line, IsLine, AreLines, texts, HasLine, IsGood, IsOf, AreFound, size_of}
+use Rattle.ls_archive.specs.declared.checking.CheckFault.{CheckFault}
+use Rattle.ls_archive.specs.declared.checking.CheckFault.TheVariants as fault
+use Rattle.ls_archive.specs.View.Checks.{FindsMore, GaveAtMost, HasLooked, HasChecked, IsChecked, StopsAfter, GoesOn, BeginsWithLine, Anything, Stops, StopsNextLine, StopsReading}
 use Rattle.ls_archive.specs.View.Entries.{IsEntry}
 
 -- ---- reading
@@ -71,6 +74,17 @@ spelled_whole law bytes left o f read spells =
     let found = law bytes [] f spells in
     (same_read o found.0 left [] (sym read ∙ ap outline_of (sym (append-nil bytes)) ∙ found.1)).1
 
+-- nor does one that has an entry
+pub entry_whole : (bytes left : List ℕ) (o : Outline) (entry : Entry) → outline_of bytes ≡ Ok (o, left) → IsEntry entry → entry.bytes ≡ bytes → left ≡ []
+entry_whole bytes left o entry read is same = (same_read o is.outline left [] (sym read ∙ ap outline_of (sym same) ∙ is.complete)).1
+
+read_or_not : (r : Take Outline) (o : Outline) (left : List ℕ) (fault : StreamFault) → r ≡ Ok (o, left) → r ≡ Err fault → ⊥
+read_or_not r o left fault ok err = let clash : ⊥ = cc in absurd clash
+
+-- where the outline breaks, there is no entry
+pub entry_read : (bytes : List ℕ) (fault : StreamFault) (entry : Entry) → outline_of bytes ≡ Err fault → IsEntry entry → entry.bytes ≡ bytes → ⊥
+entry_read bytes fault entry breaks is same = read_or_not (outline_of bytes) is.outline [] fault (ap outline_of (sym same) ∙ is.complete) breaks
+
 -- a front that is one is all of it
 pub spelled_front : SpellingsHaveBoundedOutlines → (bytes front rest : List ℕ) (o : Outline) (f : Picture) → outline_of bytes ≡ Ok (o, []) → bytes ≡ front ++ rest → Spells front f
     → Spells bytes f
@@ -103,20 +117,19 @@ one_entry a b is other bytes =
     (sym is.says.parameters ∙ ap (λ (o : Outline). o.parameters) o ∙ other.says.parameters)
 
 -- a good one has its line
-by_sums : (n place : ℕ) (e : Entry) (text : List ℕ) (sums : Bool) → text ≡ line sums n place e → (text ≡ line true n place e) ⊎ (text ≡ line false n place e)
-by_sums n place e text true is = inl is
-by_sums n place e text false is = inr is
+by_sums : (n offset : ℕ) (e : Entry) (text : List ℕ) (sums : Bool) → text ≡ line sums n offset e → (text ≡ line true n offset e) ⊎ (text ≡ line false n offset e)
+by_sums n offset e text true is = inl is
+by_sums n offset e text false is = inr is
 
-pub good_line : (n place : ℕ) (e : Entry) (text bytes : List ℕ) → IsEntry e → e.bytes ≡ bytes → IsGood n place text bytes → (text ≡ line true n place e) ⊎ (text ≡ line false n place e)
-good_line n place e text bytes is bytes_are good =
-    let same : good.entry ≡ e = one_entry good.entry e good.is_entry is (good.bytes_are ∙ sym bytes_are) in
-    by_sums n place e text good.sums (good.text_is ∙ ap (line good.sums n place) same)
+pub good_line : (n offset : ℕ) (e : Entry) (text bytes : List ℕ) → IsEntry e → e.bytes ≡ bytes → HasLine n offset text bytes → (text ≡ line true n offset e) ⊎ (text ≡ line false n offset e)
+good_line n offset e text bytes is bytes_are has =
+    let same : has.entry ≡ e = one_entry has.entry e has.is_entry is (has.bytes_are ∙ sym bytes_are) in
+    by_sums n offset e text has.sums (has.text_is ∙ ap (line has.sums n offset) same)
 
--- and one that has it and is a codestream of a frame is good
-pub is_good : (n place : ℕ) (e : Entry) (text bytes : List ℕ) (f : Picture) → IsEntry e → e.bytes ≡ bytes → Spells bytes f → (text ≡ line true n place e) ⊎ (text ≡ line false n place e)
-    → IsGood n place text bytes
-is_good n place e text bytes f is bytes_are spells (inl with) = record { entry = e; is_entry = is; bytes_are = bytes_are; sums = true; text_is = with; frame = f; spells = spells }
-is_good n place e text bytes f is bytes_are spells (inr without) = record { entry = e; is_entry = is; bytes_are = bytes_are; sums = false; text_is = without; frame = f; spells = spells }
+pub has_line : (n offset : ℕ) (e : Entry) (text bytes : List ℕ) → IsEntry e → e.bytes ≡ bytes → (text ≡ line true n offset e) ⊎ (text ≡ line false n offset e)
+    → HasLine n offset text bytes
+has_line n offset e text bytes is bytes_are (inl with) = record { entry = e; is_entry = is; bytes_are = bytes_are; sums = true; text_is = with }
+has_line n offset e text bytes is bytes_are (inr without) = record { entry = e; is_entry = is; bytes_are = bytes_are; sums = false; text_is = without }
 
 -- ---- a check, line by line
 
@@ -156,21 +169,21 @@ size-push [] l = omega arith
 size-push (first ∷ lines) l = omega (arith, size-push lines l)
 
 -- what is found of a line, and of those after it
-found_by : (n place : ℕ) (l : Line) (all bytes : List ℕ) (found found' : Option (List Finding)) (d : ℕ) → bytes ≡ take l.size all → (looked : HasLooked n place l bytes found found' d)
-    (more : List Line) (besides : List Finding) → AreFound (n + 1) (place + l.size) more (drop l.size all) besides → AreFound n place (l ∷ more) all (looked.findings ++ besides)
-found_by n place l all bytes found found' d same looked more besides are = elim looked.are [
+found_by : (n offset : ℕ) (l : Line) (all bytes : List ℕ) (found found' : Option (List Finding)) (d : ℕ) → bytes ≡ take l.size all → (looked : HasLooked n offset l bytes found found' d)
+    (more : List Line) (besides : List Finding) → AreFound (n + 1) (offset + l.size) more (drop l.size all) besides → AreFound n offset (l ∷ more) all (looked.findings ++ besides)
+found_by n offset l all bytes found found' d same looked more besides are = elim looked.are [
   | inl good ↦
-      inl (subst (IsGood n place l.text) same good.0, subst (AreFound (n + 1) (place + l.size) more (drop l.size all)) (ap (λ s. s ++ besides) (sym good.1)) are)
+      inl (subst (IsGood n offset l.text) same good.0, subst (AreFound (n + 1) (offset + l.size) more (drop l.size all)) (ap (λ s. s ++ besides) (sym good.1)) are)
   | inr bad ↦
-      inr (bad.1.0, besides, ap (λ s. s ++ besides) bad.1.1, bad.1.2, (λ good. bad.0 (subst (IsGood n place l.text) (sym same) good)), are)
+      inr (bad.1.0, besides, ap (λ s. s ++ besides) bad.1.1, subst (λ bs. IsOf n offset l bs bad.1.0) same bad.1.2, (λ good. bad.0 (subst (IsGood n offset l.text) (sym same) good)), are)
 ]
 
 -- one line more
-pub checked-more : (index mid index' recording half recording' : Option (List ℕ)) (found some found' : Option (List Finding)) (n place damaged d : ℕ) (l : Line) (bytes : List ℕ)
-    → HasChecked index mid recording half found some n place damaged → n < most_frames → (rest : List ℕ) × (l.text ≡ beginning n place l.size ++ rest)
-    → Gave mid index' (λ read. l.text ≡ read) → GaveAtMost half recording' l.size bytes → HasLooked n place l bytes some found' d
-    → HasChecked index index' recording recording' found found' (n + 1) (place + l.size) (damaged + d)
-checked-more index mid index' recording half recording' found some found' n place damaged d l bytes run room begins line taken looked =
+pub checked-more : (index mid index' recording half recording' : Option (List ℕ)) (found some found' : Option (List Finding)) (n offset damaged d : ℕ) (l : Line) (bytes : List ℕ)
+    → HasChecked index mid recording half found some n offset damaged → n < most_frames → IsLine n offset l
+    → Gave mid index' (λ read. l.text ≡ read) → GaveAtMost half recording' l.size bytes → HasLooked n offset l bytes some found' d
+    → HasChecked index index' recording recording' found found' (n + 1) (offset + l.size) (damaged + d)
+checked-more index mid index' recording half recording' found some found' n offset damaged d l bytes run room begins line taken looked =
     let lines : List Line = run.lines in
     record {
       lines = lines ++ l ∷ [];
@@ -192,18 +205,18 @@ checked-more index mid index' recording half recording' found some found' n plac
       tells = λ told. taken.tells (run.tells told);
       more_found = λ told more besides are.
           let half_told = run.tells told in
-          let after = subst (λ bs. AreFound (n + 1) (place + l.size) more bs besides) (taken.left half_told) are in
-          let here = found_by n place l (known half) bytes some found' d (taken.taken half_told) looked more besides after in
+          let after = subst (λ bs. AreFound (n + 1) (offset + l.size) more bs besides) (taken.left half_told) are in
+          let here = found_by n offset l (known half) bytes some found' d (taken.taken half_told) looked more besides after in
           let all = run.more_found told (l ∷ more) (looked.findings ++ besides) here in
           subst (λ ls. AreFound 0 0 ls (known recording) ((run.findings ++ looked.findings) ++ besides)) (sym (append_assoc lines (l ∷ []) more))
           (subst (AreFound 0 0 (lines ++ l ∷ more) (known recording)) (sym (append_assoc run.findings looked.findings besides)) all);
-      left = λ told. taken.left (run.tells told) ∙ ap (drop l.size) (run.left told) ∙ drop-drop l.size place (known recording);
+      left = λ told. taken.left (run.tells told) ∙ ap (drop l.size) (run.left told) ∙ drop-drop l.size offset (known recording);
     }
 
 -- the end of the index
-pub checked-end : (index mid index' recording half : Option (List ℕ)) (found found' : Option (List Finding)) (n place damaged : ℕ) (more : Bool) → HasChecked index mid recording half found found' n place damaged
+pub checked-end : (index mid index' recording half : Option (List ℕ)) (found found' : Option (List Finding)) (n offset damaged : ℕ) (more : Bool) → HasChecked index mid recording half found found' n offset damaged
     → WasAtEnd mid index' → (Tells half → IsTrue more ↔ (0 < length (known half))) → IsChecked index recording found found' (record { frames = n; damaged = damaged; more = more })
-checked-end index mid index' recording half found found' n place damaged more run end goes_on = record {
+checked-end index mid index' recording half found found' n offset damaged more run end goes_on = record {
   lines = run.lines;
   are_lines = subst (AreLines 0 0) (append-nil run.lines) (run.more_lines [] tt);
   count = run.count;
@@ -218,7 +231,66 @@ checked-end index mid index' recording half found found' n place damaged more ru
       subst (λ ls. AreFound 0 0 ls (known recording) run.findings) (append-nil run.lines)
       (subst (AreFound 0 0 (run.lines ++ []) (known recording)) (append-nil run.findings) (run.more_found told [] [] refl));
   more = λ told.
-      let size = ap length (run.left told) ∙ length-drop place (known recording) in
+      let size = ap length (run.left told) ∙ length-drop offset (known recording) in
       let both = goes_on (run.tells told) in
       ((λ is. let some = both.0 is in omega (arith, some, size, run.size)), (λ less. both.1 (omega (arith, less, size, run.size))));
 }
+
+-- ---- where a check stops
+
+-- after the lines so far
+pub stops-after : (index mid recording half : Option (List ℕ)) (found some found' : Option (List Finding)) (n offset damaged : ℕ) (P : ℕ → List ℕ → Type 0)
+    → HasChecked index mid recording half found some n offset damaged → found' ≡ some → (Tells mid → P offset (known mid)) → StopsAfter index recording found found' n P
+stops-after index mid recording half found some found' n offset damaged P run same follows = record {
+  lines = run.lines;
+  are_lines = subst (AreLines 0 0) (append-nil run.lines) (run.more_lines [] tt);
+  count = run.count;
+  few = run.few;
+  begins = λ told.
+      let front = run.gave told in (
+        known mid,
+        front.2 ∙ ap (λ s. s ++ known mid) front.3,
+        subst (λ size. P size (known mid)) (sym run.size) (follows front.0),
+      );
+  findings = run.findings;
+  told = subst (λ f. FindsMore found f run.findings) (sym same) run.told;
+  are_found = λ told.
+      subst (λ ls. AreFound 0 0 ls (known recording) run.findings) (append-nil run.lines)
+      (subst (AreFound 0 0 (run.lines ++ []) (known recording)) (append-nil run.findings) (run.more_found told [] [] refl));
+}
+
+-- at the next line
+pub stops-next-line : (index mid recording half : Option (List ℕ)) (found found' : Option (List Finding)) (n offset damaged : ℕ) (why : CheckFault)
+    → HasChecked index mid recording half found found' n offset damaged → StopsNextLine mid n offset why → Stops index recording found found' why
+stops-next-line index mid recording half found found' n offset damaged (fault.Line m) run stops =
+    subst (λ k. StopsAfter index recording found found' k GoesOn) (sym stops.0)
+    (stops-after index mid recording half found found' found' n offset damaged GoesOn run refl stops.1)
+stops-next-line index mid recording half found found' n offset damaged fault.IndexIo run stops =
+    (n, stops-after index mid recording half found found' found' n offset damaged Anything run refl (λ told. tt))
+stops-next-line index mid recording half found found' n offset damaged fault.Io run stops = absurd stops
+stops-next-line index mid recording half found found' n offset damaged fault.NoMemory run stops =
+    (n, stops-after index mid recording half found found' found' n offset damaged Anything run refl (λ told. tt))
+stops-next-line index mid recording half found found' n offset damaged fault.TooMany run stops = absurd stops
+
+-- at the recording
+pub stops-reading : (index mid recording half : Option (List ℕ)) (found found' : Option (List Finding)) (n offset damaged : ℕ) (why : CheckFault)
+    → HasChecked index mid recording half found found' n offset damaged → StopsReading why → Stops index recording found found' why
+stops-reading index mid recording half found found' n offset damaged (fault.Line m) run stops = absurd stops
+stops-reading index mid recording half found found' n offset damaged fault.IndexIo run stops = absurd stops
+stops-reading index mid recording half found found' n offset damaged fault.Io run stops =
+    (n, stops-after index mid recording half found found' found' n offset damaged Anything run refl (λ told. tt))
+stops-reading index mid recording half found found' n offset damaged fault.NoMemory run stops =
+    (n, stops-after index mid recording half found found' found' n offset damaged Anything run refl (λ told. tt))
+stops-reading index mid recording half found found' n offset damaged fault.TooMany run stops = absurd stops
+
+-- a line was read after the most that an index has
+pub begins-with : (n offset : ℕ) (mid index' : Option (List ℕ)) (l : Line) → IsLine n offset l → Gave mid index' (λ read. l.text ≡ read) → Tells mid → BeginsWithLine n offset (known mid)
+begins-with n offset mid index' l is gave told =
+    let read = gave told in
+    (l, known index', read.2 ∙ ap (λ s. s ++ known index') (sym read.3), is)
+
+-- what a text that was read is the beginning of has bytes
+pub some_read : (mid index' : Option (List ℕ)) (text : List ℕ) → 0 < length text → Gave mid index' (λ read. text ≡ read) → Tells mid → 0 < length (known mid)
+some_read mid index' text some gave told =
+    let read = gave told in
+    omega (arith, some, ap length read.2, length-append read.1 (known index'), ap length read.3)

@@ -82,7 +82,7 @@ same_entries (entry ∷ a) (other ∷ b) each each' same =
     λ i. first.0 i ∷ rest i
 
 pub one_index : OneIndex
-one_index bytes entries others are also = same_entries entries others are.each also.each (sym are.whole ∙ also.whole)
+one_index bytes entries others are also = same_entries entries others are.each also.each (sym are.joined_are ∙ also.joined_are)
 
 -- ---- recordings of frames
 
@@ -150,7 +150,7 @@ module _ (law : SpellingsHaveBoundedOutlines) where
   module _ (sums : Bool) (recording out : List ℕ) (frames : List Picture) (few : length frames ≤ most_frames) (film : IsFilm Spells recording frames) where
     indexed : (n : ℕ) → IsIndexOf sums recording out n → IsIndexOfFrames sums recording frames out n
     indexed n index =
-        let are = entries_are index.entries [] recording frames index.are.each (index.are.whole ∙ sym (append-nil (joined index.entries))) film in
+        let are = entries_are index.entries [] recording frames index.are.each (index.are.joined_are ∙ sym (append-nil (joined index.entries))) film in
         let none = none_left are.1 are.4 in
         let all : frames ≡ are.0 = are.2 ∙ ap (λ more. are.0 ++ more) none ∙ append-nil are.0 in
         record {
@@ -163,7 +163,7 @@ module _ (law : SpellingsHaveBoundedOutlines) where
     stopped (Stream m fault) why =
         let run = why.1.0 in
         let broken = run.begins refl in
-        let are = entries_are run.entries broken.1 recording frames broken.3.each (broken.2 ∙ ap (λ s. s ++ broken.1) broken.3.whole) film in
+        let are = entries_are run.entries broken.1 recording frames broken.3.each (broken.2 ∙ ap (λ s. s ++ broken.1) broken.3.joined_are) film in
         absurd (no_break broken.1 are.1 are.4 broken.4.0)
     stopped (Io m) why = let clash : ⊥ = cc in absurd clash
     stopped (Output bytes) why = tt
@@ -171,7 +171,7 @@ module _ (law : SpellingsHaveBoundedOutlines) where
     stopped TooMany why =
         let run = why.1 in
         let gave = run.gave refl in
-        let are = entries_are (run.entries ++ run.last ∷ []) (known why.0) recording frames gave.3.each (gave.2 ∙ ap (λ s. s ++ known why.0) gave.3.whole) film in
+        let are = entries_are (run.entries ++ run.last ∷ []) (known why.0) recording frames gave.3.each (gave.2 ∙ ap (λ s. s ++ known why.0) gave.3.joined_are) film in
         absurd (omega (arith, few, run.count, length_push run.entries run.last, zip-length (run.entries ++ run.last ∷ []) are.0 are.3, ap length are.2, length-append are.0 are.1))
 
     pub whole_index : (r : Result ℕ IndexFault) → IfOk r (IsIndexOf sums recording out) → IfErr r (StopsOver sums recording out)

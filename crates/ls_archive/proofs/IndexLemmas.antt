@@ -48,13 +48,13 @@ lines-push sums entries entry n offset count place =
 -- ---- what the reader gave
 
 pub GaveEntries-none : (old : Option (List ℕ)) → GaveEntries old old []
-GaveEntries-none old = λ told. (told, [], refl, record { whole = refl; each = tt })
+GaveEntries-none old = λ told. (told, [], refl, record { joined_are = refl; each = tt })
 
 -- a codestream more
 are_more : (bytes more : List ℕ) (entries : List Entry) (entry : Entry) → AreEntriesOf bytes entries → (more ≡ entry.bytes) × IsEntry entry
     → AreEntriesOf (bytes ++ more) (entries ++ entry ∷ [])
 are_more bytes more entries entry are next = record {
-  whole = ap (λ s. s ++ more) are.whole ∙ ap (λ s. joined entries ++ s) next.0 ∙ sym (joined-push entries entry);
+  joined_are = ap (λ s. s ++ more) are.joined_are ∙ ap (λ s. joined entries ++ s) next.0 ∙ sym (joined-push entries entry);
   each = all-more IsEntry entries entry are.each next.1;
 }
 

@@ -3,6 +3,7 @@ pub mod EntryLemmas
 pub mod FollowLemmas
 pub mod FormLemmas
 pub mod IndexLemmas
+pub mod LineLemmas
 pub mod VerdictLaws
 pub mod VerdictLemmas
 pub mod VerifyLemmas

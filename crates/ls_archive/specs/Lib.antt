@@ -1,4 +1,3 @@
-pub mod Checking
 pub mod Index
 pub mod Verify
 pub mod View

@@ -1,15 +1,15 @@
 //! Checking a recording by its index.
 //!
-//! A line of the index says where its codestream begins and how many bytes it has. So damage, also to markers, keeps no other codestream
-//! from being looked at.
-ghost use Rattle.std.specs.Prelude.{◌≡◌, ◌≢◌, ◌⊎◌, ◌+◌, ◌*◌, ◌^◌, ◌<◌, ◌≤◌, ◌++◌, ◌∷◌, ◌↔◌, ℕ, List, [], Option, Some, IsTrue, IfOk, IfErr, IfSome, IfNone, OnOk, length, true, false};
+//! A line of the index says at which offset its codestream begins and how many bytes it has. So damage, also to markers, keeps no other
+//! codestream from being looked at.
+ghost use Rattle.std.specs.Prelude.{if◌then◌else◌, ◌≡◌, ◌≢◌, ◌⊎◌, ◌+◌, ◌*◌, ◌^◌, ◌<◌, ◌≤◌, ◌++◌, ◌∷◌, ◌↔◌, ℕ, List, [], Option, Some, IsTrue, IfOk, IfErr, IfSome, IfNone, OnOk, OnErr, codes, length, true, false};
 ghost use Rattle.ls_frame.specs.Picture.{Picture};
 ghost use Rattle.ls_frame.specs.View.Devices.{count_after, failed_read};
 ghost use Rattle.ls_frame.specs.View.Known.{Tells, Gave, WasAtEnd, known};
 ghost use Rattle.ls_stream.specs.Grammar.{Spells};
-ghost use Rattle.ls_archive.specs.Checking.{Line, beginning, IsGood};
+ghost use Rattle.ls_archive.specs.View.Checking.{Line, beginning, IsLine, HasLine, IsGood, IsDamage};
 ghost use Rattle.ls_archive.specs.Index.{line};
-ghost use Rattle.ls_archive.specs.View.Checks.{FindsMore, GaveAtMost, HasLooked, IsChecked, failed_index, failed_recording};
+ghost use Rattle.ls_archive.specs.View.Checks.{FindsMore, GaveAtMost, IsOneLine, HasLooked, IsChecked, StopsNextLine, StopsReading, Stops, failed_index, failed_recording};
 ghost use Rattle.ls_archive.specs.declared.checking.Finding.{Finding};
 
 use crate::entry::Indexed;
@@ -22,16 +22,16 @@ use std::alloc::{AllocError, Global};
 use std::str::from_utf8;
 use thiserror::Error;
 
-/// What is wrong with a codestream.
+/// What is wrong with the bytes at the offset of a line of the index.
 #[derive(Clone, Copy, Debug, Drop, PartialEq, Eq, Error)]
 pub enum Damage {
-    /// The recording ends before it does.
+    /// They aren't those of the line, and are fewer than it says: the recording ends before.
     #[error("truncated")]
     Truncated,
-    /// Its bytes aren't those that the index was made of.
+    /// They are as many as the line says, and the line that `write_index` writes of them is another, or there is none.
     #[error("changed")]
     Changed,
-    /// They are, and can't be decoded.
+    /// They have that line, and can't be decoded: this is their first fault, never `StreamFault::NoMemory`.
     #[error("{0}")]
     Fault(StreamFault),
 }
@@ -39,23 +39,25 @@ pub enum Damage {
 /// A codestream that is damaged.
 #[derive(Clone, Copy, Debug, Drop, PartialEq, Eq)]
 pub struct Finding {
-    /// Its number in the index.
+    /// Its number in the index, from 0.
     pub number: u64,
-    /// Where it should begin.
+    /// The offset at which it should begin: how many bytes of the recording stand before it.
     pub place: u64,
     /// How many bytes it should have.
     pub count: u64,
+    /// What is wrong with the bytes that stand there.
     pub damage: Damage,
 }
 
-/// What is told of findings.
+/// What is told of findings, one at a time.
 pub trait Findings {
-    /// Those that it was told of, in order, if they are known.
+    /// Those that it was told of, in order, if they are known (as a vector's are).
     ghost found: { Self → Option (List Finding) };
 
-    /// Tells of one finding more. If an allocation fails, nothing is said of what was told.
+    /// Tells of one finding more. If an allocation fails, none was.
     fn tell(&mut self, finding: Finding) -> Result<(), AllocError>
-        ensures { OnOk result (FindsMore (found self.old) (found self.new) (finding ∷ [])) };
+        ensures told { OnOk result (FindsMore (found self.old) (found self.new) (finding ∷ [])) }
+        ensures none { OnErr result (found self.new ≡ found self.old) };
 }
 
 /// Findings in memory, in order.
@@ -75,18 +77,21 @@ impl Findings for Vec<Finding> {
 /// What a check by an index came to.
 #[derive(Clone, Copy, Debug, PartialEq, Eq)]
 pub struct Checked {
-    /// How many codestreams the index has.
+    /// How many lines the index has: `ls_film::MOST_FRAMES` at most.
     pub frames: u64,
-    /// How many of them are damaged.
+    /// How many of their codestreams are damaged; so many findings were told.
     pub damaged: u64,
-    /// Whether the recording has bytes after those that the index speaks of.
+    /// Whether the recording has bytes after those that the lines speak of.
     pub more: bool,
 }
 
 /// Why a check stopped.
+///
+/// Exactly the findings on the lines before were told.
 #[derive(Clone, Copy, Debug, Drop, PartialEq, Eq, Error)]
 pub enum CheckFault {
-    /// The line of this number, from 0, isn't one of an index, or doesn't go on where the line before it ends.
+    /// After so many lines the index goes on with what isn't taken for the next: it has another number, or another offset than the one at
+    /// which the codestream before it ends, or no size, or no LF within 1,024 bytes, or the index ends before its LF.
     #[error("line {0}: not of an index")]
     Line(u64),
     /// A read of the index failed.
@@ -98,7 +103,7 @@ pub enum CheckFault {
     /// An allocation failed.
     #[error("no memory")]
     NoMemory,
-    /// A line numbered 4,294,967,295.
+    /// The index has `ls_film::MOST_FRAMES` lines, and another, which is numbered 4,294,967,295.
     #[error("too many frames")]
     TooMany,
 }
@@ -114,12 +119,16 @@ impl From<AllocError> for CheckFault {
     }
 }
 
-/// Looks at each codestream that an index has a line of: whether it stands in the recording where the line says, has the bytes that the
-/// line was made of, and is a codestream of a frame. Tells of each that isn't.
+/// Looks, for each line of an index, at the recording's bytes from the line's offset on, as many as it says or all that are left: they are
+/// good if the line is the one that `write_index` writes of them, with their SHA-256 or without, and they are a codestream of a frame.
+/// Tells of all that aren't, in order.
 ///
-/// The bytes are those if the line is the one that `write_index` writes of them, with their SHA-256 or without. One codestream is in
-/// memory at a time. If the bytes of both readers are known (as in memory), the clauses say which were read. After a fault nothing is said
-/// of either's place.
+/// So by an index with sums bytes of another SHA-256 are found. By one without sums they are if they have another size, other headers, or
+/// data that can't be decoded; a changed byte that leaves these as they are isn't seen.
+///
+/// A line is the beginning `number offset size ` and what follows it up to LF; each begins where the one before it ends. One codestream is
+/// in memory at a time. If the bytes of both readers are known (as in memory), the clauses say what was found in them; if those of the
+/// findings are, which were told. After a fault nothing is said of the place of either reader.
 pub fn check<I: Feed, R: Feed, F: Findings>(
     alloc: Global,
     index: &mut I,
@@ -127,13 +136,14 @@ pub fn check<I: Feed, R: Feed, F: Findings>(
     findings: &mut F,
 ) -> Result<Checked, CheckFault>
     ensures checked { IfOk result (IsChecked (I.remaining index.old) (R.remaining recording.old) (F.found findings.old) (F.found findings.new)) }
+    ensures stops { IfErr result (Stops (I.remaining index.old) (R.remaining recording.old) (F.found findings.old) (F.found findings.new)) }
     ensures index_reads { I.failed_reads index.new ≡ count_after (failed_index result) (I.failed_reads index.old) }
     ensures reads { R.failed_reads recording.new ≡ count_after (failed_recording result) (R.failed_reads recording.old) }
 {
-    let mut place = 0;
+    let mut offset = 0;
     let mut damaged = 0;
     for number in 0..MOST_FRAMES {
-        let Some(line) = next_line(alloc, index, number, place)? else {
+        let Some(line) = next_line(alloc, index, number, offset)? else {
             let more = has_more(alloc, recording)?;
             return Ok(Checked {
                 frames: number,
@@ -142,10 +152,10 @@ pub fn check<I: Feed, R: Feed, F: Findings>(
             });
         };
         let bytes = take_bytes(alloc, recording, line.size as usize)?;
-        damaged += look_at(alloc, number, place, &line, bytes, findings)?;
-        place += u64::from(line.size);
+        damaged += look_at(alloc, number, offset, &line, bytes, findings)?;
+        offset += u64::from(line.size);
     }
-    let None = next_line(alloc, index, MOST_FRAMES, place)? else {
+    let None = next_line(alloc, index, MOST_FRAMES, offset)? else {
         return Err(CheckFault::TooMany);
     };
     let more = has_more(alloc, recording)?;
@@ -166,17 +176,18 @@ struct IndexLine {
 /// The most bytes of a line.
 const MOST_LINE: usize = 1024;
 
-/// Takes the next line off an index; `None` at its end. It has to be that of the codestream of this number, which begins at this place.
+/// Takes the next line off an index; `None` at its end. It has to be that of the codestream of this number, which begins at this offset.
 fn next_line<I: Feed>(
     alloc: Global,
     index: &mut I,
     number: u64,
-    place: u64,
+    offset: u64,
 ) -> Result<Option<IndexLine>, CheckFault>
-    ensures begins { IfOk result (λ next. IfSome next (λ line. (rest : List ℕ) × (line.text.items ≡ beginning number place line.size ++ rest))) }
+    ensures is { IfOk result (λ next. IfSome next (λ line. IsLine number offset (record { text = line.text.items; size = line.size }))) }
     ensures gave { IfOk result (λ next. IfSome next (λ line. Gave (I.remaining index.old) (I.remaining index.new) (λ bytes. line.text.items ≡ bytes))) }
     ensures end { IfOk result (λ next. IfNone next (WasAtEnd (I.remaining index.old) (I.remaining index.new))) }
     ensures blame { IfErr result (λ fault. fault ≢ CheckFault.Io) }
+    ensures stops { IfErr result (StopsNextLine (I.remaining index.old) number offset) }
     ensures failures { I.failed_reads index.new ≡ count_after (failed_index result) (I.failed_reads index.old) }
 {
     let text = match take_line(alloc, index) {
@@ -185,15 +196,17 @@ fn next_line<I: Feed>(
         Err(FeedFault::Io) => return Err(CheckFault::IndexIo),
         Err(FeedFault::NoMemory) => return Err(CheckFault::NoMemory),
     };
-    match size_in(alloc, number, place, &text)? {
+    match size_in(alloc, number, offset, &text)? {
         Some(size) => Ok(Some(IndexLine { text, size })),
         None => Err(CheckFault::Line(number)),
     }
 }
 
-/// Takes the bytes up to the next line feed off a reader, or as many as a line may have, or all that are left; `None` at its end.
+/// Takes the bytes up to the next LF off a reader, or as many as a line may have, or all that are left; `None` at its end.
 fn take_line<I: Feed>(alloc: Global, reader: &mut I) -> Result<Option<Vec<u8>>, FeedFault>
     ensures gave { IfOk result (λ next. IfSome next (λ line. Gave (I.remaining reader.old) (I.remaining reader.new) (λ bytes. line.items ≡ bytes))) }
+    ensures one { IfOk result (λ next. IfSome next (λ line. IsOneLine line.items)) }
+    ensures short { IfOk result (λ next. IfSome next (λ line. length line.items ≤ 1024)) }
     ensures end { IfOk result (λ next. IfNone next (WasAtEnd (I.remaining reader.old) (I.remaining reader.new))) }
     ensures failures { I.failed_reads reader.new ≡ count_after (failed_read result) (I.failed_reads reader.old) }
 {
@@ -209,16 +222,19 @@ fn take_line<I: Feed>(alloc: Global, reader: &mut I) -> Result<Option<Vec<u8>>, 
     Ok(Some(line))
 }
 
-/// How many bytes the line of the codestream of this number, which begins at this place, says that it has; `None` if the text isn't the
-/// beginning of one.
-fn size_in(alloc: Global, number: u64, place: u64, text: &[u8]) -> Result<Option<u32>, AllocError>
-    ensures { IfOk result (λ found. IfSome found (λ size. (rest : List ℕ) × (text.now ≡ beginning number place size ++ rest))) }
+/// How many bytes the line of the codestream of this number, which begins at this offset, says that it has; `None` if the text doesn't
+/// begin as one or doesn't end in LF.
+fn size_in(alloc: Global, number: u64, offset: u64, text: &[u8]) -> Result<Option<u32>, AllocError>
+    ensures { IfOk result (λ found. IfSome found (λ size. (rest : List ℕ) × (text.now ≡ (beginning number offset size ++ rest) ++ codes "\n"))) }
 {
-    let Some(size) = third_number(text) else {
+    let Some(columns) = text.strip_suffix(b"\n") else {
         return Ok(None);
     };
-    let wanted = format!(in alloc; "{number} {place} {size} ")?;
-    if text.starts_with(wanted.as_bytes()) {
+    let Some(size) = third_number(columns) else {
+        return Ok(None);
+    };
+    let wanted = format!(in alloc; "{number} {offset} {size} ")?;
+    if columns.starts_with(wanted.as_bytes()) {
         Ok(Some(size))
     } else {
         Ok(None)
@@ -235,6 +251,7 @@ fn third_number(text: &[u8]) -> Option<u32> {
 fn take_bytes<R: Feed>(alloc: Global, reader: &mut R, most: usize) -> Result<Vec<u8>, CheckFault>
     ensures taken { IfOk result (λ bytes. GaveAtMost (R.remaining reader.old) (R.remaining reader.new) most bytes.items) }
     ensures blame { IfErr result (λ fault. fault ≢ CheckFault.IndexIo) }
+    ensures stops { IfErr result StopsReading }
     ensures failures { R.failed_reads reader.new ≡ count_after (failed_recording result) (R.failed_reads reader.old) }
 {
     let mut bytes = Vec::new(alloc);
@@ -253,46 +270,49 @@ fn take_bytes<R: Feed>(alloc: Global, reader: &mut R, most: usize) -> Result<Vec
 fn has_more<R: Feed>(alloc: Global, reader: &mut R) -> Result<bool, CheckFault>
     ensures more { IfOk result (λ more. Tells (R.remaining reader.old) → IsTrue more ↔ (0 < length (known (R.remaining reader.old)))) }
     ensures blame { IfErr result (λ fault. fault ≢ CheckFault.IndexIo) }
+    ensures stops { IfErr result StopsReading }
     ensures failures { R.failed_reads reader.new ≡ count_after (failed_recording result) (R.failed_reads reader.old) }
 {
     let bytes = take_bytes(alloc, reader, 1)?;
     Ok(!bytes.is_empty())
 }
 
-/// Looks at the bytes at the place of a line's codestream, tells of what is wrong with them, and says how many are damaged: 1 or none.
+/// Looks at the bytes at the offset of a line's codestream, tells of what is wrong with them, and says how many are damaged: 1 or none.
 fn look_at<F: Findings>(
     alloc: Global,
     number: u64,
-    place: u64,
+    offset: u64,
     line: &IndexLine,
     bytes: Vec<u8>,
     findings: &mut F,
 ) -> Result<u64, AllocError>
-    ensures { IfOk result (HasLooked number place (record { text = line.now.text.items; size = line.now.size }) bytes.items
+    ensures looked { IfOk result (HasLooked number offset (record { text = line.now.text.items; size = line.now.size }) bytes.items
         (F.found findings.old) (F.found findings.new)) }
+    ensures none { OnErr result (F.found findings.new ≡ F.found findings.old) }
 {
-    let Some(damage) = damage_of(alloc, number, place, line, bytes)? else {
+    let Some(damage) = damage_of(alloc, number, offset, line, bytes)? else {
         return Ok(0);
     };
     findings.tell(Finding {
         number,
-        place,
+        place: offset,
         count: u64::from(line.size),
         damage,
     })?;
     Ok(1)
 }
 
-/// What is wrong with the bytes at the place of a line's codestream; `None` if they are good.
+/// What is wrong with the bytes at the offset of a line's codestream; `None` if they are good.
 fn damage_of(
     alloc: Global,
     number: u64,
-    place: u64,
+    offset: u64,
     line: &IndexLine,
     bytes: Vec<u8>,
 ) -> Result<Option<Damage>, AllocError>
-    ensures good { IfOk result (λ found. IfNone found (IsGood number place line.now.text.items bytes.items)) }
-    ensures damaged { IfOk result (λ found. IfSome found (λ _. IsGood number place line.now.text.items bytes.items → ⊥)) }
+    ensures good { IfOk result (λ found. IfNone found (IsGood number offset line.now.text.items bytes.items)) }
+    ensures damaged { IfOk result (λ found. IfSome found (λ _. IsGood number offset line.now.text.items bytes.items → ⊥)) }
+    ensures damage { IfOk result (λ found. IfSome found (IsDamage number offset (record { text = line.now.text.items; size = line.now.size }) bytes.items)) }
 {
     outlines_follow_the_grammar();
     let is_short = bytes.len() < line.size as usize;
@@ -300,7 +320,7 @@ fn damage_of(
     let Some(indexed) = Indexed::take(alloc, &mut bytes) else {
         return Ok(Some(changed(is_short)));
     };
-    if !is_line_of(alloc, number, place, &line.text, &indexed)? {
+    if !is_line_of(alloc, number, offset, &line.text, &indexed)? {
         return Ok(Some(changed(is_short)));
     }
     match decode_frame(alloc, indexed.bytes()) {
@@ -320,7 +340,9 @@ fn undecoded(fault: StreamFault) -> Result<Option<Damage>, AllocError>
 }
 
 /// What is said of bytes that aren't those of the index: the recording ends before them, or they were changed.
-fn changed(is_short: bool) -> Damage {
+fn changed(is_short: bool) -> Damage
+    ensures { result ≡ (if is_short then Damage.Truncated else Damage.Changed) }
+{
     if is_short {
         Damage::Truncated
     } else {
@@ -328,17 +350,17 @@ fn changed(is_short: bool) -> Damage {
     }
 }
 
-/// Whether a text is the line of a codestream of this number and at this place, with its sum or without.
+/// Whether a text is the line of a codestream of this number and at this offset, with its sum or without.
 fn is_line_of(
     alloc: Global,
     number: u64,
-    place: u64,
+    offset: u64,
     text: &[u8],
     indexed: &Indexed,
 ) -> Result<bool, AllocError>
-    ensures { IfOk result (λ is. IsTrue is ↔ ((text.now ≡ line true number place indexed.now) ⊎ (text.now ≡ line false number place indexed.now))) }
+    ensures { IfOk result (λ is. IsTrue is ↔ ((text.now ≡ line true number offset indexed.now) ⊎ (text.now ≡ line false number offset indexed.now))) }
 {
-    let with_sum = line(alloc, true, number, place, indexed)?;
-    let without = line(alloc, false, number, place, indexed)?;
+    let with_sum = line(alloc, true, number, offset, indexed)?;
+    let without = line(alloc, false, number, offset, indexed)?;
     Ok(text == with_sum.as_bytes() || text == without.as_bytes())
 }

@@ -5,7 +5,7 @@ ghost use Rattle.ls_frame.specs.View.Devices.{count_after};
 ghost use Rattle.ls_frame.specs.View.Known.{WasAtEnd};
 ghost use Rattle.ls_stream.specs.Grammar.{Spells, most_bytes};
 ghost use Rattle.ls_stream.specs.View.Outlines.{outline_of};
-ghost use Rattle.ls_archive.specs.Index.{columns};
+ghost use Rattle.ls_archive.specs.Index.{Entry, columns};
 ghost use Rattle.ls_archive.specs.View.Entries.{IsEntry, GaveEntry, HasHeaders};
 ghost use Rattle.ls_archive.specs.View.Indexing.{StopsNext, failed_reader};
 
@@ -85,6 +85,7 @@ impl Indexed {
         ensures entry { IfSome result (λ entry. IsEntry entry × (entry.bytes ≡ bytes.old.items)) }
         ensures taken { IfSome result (λ entry. bytes.new.items ≡ []) }
         ensures none { IfNone result ((f : Picture) → Spells bytes.old.items f → ⊥) }
+        ensures no_entry { IfNone result ((entry : Entry) → IsEntry entry → entry.bytes ≡ bytes.old.items → ⊥) }
         ensures left { IfNone result (bytes.new.items ≡ bytes.old.items) }
     {
         outlines_follow_the_grammar();

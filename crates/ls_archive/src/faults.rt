@@ -20,10 +20,10 @@ pub enum IndexFault {
     /// A write failed when exactly so many bytes of the lines had gone out.
     #[error("output failed after {0} bytes")]
     Output(u64),
-    /// Memory was refused for a codestream or its line.
+    /// An allocation failed for a codestream or its line.
     #[error("no memory")]
     NoMemory,
-    /// A codestream numbered 4,294,967,295.
+    /// A codestream numbered 4,294,967,295, after `ls_film::MOST_FRAMES` of them.
     #[error("too many frames")]
     TooMany,
 }
@@ -68,7 +68,7 @@ pub enum VerifyFault {
     /// A read of the recording failed after so many codestreams.
     #[error("read failed")]
     RecordingIo(u64),
-    /// Memory was refused for a frame of the film, when its header had been read, or for a codestream or its frame.
+    /// An allocation failed for a frame of the film, when its header had been read, or for a codestream or its frame.
     #[error("no memory")]
     NoMemory,
     /// All frames are equal, and one numbered 4,294,967,295 comes.

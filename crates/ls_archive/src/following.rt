@@ -1,5 +1,5 @@
 //! The index of a recording that is being written.
-ghost use Rattle.std.specs.Prelude.{◌≡◌, ◌≤◌, ◌<◌, ◌+◌, ◌*◌, ◌^◌, ◌++◌, List, [], length, take, None, OnOk, IfOk, IfErr, IfSome, IfNone, is_err};
+ghost use Rattle.std.specs.Prelude.{◌≡◌, ◌≤◌, ◌<◌, ◌+◌, ◌*◌, ◌^◌, ◌++◌, List, [], length, take, None, OnOk, OnErr, IfOk, IfErr, IfSome, IfNone, is_err};
 ghost use Rattle.std.specs.Io.{WritesAtMost};
 ghost use Rattle.std.specs.Io.KnownBytes.{Keeps, WriteAppends};
 ghost use Rattle.ls_frame.specs.View.Devices.{count_after};
@@ -8,7 +8,7 @@ ghost use Rattle.ls_film.specs.Film.{most_frames};
 ghost use Rattle.ls_archive.specs.View.Entries.{IsEntry};
 ghost use Rattle.ls_archive.specs.View.Indexing.{failed_writer};
 ghost use Rattle.ls_archive.specs.View.Followed.{nothing, holding, stepped};
-ghost use Rattle.ls_archive.specs.View.Following.{index_of, followed, recording_of, following, broken, HasFollowed, FollowsOn};
+ghost use Rattle.ls_archive.specs.View.Following.{index_of, followed, recording_of, following, broken, HasFollowed, SpellNoFrame, FollowsOn, StopsFollowing, IsTold};
 
 use crate::entry::Indexed;
 use crate::faults::IndexFault;
@@ -26,9 +26,9 @@ const EOI: [u8; 2] = [0xFF, 0xD9];
 /// How far a recording was followed.
 #[derive(Drop)]
 pub struct Progress {
-    /// The bytes since the last whole codestream.
+    /// The bytes since the last codestream that ended.
     pending: Vec<u8>,
-    /// How many codestreams were whole.
+    /// How many codestreams ended.
     number: u64,
     /// How many bytes these have.
     offset: u64,
@@ -62,9 +62,11 @@ impl Progress {
     /// Takes the recording's next bytes, and gives the codestream that ends with them, if one does. Fails only if an
     /// allocation fails.
     fn take(&mut self, alloc: Global, bytes: &[u8]) -> Result<Option<Indexed>, AllocError>
-        ensures whole { IfOk result (λ next. IfSome next (λ entry. IsEntry entry × (entry.bytes ≡ self.old.pending ++ bytes.now))) }
+        ensures entry { IfOk result (λ next. IfSome next (λ entry. IsEntry entry × (entry.bytes ≡ self.old.pending ++ bytes.now))) }
         ensures none { IfOk result (λ next. IfSome next (λ entry. self.new ≡ holding [] self.old)) }
         ensures held { IfOk result (λ next. IfNone next (self.new ≡ holding (self.old.pending ++ bytes.now) self.old)) }
+        ensures waits { IfOk result (λ next. IfNone next (SpellNoFrame (self.old.pending ++ bytes.now))) }
+        ensures some { OnErr result (0 < length bytes.now) }
     {
         self.pending.extend_from_slice(bytes)?;
         if !self.pending.ends_with(&EOI) {
@@ -86,10 +88,12 @@ impl Progress {
     }
 }
 
-/// An index that is written while its recording is: it is told the recording's bytes as they go out, and the line of a
-/// codestream is written once all of the codestream's bytes are.
+/// An index that is written while its recording is: it is told the recording's bytes as they go out.
 ///
-/// The codestreams have to end where bytes that it is told end, as they do where each is written by itself.
+/// A line is written when the bytes since the last codestream, with those that it is told, are complete by their markers and
+/// headers as `write_index` asks; then it is the line that `write_index` writes, with its sum. After each call the bytes that are
+/// held back are no codestream of a frame. So a recording of codestreams of frames has its whole index if each ends where bytes
+/// that the follower is told end, as they do where each is written by itself.
 #[derive(Drop)]
 pub struct Follower<I> {
     alloc: Global,
@@ -98,7 +102,7 @@ pub struct Follower<I> {
 }
 
 impl<I: Outlet> Follower<I> {
-    /// An index of a recording of which nothing is written yet.
+    /// An index, at its first line, of a recording of which nothing is written yet. It takes no memory.
     pub fn new(alloc: Global, index: I) -> Follower<I>
         ensures index { index_of result ≡ index }
         ensures none { followed result ≡ nothing }
@@ -113,10 +117,15 @@ impl<I: Outlet> Follower<I> {
 
     /// Takes the recording's next bytes; if a codestream ends with them, its line is written.
     ///
-    /// Fails if the line can't be written, with `Output`, `NoMemory` or `TooMany`: then it isn't to be called any more.
+    /// Fails with `Output` if a write fails, when exactly so many bytes of all lines had gone out; with `NoMemory` if an allocation
+    /// fails for the bytes or a line; with `TooMany` if the codestream is numbered 4,294,967,295. After the last two exactly the
+    /// lines of the codestreams before were written. After a fault it isn't to be called any more.
     pub fn follow(&mut self, bytes: &[u8]) -> Result<(), IndexFault>
         ensures follows { OnOk result (FollowsOn bytes.now
             (I.contents (index_of self.old)) (I.contents (index_of self.new)) (followed self.old) (followed self.new)) }
+        ensures waits { OnOk result (SpellNoFrame (followed self.new).pending) }
+        ensures stops { IfErr result (StopsFollowing bytes.now
+            (I.contents (index_of self.old)) (I.contents (index_of self.new)) (followed self.old)) }
         ensures failures { I.failed_writes (index_of self.new)
             ≡ count_after (failed_writer result) (I.failed_writes (index_of self.old)) }
     {
@@ -149,7 +158,9 @@ impl<I: Outlet> Follower<I> {
 
 /// A recording's writer that writes an index of it too, if there is one to write.
 ///
-/// An index that breaks off leaves the recording as it is: no more of the index is written, and `into_parts` says why.
+/// As a writer it is the recording's: what it takes and how it fails is what the recording's writer says. An index that breaks off
+/// leaves the recording as it is; `into_parts` says why it did. That the index follows all that was written through this writer,
+/// call by call, is tested; `Follower::follow` says it of one call.
 #[derive(Drop)]
 pub struct Indexing<W, I> {
     recording: W,
@@ -158,11 +169,11 @@ pub struct Indexing<W, I> {
 }
 
 impl<W: Outlet, I: Outlet> Indexing<W, I> {
-    /// A recording of which nothing is written yet, and its index.
+    /// A recording of which nothing is written yet, and its index, if there is one to write.
     pub fn new(recording: W, index: Option<Follower<I>>) -> Indexing<W, I>
         ensures recording { recording_of result ≡ recording }
         ensures index { following result ≡ index }
-        ensures whole { broken result ≡ None }
+        ensures unbroken { broken result ≡ None }
     {
         Indexing {
             recording,
@@ -180,9 +191,11 @@ impl<W: Outlet, I: Outlet> Indexing<W, I> {
         (self.recording, self.index, self.fault)
     }
 
-    /// Tells the index of the recording's next bytes, unless it broke off.
+    /// Tells the index of the recording's next bytes: it follows them, or breaks off with them. One that broke off before is left
+    /// as it is.
     fn tell(&mut self, bytes: &[u8])
         ensures recording { recording_of self.new ≡ recording_of self.old }
+        ensures index { IsTold I.contents bytes.now (following self.old) (broken self.old) (following self.new) (broken self.new) }
     {
         if self.fault.is_some() {
             return;

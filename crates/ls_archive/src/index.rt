@@ -65,7 +65,7 @@ pub fn index_bytes(
 ) -> (Vec<u8>, Result<u64, IndexFault>)
     ensures completes { IfOk result.1 (IsIndexOf sums recording.now result.0.items) }
     ensures stops { IfErr result.1 (StopsOver sums recording.now result.0.items) }
-    ensures whole { (frames : List Picture) → length frames ≤ most_frames → IsFilm Spells recording.now frames
+    ensures of_frames { (frames : List Picture) → length frames ≤ most_frames → IsFilm Spells recording.now frames
         → MatchResult result.1 (IsIndexOfFrames sums recording.now frames result.0.items) IsOutOfMemory }
 {
     outlines_follow_the_grammar();

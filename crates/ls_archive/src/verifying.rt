@@ -61,7 +61,7 @@ pub fn verify<F: Feed, R: Feed>(
 pub fn verify_bytes(alloc: Global, film: &[u8], recording: &[u8]) -> Result<Verdict, VerifyFault>
     ensures finds { IfOk result (FindsIn film.now recording.now) }
     ensures stops { IfErr result (StopsIn film.now recording.now) }
-    ensures whole { (frames others : List Picture) → length frames ≤ most_frames → length others ≤ most_frames
+    ensures of_films { (frames others : List Picture) → length frames ≤ most_frames → length others ≤ most_frames
         → IsFilm IsImageOf film.now frames → IsFilm Spells recording.now others
         → MatchResult result (Compares frames others) (λ fault. fault ≡ VerifyFault.NoMemory) }
 {

@@ -90,7 +90,7 @@ type Case = (
     Option<(u64, Damage)>,
 );
 
-const CASES: [Case; 12] = [
+const CASES: [Case; 14] = [
     ("nothing", b"", b"", Ok((0, 0, false)), None),
     ("sizes", SIZES, TWO_CODESTREAMS, Ok((2, 0, false)), None),
     ("sums", SUMS, TWO_CODESTREAMS, Ok((2, 0, false)), None),
@@ -140,6 +140,20 @@ const CASES: [Case; 12] = [
     (
         "a line of another place",
         b"0 0 28 gray 1 1 255 8 3 7 21 64\n1 29 28 gray\n",
+        TWO_CODESTREAMS,
+        Err(CheckFault::Line(1)),
+        None,
+    ),
+    (
+        "an index that is cut off inside its last line",
+        b"0 0 28 gray 1 1 255 8 3 7 21 64\n1 28 28 gray 1 1 255",
+        TWO_CODESTREAMS,
+        Err(CheckFault::Line(1)),
+        None,
+    ),
+    (
+        "an index that is cut off before its last line feed",
+        b"0 0 28 gray 1 1 255 8 3 7 21 64\n1 28 28 gray 1 1 255 8 3 7 21 64",
         TWO_CODESTREAMS,
         Err(CheckFault::Line(1)),
         None,

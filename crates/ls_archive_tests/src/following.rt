@@ -28,6 +28,7 @@ fn check_following(
     let second = write_bytes(&mut writer, second).is_ok();
     let (recording, follower, broken) = writer.into_parts();
     let recording = recording.into_inner();
+    assert!(rt; follower.is_some(), "pieces of {most}: no index");
     let Some(follower) = follower else {
         return;
     };

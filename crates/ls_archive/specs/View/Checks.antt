@@ -6,7 +6,7 @@ use Rattle.ls_archive.specs.declared.checking.Finding.{Finding}
 use Rattle.ls_archive.specs.declared.checking.Checked.{Checked}
 use Rattle.ls_archive.specs.declared.checking.CheckFault.{CheckFault}
 use Rattle.ls_archive.specs.declared.checking.CheckFault.TheVariants as fault
-use Rattle.ls_archive.specs.Checking.{Line, AreLines, texts, IsGood, IsOf, AreFound, size_of}
+use Rattle.ls_archive.specs.View.Checking.{Line, HasNoLineFeed, IsLine, AreLines, texts, IsGood, IsOf, AreFound, size_of}
 
 -- ---- what is told
 
@@ -22,6 +22,13 @@ pub record GaveAtMost (old new : Option (List ℕ)) (most : ℕ) (bytes : List �
   pub tells : Tells old → Tells new
   pub taken : Tells old → bytes ≡ take most (known old)
   pub left : Tells old → known new ≡ drop most (known old)
+
+-- These bytes aren't none, and but perhaps for the last none is LF.
+pub record IsOneLine (text : List ℕ) : Type 0 where
+  pub first : List ℕ
+  pub last : ℕ
+  pub text_is : text ≡ first ++ last ∷ []
+  pub one : HasNoLineFeed first
 
 -- ---- a check
 
@@ -39,29 +46,79 @@ pub record IsChecked (index recording : Option (List ℕ)) (found found' : Optio
   pub more : Tells recording → IsTrue checked.more ↔ (size_of lines < length (known recording))
 
 -- The bytes of a line were looked at: they are good, and nothing was told; or they aren't, and one finding was.
-pub record HasLooked (n place : ℕ) (l : Line) (bytes : List ℕ) (found found' : Option (List Finding)) (damaged : ℕ) : Type 0 where
+pub record HasLooked (n offset : ℕ) (l : Line) (bytes : List ℕ) (found found' : Option (List Finding)) (damaged : ℕ) : Type 0 where
   pub findings : List Finding
   pub damaged_are : length findings ≡ damaged
   pub few : damaged ≤ 1
   pub told : FindsMore found found' findings
-  pub are : (IsGood n place l.text bytes × (findings ≡ [])) ⊎ ((IsGood n place l.text bytes → ⊥) × ((finding : Finding) × (findings ≡ finding ∷ []) × IsOf n place l finding))
+  pub are : (IsGood n offset l.text bytes × (findings ≡ [])) ⊎ ((IsGood n offset l.text bytes → ⊥) × ((finding : Finding) × (findings ≡ finding ∷ []) × IsOf n offset l bytes finding))
 
--- So far n lines were read, of which the next one begins at this place, and what the bytes before it have was found. What is found in
+-- So far n lines were read, of which the next one begins at this offset, and what the bytes before it have was found. What is found in
 -- what is left is what is found besides.
-pub record HasChecked (index index' recording recording' : Option (List ℕ)) (found found' : Option (List Finding)) (n place damaged : ℕ) : Type 0 where
+pub record HasChecked (index index' recording recording' : Option (List ℕ)) (found found' : Option (List Finding)) (n offset damaged : ℕ) : Type 0 where
   pub lines : List Line
   pub count : length lines ≡ n
   pub few : length lines ≤ most_frames
-  pub size : size_of lines ≡ place
-  pub more_lines : (more : List Line) → AreLines n place more → AreLines 0 0 (lines ++ more)
+  pub size : size_of lines ≡ offset
+  pub more_lines : (more : List Line) → AreLines n offset more → AreLines 0 0 (lines ++ more)
   pub gave : Gave index index' (λ bytes. bytes ≡ texts lines)
   pub findings : List Finding
   pub damaged_are : length findings ≡ damaged
   pub told : FindsMore found found' findings
   pub tells : Tells recording → Tells recording'
-  pub more_found : Tells recording → (more : List Line) (besides : List Finding) → AreFound n place more (known recording') besides
+  pub more_found : Tells recording → (more : List Line) (besides : List Finding) → AreFound n offset more (known recording') besides
       → AreFound 0 0 (lines ++ more) (known recording) (findings ++ besides)
-  pub left : Tells recording → known recording' ≡ drop place (known recording)
+  pub left : Tells recording → known recording' ≡ drop offset (known recording)
+
+-- ---- where a check stops
+
+-- The index begins with m lines, the findings are those on what they speak of, and of what follows the lines in the index P holds.
+pub record StopsAfter (index recording : Option (List ℕ)) (found found' : Option (List Finding)) (m : ℕ) (P : ℕ → List ℕ → Type 0) : Type 0 where
+  pub lines : List Line
+  pub are_lines : AreLines 0 0 lines
+  pub count : length lines ≡ m
+  pub few : length lines ≤ most_frames
+  pub begins : Tells index → (rest : List ℕ) × (known index ≡ texts lines ++ rest) × P (size_of lines) rest
+  pub findings : List Finding
+  pub told : FindsMore found found' findings
+  pub are_found : Tells recording → AreFound 0 0 lines (known recording) findings
+
+-- there are bytes
+abbrev pub GoesOn : ℕ → List ℕ → Type 0
+GoesOn offset bytes = 0 < length bytes
+
+-- the bytes begin with the line n, whose codestream begins at this offset
+abbrev pub BeginsWithLine : ℕ → ℕ → List ℕ → Type 0
+BeginsWithLine n offset bytes = (l : Line) × (rest : List ℕ) × (bytes ≡ l.text ++ rest) × IsLine n offset l
+
+-- nothing is said
+abbrev pub Anything : ℕ → List ℕ → Type 0
+Anything offset bytes = Unit {0}
+
+-- What each fault says: the index goes on after the lines before the one that is told; a read or an allocation failed; there is a line
+-- more than an index may have.
+abbrev pub Stops : Option (List ℕ) → Option (List ℕ) → Option (List Finding) → Option (List Finding) → CheckFault → Type 0
+Stops index recording found found' (fault.Line n) = StopsAfter index recording found found' n GoesOn
+Stops index recording found found' fault.IndexIo = (m : ℕ) × StopsAfter index recording found found' m Anything
+Stops index recording found found' fault.Io = (m : ℕ) × StopsAfter index recording found found' m Anything
+Stops index recording found found' fault.NoMemory = (m : ℕ) × StopsAfter index recording found found' m Anything
+Stops index recording found found' fault.TooMany = StopsAfter index recording found found' most_frames (BeginsWithLine most_frames)
+
+-- what an end at line n, whose codestream begins at this offset, says of the index's bytes
+abbrev pub StopsNextLine : Option (List ℕ) → ℕ → ℕ → CheckFault → Type 0
+StopsNextLine index n offset (fault.Line m) = (m ≡ n) × (Tells index → GoesOn offset (known index))
+StopsNextLine index n offset fault.IndexIo = Unit {0}
+StopsNextLine index n offset fault.Io = ⊥
+StopsNextLine index n offset fault.NoMemory = Unit {0}
+StopsNextLine index n offset fault.TooMany = ⊥
+
+-- the faults of a read of the recording
+abbrev pub StopsReading : CheckFault → Type 0
+StopsReading (fault.Line m) = ⊥
+StopsReading fault.IndexIo = ⊥
+StopsReading fault.Io = Unit {0}
+StopsReading fault.NoMemory = Unit {0}
+StopsReading fault.TooMany = ⊥
 
 -- whether a check failed by its index's device, and by its recording's
 abbrev pub blames_index : CheckFault → Bool

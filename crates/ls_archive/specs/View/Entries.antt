@@ -30,7 +30,7 @@ pub record IsEntry (entry : Entry) : Type 0 where
 
 -- The bytes are codestreams with these entries, one after the other with nothing between.
 pub record AreEntriesOf (bytes : List ℕ) (entries : List Entry) : Type 0 where
-  pub whole : bytes ≡ joined entries
+  pub joined_are : bytes ≡ joined entries
   pub each : AllByRecursion IsEntry entries
 
 -- an entry that says the form of this frame

@@ -2,7 +2,7 @@
 use Rattle.std.specs.Prelude.{ℕ, ◌+◌, ◌*◌, ◌^◌, ◌≤◌, List, []}
 use Rattle.ls_film.specs.Film.{most_frames}
 
--- The bytes since the last whole codestream, which are held back; and of the codestreams before them: how many, of how many bytes
+-- The bytes since the last codestream that ended, which are held back; and of the codestreams before them: how many, of how many bytes
 -- in all, and with lines of how many.
 pub record Followed : Type 0 where
   pub pending : List ℕ
@@ -25,5 +25,5 @@ stepped size written f = record { pending = f.pending; number = f.number + 1; of
 -- The counts are of codestreams and lines that there may be.
 pub record IsFollowed (f : Followed) : Type 0 where
   pub few : f.number ≤ most_frames
-  pub near : f.offset ≤ 2 ^ 32 * f.number
+  pub bounded : f.offset ≤ 2 ^ 32 * f.number
   pub small : f.written ≤ 2 ^ 32 * f.number

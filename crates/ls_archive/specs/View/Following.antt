@@ -1,5 +1,7 @@
 -- An index that is written while its recording is.
-use Rattle.std.specs.Prelude.{ℕ, true, List, [], ◌++◌, Option, Some}
+use Rattle.std.specs.Prelude.{◌≡◌, ℕ, true, List, [], ◌++◌, Option, None, Some}
+use Rattle.ls_frame.specs.Picture.{Picture}
+use Rattle.ls_stream.specs.Grammar.{Spells}
 use Rattle.ls_archive.specs.declared.following.Follower.{Follower}
 use Rattle.ls_archive.specs.declared.following.Indexing.{Indexing}
 use Rattle.ls_archive.specs.declared.faults.IndexFault.{IndexFault}
@@ -32,11 +34,25 @@ module _ {W I : Type 0} where
 abbrev pub HasFollowed : List ℕ → Option (List ℕ) → Option (List ℕ) → Followed → Type 0
 HasFollowed bytes index index' state = HasRun true (Some bytes) (Some state.pending) index index' state.number state.offset state.written
 
+-- The bytes are no codestream of a frame, so they wait for more.
+abbrev pub SpellNoFrame : List ℕ → Type 0
+SpellNoFrame bytes = (f : Picture) → Spells bytes f → ⊥
+
 module _ (bytes : List ℕ) (between new : Option (List ℕ)) where
   -- More bytes were followed, whatever those before were and wherever the index began.
   abbrev pub FollowsOn : Followed → Followed → Type 0
   FollowsOn old' new' = (before : List ℕ) (index : Option (List ℕ)) → HasFollowed before index between old' → HasFollowed (before ++ bytes) index new new'
 
   -- The index broke off with them: this is why, and what of it was written, whatever those before were.
-  abbrev pub BreaksOff : Followed → IndexFault → Type 0
-  BreaksOff old' fault = (before : List ℕ) (index : Option (List ℕ)) → HasFollowed before index between old' → Stops true (Some (before ++ bytes)) (Some []) index new fault
+  abbrev pub StopsFollowing : Followed → IndexFault → Type 0
+  StopsFollowing old' fault = (before : List ℕ) (index : Option (List ℕ)) → HasFollowed before index between old' → Stops true (Some (before ++ bytes)) (Some []) index new fault
+
+module _ {I : Type 0} (contents : I → Option (List ℕ)) (bytes : List ℕ) where
+  -- What becomes of the index when the recording's next bytes go out: it goes on, or breaks off; one that broke off before stays.
+  abbrev pub IsTold : Option (Follower I) → Option IndexFault → Option (Follower I) → Option IndexFault → Type 0
+  IsTold old (Some fault) new why = (new ≡ old) × (why ≡ Some fault)
+  IsTold None None new why = (new ≡ None) × (why ≡ None)
+  IsTold (Some f) None None why = ⊥
+  IsTold (Some f) None (Some g) None =
+      FollowsOn bytes (contents (index_of f)) (contents (index_of g)) (followed f) (followed g) × SpellNoFrame (followed g).pending
+  IsTold (Some f) None (Some g) (Some fault) = StopsFollowing bytes (contents (index_of f)) (contents (index_of g)) (followed f) fault

@@ -1,31 +1,32 @@
-use Rattle.std.proofs.Common.{◌≡◌, refl, subst, arith, rules}
+use Rattle.std.proofs.Common.{◌≡◌, refl, sym, subst, arith, rules}
+use Rattle.std.proofs.lemmas.Result.{err_from_is_err_and}
 use Rattle.ls_film.specs.Film.{most_frames}
-use Rattle.ls_archive.specs.Checking.{Line}
-use Rattle.ls_archive.specs.View.Checks.{IsChecked}
-use Rattle.ls_archive.proofs.CheckLemmas.{checked-none, checked-more, checked-end}
+use Rattle.ls_archive.specs.View.Checking.{Line}
+use Rattle.ls_archive.specs.View.Checks.{IsChecked, StopsAfter, BeginsWithLine, Anything, StopsNextLine}
+use Rattle.ls_archive.proofs.CheckLemmas.{checked-none, checked-more, checked-end, stops-after, stops-next-line, stops-reading, begins-with}
 use Rattle.ls_archive.proofs.checking.check.Goals as goal
 
 pub loop-number-init : goal.loop-number-init
-loop-number-init g c = record { so_far = checked-none _ _ _; near = omega arith; few = omega arith; index_reads = refl; reads = refl }
+loop-number-init g c = record { so_far = checked-none _ _ _; bounded = omega arith; few = omega arith; index_reads = refl; reads = refl }
 
 pub returns-in_default-clause-checked : goal.returns-in_default-clause-checked
 returns-in_default-clause-checked g c =
     let end = rw c.in_default.is at c.in_ok-line.ensures.end in
     checked-end _ (g.I.Read.remaining c.loop-number.index) (g.I.Read.remaining c.next_line.new.index) _ (g.R.Read.remaining c.loop-number.recording) _ _
-    c.loop-number.number c.loop-number.place c.loop-number.damaged c.in_ok-more.more c.loop-number.invariant.so_far end c.in_ok-more.ensures.more
+    c.loop-number.number c.loop-number.offset c.loop-number.damaged c.in_ok-more.more c.loop-number.invariant.so_far end c.in_ok-more.ensures.more
 
 pub loop-number-preserved : goal.loop-number-preserved
 loop-number-preserved g c =
     let l : Line = record { text = c.in-Some.line.text.items; size = c.in-Some.line.size } in
-    let begins = rw c.in-Some.is at c.in_ok-line.ensures.begins in
+    let is = rw c.in-Some.is at c.in_ok-line.ensures.is in
     let gave = rw c.in-Some.is at c.in_ok-line.ensures.gave in
     record {
       so_far = rw c.from.ensures
           (checked-more _ (g.I.Read.remaining c.loop-number.index) (g.I.Read.remaining c.next_line.new.index) _ (g.R.Read.remaining c.loop-number.recording) (g.R.Read.remaining c.take_bytes.new.reader)
-          _ (g.F.Findings.found c.loop-number.findings) (g.F.Findings.found c.look_at.new.findings) c.loop-number.number c.loop-number.place c.loop-number.damaged c.in_ok-damaged.field-0 l c.in_ok-bytes.bytes.items
-          c.loop-number.invariant.so_far (omega arith) begins gave c.in_ok-bytes.ensures.taken c.in_ok-damaged.ensures);
-      near = omega (arith, c.loop-number.invariant.near, c.from.ensures);
-      few = omega (arith, c.loop-number.invariant.few, c.in_ok-damaged.ensures.few);
+          _ (g.F.Findings.found c.loop-number.findings) (g.F.Findings.found c.look_at.new.findings) c.loop-number.number c.loop-number.offset c.loop-number.damaged c.in_ok-damaged.field-0 l c.in_ok-bytes.bytes.items
+          c.loop-number.invariant.so_far (omega arith) is gave c.in_ok-bytes.ensures.taken c.in_ok-damaged.ensures.looked);
+      bounded = omega (arith, c.loop-number.invariant.bounded, c.from.ensures);
+      few = omega (arith, c.loop-number.invariant.few, c.in_ok-damaged.ensures.looked.few);
       index_reads = search rules;
       reads = search rules;
     }
@@ -37,4 +38,60 @@ returns-clause-checked g c =
     subst (λ n. IsChecked (g.I.Read.remaining c.args.index.now) (g.R.Read.remaining c.args.recording.now) (g.F.Findings.found c.args.findings.now) (g.F.Findings.found c.loop-number.findings)
     (record { frames = n; damaged = c.loop-number.damaged; more = c.in_ok-more-2.more })) all
     (checked-end _ (g.I.Read.remaining c.loop-number.index) (g.I.Read.remaining c.next_line-2.new.index) _ (g.R.Read.remaining c.loop-number.recording) _ _
-    c.loop-number.number c.loop-number.place c.loop-number.damaged c.in_ok-more-2.more c.loop-number.invariant.so_far end c.in_ok-more-2.ensures.more)
+    c.loop-number.number c.loop-number.offset c.loop-number.damaged c.in_ok-more-2.more c.loop-number.invariant.so_far end c.in_ok-more-2.ensures.more)
+
+pub returns-in_err-line-clause-stops : goal.returns-in_err-line-clause-stops
+returns-in_err-line-clause-stops g c =
+    let p = err_from_is_err_and c.from_residual.result c.from_residual.ensures.1 in
+    rw (p.1, p.2) (stops-next-line _ (g.I.Read.remaining c.loop-number.index) _ (g.R.Read.remaining c.loop-number.recording) _ _
+    c.loop-number.number c.loop-number.offset c.loop-number.damaged _ c.loop-number.invariant.so_far c.in_err-line.ensures.stops)
+
+pub returns-in_err-more-clause-stops : goal.returns-in_err-more-clause-stops
+returns-in_err-more-clause-stops g c =
+    let p = err_from_is_err_and c.from_residual-in_err-more.result c.from_residual-in_err-more.ensures.1 in
+    rw (p.1, p.2) (stops-reading _ (g.I.Read.remaining c.loop-number.index) _ (g.R.Read.remaining c.loop-number.recording) _ _
+    c.loop-number.number c.loop-number.offset c.loop-number.damaged _ c.loop-number.invariant.so_far c.in_err-more.ensures.stops)
+
+pub returns-in_err-bytes-clause-stops : goal.returns-in_err-bytes-clause-stops
+returns-in_err-bytes-clause-stops g c =
+    let p = err_from_is_err_and c.from_residual-in_err-bytes.result c.from_residual-in_err-bytes.ensures.1 in
+    rw (p.1, p.2) (stops-reading _ (g.I.Read.remaining c.loop-number.index) _ (g.R.Read.remaining c.loop-number.recording) _ _
+    c.loop-number.number c.loop-number.offset c.loop-number.damaged _ c.loop-number.invariant.so_far c.in_err-bytes.ensures.stops)
+
+pub returns-in_err-damaged-clause-stops : goal.returns-in_err-damaged-clause-stops
+returns-in_err-damaged-clause-stops g c =
+    let p = err_from_is_err_and c.from_residual-in_err-damaged.result c.from_residual-in_err-damaged.ensures.1 in
+    rw (p.1, p.2) (
+      c.loop-number.number,
+      stops-after _ (g.I.Read.remaining c.loop-number.index) _ (g.R.Read.remaining c.loop-number.recording)
+          _ (g.F.Findings.found c.loop-number.findings) _ c.loop-number.number c.loop-number.offset c.loop-number.damaged Anything
+          c.loop-number.invariant.so_far c.in_err-damaged.ensures.none (λ told. tt),
+    )
+
+pub returns-in_err-next_line-clause-stops : goal.returns-in_err-next_line-clause-stops
+returns-in_err-next_line-clause-stops g c =
+    let p = err_from_is_err_and c.from_residual-in_err-next_line.result c.from_residual-in_err-next_line.ensures.1 in
+    let all : c.loop-number.number ≡ most_frames = omega arith in
+    let stops = subst (λ n. StopsNextLine (g.I.Read.remaining c.loop-number.index) n c.loop-number.offset c.in_err-next_line.field-0.0) (sym all) c.in_err-next_line.ensures.stops in
+    rw (p.1, p.2) (stops-next-line _ (g.I.Read.remaining c.loop-number.index) _ (g.R.Read.remaining c.loop-number.recording) _ _
+    c.loop-number.number c.loop-number.offset c.loop-number.damaged _ c.loop-number.invariant.so_far stops)
+
+pub returns-in_default-2-clause-stops : goal.returns-in_default-2-clause-stops
+returns-in_default-2-clause-stops g c =
+    let next = c.in_default-2.field-0 in
+    let l : Line = record { text = next.text.items; size = next.size } in
+    let is = rw c.in_default-2.is at c.in_ok-next_line.ensures.is in
+    let gave = rw c.in_default-2.is at c.in_ok-next_line.ensures.gave in
+    let mid = g.I.Read.remaining c.loop-number.index in
+    let all : c.loop-number.number ≡ most_frames = omega arith in
+    subst (λ n. StopsAfter (g.I.Read.remaining c.args.index.now) (g.R.Read.remaining c.args.recording.now) (g.F.Findings.found c.args.findings.now) (g.F.Findings.found c.loop-number.findings) n (BeginsWithLine most_frames)) all
+    (stops-after (g.I.Read.remaining c.args.index.now) mid (g.R.Read.remaining c.args.recording.now) (g.R.Read.remaining c.loop-number.recording)
+    (g.F.Findings.found c.args.findings.now) (g.F.Findings.found c.loop-number.findings) (g.F.Findings.found c.loop-number.findings)
+    c.loop-number.number c.loop-number.offset c.loop-number.damaged (BeginsWithLine most_frames) c.loop-number.invariant.so_far refl
+    (λ told. begins-with most_frames c.loop-number.offset mid (g.I.Read.remaining c.next_line-2.new.index) l is gave told))
+
+pub returns-in_err-more-2-clause-stops : goal.returns-in_err-more-2-clause-stops
+returns-in_err-more-2-clause-stops g c =
+    let p = err_from_is_err_and c.from_residual-in_err-more-2.result c.from_residual-in_err-more-2.ensures.1 in
+    rw (p.1, p.2) (stops-reading _ (g.I.Read.remaining c.loop-number.index) _ (g.R.Read.remaining c.loop-number.recording) _ _
+    c.loop-number.number c.loop-number.offset c.loop-number.damaged _ c.loop-number.invariant.so_far c.in_err-more-2.ensures.stops)

@@ -31,7 +31,7 @@ returns-clause-stops c =
     (subst (λ (written : List ℕ). IfErr ended (Stops sums (Some recording) left (Some written) (Some (wrapped c.write_index-ended.new.writer).items))) none
     c.write_index-ended.ensures.stops))
 
-pub returns-clause-whole : goal.returns-clause-whole
-returns-clause-whole c = λ frames few film.
+pub returns-clause-of_frames : goal.returns-clause-of_frames
+returns-clause-of_frames c = λ frames few film.
     whole_index c.outlines_follow_the_grammar.ensures.are_read c.args.sums c.args.recording.now c.into_inner.result.items frames few film c.write_index-ended.result
     (returns-clause-completes c) (returns-clause-stops c)

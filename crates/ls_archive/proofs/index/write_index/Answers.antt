@@ -37,7 +37,7 @@ loop-number-preserved g c =
           (HasRun-more c.args.sums _ _ _ _ _ _ c.loop-number.number c.loop-number.offset c.loop-number.written (length c.bytes.result.now) c.in-Some.indexed c.as_bytes.result.now
           c.loop-number.invariant.run (omega arith) gave text c.in_ok-written.ensures.all size);
       small = omega (arith, c.loop-number.invariant.small, c.in_ok-written.ensures.count, c.in_ok-line.ensures.short, ap length c.as_bytes.ensures.value);
-      near = omega (arith, c.loop-number.invariant.near, c.bytes.ensures.few);
+      bounded = omega (arith, c.loop-number.invariant.bounded, c.bytes.ensures.few);
       reads = search rules;
       writes = search rules;
     }

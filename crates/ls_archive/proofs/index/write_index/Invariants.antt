@@ -7,7 +7,7 @@ abbrev pub invariant-loop-number : goal.invariant-loop-number
 invariant-loop-number g l = record {
   run : HasRun l.fn.sums (g.R.Read.remaining l.fn.reader) (g.R.Read.remaining l.reader) (g.W.Write.contents l.fn.writer) (g.W.Write.contents l.writer) l.number l.offset l.written;
   small : l.written ≤ 2 ^ 32 * l.number;
-  near : l.offset ≤ 2 ^ 32 * l.number;
+  bounded : l.offset ≤ 2 ^ 32 * l.number;
   reads : g.R.Feed.failed_reads l.reader ≡ g.R.Feed.failed_reads l.fn.reader;
   writes : g.W.Outlet.failed_writes l.writer ≡ g.W.Outlet.failed_writes l.fn.writer;
 }

@@ -1,0 +1,17 @@
+use Rattle.std.proofs.Common.{◌≡◌, ◌<◌, length, sym, subst, arith, rules}
+use Rattle.ls_archive.specs.View.Checking.{HasNoLineFeed}
+use Rattle.ls_archive.proofs.LineLemmas.{split_last, taken_line}
+use Rattle.ls_archive.proofs.checking.take_line.Goals as goal
+
+pub returns-in-Some-eq10-clause-one : goal.returns-in-Some-eq10-clause-one
+returns-in-Some-eq10-clause-one g c =
+    taken_line _ _ _ _ _ _ (rw c.in-Some-eq10.is at c.in_ok-feed_until.ensures.taken) c.loop-reader.invariant.one
+
+pub returns-in-None-2-clause-one : goal.returns-in-None-2-clause-one
+returns-in-None-2-clause-one g c =
+    let end = rw c.in-None-2.is at c.in_ok-feed_until.ensures.end in
+    let some : 0 < length c.feed_until.new.bytes.items = search rules in
+    split_last c.feed_until.new.bytes.items some (subst HasNoLineFeed (sym end.0) c.loop-reader.invariant.one)
+
+pub returns-clause-one : goal.returns-clause-one
+returns-clause-one g c = split_last c.loop-reader.line.items (omega arith) c.loop-reader.invariant.one

@@ -1,0 +1,87 @@
+-- What a check of a recording by its index finds: of each line of the index whether the codestream stands where it says and is as it was.
+use Rattle.std.specs.Prelude.{◌≡◌, ◌≢◌, ◌⊎◌, ℕ, ◌+◌, ◌<◌, ◌≤◌, Bool, List, [], ◌∷◌, ◌++◌, length, take, drop, decimal, codes}
+use Rattle.std.specs.List.{AllByRecursion}
+use Rattle.ls_film.specs.Listing.{column}
+use Rattle.ls_frame.specs.Picture.{Picture}
+use Rattle.ls_stream.specs.Grammar.{Spells}
+use Rattle.ls_stream.specs.View.Outlines.{IsFirstFault}
+use Rattle.ls_archive.specs.Index.{Entry, line}
+use Rattle.ls_archive.specs.View.Entries.{IsEntry}
+use Rattle.ls_archive.specs.declared.checking.Damage.{Damage}
+use Rattle.ls_archive.specs.declared.checking.Damage.TheVariants.{Truncated, Changed, Fault}
+use Rattle.ls_archive.specs.declared.checking.Finding.{Finding}
+
+-- ---- lines
+
+-- A line of an index, LF and all, and how many bytes it says that its codestream has.
+pub record Line : Type 0 where
+  pub text : List ℕ
+  pub size : ℕ
+
+-- none of these bytes is LF
+abbrev pub HasNoLineFeed : List ℕ → Type 0
+HasNoLineFeed bytes = AllByRecursion (λ byte. byte ≢ 10) bytes
+
+-- how the line of codestream n begins, which begins at this offset and has so many bytes
+abbrev pub beginning : ℕ → ℕ → ℕ → List ℕ
+beginning n offset size = decimal n ++ (column offset ++ (column size ++ codes " "))
+
+-- The line of codestream n, which begins at this offset: its beginning and what follows that, without LF, and then LF.
+pub record IsLine (n offset : ℕ) (l : Line) : Type 0 where
+  pub rest : List ℕ
+  pub text_is : l.text ≡ (beginning n offset l.size ++ rest) ++ codes "\n"
+  pub one : HasNoLineFeed (beginning n offset l.size ++ rest)
+  pub short : length l.text ≤ 1024
+
+-- The lines are of codestreams numbered from n on, of which the first begins at this offset, and each where the one before it ends.
+abbrev pub AreLines : ℕ → ℕ → List Line → Type 0
+AreLines n offset [] = Unit {0}
+AreLines n offset (l ∷ ls) = IsLine n offset l × AreLines (n + 1) (offset + l.size) ls
+
+-- the lines' bytes, one after the other
+abbrev pub texts : List Line → List ℕ
+texts [] = []
+texts (l ∷ ls) = l.text ++ texts ls
+
+-- ---- codestreams
+
+-- The bytes have an entry, and the text is the line n of it, with their sum or without.
+pub record HasLine (n offset : ℕ) (text bytes : List ℕ) : Type 0 where
+  pub entry : Entry
+  pub is_entry : IsEntry entry
+  pub bytes_are : entry.bytes ≡ bytes
+  pub sums : Bool
+  pub text_is : text ≡ line sums n offset entry
+
+-- The bytes are the codestream of line n: they have that very line, and are a codestream of a frame.
+pub record IsGood (n offset : ℕ) (text bytes : List ℕ) : Type 0 where
+  pub has : HasLine n offset text bytes
+  pub frame : Picture
+  pub spells : Spells bytes frame
+
+-- What is wrong with the bytes at the place of line n: they don't have that line, and are fewer than it says, or as many; or they have
+-- it, and this is the first fault of decoding them.
+abbrev pub IsDamage : ℕ → ℕ → Line → List ℕ → Damage → Type 0
+IsDamage n offset l bytes Truncated = (HasLine n offset l.text bytes → ⊥) × (length bytes < l.size)
+IsDamage n offset l bytes Changed = (HasLine n offset l.text bytes → ⊥) × (l.size ≤ length bytes)
+IsDamage n offset l bytes (Fault fault) = HasLine n offset l.text bytes × IsFirstFault bytes fault
+
+-- A finding on line n, whose codestream should begin at this offset: these bytes stand there.
+pub record IsOf (n offset : ℕ) (l : Line) (bytes : List ℕ) (finding : Finding) : Type 0 where
+  pub number : finding.number ≡ n
+  pub place : finding.place ≡ offset
+  pub count : finding.count ≡ l.size
+  pub damage : IsDamage n offset l bytes finding.damage
+
+-- Of these lines, the first of which is number n and says this offset, the bytes have codestreams that are good but for the findings.
+abbrev pub AreFound : ℕ → ℕ → List Line → List ℕ → List Finding → Type 0
+AreFound n offset [] bytes findings = findings ≡ []
+AreFound n offset (l ∷ ls) bytes findings =
+    (IsGood n offset l.text (take l.size bytes) × AreFound (n + 1) (offset + l.size) ls (drop l.size bytes) findings)
+    ⊎ ((finding : Finding) × (more : List Finding) × (findings ≡ finding ∷ more) × IsOf n offset l (take l.size bytes) finding
+    × (IsGood n offset l.text (take l.size bytes) → ⊥) × AreFound (n + 1) (offset + l.size) ls (drop l.size bytes) more)
+
+-- the bytes that the lines speak of, all together
+abbrev pub size_of : List Line → ℕ
+size_of [] = 0
+size_of (l ∷ ls) = l.size + size_of ls
