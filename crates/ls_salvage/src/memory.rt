@@ -1,10 +1,10 @@
 //! The salvage of a recording in memory.
-ghost use Rattle.std.specs.Prelude.{◌≡◌, ◌<◌, ◌≤◌, List, [], length, Some, IfOk, IfErr, MatchResult};
+ghost use Rattle.std.specs.Prelude.{◌≡◌, ◌<◌, ◌≤◌, List, [], length, false, Some, IfOk, IfErr, MatchResult};
 ghost use Rattle.ls_frame.specs.Picture.{Picture};
 ghost use Rattle.ls_stream.specs.Grammar.{Spells};
 ghost use Rattle.ls_film.specs.Film.{most_frames, IsFilm};
 ghost use Rattle.ls_film.specs.Showing.{show};
-ghost use Rattle.ls_salvage.specs.View.Ends.{most_place};
+ghost use Rattle.ls_salvage.specs.View.Ends.{most_place, blames_reader};
 ghost use Rattle.ls_salvage.specs.View.Memory.{IsSalvageOf, IsOutOfMemory};
 ghost use Rattle.ls_salvage.specs.View.Runs.{Stops};
 
@@ -29,6 +29,7 @@ pub fn salvage_bytes(
     ensures completes { IfOk result.2 (IsSalvageOf recording.now result.0.items result.1.items) }
     ensures stops { IfErr result.2
         (Stops show (Some []) (Some result.0.items) (Some []) (Some result.1.items) (Some recording.now)) }
+    ensures device { IfErr result.2 (λ fault. blames_reader fault ≡ false) }
     ensures undamaged { (frames : List Picture) → length frames ≤ most_frames → length recording.now < most_place
         → IsFilm Spells recording.now frames → MatchResult result.2
         (λ salvaged. (salvaged.frames ≡ length frames) × (salvaged.gaps ≡ 0) × (result.0.items ≡ show frames) × (result.1.items ≡ []))
