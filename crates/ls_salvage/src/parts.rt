@@ -33,7 +33,9 @@ pub enum NextPart {
 
 /// Takes the next part of a recording off a reader, and not a byte more; `None` exactly at the end.
 ///
-/// After a fault nothing is said of the reader's place.
+/// A part has less than 2^63 bytes. `Io` and `NoMemory` say that a read or an allocation failed; `NoEnd`, that as many
+/// bytes as a codestream may have show neither its end nor a fault; `TooMuch`, that none begins here and 2^62 bytes or
+/// more are left, past the most that are passed over. After a fault nothing is said of the reader's place.
 pub fn next_part<R: Feed>(
     alloc: Global,
     reader: &mut Buffered<R>,

@@ -22,7 +22,9 @@ use std::alloc::Global;
 /// How many frames a salvage wrote, and how many gaps it told.
 #[derive(Clone, Copy, Debug, Drop, PartialEq, Eq)]
 pub struct Salvaged {
+    /// The frames whose text was written.
     pub frames: u64,
+    /// The gaps that were told.
     pub gaps: u64,
 }
 

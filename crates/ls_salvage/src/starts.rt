@@ -35,7 +35,7 @@ const APP15: u8 = 0xEF;
 /// The bytes that are asked of the reader at once.
 const MOST_AT_ONCE: usize = 65_536;
 
-/// The most bytes that are passed over: 2^62.
+/// The most bytes that are passed over for a start, and that stand before a part: 2^62.
 pub const MOST_PLACE: u64 = 4_611_686_018_427_387_904;
 
 /// How much of SOI and the FF after it was just read.
@@ -52,7 +52,8 @@ enum Matched {
 
 /// Takes the bytes up to the next start off a reader, or all if there is none, and says how many they were.
 ///
-/// It keeps 64 KiB of them at most. After a fault nothing is said of the reader's place.
+/// It keeps 64 KiB of them at most. `TooMuch` says that there were 2^62 bytes without a start; `Io` and `NoMemory`, that a
+/// read or an allocation failed. After a fault nothing is said of the reader's place.
 pub fn skip_to_start<R: Feed>(alloc: Global, reader: &mut Buffered<R>) -> Result<u64, ReadFault>
     ensures skipped { IfOk result (λ count. Tells (left_in R.remaining reader.old)
         → Tells (left_in R.remaining reader.new) × HasSkipped count (known (left_in R.remaining reader.old)) (known (left_in R.remaining reader.new))) }
