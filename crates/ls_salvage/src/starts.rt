@@ -4,7 +4,7 @@ ghost use Rattle.std.specs.List.{AllByRecursion};
 ghost use Rattle.ls_frame.specs.View.Chunks.{left_in, inner_reader};
 ghost use Rattle.ls_frame.specs.View.Devices.{count_after};
 ghost use Rattle.ls_frame.specs.View.Known.{Tells, TakesUntil, WasAtEnd, known};
-ghost use Rattle.ls_salvage.specs.Starts.{may_follow_soi};
+ghost use Rattle.ls_salvage.specs.Starts.{ff, may_follow_soi};
 ghost use Rattle.ls_salvage.specs.View.Ends.{most_place, failed_read};
 ghost use Rattle.ls_salvage.specs.View.Skipping.{GoesOn, FoundStart, HasSkipped};
 
@@ -27,9 +27,10 @@ const LSE: u8 = 0xF8;
 /// The code of COM, comment (T.81 Table B.1).
 const COM: u8 = 0xFE;
 
-/// The codes of APP0 to APP15, application data (T.81 Table B.1).
+/// The code of APP0, the first for application data (T.81 Table B.1).
 const APP0: u8 = 0xE0;
 
+/// The code of APP15, the last for application data (T.81 Table B.1).
 const APP15: u8 = 0xEF;
 
 /// The bytes that are asked of the reader at once.
@@ -92,7 +93,7 @@ fn next_bytes<R: Feed>(
 ) -> Result<Option<u8>, ReadFault>
     requires some { 0 < most }
     ensures taken { IfOk result (λ next. IfSome next
-        (TakesUntil 255 most (R.remaining reader.old) (R.remaining reader.new) bytes.old.items bytes.new.items)) }
+        (TakesUntil ff most (R.remaining reader.old) (R.remaining reader.new) bytes.old.items bytes.new.items)) }
     ensures end { IfOk result (λ next. IfNone next
         ((bytes.new.items ≡ bytes.old.items) × WasAtEnd (R.remaining reader.old) (R.remaining reader.new))) }
     ensures fault { IfErr result (λ fault. (fault ≢ ReadFault.NoEnd) × (fault ≢ ReadFault.TooMuch)) }
