@@ -1,5 +1,6 @@
 -- Codestreams that are passed over, and the frames that are shown after them.
-use Rattle.std.proofs.Common.{◌≡◌, ◌⊎◌, ◌<◌, ◌≤◌, ◌+◌, ℕ, inl, inr, List, [], ◌∷◌, ◌++◌, length, take, drop, Option, refl, sym, ap, subst, ◌∙◌, arith, append_assoc, append-nil}
+use Rattle.std.specs.Prelude.{IsTrue, IfSome, is_some, not}
+use Rattle.std.proofs.Common.{Bool, true, false, None, Some, ◌≡◌, ◌⊎◌, ◌<◌, ◌≤◌, ◌+◌, ℕ, inl, inr, List, [], ◌∷◌, ◌++◌, length, take, drop, Option, refl, sym, ap, subst, ◌∙◌, arith, append_assoc, append-nil}
 use Rattle.std.proofs.KnownBytes.{Appends-nil}
 use Rattle.std.proofs.lemmas.List.{length_push, length-append, length-drop, take_at, drop_at}
 use Rattle.ls_frame.specs.Picture.{Picture}
@@ -15,7 +16,7 @@ use Rattle.ls_film.specs.View.Engine.{Completes, HasRun}
 use Rattle.ls_stream.proofs.ExtentLaws.{next_is}
 use Rattle.ls_film.specs.Film.{most_frames, IsFilm}
 use Rattle.ls_film.specs.View.Playing.{BreaksBy, Stops}
-use Rattle.ls_film.specs.View.Parts.{joined, ArePassed, GavePassed, ShowsNext, ShowsPart, EndsEarly, StopsPassing, StopsShowing, IsNoneOfStreams, later, unpassed}
+use Rattle.ls_film.specs.View.Parts.{joined, ArePassed, GavePassed, ShowsNext, ShowsPart, EndsEarly, StopsPassing, LacksPart, StopsShowing, IsShortOf, IsNoneOfStreams, later, unpassed}
 use Rattle.ls_film.specs.declared.playing.PlayFault.{PlayFault}
 use Rattle.ls_film.specs.declared.playing.PlayFault.TheVariants.{Stream, Io, Output, NoMemory, TooMuch}
 use Rattle.ls_film.proofs.NextLemmas.{gave_some, gave_most, too_large}
@@ -106,12 +107,31 @@ shows-all read read' written written' n run = (
   λ told. (run.gave told).1,
 )
 
+-- a recording that ends before a part lacks it
+lacks_all : (first m : ℕ) (last : Option ℕ) → m < first → IfSome last (λ n. (first ≤ n) × (n < most_frames)) → LacksPart first last m
+lacks_all first m None before in_order = omega (arith, before)
+lacks_all first m (Some n) before in_order = omega (arith, before, in_order.0)
+
+-- it lacks a part that goes to the end and of which it has no frame
+pub lacks-first : (first n : ℕ) (last : Option ℕ) (open_ended : Bool) → is_some last ≡ not open_ended → open_ended ≡ true → n ≤ 0 → LacksPart first last (first + n)
+lacks-first first n None open_ended is so none = omega (arith, none)
+lacks-first first n (Some l) open_ended is so none = let off : not open_ended ≡ false = ap not so in let clash : ⊥ = cc in absurd clash
+
+-- it lacks a part whose last frame it hasn't
+pub lacks-last : (first n : ℕ) (last : Option ℕ) (open_ended ended : Bool) → is_some last ≡ not open_ended → open_ended ≡ false → IfSome last (λ l. IsTrue ended → first + n ≤ l)
+    → IsTrue ended → LacksPart first last (first + n)
+lacks-last first n None open_ended ended is so few at_end = let on : not open_ended ≡ true = ap not so in let clash : ⊥ = cc in absurd clash
+lacks-last first n (Some l) open_ended ended is so few at_end = few at_end
+
 -- nothing was shown, since the recording ended before
-pub ends-early : (read mid written : Option (List ℕ)) (m : ℕ) → GavePassed read mid m → (Tells read → known mid ≡ []) → EndsEarly read mid written written m
-ends-early read mid written m passed end = record {
+pub ends-early : (read mid written : Option (List ℕ)) (first m : ℕ) (last : Option ℕ) → m < first → IfSome last (λ n. (first ≤ n) × (n < most_frames)) → GavePassed read mid m
+    → (Tells read → known mid ≡ []) → EndsEarly read mid written written first last m
+ends-early read mid written first m last before in_order passed end = record {
   passed = m;
   shown = 0;
   count = omega arith;
+  begun = inr (before, refl);
+  lacks = lacks_all first m last before in_order;
   shows = record { mid = mid; passed = passed; shows = record { frames = []; count = refl; lawful = tt; gave = GaveFrames-none Spells mid; wrote = Appends-nil written } };
   end = end;
 }
@@ -132,6 +152,17 @@ passed_film (first ∷ streams) rest bytes (f ∷ frames) whole passed film =
     sym (drop_at film.0 film.1 (length film.0) refl) ∙ ap (drop (length film.0)) (sym split) ∙ ap (λ n. drop n (first ++ after)) (sym (ap length is)) ∙ drop_at first after (length first) refl in
     let more = passed_film streams rest film.1 frames left passed.1 film.4 in
     (omega (arith, more.0), more.1)
+
+no_more : (frames : List Picture) → length frames ≡ 0 → frames ≡ []
+no_more [] none = refl
+no_more (f ∷ frames) none = absurd (omega (arith, none))
+
+-- the frames that are shown are all from the first of a part on, or there are none of it
+shown_from : (first passed shown : ℕ) (frames them : List Picture) → (passed ≡ first) ⊎ ((passed < first) × (shown ≡ 0)) → drop passed frames ≡ them → length them ≡ shown
+    → length frames ≡ passed + shown → drop first frames ≡ them
+shown_from first passed shown frames them (inl is) left count all = ap (λ n. drop n frames) (sym is) ∙ left
+shown_from first passed shown frames them (inr before) left count all =
+    no_more (drop first frames) (omega (arith, length-drop first frames, before.0, before.1, all)) ∙ sym (no_more them (omega (arith, count, before.1)))
 
 -- what follows those that the reader gave
 rest_film : (read mid : Option (List ℕ)) (n : ℕ) (frames : List Picture) → Tells read → IsFilm Spells (known read) frames → GavePassed read mid n
@@ -161,11 +192,20 @@ module _ (only : (one other rest : List ℕ) (f g : Picture) → Spells one f �
         subst (λ fs. Appends written written' (show fs)) (sym front) part.shows.wrote,
       )
 
-  pub part-few : (read' written written' : Option (List ℕ)) (m : ℕ) → EndsEarly read read' written written' m → m ≡ length frames
-  part-few read' written written' m ends =
+  pub part-few : (read' written written' : Option (List ℕ)) (first m : ℕ) (last : Option ℕ) → EndsEarly read read' written written' first last m
+      → IsShortOf written written' first last frames m
+  part-few read' written written' first m last ends =
       let next = next_frames read' written written' ends.passed ends.shown ends.shows in
       let none = no_frames Spells some_bytes only same next.0 (subst (λ s. IsFilm Spells s next.0) (ends.end told) next.2) in
-      omega (arith, next.3, length-drop ends.passed frames, ap length next.1, length-append ends.shows.shows.frames next.0, ends.shows.shows.count, ap length none, ends.count)
+      let all : m ≡ length frames =
+      omega (arith, next.3, length-drop ends.passed frames, ap length next.1, length-append ends.shows.shows.frames next.0, ends.shows.shows.count, ap length none, ends.count) in
+      let left : drop ends.passed frames ≡ ends.shows.shows.frames = next.1 ∙ ap (λ fs. ends.shows.shows.frames ++ fs) none ∙ append-nil ends.shows.shows.frames in
+      record {
+        count = all;
+        lacks = ends.lacks;
+        wrote = subst (λ fs. Appends written written' (show fs)) (sym (shown_from first ends.passed ends.shown frames ends.shows.shows.frames ends.begun left ends.shows.shows.count
+            (omega (arith, all, ends.count)))) ends.shows.shows.wrote;
+      }
 
   pub part-unpassed : (first : ℕ) (fault : PlayFault) → StopsPassing read first fault → IsNoneOfStreams fault
   part-unpassed first fault stops = elim stops.fault_is [
@@ -206,12 +246,14 @@ module _ (only : (one other rest : List ℕ) (f g : Picture) → Spells one f �
       rw stops.numbered (of_later first stops.alone (none_of_streams stops.mid read' written written' (drop first frames) rest.0 rest.2 short stops.alone stops.stops))
 
 -- all that were left were shown, and too few
-pub early-shown : (read mid read' written written' : Option (List ℕ)) (first n : ℕ) → GavePassed read mid first → ShowsNext mid read' written written' n
-    → (Tells mid → known read' ≡ []) → EndsEarly read read' written written' (first + n)
-early-shown read mid read' written written' first n passed shows end = record {
+pub early-shown : (read mid read' written written' : Option (List ℕ)) (first n : ℕ) (last : Option ℕ) → GavePassed read mid first → ShowsNext mid read' written written' n
+    → LacksPart first last (first + n) → (Tells mid → known read' ≡ []) → EndsEarly read read' written written' first last (first + n)
+early-shown read mid read' written written' first n last passed shows lacks end = record {
   passed = first;
   shown = n;
   count = refl;
+  begun = inl refl;
+  lacks = lacks;
   shows = record { mid = mid; passed = passed; shows = shows };
   end = λ told. end (passed told).0;
 }

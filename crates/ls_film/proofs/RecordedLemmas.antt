@@ -1,5 +1,5 @@
 -- A recording in memory that is the codestreams of frames, and how playing it ends.
-use Rattle.std.proofs.Common.{◌≡◌, ◌<◌, ◌≤◌, ℕ, List, [], ◌∷◌, ◌++◌, length, Option, Some, refl, sym, ap, subst, ◌∙◌, arith}
+use Rattle.std.proofs.Common.{Bool, true, false, ◌≡◌, ◌<◌, ◌≤◌, ℕ, List, [], ◌∷◌, ◌++◌, length, Option, Some, refl, sym, ap, subst, ◌∙◌, arith}
 use Rattle.std.proofs.lemmas.List.{length-append}
 use Rattle.std.specs.List.{AllByRecursion}
 use Rattle.ls_frame.specs.Picture.{Picture, IsFrame}
@@ -23,6 +23,11 @@ pub stops-into : (read read' : Option (List ℕ)) (start start' out out' : List 
     → Stops read read' (Some start) (Some out) fault → Stops read read' (Some start') (Some out') fault
 stops-into read read' start start' out out' fault is is' stops =
     subst (λ s. Stops read read' (Some s) (Some out') fault) is (subst (λ s. Stops read read' (Some start) (Some s) fault) is' stops)
+
+-- a count that no failure has raised
+pub never_blamed : (blames : Bool) → 0 ≡ count_after blames 0 → blames ≡ false
+never_blamed false same = refl
+never_blamed true same = absurd (omega (arith, same))
 
 -- ---- films of codestreams
 

@@ -130,6 +130,7 @@ pub fn write_at_most<I: Images, T: Text, R: Feed, W: Outlet>(
     ensures ended { IfOk result (λ run. IsTrue run.ended → Completes I.image T.text
         (R.remaining reader.old) (R.remaining reader.new) (W.contents writer.old) (W.contents writer.new) run.frames) }
     ensures most { IfOk result (λ run. (run.frames ≤ most) × (run.ended ≡ false → run.frames ≡ most)) }
+    ensures lacks { IfOk result (λ run. IsTrue run.ended → run.frames < most) }
     ensures stops { IfErr result (HasStopped I.image I.unread T.text
         (R.remaining reader.old) (R.remaining reader.new) (W.contents writer.old) (W.contents writer.new)) }
     ensures few { IfErr result (λ stopped. stopped ≢ Stopped.TooMany) }

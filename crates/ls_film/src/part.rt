@@ -22,7 +22,9 @@ use thiserror::Error;
 /// A part of a recording: the frames from `first` to `last`, both of them in it, or to the end. They are numbered from 0.
 #[derive(Clone, Copy, Debug, PartialEq, Eq)]
 pub struct Part {
+    /// The number of its first frame.
     pub first: u64,
+    /// The number of its last frame; `None` for all up to the end.
     pub last: Option<u64>,
 }
 
@@ -32,7 +34,8 @@ pub enum PartFault {
     /// As that of a whole recording, with frames numbered as in it. Nothing was written if it is of a codestream before the part.
     #[error("{0}")]
     Play(PlayFault),
-    /// The recording has only so many frames, and not all that were asked for. The images of those of the part that it has were written.
+    /// The recording has only so many frames, and not all that were asked for: no last one, or, where the part goes to the end, no first.
+    /// The images of those of the part that it has were written, and the reader is at its end.
     #[error("only {0} frames")]
     TooFew(u64),
 }
@@ -55,10 +58,10 @@ pub fn play_part<R: Feed, W: Outlet>(
     ensures shows { IfOk result (ShowsPart (R.remaining reader.old) (R.remaining reader.new) (W.contents writer.old) (W.contents writer.new) part.first) }
     ensures count { IfOk result (λ n. IfSome part.last (λ last. part.first + n ≡ last + 1)) }
     ensures all { IfOk result (λ n. IfNone part.last ((0 < n) × (Tells (R.remaining reader.old) → known (R.remaining reader.new) ≡ []))) }
-    ensures stops { IfErr result (StopsPart (R.remaining reader.old) (R.remaining reader.new) (W.contents writer.old) (W.contents writer.new) part.first) }
+    ensures stops { IfErr result (StopsPart (R.remaining reader.old) (R.remaining reader.new) (W.contents writer.old) (W.contents writer.new) part.first part.last) }
     // What comes of a recording that is codestreams of frames.
     ensures film { (frames : List Picture) → length frames ≤ most_frames → Tells (R.remaining reader.old) → IsFilm Spells (known (R.remaining reader.old)) frames
-        → IsPartOf (W.contents writer.old) (W.contents writer.new) part.first frames result }
+        → IsPartOf (W.contents writer.old) (W.contents writer.new) part.first part.last frames result }
     ensures reads { R.failed_reads reader.new ≡ count_after (failed_reader result) (R.failed_reads reader.old) }
     ensures writes { W.failed_writes writer.new ≡ count_after (failed_writer result) (W.failed_writes writer.old) }
 {
@@ -89,6 +92,7 @@ fn show_next<R: Feed, W: Outlet>(
     requires last { IfSome part.last (λ last. (part.first ≤ last) × (last < most_frames)) }
     ensures shows { IfOk result (λ run. ShowsNext (R.remaining reader.old) (R.remaining reader.new) (W.contents writer.old) (W.contents writer.new) run.frames) }
     ensures most { IfOk result (λ run. IfSome part.last (λ last. run.ended ≡ false → part.first + run.frames ≡ last + 1)) }
+    ensures lacks { IfOk result (λ run. IfSome part.last (λ last. IsTrue run.ended → part.first + run.frames ≤ last)) }
     ensures ended { IfOk result (λ run. IsTrue run.ended → Tells (R.remaining reader.old) → known (R.remaining reader.new) ≡ []) }
     ensures open { IfOk result (λ run. IfNone part.last (IsTrue run.ended)) }
     ensures few { IfOk result (λ run. run.frames ≤ most_frames) }
@@ -116,6 +120,7 @@ fn show_next<R: Feed, W: Outlet>(
 fn pass_streams<R: Feed>(alloc: Global, reader: &mut R, count: u64) -> Result<Run, PlayFault>
     ensures passed { IfOk result (λ run. GavePassed (R.remaining reader.old) (R.remaining reader.new) run.frames) }
     ensures most { IfOk result (λ run. (run.frames ≤ count) × (run.ended ≡ false → run.frames ≡ count)) }
+    ensures lacks { IfOk result (λ run. IsTrue run.ended → run.frames < count) }
     ensures ended { IfOk result (λ run. IsTrue run.ended → Tells (R.remaining reader.old) → known (R.remaining reader.new) ≡ []) }
     ensures stops { IfErr result (StopsPassing (R.remaining reader.old) count) }
     ensures failures { R.failed_reads reader.new ≡ count_after (failed_play result) (R.failed_reads reader.old) }

@@ -1,5 +1,5 @@
 //! Playing a recording: codestream after codestream is decoded, and its frame written as a Netpbm image.
-ghost use Rattle.std.specs.Prelude.{◌≡◌, ◌≤◌, ◌<◌, ◌+◌, ◌^◌, ℕ, List, [], length, Option, Some, IfOk, IfErr, MatchResult, refl};
+ghost use Rattle.std.specs.Prelude.{◌≡◌, ◌≤◌, ◌<◌, ◌+◌, ◌^◌, ℕ, List, [], length, Option, Some, IfOk, IfErr, MatchResult, false, refl};
 ghost use Rattle.std.specs.List.{AllByRecursion};
 ghost use Rattle.ls_frame.specs.Picture.{Picture};
 ghost use Rattle.ls_frame.specs.Parameters.{Parameters};
@@ -103,12 +103,14 @@ pub fn play<R: Feed, W: Outlet>(
 
 /// What a recording in memory shows, as far as it was written, and how the playing ended.
 ///
-/// A fault says what `play` says of it. If the recording is the codestreams of frames, whatever their parameters, these are shown and
+/// A fault says what `play` says of it. It is never `Io`, since memory is read, and `Output` says that memory was refused for what is
+/// written. If the recording is the codestreams of frames, whatever their parameters, these are shown and
 /// nothing else; or memory was refused.
 pub fn play_bytes(alloc: Global, recording: &[u8]) -> (Vec<u8>, Result<u64, PlayFault>)
     ensures completes { IfOk result.1 (IsShownOf recording.now result.0.items) }
     ensures stops { IfErr result.1 (λ fault. (left : Option (List ℕ)) × Stops (Some recording.now) left (Some []) (Some result.0.items) fault) }
-    ensures whole { (frames : List Picture) → length frames ≤ most_frames → IsFilm Spells recording.now frames
+    ensures device { IfErr result.1 (λ fault. blames_reader fault ≡ false) }
+    ensures of_frames { (frames : List Picture) → length frames ≤ most_frames → IsFilm Spells recording.now frames
         → MatchResult result.1 (λ n. (n ≡ length frames) × (result.0.items ≡ show frames)) IsOutOfMemory }
     ensures recorded { (frames : List (Picture × Parameters)) → length frames ≤ most_frames → AllByRecursion IsCodable frames
         → recording.now ≡ file frames

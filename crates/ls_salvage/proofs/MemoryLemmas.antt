@@ -1,21 +1,31 @@
 -- The salvage of a recording in memory; and of one with no damage.
-use Rattle.std.proofs.Common.{◌≡◌, inl, inr, ℕ, ◌<◌, ◌≤◌, List, [], ◌∷◌, ◌++◌, length, take, drop, Option, Some, Result, Ok, Err, MatchResult, IfOk, IfErr, refl, sym, ap, subst, ◌∙◌, arith}
+use Rattle.std.proofs.Common.{false, ◌≡◌, inl, inr, ℕ, ◌<◌, ◌≤◌, List, [], ◌∷◌, ◌++◌, length, take, drop, Option, Some, Result, Ok, Err, MatchResult, IfOk, IfErr, refl, sym, ap, subst, ◌∙◌, arith}
 use Rattle.std.proofs.lemmas.List.{length-append, length-take-le, take-append-drop}
 use Rattle.ls_frame.specs.Picture.{Picture}
 use Rattle.ls_frame.specs.View.Devices.{count_after}
 use Rattle.ls_stream.specs.Grammar.{Spells}
 use Rattle.ls_film.specs.Film.{most_frames, IsFilm}
 use Rattle.ls_film.specs.Showing.{show}
+use Rattle.ls_film.proofs.RecordedLemmas.{never_blamed}
 use Rattle.ls_salvage.specs.declared.faults.SalvageFault.{SalvageFault}
-use Rattle.ls_salvage.specs.declared.faults.SalvageFault.TheVariants.{Io, Output, NoMemory, TooMuch}
+use Rattle.ls_salvage.specs.declared.faults.SalvageFault.TheVariants.{Io, Output, NoMemory, NoEnd, TooMuch}
 use Rattle.ls_salvage.specs.declared.gaps.Gap.{Gap}
 use Rattle.ls_salvage.specs.declared.salvaging.Salvaged.{Salvaged}
-use Rattle.ls_salvage.specs.Salvage.{Part, frame, gap, AreParts, frames_of, gaps_of}
+use Rattle.ls_salvage.specs.Salvage.{Part, frame, gap, frames_of, gaps_of}
+use Rattle.ls_salvage.specs.View.Salvaged.{AreParts}
 use Rattle.ls_salvage.specs.View.Ends.{most_place, blames_reader, failed_reader}
 use Rattle.ls_salvage.specs.View.Memory.{IsSalvageOf, IsOutOfMemory}
-use Rattle.ls_salvage.specs.View.Parts.{HasNoEnd}
-use Rattle.ls_salvage.specs.View.Runs.{Completes, StopsAfter, IsTooMuch, BeginsWithOne, Stops}
+use Rattle.ls_film.specs.View.Playing.{BeginsWithNone}
+use Rattle.ls_salvage.specs.View.Runs.{Completes, StopsAfter, IsEndless, IsTooMuch, BeginsWithOne, Stops}
 use Rattle.ls_salvage.proofs.SalvageLemmas.{some_bytes, one_front, whole_ones, undamaged, parts_length}
+
+same_some : (one other : List Gap) → Some one ≡ Some other → one ≡ other
+same_some one other same = cc
+
+-- no read failed, if the count of those that did is as it was
+pub no_failed_read : (result : Result Salvaged SalvageFault) → 0 ≡ count_after (failed_reader result) 0 → IfErr result (λ fault. blames_reader fault ≡ false)
+no_failed_read (Ok salvaged) same = tt
+no_failed_read (Err fault) same = never_blamed (blames_reader fault) same
 
 module _ (only : (one other rest : List ℕ) (f g : Picture) → Spells one f → Spells other g → other ≡ one ++ rest → rest ≡ [])
     (same : (bytes : List ℕ) (f g : Picture) → Spells bytes f → Spells bytes g → f ≡ g) where
@@ -25,7 +35,7 @@ module _ (only : (one other rest : List ℕ) (f g : Picture) → Spells one f �
   salvage_of recording start out final none gaps read read' salvaged is empty same_out untold run =
       let whole = subst (λ r. Completes show (Some start) (Some out) (Some none) (Some gaps) r read' salvaged) is run in
       let all = (whole.gave refl).2 in
-      let gaps_are = whole.handed_on.tells ∙ ap (λ s. s ++ gaps_of whole.parts) untold in
+      let gaps_are : gaps ≡ gaps_of whole.parts = same_some gaps (none ++ gaps_of whole.parts) whole.handed_on.tells ∙ ap (λ s. s ++ gaps_of whole.parts) untold in
       record {
         parts = whole.parts;
         salvage = all;
@@ -33,7 +43,7 @@ module _ (only : (one other rest : List ℕ) (f g : Picture) → Spells one f �
         gaps_are = gaps_are;
         frame_count = whole.frames;
         gap_count = whole.gaps ∙ sym (ap length gaps_are);
-        whole = λ before front rest f split spells. whole_ones only same recording before front rest f whole.parts split spells all;
+        each_is_shown = λ before front rest f split spells. whole_ones only same recording before front rest f whole.parts split spells all;
       }
 
   -- ---- no damage
@@ -52,9 +62,9 @@ module _ (only : (one other rest : List ℕ) (f g : Picture) → Spells one f �
   film_parts bytes rest (f ∷ frames) (gap size fault ∷ parts) film are = absurd (are.1.none.none film.0 film.1 f film.2 film.3)
 
   -- what is left of a film that isn't at its end begins with a codestream
-  no_more : (rest : List ℕ) (more : List Picture) → IsFilm Spells rest more → HasNoEnd rest → ⊥
-  no_more rest [] film none = omega (arith, ap length film, none.0.some)
-  no_more rest (f ∷ more) film none = none.0.none film.0 film.1 f film.2 film.3
+  no_more : (rest : List ℕ) (more : List Picture) → IsFilm Spells rest more → BeginsWithNone rest → ⊥
+  no_more rest [] film none = omega (arith, ap length film, none.some)
+  no_more rest (f ∷ more) film none = none.none film.0 film.1 f film.2 film.3
 
   one_left : (rest : List ℕ) (more : List Picture) → IsFilm Spells rest more → BeginsWithOne rest → 0 < length more
   one_left rest [] film one = absurd (omega (arith, ap length film, ap length one.3, length-append one.0 one.1, some_bytes one.0 one.2 one.4))
@@ -66,7 +76,7 @@ module _ (only : (one other rest : List ℕ) (f g : Picture) → Spells one f �
       let more = film_parts recording rest frames parts film are in
       omega (arith, few, one.0, ap length more.1, length-append (frames_of parts) more.0, one_left rest more.0 more.2 one.1)
   enough recording rest frames parts few short film are (inr (inl far)) = omega (arith, short, far, parts_length recording rest parts are)
-  enough recording rest frames parts few short film are (inr (inr none)) = let more = film_parts recording rest frames parts film are in no_more rest more.0 more.2 none
+  enough recording rest frames parts few short film are (inr (inr none)) = let more = film_parts recording rest frames parts film are in no_more rest more.0 more.2 none.0
 
   module _ (recording final : List ℕ) (gaps : List Gap) (frames : List Picture) (few : length frames ≤ most_frames) (short : length recording < most_place)
       (film : IsFilm Spells recording frames) where
@@ -82,6 +92,11 @@ module _ (only : (one other rest : List ℕ) (f g : Picture) → Spells one f �
     refused written out told told' read (Io frames') is reads stops = absurd (omega arith)
     refused written out told told' read (Output bytes) is reads stops = tt
     refused written out told told' read NoMemory is reads stops = tt
+    refused written out told told' read NoEnd is reads stops =
+        let here = subst (λ r. StopsAfter show written out told told' r IsEndless) is stops in
+        let after = here.begins refl in
+        let more = film_parts recording after.0 frames here.parts film after.1 in
+        absurd (no_more after.0 more.0 more.2 after.2.0)
     refused written out told told' read TooMuch is reads stops =
         let here = subst (λ r. StopsAfter show written out told told' r IsTooMuch) is stops in
         let after = here.begins refl in

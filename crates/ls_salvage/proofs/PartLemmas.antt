@@ -11,7 +11,7 @@ use Rattle.ls_stream.specs.declared.faults.StreamFault.{StreamFault}
 use Rattle.ls_stream.specs.declared.faults.StreamFault.TheVariants as stream
 use Rattle.ls_stream.specs.declared.next.NextFault.TheVariants as next_fault
 use Rattle.ls_salvage.specs.Starts.{to_start, to_next}
-use Rattle.ls_salvage.specs.Salvage.{FailsBy}
+use Rattle.ls_salvage.specs.View.Salvaged.{FailsBy}
 use Rattle.ls_salvage.specs.View.Parts.{is_refusal, HasPassed, HasNoEnd}
 use Rattle.ls_salvage.specs.View.Skipping.{HasSkipped}
 use Rattle.ls_salvage.proofs.SalvageLemmas.{some_bytes}

@@ -11,27 +11,28 @@ use Rattle.ls_stream.specs.declared.faults.StreamFault.{StreamFault}
 use Rattle.ls_salvage.specs.declared.faults.ReadFault.{ReadFault}
 use Rattle.ls_salvage.specs.declared.faults.ReadFault.TheVariants as read_fault
 use Rattle.ls_salvage.specs.declared.faults.SalvageFault.{SalvageFault}
-use Rattle.ls_salvage.specs.declared.faults.SalvageFault.TheVariants.{Io, Output, NoMemory, TooMuch}
+use Rattle.ls_salvage.specs.declared.faults.SalvageFault.TheVariants.{Io, Output, NoMemory, NoEnd, TooMuch}
 use Rattle.ls_salvage.specs.declared.gaps.Gap.{Gap}
 use Rattle.ls_salvage.specs.declared.salvaging.Progress.{Progress}
-use Rattle.ls_salvage.specs.Salvage.{Part, frame, gap, AreParts, size_of, bytes_of, frames_of, gaps_of}
+use Rattle.ls_salvage.specs.Salvage.{Part, frame, gap, size_of, bytes_of, frames_of, gaps_of}
+use Rattle.ls_salvage.specs.View.Salvaged.{AreParts}
 use Rattle.ls_salvage.specs.View.Ends.{most_place, salvage_fault}
-use Rattle.ls_salvage.specs.View.Parts.{GavePart, IsLawful, HasNoEnd}
+use Rattle.ls_salvage.specs.View.Parts.{GavePart, IsLawful, HasNoEnd, HasLongGap}
 use Rattle.ls_salvage.specs.View.Telling.{TellsMore}
-use Rattle.ls_salvage.specs.View.Runs.{Completes, HasRun, StopsAfter, Anything, BeginsWithOne, IsTooMuch, Stops, IsSmall, no_progress, after_frame, after_gap, HandsOn, StopsHandingOn}
+use Rattle.ls_salvage.specs.View.Runs.{Completes, HasRun, StopsAfter, Anything, BeginsWithOne, IsEndless, IsTooMuch, Stops, IsSmall, no_progress, after_frame, after_gap, HandsOn, StopsHandingOn}
 use Rattle.ls_salvage.proofs.SalvageLemmas.{parts_then, bytes_of-append, frames_of-append, gaps_after-append}
 
 -- ---- gaps that were told
 
 TellsMore-nil : (a : Option (List Gap)) → TellsMore a a []
-TellsMore-nil None = tt
-TellsMore-nil (Some x) = sym (append-nil x)
+TellsMore-nil None = refl
+TellsMore-nil (Some x) = ap (λ s. Some s) (sym (append-nil x))
 
 TellsMore-trans : (a b c : Option (List Gap)) (first then : List Gap) → TellsMore a b first → TellsMore b c then → TellsMore a c (first ++ then)
-TellsMore-trans None b c first then p q = tt
-TellsMore-trans (Some x) None c first then p q = absurd p
-TellsMore-trans (Some x) (Some y) None first then p q = absurd q
-TellsMore-trans (Some x) (Some y) (Some z) first then p q = q ∙ ap (λ s. s ++ then) p ∙ append_assoc x first then
+TellsMore-trans None b c first then p q = subst (λ m. TellsMore m c then) p q
+TellsMore-trans (Some x) b c first then p q =
+    let after : c ≡ Some ((x ++ first) ++ then) = subst (λ m. TellsMore m c then) p q in
+    after ∙ ap (λ s. Some s) (append_assoc x first then)
 
 -- ---- parts, one more at their end
 
@@ -135,11 +136,13 @@ module _ (text : List Picture → List ℕ) (read : Option (List ℕ)) (written 
       handed_on = run.handed_on;
     }
 
-    pub stops_reading : (fault : ReadFault) → (fault ≡ read_fault.TooMuch → Tells mid → HasNoEnd (known mid)) → Stops text written midway told half read (salvage_fault before.frames fault)
+    pub stops_reading : (fault : ReadFault) → (fault ≡ read_fault.NoEnd → Tells mid → HasNoEnd (known mid)) → (fault ≡ read_fault.TooMuch → Tells mid → HasLongGap (known mid))
+        → Stops text written midway told half read (salvage_fault before.frames fault)
     unfolding stops_here
-    stops_reading read_fault.Io much = (stops_here Anything (λ tells. tt), sym run.frames)
-    stops_reading read_fault.NoMemory much = stops_here Anything (λ tells. tt)
-    stops_reading read_fault.TooMuch much = stops_here IsTooMuch (λ tells. inr (inr (much refl tells)))
+    stops_reading read_fault.Io endless much = (stops_here Anything (λ tells. tt), sym run.frames)
+    stops_reading read_fault.NoMemory endless much = stops_here Anything (λ tells. tt)
+    stops_reading read_fault.NoEnd endless much = stops_here IsEndless (λ tells. endless refl tells)
+    stops_reading read_fault.TooMuch endless much = stops_here IsTooMuch (λ tells. inr (inr (much refl tells)))
 
     pub stops_far : most_place ≤ before.place → Stops text written midway told half read TooMuch
     stops_far far = stops_here IsTooMuch (λ tells. inr (inl (omega (arith, far, run.place))))
@@ -177,6 +180,7 @@ module _ (text : List Picture → List ℕ) (read : Option (List ℕ)) (written 
           }
       stops_handing_on (gap count cause) (Output bytes) gave lawful stops = absurd stops
       stops_handing_on part NoMemory gave lawful stops = stops_kept Anything stops.0 stops.1 (λ tells. tt)
+      stops_handing_on part NoEnd gave lawful stops = absurd stops
       stops_handing_on (frame count f) TooMuch gave lawful stops =
           stops_kept IsTooMuch stops.0 stops.1 (λ tells. inl (sym run.frames ∙ stops.2, one_more count f gave tells))
       stops_handing_on (gap count cause) TooMuch gave lawful stops = absurd stops

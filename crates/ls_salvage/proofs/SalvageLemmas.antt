@@ -10,8 +10,9 @@ use Rattle.ls_stream.specs.View.Outlines.{OneFirstFault}
 use Rattle.ls_film.specs.Film.{IsFilm}
 use Rattle.ls_film.proofs.OneFilmLemmas.{two_fronts}
 use Rattle.ls_salvage.specs.Starts.{to_next}
-use Rattle.ls_salvage.specs.Salvage.{Part, frame, gap, FailsBy, IsGapOf, AreParts, IsSalvaged, size_of, bytes_of, frames_of, gaps_after, IsShownAt, IsHeld}
-use Rattle.ls_salvage.proofs.StartLemmas.{spelled_start, to_next-most, to_next-near}
+use Rattle.ls_salvage.specs.Salvage.{Part, frame, gap, size_of, bytes_of, frames_of, gaps_after, IsShownAt, IsHeld}
+use Rattle.ls_salvage.specs.View.Salvaged.{FailsBy, IsGapOf, AreParts, IsSalvaged}
+use Rattle.ls_salvage.proofs.StartLemmas.{spelled_start, to_next-most, to_next-within}
 
 -- ---- one part after the other
 
@@ -209,8 +210,8 @@ module _ (only : (one other rest : List ℕ) (f g : Picture) → Spells one f �
   ]
   whole_ones bytes before front rest f (gap count fault ∷ parts) whole spells are = elim (cases_Bool (ltb 0 (length before))) [
     | inl some ↦
-        let near = to_next-near before (front ++ rest) (ltb-true 0 (length before) some) (spelled_start front rest f spells) in
-        let few : count ≤ length before = omega (arith, are.0, ap to_next whole, near) in
+        let within = to_next-within before (front ++ rest) (ltb-true 0 (length before) some) (spelled_start front rest f spells) in
+        let few : count ≤ length before = omega (arith, are.0, ap to_next whole, within) in
         let split : drop count bytes ≡ drop count before ++ (front ++ rest) = ap (drop count) whole ∙ passed count before (front ++ rest) few in
         later (gap count fault) parts (length (drop count before)) (length before) (length front) f (omega (arith, few, length-drop count before))
         (whole_ones (drop count bytes) (drop count before) front rest f parts split spells are.2)

@@ -6,7 +6,7 @@ use Rattle.std.proofs.lemmas.Bool.{ne_eqb, and_left, and_right}
 use Rattle.ls_frame.specs.View.Known.{TakesUntil, Tells, WasAtEnd, known}
 use Rattle.std.specs.Io.KnownBytes.{Consumes, prepend_known}
 use Rattle.ls_salvage.specs.declared.starts.Matched.{Matched}
-use Rattle.ls_salvage.specs.declared.starts.Matched.TheVariants.{Nothing, Fill, Image, Marker}
+use Rattle.ls_salvage.specs.declared.starts.Matched.TheVariants.{Nothing, SoiBegun, Soi, SoiAndFf}
 use Rattle.ls_salvage.specs.Starts.{may_follow_soi, is_start, to_start}
 use Rattle.ls_salvage.specs.View.Skipping.{held, GoesOn, FoundStart, IsPassing, HasSkipped}
 use Rattle.ls_salvage.specs.View.Ends.{most_place}
@@ -53,49 +53,49 @@ passed_three byte bytes other =
 
 -- ---- one byte more
 
-pub fill_after_nothing : (byte : ℕ) → byte ≡ 255 → GoesOn Nothing byte Fill
-fill_after_nothing byte is = rw is (record { passed = []; split = refl; far = λ bytes. omega arith })
+pub begun_after_nothing : (byte : ℕ) → byte ≡ 255 → GoesOn Nothing byte SoiBegun
+begun_after_nothing byte is = rw is (record { passed = []; split = refl; far = λ bytes. omega arith })
 
 pub nothing_after_nothing : (byte : ℕ) → (byte ≡ 255 → ⊥) → GoesOn Nothing byte Nothing
 nothing_after_nothing byte other = record { passed = byte ∷ []; split = refl; far = λ bytes. passed_other byte bytes other }
 
-pub image_after_fill : (byte : ℕ) → byte ≡ 216 → GoesOn Fill byte Image
-image_after_fill byte is = rw is (record { passed = []; split = refl; far = λ bytes. omega arith })
+pub soi_after_begun : (byte : ℕ) → byte ≡ 216 → GoesOn SoiBegun byte Soi
+soi_after_begun byte is = rw is (record { passed = []; split = refl; far = λ bytes. omega arith })
 
-pub fill_after_fill : (byte : ℕ) → byte ≡ 255 → GoesOn Fill byte Fill
-fill_after_fill byte is = rw is (record { passed = 255 ∷ []; split = refl; far = λ bytes. passed_before 255 255 bytes (λ e. omega (arith, e)) })
+pub begun_after_begun : (byte : ℕ) → byte ≡ 255 → GoesOn SoiBegun byte SoiBegun
+begun_after_begun byte is = rw is (record { passed = 255 ∷ []; split = refl; far = λ bytes. passed_before 255 255 bytes (λ e. omega (arith, e)) })
 
-pub nothing_after_fill : (byte : ℕ) → (byte ≡ 216 → ⊥) → (byte ≡ 255 → ⊥) → GoesOn Fill byte Nothing
-nothing_after_fill byte other others =
+pub nothing_after_begun : (byte : ℕ) → (byte ≡ 216 → ⊥) → (byte ≡ 255 → ⊥) → GoesOn SoiBegun byte Nothing
+nothing_after_begun byte other others =
     record { passed = 255 ∷ byte ∷ []; split = refl; far = λ bytes. omega (arith, passed_before 255 byte bytes other, passed_other byte bytes others) }
 
-pub marker_after_image : (byte : ℕ) → byte ≡ 255 → GoesOn Image byte Marker
-marker_after_image byte is = rw is (record { passed = []; split = refl; far = λ bytes. omega arith })
+pub ff_after_soi : (byte : ℕ) → byte ≡ 255 → GoesOn Soi byte SoiAndFf
+ff_after_soi byte is = rw is (record { passed = []; split = refl; far = λ bytes. omega arith })
 
-pub nothing_after_image : (byte : ℕ) → (byte ≡ 255 → ⊥) → GoesOn Image byte Nothing
-nothing_after_image byte other =
+pub nothing_after_soi : (byte : ℕ) → (byte ≡ 255 → ⊥) → GoesOn Soi byte Nothing
+nothing_after_soi byte other =
     record { passed = 255 ∷ 216 ∷ byte ∷ []; split = refl; far = λ bytes. omega (arith, passed_two byte bytes other, passed_other byte bytes other) }
 
-pub ruleset after_lemmas = (fill_after_nothing, nothing_after_nothing, image_after_fill, fill_after_fill, nothing_after_fill, marker_after_image, nothing_after_image)
+pub ruleset after_lemmas = (begun_after_nothing, nothing_after_nothing, soi_after_begun, begun_after_begun, nothing_after_begun, ff_after_soi, nothing_after_soi)
 
-pub found_after_marker : (byte : ℕ) → may_follow_soi byte ≡ true → FoundStart Marker byte
+pub found_after_ff : (byte : ℕ) → may_follow_soi byte ≡ true → FoundStart SoiAndFf byte
 unfolding is_start
-found_after_marker byte may = record { four = refl; start = λ bytes. may }
+found_after_ff byte may = record { four = refl; start = λ bytes. may }
 
-pub image_after_marker : (byte : ℕ) → byte ≡ 216 → GoesOn Marker byte Image
-image_after_marker byte is = rw is (record { passed = 255 ∷ 216 ∷ []; split = refl; far = λ bytes. passed_three 216 bytes refl })
+pub soi_after_ff : (byte : ℕ) → byte ≡ 216 → GoesOn SoiAndFf byte Soi
+soi_after_ff byte is = rw is (record { passed = 255 ∷ 216 ∷ []; split = refl; far = λ bytes. passed_three 216 bytes refl })
 
 not_filled : (byte : ℕ) → may_follow_soi byte ≡ false → byte ≡ 255 → ⊥
 not_filled byte other is = let may : may_follow_soi byte ≡ true = ap may_follow_soi is in let clash : ⊥ = cc in clash
 
-pub nothing_after_marker : (byte : ℕ) → may_follow_soi byte ≡ false → (byte ≡ 216 → ⊥) → GoesOn Marker byte Nothing
-nothing_after_marker byte other others = record {
+pub nothing_after_ff : (byte : ℕ) → may_follow_soi byte ≡ false → (byte ≡ 216 → ⊥) → GoesOn SoiAndFf byte Nothing
+nothing_after_ff byte other others = record {
   passed = 255 ∷ 216 ∷ 255 ∷ byte ∷ [];
   split = refl;
   far = λ bytes. omega (arith, passed_three byte bytes other, passed_before 255 byte bytes others, passed_other byte bytes (not_filled byte other));
 }
 
-pub ruleset after_marker_lemmas = (found_after_marker, image_after_marker, nothing_after_marker)
+pub ruleset after_ff_lemmas = (found_after_ff, soi_after_ff, nothing_after_ff)
 
 -- ---- a run of bytes
 
@@ -109,34 +109,34 @@ passed_run [] last bytes unmarked = omega arith
 passed_run (byte ∷ run) last bytes unmarked = omega (arith, passed_other byte (run ++ last ∷ bytes) unmarked.0, passed_run run last bytes unmarked.1)
 
 -- of the bytes so many were read: those passed over, and then those held; and after them this one
-pub record HasRead (place : Matched) (count : ℕ) (old new : List ℕ) (last : ℕ) : Type 0 where
+pub record HasRead (matched : Matched) (count : ℕ) (old new : List ℕ) (last : ℕ) : Type 0 where
   pub passed : List ℕ
-  pub split : old ≡ passed ++ (held place ++ last ∷ new)
-  pub count_is : count ≡ length passed + length (held place)
-  pub far : to_start old ≡ length passed + to_start (held place ++ last ∷ new)
+  pub split : old ≡ passed ++ (held matched ++ last ∷ new)
+  pub count_is : count ≡ length passed + length (held matched)
+  pub far : to_start old ≡ length passed + to_start (held matched ++ last ∷ new)
 
-read_more : (place : Matched) (count : ℕ) (old new run : List ℕ) (last : ℕ) → IsPassing place count old (run ++ last ∷ new) → (place ≡ Nothing) ⊎ (run ≡ [])
-    → AllByRecursion (λ byte. byte ≡ 255 → ⊥) run → HasRead place (count + length run) old new last
-read_more place count old new run last before (inl none) unmarked = rw none (record {
+read_more : (matched : Matched) (count : ℕ) (old new run : List ℕ) (last : ℕ) → IsPassing matched count old (run ++ last ∷ new) → (matched ≡ Nothing) ⊎ (run ≡ [])
+    → AllByRecursion (λ byte. byte ≡ 255 → ⊥) run → HasRead matched (count + length run) old new last
+read_more matched count old new run last before (inl none) unmarked = rw none (record {
   passed = before.passed ++ run;
   split = before.split ∙ ap (λ p. before.passed ++ (held p ++ (run ++ last ∷ new))) none ∙ sym (append_assoc before.passed run (last ∷ new));
   count_is = omega (arith, before.count_is, ap (λ p. length (held p)) none, length-append before.passed run);
   far = omega (arith, before.far, ap (λ p. to_start (held p ++ (run ++ last ∷ new))) none, passed_run run last new unmarked, length-append before.passed run);
 })
-read_more place count old new run last before (inr none) unmarked = record {
+read_more matched count old new run last before (inr none) unmarked = record {
   passed = before.passed;
-  split = before.split ∙ ap (λ s. before.passed ++ (held place ++ (s ++ last ∷ new))) none;
+  split = before.split ∙ ap (λ s. before.passed ++ (held matched ++ (s ++ last ∷ new))) none;
   count_is = omega (arith, before.count_is, ap length none);
-  far = before.far ∙ ap (λ s. length before.passed + to_start (held place ++ (s ++ last ∷ new))) none;
+  far = before.far ∙ ap (λ s. length before.passed + to_start (held matched ++ (s ++ last ∷ new))) none;
 }
 
 no_run : (run : List ℕ) → length run < 1 → run ≡ []
 no_run [] few = refl
 no_run (byte ∷ run) few = absurd (omega arith)
 
-unless_run : (place : Matched) (most : ℕ) (run : List ℕ) → (place ≡ Nothing) ⊎ (most ≡ 1) → length run < most → (place ≡ Nothing) ⊎ (run ≡ [])
-unless_run place most run (inl none) few = inl none
-unless_run place most run (inr one) few = inr (no_run run (omega (arith, one)))
+unless_run : (matched : Matched) (most : ℕ) (run : List ℕ) → (matched ≡ Nothing) ⊎ (most ≡ 1) → length run < most → (matched ≡ Nothing) ⊎ (run ≡ [])
+unless_run matched most run (inl none) few = inl none
+unless_run matched most run (inr one) few = inr (no_run run (omega (arith, one)))
 
 -- what was appended, if nothing stood there
 pub run_length : (most last : ℕ) (mid new : Option (List ℕ)) (before items : List ℕ) → before ≡ [] → (taken : TakesUntil 255 most mid new before items last)
@@ -151,102 +151,102 @@ run_few most last mid new before items none taken =
 
 -- so far, whatever the reader's first bytes were
 abbrev pub HasGivenPassed : Matched → ℕ → Option (List ℕ) → Option (List ℕ) → Type 0
-HasGivenPassed place count old new = Tells old → Tells new × IsPassing place count (known old) (known new)
+HasGivenPassed matched count old new = Tells old → Tells new × IsPassing matched count (known old) (known new)
 
 abbrev pub HasGivenRead : Matched → ℕ → Option (List ℕ) → Option (List ℕ) → ℕ → Type 0
-HasGivenRead place count old new last = Tells old → Tells new × HasRead place count (known old) (known new) last
+HasGivenRead matched count old new last = Tells old → Tells new × HasRead matched count (known old) (known new) last
 
-pub read_on : (place : Matched) (most count last : ℕ) (old mid new : Option (List ℕ)) (before items : List ℕ) → before ≡ [] → HasGivenPassed place count old mid
-    → (place ≡ Nothing) ⊎ (most ≡ 1) → (taken : TakesUntil 255 most mid new before items last) → HasGivenRead place (count + length taken.run) old new last
-read_on place most count last old mid new before items none passed one taken = λ told.
+pub read_on : (matched : Matched) (most count last : ℕ) (old mid new : Option (List ℕ)) (before items : List ℕ) → before ≡ [] → HasGivenPassed matched count old mid
+    → (matched ≡ Nothing) ⊎ (most ≡ 1) → (taken : TakesUntil 255 most mid new before items last) → HasGivenRead matched (count + length taken.run) old new last
+read_on matched most count last old mid new before items none passed one taken = λ told.
     let first = passed told in
     let given = consumed mid new (taken.run ++ last ∷ []) taken.given first.0 in
     let split : known mid ≡ taken.run ++ last ∷ known new = given.1 ∙ append_assoc taken.run (last ∷ []) (known new) in
-    (given.0, read_more place count (known old) (known new) taken.run last (rw split at first.1) (unless_run place most taken.run one taken.few) taken.unmarked)
+    (given.0, read_more matched count (known old) (known new) taken.run last (rw split at first.1) (unless_run matched most taken.run one taken.few) taken.unmarked)
 
-with_last : (place : Matched) (last : ℕ) (new : List ℕ) → held place ++ last ∷ new ≡ (held place ++ last ∷ []) ++ new
-with_last place last new = sym (append_assoc (held place) (last ∷ []) new)
+with_last : (matched : Matched) (last : ℕ) (new : List ℕ) → held matched ++ last ∷ new ≡ (held matched ++ last ∷ []) ++ new
+with_last matched last new = sym (append_assoc (held matched) (last ∷ []) new)
 
-passed_on : (place next : Matched) (count : ℕ) (old new : List ℕ) (last : ℕ) → HasRead place count old new last → GoesOn place last next → IsPassing next (count + 1) old new
-passed_on place next count old new last read go = record {
+passed_on : (matched next : Matched) (count : ℕ) (old new : List ℕ) (last : ℕ) → HasRead matched count old new last → GoesOn matched last next → IsPassing next (count + 1) old new
+passed_on matched next count old new last read go = record {
   passed = read.passed ++ go.passed;
   split =
       read.split
-      ∙ ap (λ s. read.passed ++ s) (with_last place last new ∙ ap (λ s. s ++ new) go.split ∙ append_assoc go.passed (held next) new)
+      ∙ ap (λ s. read.passed ++ s) (with_last matched last new ∙ ap (λ s. s ++ new) go.split ∙ append_assoc go.passed (held next) new)
       ∙ sym (append_assoc read.passed go.passed (held next ++ new));
   count_is =
       omega (
         arith,
         read.count_is,
         ap length go.split,
-        length-append (held place) (last ∷ []),
+        length-append (held matched) (last ∷ []),
         length-append go.passed (held next),
         length-append read.passed go.passed,
       );
   far = omega (arith, read.far, go.far new, length-append read.passed go.passed);
 }
 
-pub given_passed : (place next : Matched) (count total : ℕ) (old new : Option (List ℕ)) (last : ℕ) → HasGivenRead place count old new last → GoesOn place last next → total ≡ count + 1
+pub given_passed : (matched next : Matched) (count total : ℕ) (old new : Option (List ℕ)) (last : ℕ) → HasGivenRead matched count old new last → GoesOn matched last next → total ≡ count + 1
     → HasGivenPassed next total old new
-given_passed place next count total old new last read go is = λ told.
-    let first = read told in (first.0, rw is (passed_on place next count (known old) (known new) last first.1 go))
+given_passed matched next count total old new last read go is = λ told.
+    let first = read told in (first.0, rw is (passed_on matched next count (known old) (known new) last first.1 go))
 
-pub held_few : (place next : Matched) (last count more : ℕ) → GoesOn place last next → length (held place) ≤ count → 0 < more → length (held next) ≤ count + more
-held_few place next last count more go few some =
-    omega (arith, few, some, ap length go.split, length-append (held place) (last ∷ []), length-append go.passed (held next))
+pub held_few : (matched next : Matched) (last count more : ℕ) → GoesOn matched last next → length (held matched) ≤ count → 0 < more → length (held next) ≤ count + more
+held_few matched next last count more go few some =
+    omega (arith, few, some, ap length go.split, length-append (held matched) (last ∷ []), length-append go.passed (held next))
 
-pub three_held : (place : Matched) (last : ℕ) → FoundStart place last → length (held place) ≡ 3
-three_held place last found = omega (arith, ap length found.four, length-append (held place) (last ∷ []))
+pub three_held : (matched : Matched) (last : ℕ) → FoundStart matched last → length (held matched) ≡ 3
+three_held matched last found = omega (arith, ap length found.four, length-append (held matched) (last ∷ []))
 
 put_four : (a b c d : ℕ) (new bytes : Option (List ℕ)) → bytes ≡ prepend_known (a ∷ b ∷ c ∷ d ∷ []) new → Tells new → Tells bytes × (known bytes ≡ a ∷ b ∷ c ∷ d ∷ known new)
 put_four a b c d (Some x) bytes is told = rw is (refl, refl)
 put_four a b c d None bytes is told = absurd (let clash : ⊥ = cc in clash)
 
-found_here : (place : Matched) (count : ℕ) (old new : List ℕ) (last : ℕ) → HasRead place count old new last → FoundStart place last → (skipped : ℕ) → skipped + 3 ≡ count
+found_here : (matched : Matched) (count : ℕ) (old new : List ℕ) (last : ℕ) → HasRead matched count old new last → FoundStart matched last → (skipped : ℕ) → skipped + 3 ≡ count
     → HasSkipped skipped old (255 ∷ 216 ∷ 255 ∷ last ∷ new)
-found_here place count old new last read found skipped is =
-    let four : held place ++ last ∷ new ≡ 255 ∷ 216 ∷ 255 ∷ last ∷ new = with_last place last new ∙ ap (λ s. s ++ new) found.four in record {
+found_here matched count old new last read found skipped is =
+    let four : held matched ++ last ∷ new ≡ 255 ∷ 216 ∷ 255 ∷ last ∷ new = with_last matched last new ∙ ap (λ s. s ++ new) found.four in record {
       passed = read.passed;
       split = read.split ∙ ap (λ s. read.passed ++ s) four;
-      count_is = omega (arith, is, read.count_is, three_held place last found);
-      far = omega (arith, is, read.count_is, read.far, ap to_start four, to_start-here (255 ∷ 216 ∷ 255 ∷ last ∷ new) (found.start new), three_held place last found);
+      count_is = omega (arith, is, read.count_is, three_held matched last found);
+      far = omega (arith, is, read.count_is, read.far, ap to_start four, to_start-here (255 ∷ 216 ∷ 255 ∷ last ∷ new) (found.start new), three_held matched last found);
     }
 
-pub given_found : (place : Matched) (count skipped : ℕ) (old new bytes : Option (List ℕ)) (last : ℕ) → HasGivenRead place count old new last → FoundStart place last → skipped + 3 ≡ count
+pub given_found : (matched : Matched) (count skipped : ℕ) (old new bytes : Option (List ℕ)) (last : ℕ) → HasGivenRead matched count old new last → FoundStart matched last → skipped + 3 ≡ count
     → bytes ≡ prepend_known (255 ∷ 216 ∷ 255 ∷ last ∷ []) new → Tells old → Tells bytes × HasSkipped skipped (known old) (known bytes)
-given_found place count skipped old new bytes last read found is back = λ told.
+given_found matched count skipped old new bytes last read found is back = λ told.
     let first = read told in
     let put = put_four 255 216 255 last new bytes back first.0 in
-    (put.0, rw (put.1) (found_here place count (known old) (known new) last first.1 found skipped is))
+    (put.0, rw (put.1) (found_here matched count (known old) (known new) last first.1 found skipped is))
 
-held_start : (place : Matched) → to_start (held place ++ []) ≡ length (held place)
+held_start : (matched : Matched) → to_start (held matched ++ []) ≡ length (held matched)
 unfolding to_start is_start
 held_start Nothing = refl
-held_start Fill = refl
-held_start Image = refl
-held_start Marker = refl
+held_start SoiBegun = refl
+held_start Soi = refl
+held_start SoiAndFf = refl
 
-pub given_end : (place : Matched) (count : ℕ) (old mid new : Option (List ℕ)) → HasGivenPassed place count old mid → WasAtEnd mid new
+pub given_end : (matched : Matched) (count : ℕ) (old mid new : Option (List ℕ)) → HasGivenPassed matched count old mid → WasAtEnd mid new
     → Tells old → Tells new × HasSkipped count (known old) (known new)
-given_end place count old mid new passed end = λ told.
+given_end matched count old mid new passed end = λ told.
     let first = passed told in
     let none = end first.0 in
     let before = first.1 in
-    let split : known old ≡ before.passed ++ (held place ++ []) = before.split ∙ ap (λ s. before.passed ++ (held place ++ s)) none.1 in
-    let far : to_start (known old) ≡ length before.passed + to_start (held place ++ []) = before.far ∙ ap (λ s. length before.passed + to_start (held place ++ s)) none.1 in (
+    let split : known old ≡ before.passed ++ (held matched ++ []) = before.split ∙ ap (λ s. before.passed ++ (held matched ++ s)) none.1 in
+    let far : to_start (known old) ≡ length before.passed + to_start (held matched ++ []) = before.far ∙ ap (λ s. length before.passed + to_start (held matched ++ s)) none.1 in (
       none.0,
       rw none.2 (record {
         passed = known old;
         split = sym (append-nil (known old));
-        count_is = omega (arith, ap length split, before.count_is, length-append before.passed (held place ++ []), ap length (append-nil (held place)));
-        far = omega (arith, before.count_is, far, held_start place);
+        count_is = omega (arith, ap length split, before.count_is, length-append before.passed (held matched ++ []), ap length (append-nil (held matched)));
+        far = omega (arith, before.count_is, far, held_start matched);
       }),
     )
 
-pub given_most : (place : Matched) (count : ℕ) (old mid : Option (List ℕ)) → HasGivenPassed place count old mid → most_place ≤ count → Tells old → most_place ≤ length (known old)
-given_most place count old mid passed most told =
+pub given_most : (matched : Matched) (count : ℕ) (old mid : Option (List ℕ)) → HasGivenPassed matched count old mid → most_place ≤ count → Tells old → most_place ≤ length (known old)
+given_most matched count old mid passed most told =
     let before = (passed told).1 in
-    omega (arith, before.count_is, most, ap length before.split, length-append before.passed (held place ++ known mid), length-append (held place) (known mid))
+    omega (arith, before.count_is, most, ap length before.split, length-append before.passed (held matched ++ known mid), length-append (held matched) (known mid))
 
 pub none_passed : (old : Option (List ℕ)) → HasGivenPassed Nothing 0 old old
 none_passed old = λ told. (told, record { passed = []; split = refl; count_is = omega arith; far = omega arith })

@@ -87,11 +87,11 @@ to_start-most (byte ∷ bytes) = elim (cases_Bool (is_start (byte ∷ bytes))) [
 ]
 
 -- a start isn't passed over
-pub to_start-near : (before bytes : List ℕ) → is_start bytes ≡ true → to_start (before ++ bytes) ≤ length before
-to_start-near [] bytes is = omega (arith, to_start-here bytes is)
-to_start-near (byte ∷ before) bytes is = elim (cases_Bool (is_start (byte ∷ (before ++ bytes)))) [
+pub to_start-within : (before bytes : List ℕ) → is_start bytes ≡ true → to_start (before ++ bytes) ≤ length before
+to_start-within [] bytes is = omega (arith, to_start-here bytes is)
+to_start-within (byte ∷ before) bytes is = elim (cases_Bool (is_start (byte ∷ (before ++ bytes)))) [
   | inl here ↦ omega (arith, to_start-here (byte ∷ (before ++ bytes)) here)
-  | inr none ↦ omega (arith, to_start-none byte (before ++ bytes) none, to_start-near before bytes is)
+  | inr none ↦ omega (arith, to_start-none byte (before ++ bytes) none, to_start-within before bytes is)
 ]
 
 pub to_next-most : (bytes : List ℕ) → to_next bytes ≤ length bytes
@@ -104,10 +104,10 @@ unfolding to_next
 to_next-some [] some = absurd (omega arith)
 to_next-some (byte ∷ bytes) some = omega arith
 
-pub to_next-near : (before bytes : List ℕ) → 0 < length before → is_start bytes ≡ true → to_next (before ++ bytes) ≤ length before
+pub to_next-within : (before bytes : List ℕ) → 0 < length before → is_start bytes ≡ true → to_next (before ++ bytes) ≤ length before
 unfolding to_next
-to_next-near [] bytes some is = absurd (omega arith)
-to_next-near (byte ∷ before) bytes some is = omega (arith, to_start-near before bytes is)
+to_next-within [] bytes some is = absurd (omega arith)
+to_next-within (byte ∷ before) bytes some is = omega (arith, to_start-within before bytes is)
 
 -- ---- it is the first
 

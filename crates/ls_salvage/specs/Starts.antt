@@ -1,18 +1,25 @@
 -- Where a codestream may begin: SOI (T.81 B.2.1) and, right after it, a marker of this format's headers.
 use Rattle.std.specs.Prelude.{ℕ, suc, ◌&&◌, ◌||◌, ◌==◌, Bool, false, if◌then◌else◌, List, [], ◌∷◌}
-use Rattle.ls_stream.specs.Markers.{is_application}
+use Rattle.ls_stream.specs.declared.marker.Marker.TheVariants.{StartOfImage, StartOfFrame, PresetParameters, Comment}
+use Rattle.ls_stream.specs.Markers.{code_of, is_application}
 
--- the codes of markers that may follow SOI: SOF55 (F7), LSE (F8), COM (FE), APPn (E0 to EF), and FF, a fill byte (T.81 B.1.1.2)
+-- the byte before the code of each marker, before which it may stand as a fill byte too: FF (T.81 B.1.1.2)
+abbrev pub ff : ℕ
+ff = 255
+
+-- what may stand after SOI and FF: the codes of SOF55 (F7), LSE (F8), COM (FE) and APPn (E0 to EF); and FF, since the one before it may be a
+-- fill byte
 abbrev pub may_follow_soi : ℕ → Bool
-may_follow_soi code = (code == 247) || ((code == 248) || ((code == 254) || ((code == 255) || is_application code)))
+may_follow_soi code =
+    (code == code_of StartOfFrame) || ((code == code_of PresetParameters) || ((code == code_of Comment) || ((code == ff) || is_application code)))
 
--- the bytes begin with SOI, and then FF and such a code
+-- the bytes begin with SOI (FF D8), and then FF and such a code
 unfoldable pub is_start : List ℕ → Bool
 is_start [] = false
 is_start (a ∷ []) = false
 is_start (a ∷ b ∷ []) = false
 is_start (a ∷ b ∷ c ∷ []) = false
-is_start (a ∷ b ∷ c ∷ code ∷ bytes) = (a == 255) && ((b == 216) && ((c == 255) && may_follow_soi code))
+is_start (a ∷ b ∷ c ∷ code ∷ bytes) = (a == ff) && ((b == code_of StartOfImage) && ((c == ff) && may_follow_soi code))
 
 -- how many bytes stand before the first start, or all
 unfoldable pub to_start : List ℕ → ℕ

@@ -12,7 +12,9 @@ pub enum ReadFault {
     Io,
     /// An allocation failed.
     NoMemory,
-    /// 4,294,967,295 bytes show neither a codestream nor a fault, or a gap has more than 2^62.
+    /// 4,294,967,295 bytes, the most of a codestream, show neither its end nor a fault.
+    NoEnd,
+    /// A gap has more than 2^62 bytes.
     TooMuch,
 }
 
@@ -43,8 +45,11 @@ pub enum SalvageFault {
     /// no damage.
     #[error("no memory")]
     NoMemory,
-    /// A frame numbered 4,294,967,295; a part after 2^62 bytes; or 4,294,967,295 bytes that show neither a codestream
-    /// nor a fault, which can't be put back.
+    /// 4,294,967,295 bytes, the most of a codestream, show neither its end nor a fault. They can't be put back.
+    #[error("no end within 4294967295 bytes")]
+    NoEnd,
+    /// A frame numbered 4,294,967,295, the first past the most of a film; or, with the same text, a part after 2^62 bytes or a
+    /// gap of more.
     #[error("too many frames")]
     TooMuch,
 }
@@ -68,6 +73,7 @@ impl SalvageFault {
         match fault {
             ReadFault::Io => SalvageFault::Io(frames),
             ReadFault::NoMemory => SalvageFault::NoMemory,
+            ReadFault::NoEnd => SalvageFault::NoEnd,
             ReadFault::TooMuch => SalvageFault::TooMuch,
         }
     }

@@ -6,7 +6,8 @@ ghost use Rattle.ls_bits.specs.Bits.{AreBytes};
 ghost use Rattle.ls_stream.specs.Grammar.{Spells};
 ghost use Rattle.ls_film.specs.Film.{IsFilm};
 ghost use Rattle.ls_salvage.specs.Starts.{is_start, to_start};
-ghost use Rattle.ls_salvage.specs.Salvage.{Part, IsSalvaged, frames_of, gaps_of, IsGapOf, IsShownAt, IsHeld};
+ghost use Rattle.ls_salvage.specs.Salvage.{Part, frames_of, gaps_of, IsShownAt, IsHeld};
+ghost use Rattle.ls_salvage.specs.View.Salvaged.{IsSalvaged, IsGapOf};
 
 use ls_stream::laws::{bytes_have_one_first_fault, no_codestream_begins_another, one_frame_each};
 

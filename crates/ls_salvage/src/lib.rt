@@ -1,8 +1,8 @@
 //! Salvage: the frames of a recording that is damaged, and the gaps between them.
 //!
-//! What it hands on: a recording's bytes are parts, each a frame's codestream or a gap, and they are settled by the
-//! bytes (`specs/Salvage.antt`); a gap goes up to the next place where a codestream may begin (`specs/Starts.antt`). A
-//! salvage writes the frames and tells of the gaps, or says which parts it got through (`specs/View/Runs.antt`).
+//! What it hands on: a recording's bytes are parts, each a frame's codestream or a gap (`specs/Salvage.antt`), and they
+//! are settled by the bytes (`specs/View/Salvaged.antt`); a gap goes up to the next place where a codestream may begin
+//! (`specs/Starts.antt`). A salvage writes the frames and tells of the gaps, or says which parts it got through (`specs/View/Runs.antt`).
 //! Wherever a whole codestream of a frame stands, it is shown, unless one that is shown holds its beginning; and with
 //! no damage a salvage shows what `ls_film::play` does (`laws`).
 //!

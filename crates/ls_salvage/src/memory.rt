@@ -1,10 +1,10 @@
 //! The salvage of a recording in memory.
-ghost use Rattle.std.specs.Prelude.{◌≡◌, ◌<◌, ◌≤◌, List, [], length, Some, IfOk, IfErr, MatchResult};
+ghost use Rattle.std.specs.Prelude.{◌≡◌, ◌<◌, ◌≤◌, List, [], length, false, Some, IfOk, IfErr, MatchResult};
 ghost use Rattle.ls_frame.specs.Picture.{Picture};
 ghost use Rattle.ls_stream.specs.Grammar.{Spells};
 ghost use Rattle.ls_film.specs.Film.{most_frames, IsFilm};
 ghost use Rattle.ls_film.specs.Showing.{show};
-ghost use Rattle.ls_salvage.specs.View.Ends.{most_place};
+ghost use Rattle.ls_salvage.specs.View.Ends.{most_place, blames_reader};
 ghost use Rattle.ls_salvage.specs.View.Memory.{IsSalvageOf, IsOutOfMemory};
 ghost use Rattle.ls_salvage.specs.View.Runs.{Stops};
 
@@ -20,7 +20,7 @@ use std::alloc::Global;
 /// told, and how the salvage ended.
 ///
 /// Each whole codestream of a frame is shown, unless one that is shown holds its beginning. A fault says what `salvage`
-/// says of it. If the recording is the codestreams of frames and nothing else, these are shown and there is no gap; or
+/// says of it; it is never `Io`, since memory is read, and `Output` says that memory was refused for the images. If the recording is the codestreams of frames and nothing else, these are shown and there is no gap; or
 /// memory was refused.
 pub fn salvage_bytes(
     alloc: Global,
@@ -29,6 +29,7 @@ pub fn salvage_bytes(
     ensures completes { IfOk result.2 (IsSalvageOf recording.now result.0.items result.1.items) }
     ensures stops { IfErr result.2
         (Stops show (Some []) (Some result.0.items) (Some []) (Some result.1.items) (Some recording.now)) }
+    ensures device { IfErr result.2 (λ fault. blames_reader fault ≡ false) }
     ensures undamaged { (frames : List Picture) → length frames ≤ most_frames → length recording.now < most_place
         → IsFilm Spells recording.now frames → MatchResult result.2
         (λ salvaged. (salvaged.frames ≡ length frames) × (salvaged.gaps ≡ 0) × (result.0.items ≡ show frames) × (result.1.items ≡ []))

@@ -1,11 +1,11 @@
 //! The next part of a recording: a frame's codestream, or a gap.
-ghost use Rattle.std.specs.Prelude.{◌≡◌, ◌<◌, ◌≤◌, ◌^◌, ◌++◌, length, drop, IfOk, IfErr, IfSome, IfNone};
+ghost use Rattle.std.specs.Prelude.{◌≡◌, ◌≢◌, ◌<◌, ◌≤◌, ◌^◌, ◌++◌, length, drop, IfOk, IfErr, IfSome, IfNone};
 ghost use Rattle.ls_frame.specs.View.Chunks.{left_in, inner_reader};
 ghost use Rattle.ls_frame.specs.View.Devices.{count_after};
 ghost use Rattle.ls_frame.specs.View.Known.{Tells, WasAtEnd, known};
 ghost use Rattle.ls_salvage.specs.Salvage.{size_of};
 ghost use Rattle.ls_salvage.specs.View.Ends.{most_place, failed_read};
-ghost use Rattle.ls_salvage.specs.View.Parts.{IsFound, is_refusal, HasPassed, part_of, GavePart, IsLawful, HasNoEnd};
+ghost use Rattle.ls_salvage.specs.View.Parts.{IsFound, is_refusal, HasPassed, part_of, GavePart, IsLawful, HasNoEnd, HasLongGap};
 
 use crate::faults::ReadFault;
 use crate::starts::skip_to_start;
@@ -33,7 +33,9 @@ pub enum NextPart {
 
 /// Takes the next part of a recording off a reader, and not a byte more; `None` exactly at the end.
 ///
-/// After a fault nothing is said of the reader's place.
+/// A part has less than 2^63 bytes. `Io` and `NoMemory` say that a read or an allocation failed; `NoEnd`, that as many
+/// bytes as a codestream may have show neither its end nor a fault; `TooMuch`, that none begins here and 2^62 bytes or
+/// more are left, past the most that are passed over. After a fault nothing is said of the reader's place.
 pub fn next_part<R: Feed>(
     alloc: Global,
     reader: &mut Buffered<R>,
@@ -44,8 +46,10 @@ pub fn next_part<R: Feed>(
     ensures some { IfOk result (λ next. IfSome next (λ part. 0 < size_of (part_of part))) }
     ensures small { IfOk result (λ next. IfSome next (λ part. size_of (part_of part) < 2 ^ 63)) }
     ensures end { IfOk result (λ next. IfNone next (WasAtEnd (left_in R.remaining reader.old) (left_in R.remaining reader.new))) }
-    ensures too_much { IfErr result (λ fault. fault ≡ ReadFault.TooMuch → Tells (left_in R.remaining reader.old)
+    ensures no_end { IfErr result (λ fault. fault ≡ ReadFault.NoEnd → Tells (left_in R.remaining reader.old)
         → HasNoEnd (known (left_in R.remaining reader.old))) }
+    ensures too_much { IfErr result (λ fault. fault ≡ ReadFault.TooMuch → Tells (left_in R.remaining reader.old)
+        → HasLongGap (known (left_in R.remaining reader.old))) }
     ensures failures { R.failed_reads (inner_reader reader.new) ≡ count_after (failed_read result) (R.failed_reads (inner_reader reader.old)) }
 {
     match find_next(alloc, reader)? {
@@ -63,14 +67,15 @@ pub fn next_part<R: Feed>(
 fn find_next<R: Feed>(alloc: Global, reader: &mut R) -> Result<Option<Found>, ReadFault>
     ensures found { IfOk result (λ next. IfSome next (λ found. IsFound (R.remaining reader.old) (R.remaining reader.new) found)) }
     ensures end { IfOk result (λ next. IfNone next (WasAtEnd (R.remaining reader.old) (R.remaining reader.new))) }
-    ensures too_much { IfErr result (λ fault. fault ≡ ReadFault.TooMuch → Tells (R.remaining reader.old)
+    ensures no_end { IfErr result (λ fault. fault ≡ ReadFault.NoEnd → Tells (R.remaining reader.old)
         → HasNoEnd (known (R.remaining reader.old))) }
+    ensures few { IfErr result (λ fault. fault ≢ ReadFault.TooMuch) }
     ensures failures { R.failed_reads reader.new ≡ count_after (failed_read result) (R.failed_reads reader.old) }
 {
     let mut bytes = match next_stream(alloc, reader) {
         Ok(Some(bytes)) => bytes,
         Ok(None) => return Ok(None),
-        Err(NextFault::TooLarge) => return Err(ReadFault::TooMuch),
+        Err(NextFault::TooLarge) => return Err(ReadFault::NoEnd),
         Err(NextFault::Io) => return Err(ReadFault::Io),
         Err(NextFault::NoMemory) => return Err(ReadFault::NoMemory),
     };
@@ -102,6 +107,7 @@ fn pass_gap<R: Feed>(alloc: Global, reader: &mut Buffered<R>, read: &[u8]) -> Re
     ensures small { IfOk result (λ count. count < 2 ^ 63) }
     ensures too_much { IfErr result (λ fault. fault ≡ ReadFault.TooMuch → Tells (left_in R.remaining reader.old)
         → most_place ≤ length (read.now ++ known (left_in R.remaining reader.old))) }
+    ensures ends { IfErr result (λ fault. fault ≢ ReadFault.NoEnd) }
     ensures failures { R.failed_reads (inner_reader reader.new) ≡ count_after (failed_read result) (R.failed_reads (inner_reader reader.old)) }
 {
     reader.put_back(alloc, after_first(read))?;

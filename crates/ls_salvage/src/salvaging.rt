@@ -22,7 +22,9 @@ use std::alloc::Global;
 /// How many frames a salvage wrote, and how many gaps it told.
 #[derive(Clone, Copy, Debug, Drop, PartialEq, Eq)]
 pub struct Salvaged {
+    /// The frames whose text was written.
     pub frames: u64,
+    /// The gaps that were told.
     pub gaps: u64,
 }
 
@@ -47,8 +49,9 @@ struct Progress {
 /// part is read. If the bytes of reader and writer are known (as in memory), and what was told, the clauses say which
 /// they were. After a fault nothing is said of the reader's place.
 ///
-/// It holds the bytes of one codestream, or as far as they are read of what should be one, and its frame. After a gap's
-/// first byte these are read again, from the next start on.
+/// It holds the bytes of one codestream, or as far as they are read of what should be one, and its frame. Of bytes at
+/// fault it holds two copies while they are put back: after a gap's first byte these are read again, from the next start
+/// on.
 pub fn salvage<T: Text, G: Gaps, R: Feed, W: Outlet>(
     alloc: Global,
     reader: &mut Buffered<R>,
@@ -102,7 +105,7 @@ fn hand_on<T: Text, G: Gaps, W: Outlet>(
     progress: Progress,
 ) -> Result<Progress, SalvageFault>
     requires small { IsSmall progress }
-    requires near { progress.place < most_place }
+    requires before_most { progress.place < most_place }
     requires some { 0 < size_of (part_of next) }
     requires size { size_of (part_of next) < 2 ^ 63 }
     ensures handed_on { IfOk result (HandsOn T.text (W.contents writer.old) (W.contents writer.new) (G.told gaps.old) (G.told gaps.new) progress
@@ -128,7 +131,7 @@ fn show_frame<T: Text, W: Outlet>(
     progress: Progress,
 ) -> Result<Progress, SalvageFault>
     requires small { IsSmall progress }
-    requires near { progress.place < most_place }
+    requires before_most { progress.place < most_place }
     requires size { count < 2 ^ 63 }
     ensures shown { IfOk result (λ after. (told : Option (List Gap)) → HandsOn T.text (W.contents writer.old) (W.contents writer.new) told told progress (frame_part count frame.now) after) }
     ensures stops { IfErr result (λ fault. (told : Option (List Gap)) → StopsHandingOn T.text (W.contents writer.old) (W.contents writer.new) told told progress (frame_part count frame.now) fault) }
@@ -157,7 +160,7 @@ fn tell_gap<G: Gaps>(
     progress: Progress,
 ) -> Result<Progress, SalvageFault>
     requires small { IsSmall progress }
-    requires near { progress.place < most_place }
+    requires before_most { progress.place < most_place }
     requires size { count < 2 ^ 63 }
     ensures told { IfOk result (λ after. (written : Option (List ℕ)) (text : List Picture → List ℕ) → HandsOn text written written (G.told gaps.old) (G.told gaps.new) progress (gap_part count fault) after) }
     ensures stops { IfErr result (λ fault. fault ≡ SalvageFault.NoMemory) }

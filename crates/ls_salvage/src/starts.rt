@@ -4,7 +4,7 @@ ghost use Rattle.std.specs.List.{AllByRecursion};
 ghost use Rattle.ls_frame.specs.View.Chunks.{left_in, inner_reader};
 ghost use Rattle.ls_frame.specs.View.Devices.{count_after};
 ghost use Rattle.ls_frame.specs.View.Known.{Tells, TakesUntil, WasAtEnd, known};
-ghost use Rattle.ls_salvage.specs.Starts.{may_follow_soi};
+ghost use Rattle.ls_salvage.specs.Starts.{ff, may_follow_soi};
 ghost use Rattle.ls_salvage.specs.View.Ends.{most_place, failed_read};
 ghost use Rattle.ls_salvage.specs.View.Skipping.{GoesOn, FoundStart, HasSkipped};
 
@@ -12,49 +12,72 @@ use crate::faults::ReadFault;
 use ls_frame::{Buffered, Feed, FeedFault};
 use std::alloc::Global;
 
+/// The byte before the code of each marker, before which it may stand as a fill byte too (T.81 B.1.1.2).
+const FF: u8 = 0xFF;
+
+/// The code of SOI, start of image (T.81 B.2.1 and Table B.1).
+const SOI: u8 = 0xD8;
+
+/// The code of SOF55, the frame header of JPEG-LS (T.87 Table C.1).
+const SOF55: u8 = 0xF7;
+
+/// The code of LSE, preset parameters (T.87 Table C.1).
+const LSE: u8 = 0xF8;
+
+/// The code of COM, comment (T.81 Table B.1).
+const COM: u8 = 0xFE;
+
+/// The code of APP0, the first for application data (T.81 Table B.1).
+const APP0: u8 = 0xE0;
+
+/// The code of APP15, the last for application data (T.81 Table B.1).
+const APP15: u8 = 0xEF;
+
 /// The bytes that are asked of the reader at once.
 const MOST_AT_ONCE: usize = 65_536;
 
-/// The most bytes that are passed over: 2^62.
+/// The most bytes that are passed over for a start, and that stand before a part: 2^62.
 pub const MOST_PLACE: u64 = 4_611_686_018_427_387_904;
 
 /// How much of SOI and the FF after it was just read.
 #[derive(Clone, Copy)]
 enum Matched {
     Nothing,
-    /// The first byte of SOI.
-    Fill,
+    /// The first byte of SOI: FF.
+    SoiBegun,
     /// SOI.
-    Image,
-    /// SOI and FF.
-    Marker,
+    Soi,
+    /// SOI and FF, the first byte of a marker or a fill byte.
+    SoiAndFf,
 }
 
 /// Takes the bytes up to the next start off a reader, or all if there is none, and says how many they were.
 ///
-/// It keeps 64 KiB of them at most. After a fault nothing is said of the reader's place.
+/// It keeps 64 KiB of them at most. `TooMuch` says that there were 2^62 bytes without a start; `Io` and `NoMemory`, that a
+/// read or an allocation failed. After a fault nothing is said of the reader's place.
 pub fn skip_to_start<R: Feed>(alloc: Global, reader: &mut Buffered<R>) -> Result<u64, ReadFault>
     ensures skipped { IfOk result (λ count. Tells (left_in R.remaining reader.old)
         → Tells (left_in R.remaining reader.new) × HasSkipped count (known (left_in R.remaining reader.old)) (known (left_in R.remaining reader.new))) }
     ensures small { IfOk result (λ count. count ≤ most_place + 65536) }
     ensures too_much { IfErr result (λ fault. fault ≡ ReadFault.TooMuch → Tells (left_in R.remaining reader.old)
         → most_place ≤ length (known (left_in R.remaining reader.old))) }
+    ensures ends { IfErr result (λ fault. fault ≢ ReadFault.NoEnd) }
     ensures failures { R.failed_reads (inner_reader reader.new) ≡ count_after (failed_read result) (R.failed_reads (inner_reader reader.old)) }
 {
     let mut run = Vec::new(alloc);
-    let mut place = Matched::Nothing;
+    let mut matched = Matched::Nothing;
     let mut count = 0;
     'steps: while count < MOST_PLACE {
         run.clear();
-        let last = match next_bytes(reader, place.most_at_once(), &mut run)? {
+        let last = match next_bytes(reader, matched.most_at_once(), &mut run)? {
             Some(last) => last,
             None => return Ok(count),
         };
         count += run.len() as u64;
-        match place.after(last) {
-            Some(next) => place = next,
+        match matched.after(last) {
+            Some(next) => matched = next,
             None => {
-                reader.put_back(alloc, &[0xFF, 0xD8, 0xFF, last])?;
+                reader.put_back(alloc, &[FF, SOI, FF, last])?;
                 return Ok(count - 4);
             }
         }
@@ -70,13 +93,13 @@ fn next_bytes<R: Feed>(
 ) -> Result<Option<u8>, ReadFault>
     requires some { 0 < most }
     ensures taken { IfOk result (λ next. IfSome next
-        (TakesUntil 255 most (R.remaining reader.old) (R.remaining reader.new) bytes.old.items bytes.new.items)) }
+        (TakesUntil ff most (R.remaining reader.old) (R.remaining reader.new) bytes.old.items bytes.new.items)) }
     ensures end { IfOk result (λ next. IfNone next
         ((bytes.new.items ≡ bytes.old.items) × WasAtEnd (R.remaining reader.old) (R.remaining reader.new))) }
-    ensures fault { IfErr result (λ fault. fault ≢ ReadFault.TooMuch) }
+    ensures fault { IfErr result (λ fault. (fault ≢ ReadFault.NoEnd) × (fault ≢ ReadFault.TooMuch)) }
     ensures failures { R.failed_reads reader.new ≡ count_after (failed_read result) (R.failed_reads reader.old) }
 {
-    match reader.feed_until(0xFF, most, bytes) {
+    match reader.feed_until(FF, most, bytes) {
         Ok(next) => Ok(next),
         Err(FeedFault::Io) => Err(ReadFault::Io),
         Err(FeedFault::NoMemory) => Err(ReadFault::NoMemory),
@@ -103,36 +126,36 @@ impl Matched {
         ensures found { IfNone result (FoundStart self byte) }
     {
         match self {
-            Matched::Marker => after_marker(byte),
-            Matched::Image if byte == 0xFF => Some(Matched::Marker),
-            Matched::Fill if byte == 0xD8 => Some(Matched::Image),
-            _ if byte == 0xFF => Some(Matched::Fill),
+            Matched::SoiAndFf => after_ff(byte),
+            Matched::Soi if byte == FF => Some(Matched::SoiAndFf),
+            Matched::SoiBegun if byte == SOI => Some(Matched::Soi),
+            _ if byte == FF => Some(Matched::SoiBegun),
             _ => Some(Matched::Nothing),
         }
     }
 }
 
 /// The same after SOI and FF.
-#[tactic(auto, using(crate::proofs::SkipLemmas::after_marker_lemmas))]
-fn after_marker(byte: u8) -> Option<Matched>
-    ensures goes_on { IfSome result (λ next. GoesOn Matched.Marker byte next) }
-    ensures found { IfNone result (FoundStart Matched.Marker byte) }
+#[tactic(auto, using(crate::proofs::SkipLemmas::after_ff_lemmas))]
+fn after_ff(byte: u8) -> Option<Matched>
+    ensures goes_on { IfSome result (λ next. GoesOn Matched.SoiAndFf byte next) }
+    ensures found { IfNone result (FoundStart Matched.SoiAndFf byte) }
 {
     if may_follow_soi(byte) {
         return None;
     }
-    if byte == 0xD8 {
-        return Some(Matched::Image);
+    if byte == SOI {
+        return Some(Matched::Soi);
     }
     Some(Matched::Nothing)
 }
 
-/// Whether it is the code of a marker that may follow SOI.
+/// Whether this byte may stand after SOI and FF: the code of a marker that may, or FF, since the one before it may be a fill byte.
 fn may_follow_soi(code: u8) -> bool
     ensures { result ≡ may_follow_soi code }
 {
     match code {
-        0xF7 | 0xF8 | 0xFE | 0xFF => true,
-        _ => 0xE0 <= code && code <= 0xEF,
+        SOF55 | LSE | COM | FF => true,
+        _ => APP0 <= code && code <= APP15,
     }
 }

@@ -236,10 +236,13 @@ fn what_is_whole_is_shown_with_ample_memory(rt: HostRuntime) {
     }
 }
 
-/// Whether the salvage of a recording shows images that begin with the first ones and end with the last.
+/// Whether the salvage of a recording shows images that begin with the first ones and end with the last, each of them for itself.
 fn shows(alloc: Global, recording: &[u8], first: &[u8], last: &[u8]) -> bool {
     let (shown, _gaps, salvaged) = salvage_bytes(alloc, recording);
-    salvaged.is_ok() && shown.starts_with(first) && shown.ends_with(last)
+    salvaged.is_ok()
+        && shown.len() >= first.len() + last.len()
+        && shown.starts_with(first)
+        && shown.ends_with(last)
 }
 
 /// Changes the bits of a mask in the byte at a place.
@@ -255,11 +258,17 @@ const MASKS: [u8; 4] = [0xff, 0x01, 0x10, 0x80];
 #[test]
 fn a_byte_changed_costs_no_other_frame_with_ample_memory(rt: HostRuntime) {
     let mut recording = joined(rt.alloc(), &[BLACK, WHITE, BLACK]).expect(&rt, "memory");
+    let others = joined(rt.alloc(), &[WHITE_IMAGE, BLACK_IMAGE]).expect(&rt, "memory");
     for place in 0..56 {
-        let first = if place < 28 { NONE } else { BLACK_IMAGE };
+        // Damage in the first codestream costs the second and the third nothing; damage in the second, the first and the third.
+        let (first, last) = if place < BLACK.len() {
+            (NONE, others.as_slice())
+        } else {
+            (BLACK_IMAGE, BLACK_IMAGE)
+        };
         for mask in MASKS {
             change(&mut recording, place, mask);
-            let shown = shows(rt.alloc(), &recording, first, BLACK_IMAGE);
+            let shown = shows(rt.alloc(), &recording, first, last);
             check(&rt, "a byte changed", shown);
             change(&mut recording, place, mask);
         }

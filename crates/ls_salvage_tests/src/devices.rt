@@ -82,10 +82,11 @@ fn damage_is_told_of_without_text_with_ample_memory(rt: HostRuntime) {
 }
 
 /// Faults, and their texts.
-const TEXTS: [(SalvageFault, &str); 4] = [
+const TEXTS: [(SalvageFault, &str); 5] = [
     (SalvageFault::Io(3), "read failed"),
     (SalvageFault::Output(7), "output failed after 7 bytes"),
     (SalvageFault::NoMemory, "no memory"),
+    (SalvageFault::NoEnd, "no end within 4294967295 bytes"),
     (SalvageFault::TooMuch, "too many frames"),
 ];
 

@@ -1,5 +1,5 @@
 -- A part of a recording: codestreams that are passed over by their markers, and the frames after them, which are shown.
-use Rattle.std.specs.Prelude.{◌≡◌, ◌⊎◌, ◌<◌, ◌≤◌, ◌+◌, ℕ, Bool, false, List, [], ◌∷◌, ◌++◌, length, take, drop, Option, Result, Ok, Err}
+use Rattle.std.specs.Prelude.{◌≡◌, ◌⊎◌, ◌<◌, ◌≤◌, ◌+◌, ℕ, Bool, false, List, [], ◌∷◌, ◌++◌, length, take, drop, Option, None, Some, Result, Ok, Err}
 use Rattle.std.specs.Io.KnownBytes.{Appends}
 use Rattle.std.specs.List.{AllByRecursion}
 use Rattle.ls_frame.specs.Picture.{Picture, IsFrame}
@@ -49,6 +49,11 @@ unpassed m next_fault.NoMemory = NoMemory
 
 -- ---- the part
 
+-- A recording of m frames lacks frames from first to last: the last of them, or, where they go to the end, the first.
+abbrev pub LacksPart : ℕ → Option ℕ → ℕ → Type 0
+LacksPart first None m = m ≤ first
+LacksPart first (Some last) m = m ≤ last
+
 module _ (read read' written written' : Option (List ℕ)) where
   -- The reader gave codestreams of n frames, and the images of these were written and nothing else.
   pub record ShowsNext (n : ℕ) : Type 0 where
@@ -65,11 +70,14 @@ module _ (read read' written written' : Option (List ℕ)) where
     pub passed : GavePassed read mid first
     pub shows : ShowsNext mid read' written written' n
 
-  -- The recording ended after m codestreams, some passed over and some shown.
-  pub record EndsEarly (m : ℕ) : Type 0 where
+  -- The recording ended after m codestreams, before the end of the part: those before it were passed over and the others shown; or it ended
+  -- before the part, and nothing was shown.
+  pub record EndsEarly (first : ℕ) (last : Option ℕ) (m : ℕ) : Type 0 where
     pub passed : ℕ
     pub shown : ℕ
     pub count : m ≡ passed + shown
+    pub begun : (passed ≡ first) ⊎ ((passed < first) × (shown ≡ 0))
+    pub lacks : LacksPart first last m
     pub shows : ShowsPart passed shown
     pub end : Tells read → known read' ≡ []
 
@@ -98,10 +106,10 @@ pub record StopsShowing (read read' written written' : Option (List ℕ)) (first
   pub stops : Stops mid read' written written' alone
 
 -- what each fault says of the run
-abbrev pub StopsPart : Option (List ℕ) → Option (List ℕ) → Option (List ℕ) → Option (List ℕ) → ℕ → PartFault → Type 0
-StopsPart read read' written written' first (Play fault) =
+abbrev pub StopsPart : Option (List ℕ) → Option (List ℕ) → Option (List ℕ) → Option (List ℕ) → ℕ → Option ℕ → PartFault → Type 0
+StopsPart read read' written written' first last (Play fault) =
     (StopsPassing read first fault × Appends written written' []) ⊎ StopsShowing read read' written written' first fault
-StopsPart read read' written written' first (TooFew m) = EndsEarly read read' written written' m
+StopsPart read read' written written' first last (TooFew m) = EndsEarly read read' written written' first last m
 
 -- ---- a recording of whole codestreams
 
@@ -113,12 +121,18 @@ IsNoneOfStreams (Output bytes) = Unit {0}
 IsNoneOfStreams NoMemory = Unit {0}
 IsNoneOfStreams TooMuch = ⊥
 
+-- The part isn't all there: there are m frames, and those from the first on are shown, if any.
+pub record IsShortOf (written written' : Option (List ℕ)) (first : ℕ) (last : Option ℕ) (frames : List Picture) (m : ℕ) : Type 0 where
+  pub count : m ≡ length frames
+  pub lacks : LacksPart first last m
+  pub wrote : Appends written written' (show (drop first frames))
+
 -- What comes of a part of a recording that is codestreams of these frames: n of them from the first on are shown; or it is said how many
--- there are; or a read failed, a write, or an allocation.
-abbrev pub IsPartOf : Option (List ℕ) → Option (List ℕ) → ℕ → List Picture → Result ℕ PartFault → Type 0
-IsPartOf written written' first frames (Ok n) = (first + n ≤ length frames) × Appends written written' (show (take n (drop first frames)))
-IsPartOf written written' first frames (Err (Play fault)) = IsNoneOfStreams fault
-IsPartOf written written' first frames (Err (TooFew m)) = m ≡ length frames
+-- there are, since they are too few; or a read failed, a write, or an allocation.
+abbrev pub IsPartOf : Option (List ℕ) → Option (List ℕ) → ℕ → Option ℕ → List Picture → Result ℕ PartFault → Type 0
+IsPartOf written written' first last frames (Ok n) = (first + n ≤ length frames) × Appends written written' (show (take n (drop first frames)))
+IsPartOf written written' first last frames (Err (Play fault)) = IsNoneOfStreams fault
+IsPartOf written written' first last frames (Err (TooFew m)) = IsShortOf written written' first last frames m
 
 -- ---- failures
 

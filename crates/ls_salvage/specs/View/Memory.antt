@@ -4,10 +4,11 @@ use Rattle.ls_frame.specs.Picture.{Picture}
 use Rattle.ls_stream.specs.Grammar.{Spells}
 use Rattle.ls_film.specs.Showing.{show}
 use Rattle.ls_salvage.specs.declared.faults.SalvageFault.{SalvageFault}
-use Rattle.ls_salvage.specs.declared.faults.SalvageFault.TheVariants.{Io, Output, NoMemory, TooMuch}
+use Rattle.ls_salvage.specs.declared.faults.SalvageFault.TheVariants.{Io, Output, NoMemory, NoEnd, TooMuch}
 use Rattle.ls_salvage.specs.declared.gaps.Gap.{Gap}
 use Rattle.ls_salvage.specs.declared.salvaging.Salvaged.{Salvaged}
-use Rattle.ls_salvage.specs.Salvage.{Part, IsSalvaged, frames_of, gaps_of, IsShownAt, IsHeld}
+use Rattle.ls_salvage.specs.Salvage.{Part, frames_of, gaps_of, IsShownAt, IsHeld}
+use Rattle.ls_salvage.specs.View.Salvaged.{IsSalvaged}
 
 -- Out shows the frames of the recording's parts, and these are its gaps. Wherever a whole codestream of a frame stands, it is shown, or a
 -- codestream that is shown holds its beginning.
@@ -18,7 +19,7 @@ pub record IsSalvageOf (recording out : List ℕ) (gaps : List Gap) (salvaged : 
   pub gaps_are : gaps ≡ gaps_of parts
   pub frame_count : salvaged.frames ≡ length (frames_of parts)
   pub gap_count : salvaged.gaps ≡ length gaps
-  pub whole : (before front rest : List ℕ) (f : Picture) → recording ≡ before ++ (front ++ rest) → Spells front f
+  pub each_is_shown : (before front rest : List ℕ) (f : Picture) → recording ≡ before ++ (front ++ rest) → Spells front f
       → IsShownAt parts (length before) (length front) f ⊎ IsHeld parts (length before)
 
 -- Memory was refused, for a frame, for a gap or for what is written.
@@ -26,4 +27,5 @@ abbrev pub IsOutOfMemory : SalvageFault → Type 0
 IsOutOfMemory (Io frames) = ⊥
 IsOutOfMemory (Output bytes) = Unit {0}
 IsOutOfMemory NoMemory = Unit {0}
+IsOutOfMemory NoEnd = ⊥
 IsOutOfMemory TooMuch = ⊥

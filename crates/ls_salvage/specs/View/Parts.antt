@@ -11,7 +11,9 @@ use Rattle.ls_salvage.specs.declared.parts.Found.TheVariants as found
 use Rattle.ls_salvage.specs.declared.parts.NextPart.{NextPart}
 use Rattle.ls_salvage.specs.declared.parts.NextPart.TheVariants as next
 use Rattle.ls_salvage.specs.Starts.{to_next}
-use Rattle.ls_salvage.specs.Salvage.{Part, frame, gap, FailsBy, AreParts}
+use Rattle.ls_salvage.specs.View.Ends.{most_place}
+use Rattle.ls_salvage.specs.Salvage.{Part, frame, gap}
+use Rattle.ls_salvage.specs.View.Salvaged.{FailsBy, AreParts}
 
 -- whether memory was refused, which is no fault of the bytes
 abbrev pub is_refusal : StreamFault → Bool
@@ -49,6 +51,10 @@ abbrev pub IsLawful : Part → Type 0
 IsLawful (frame count f) = IsFrame f
 IsLawful (gap count fault) = fault ≢ stream.NoMemory
 
--- No codestream begins the bytes, and they are more than a codestream has.
+-- No codestream begins the bytes, and they are as many as a codestream may have.
 abbrev pub HasNoEnd : List ℕ → Type 0
 HasNoEnd bytes = BeginsWithNone bytes × (most_bytes ≤ length bytes)
+
+-- No codestream begins the bytes, and they are as many as are passed over at most.
+abbrev pub HasLongGap : List ℕ → Type 0
+HasLongGap bytes = BeginsWithNone bytes × (most_place ≤ length bytes)

@@ -8,13 +8,14 @@ use Rattle.ls_stream.specs.Grammar.{Spells}
 use Rattle.ls_film.specs.Film.{most_frames}
 use Rattle.ls_film.specs.View.Texts.{GrowsBy}
 use Rattle.ls_salvage.specs.declared.faults.SalvageFault.{SalvageFault}
-use Rattle.ls_salvage.specs.declared.faults.SalvageFault.TheVariants.{Io, Output, NoMemory, TooMuch}
+use Rattle.ls_salvage.specs.declared.faults.SalvageFault.TheVariants.{Io, Output, NoMemory, NoEnd, TooMuch}
 use Rattle.ls_salvage.specs.declared.gaps.Gap.{Gap}
 use Rattle.ls_salvage.specs.declared.salvaging.Progress.{Progress}
 use Rattle.ls_salvage.specs.declared.salvaging.Salvaged.{Salvaged}
-use Rattle.ls_salvage.specs.Salvage.{Part, frame, gap, AreParts, IsSalvaged, bytes_of, frames_of, gaps_of}
+use Rattle.ls_salvage.specs.Salvage.{Part, frame, gap, bytes_of, frames_of, gaps_of}
+use Rattle.ls_salvage.specs.View.Salvaged.{AreParts, IsSalvaged}
 use Rattle.ls_salvage.specs.View.Ends.{most_place}
-use Rattle.ls_salvage.specs.View.Parts.{IsLawful, HasNoEnd}
+use Rattle.ls_salvage.specs.View.Parts.{IsLawful, HasNoEnd, HasLongGap}
 use Rattle.ls_salvage.specs.View.Telling.{TellsMore}
 
 module _ (text : List Picture → List ℕ) (written written' : Option (List ℕ)) (told told' : Option (List Gap)) where
@@ -74,15 +75,20 @@ Anything parts rest = Unit {0}
 abbrev pub BeginsWithOne : List ℕ → Type 0
 BeginsWithOne bytes = (front : List ℕ) × (rest : List ℕ) × (f : Picture) × (bytes ≡ front ++ rest) × Spells front f
 
--- As many frames as a film has, and one more; 2^62 bytes; or more bytes than a codestream has, that none begins.
+-- What is next has no end: as many bytes follow as a codestream may have, that none begins.
+abbrev pub IsEndless : List Part → List ℕ → Type 0
+IsEndless parts rest = HasNoEnd rest
+
+-- As many frames as a film has, and one more; 2^62 bytes; or as many follow, that no codestream begins.
 abbrev pub IsTooMuch : List Part → List ℕ → Type 0
-IsTooMuch parts rest = ((length (frames_of parts) ≡ most_frames) × BeginsWithOne rest) ⊎ ((most_place ≤ bytes_of parts) ⊎ HasNoEnd rest)
+IsTooMuch parts rest = ((length (frames_of parts) ≡ most_frames) × BeginsWithOne rest) ⊎ ((most_place ≤ bytes_of parts) ⊎ HasLongGap rest)
 
 -- what each fault says
 abbrev pub Stops : (List Picture → List ℕ) → Option (List ℕ) → Option (List ℕ) → Option (List Gap) → Option (List Gap) → Option (List ℕ) → SalvageFault → Type 0
 Stops text written written' told told' read (Io frames) = (stop : StopsAfter text written written' told told' read Anything) × (length (frames_of stop.parts) ≡ frames)
 Stops text written written' told told' read (Output bytes) = StopsAtOutput text written written' told told' read bytes
 Stops text written written' told told' read NoMemory = StopsAfter text written written' told told' read Anything
+Stops text written written' told told' read NoEnd = StopsAfter text written written' told told' read IsEndless
 Stops text written written' told told' read TooMuch = StopsAfter text written written' told told' read IsTooMuch
 
 -- ---- one part more
@@ -123,5 +129,6 @@ module _ (text : List Picture → List ℕ) (written written' : Option (List ℕ
       × Appends written written' (take here chunk) × (told' ≡ told)
   StopsHandingOn (gap count fault) (Output bytes) = ⊥
   StopsHandingOn part NoMemory = (written' ≡ written) × (told' ≡ told)
+  StopsHandingOn part NoEnd = ⊥
   StopsHandingOn (frame count f) TooMuch = (written' ≡ written) × (told' ≡ told) × (before.frames ≡ most_frames)
   StopsHandingOn (gap count fault) TooMuch = ⊥

@@ -1,33 +1,35 @@
 -- Looking for the next start, byte by byte: how much of one was just read.
 use Rattle.std.specs.Prelude.{◌≡◌, ℕ, ◌+◌, true, List, [], ◌∷◌, ◌++◌, length}
 use Rattle.ls_salvage.specs.declared.starts.Matched.{Matched}
-use Rattle.ls_salvage.specs.declared.starts.Matched.TheVariants.{Nothing, Fill, Image, Marker}
-use Rattle.ls_salvage.specs.Starts.{is_start, to_start}
+use Rattle.ls_salvage.specs.declared.starts.Matched.TheVariants.{Nothing, SoiBegun, Soi, SoiAndFf}
+use Rattle.ls_stream.specs.declared.marker.Marker.TheVariants.{StartOfImage}
+use Rattle.ls_stream.specs.Markers.{marker}
+use Rattle.ls_salvage.specs.Starts.{ff, is_start, to_start}
 
 -- the bytes of a start that were just read
 abbrev pub held : Matched → List ℕ
 held Nothing = []
-held Fill = 255 ∷ []
-held Image = 255 ∷ 216 ∷ []
-held Marker = 255 ∷ 216 ∷ 255 ∷ []
+held SoiBegun = ff ∷ []
+held Soi = marker StartOfImage
+held SoiAndFf = marker StartOfImage ++ ff ∷ []
 
 -- With this byte so many of the bytes held, or all and this one, are passed over, and the rest of them are held.
-pub record GoesOn (place : Matched) (byte : ℕ) (next : Matched) : Type 0 where
+pub record GoesOn (matched : Matched) (byte : ℕ) (next : Matched) : Type 0 where
   pub passed : List ℕ
-  pub split : held place ++ byte ∷ [] ≡ passed ++ held next
-  pub far : (bytes : List ℕ) → to_start (held place ++ byte ∷ bytes) ≡ length passed + to_start (held next ++ bytes)
+  pub split : held matched ++ byte ∷ [] ≡ passed ++ held next
+  pub far : (bytes : List ℕ) → to_start (held matched ++ byte ∷ bytes) ≡ length passed + to_start (held next ++ bytes)
 
 -- With this byte a start was read, of four bytes.
-pub record FoundStart (place : Matched) (byte : ℕ) : Type 0 where
-  pub four : held place ++ byte ∷ [] ≡ 255 ∷ 216 ∷ 255 ∷ byte ∷ []
-  pub start : (bytes : List ℕ) → is_start (255 ∷ 216 ∷ 255 ∷ byte ∷ bytes) ≡ true
+pub record FoundStart (matched : Matched) (byte : ℕ) : Type 0 where
+  pub four : held matched ++ byte ∷ [] ≡ marker StartOfImage ++ (ff ∷ byte ∷ [])
+  pub start : (bytes : List ℕ) → is_start (marker StartOfImage ++ (ff ∷ byte ∷ bytes)) ≡ true
 
 -- Of the bytes so many were read: those passed over, and then those held. New ones are left.
-pub record IsPassing (place : Matched) (count : ℕ) (old new : List ℕ) : Type 0 where
+pub record IsPassing (matched : Matched) (count : ℕ) (old new : List ℕ) : Type 0 where
   pub passed : List ℕ
-  pub split : old ≡ passed ++ (held place ++ new)
-  pub count_is : count ≡ length passed + length (held place)
-  pub far : to_start old ≡ length passed + to_start (held place ++ new)
+  pub split : old ≡ passed ++ (held matched ++ new)
+  pub count_is : count ≡ length passed + length (held matched)
+  pub far : to_start old ≡ length passed + to_start (held matched ++ new)
 
 -- The reader's bytes up to the first start, or all, were read, and so many they are.
 pub record HasSkipped (count : ℕ) (old new : List ℕ) : Type 0 where

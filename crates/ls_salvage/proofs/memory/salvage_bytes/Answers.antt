@@ -1,6 +1,6 @@
 use Rattle.std.proofs.Common.{sym, ap, ◌∙◌}
 use Rattle.std.proofs.lemmas.Result.{IfOk-weaker}
-use Rattle.ls_salvage.proofs.MemoryLemmas.{salvage_of, salvaged_whole}
+use Rattle.ls_salvage.proofs.MemoryLemmas.{salvage_of, salvaged_whole, no_failed_read}
 use Rattle.ls_salvage.proofs.memory.salvage_bytes.Goals as goal
 
 pub returns-clause-completes : goal.returns-clause-completes
@@ -10,6 +10,9 @@ returns-clause-completes c =
     IfOk-weaker c.salvage-salvaged.result _ _
     (λ salvaged. salvage_of c.no_codestream_begins_another.ensures c.one_frame_each.ensures c.args.recording.now _ _ c.into_inner.result.items _ _ _ _ salvaged c.in-Ok.ensures empty out c.new-gaps.ensures.items)
     c.salvage-salvaged.ensures.completes
+
+pub returns-clause-device : goal.returns-clause-device
+returns-clause-device c = no_failed_read c.salvage-salvaged.result c.salvage-salvaged.ensures.reads
 
 pub returns-clause-undamaged : goal.returns-clause-undamaged
 returns-clause-undamaged c = λ frames few short film.

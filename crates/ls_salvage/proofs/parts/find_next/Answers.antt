@@ -3,8 +3,8 @@ use Rattle.ls_salvage.proofs.PartLemmas.{no_refusal, gave_frame, some_taken, bre
 use Rattle.ls_stream.specs.declared.faults.StreamFault.TheVariants as stream
 use Rattle.ls_salvage.proofs.parts.find_next.Goals as goal
 
-pub returns-in-Err-TooLarge-clause-too_much : goal.returns-in-Err-TooLarge-clause-too_much
-returns-in-Err-TooLarge-clause-too_much g c =
+pub returns-in-Err-TooLarge-clause-no_end : goal.returns-in-Err-TooLarge-clause-no_end
+returns-in-Err-TooLarge-clause-no_end g c =
     let whole = rw c.in-Err-TooLarge.field-0-is at c.in-Err-TooLarge.ensures.complete in
     λ same. no_end _ _ (c.in-Err-TooLarge.ensures.too_large c.in-Err-TooLarge.field-0-is) whole
 

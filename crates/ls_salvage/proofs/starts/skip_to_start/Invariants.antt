@@ -9,9 +9,9 @@ use Rattle.ls_salvage.proofs.starts.skip_to_start.Given as goal
 abbrev pub invariant-steps : goal.invariant-steps
 invariant-steps g l = record {
   failures : g.R.Feed.failed_reads (inner_reader l.reader) ≡ g.R.Feed.failed_reads (inner_reader l.fn.reader);
-  few : length (held l.place) ≤ l.count;
+  few : length (held l.matched) ≤ l.count;
   small : l.count ≤ most_place + 65536;
-  passed : HasGivenPassed l.place l.count (left_in g.R.Read.remaining l.fn.reader) (left_in g.R.Read.remaining l.reader);
+  passed : HasGivenPassed l.matched l.count (left_in g.R.Read.remaining l.fn.reader) (left_in g.R.Read.remaining l.reader);
 }
 
 abbrev pub decreases-steps : goal.decreases-steps
