@@ -120,7 +120,7 @@ where
             frames,
             salvage,
             workers,
-        } if !salvage => show(rt, file, frames, usize::from(workers), output, console),
+        } if !salvage => show(rt, file, frames, workers, output, console),
         Request::Play { file, .. } => show_whole(rt, file, output, console),
         Request::Index { file, sums } => index(rt, file, sums, output, console),
         Request::Check { file, index } => check_recording(rt, file, index, output, console),

@@ -29,14 +29,20 @@ type Case<'a> = (&'a [u8], Option<usize>, Mishap, Outcome<'a>);
 fn check_case<Rt: Threads + Abort + Sync>(
     rt: &Rt,
     alloc: Global,
-    workers: usize,
+    workers: u8,
     case: &Case<'_>,
     ample: bool,
 ) {
     let (recording, failure, mishap, want) = *case;
     let reader = Counted::new(Pieces::new(recording, 3, failure));
     let writer = Counted::new(Sink::new(2, mishap));
-    let (result, reader, writer) = match play_by(rt, alloc, workers, reader, writer) {
+    let workers = usize::from(workers);
+    let played = if workers > 1 {
+        play_by(rt, alloc, workers, reader, writer)
+    } else {
+        play_by(rt, alloc, 1, reader, writer)
+    };
+    let (result, reader, writer) = match played {
         Ok((frames, reader, writer)) => (Ok(frames), reader, writer),
         Err((fault, reader, writer)) => (Err(fault), reader, writer),
     };
@@ -97,7 +103,7 @@ const CASES: [Case<'static>; 6] = [
 ];
 
 fn check_cases<Rt: Threads + Abort + Sync>(rt: &Rt, alloc: Global, ample: bool) {
-    for workers in [1, 2, 16] {
+    for workers in [1u8, 2, 16] {
         for case in &CASES {
             check_case(rt, alloc, workers, case, ample);
         }

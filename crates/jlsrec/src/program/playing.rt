@@ -12,15 +12,12 @@ use std::io::Write;
 use std::rt::Files;
 use std::thread::Threads;
 
-/// The most workers of a playing.
-const MOST_WORKERS: usize = 16;
-
 /// Plays a recording, by so many workers, or the frames of it that are asked for.
 pub fn show<R, W, E>(
     rt: &R,
     file: &str,
     frames: Option<Frames>,
-    workers: usize,
+    workers: u8,
     output: &mut Counted<W>,
     console: &mut Console<'_, E>,
 ) -> u8
@@ -45,13 +42,15 @@ where
 fn play_all<Rt: Threads + Sync, R: Feed, W: Outlet>(
     rt: &Rt,
     alloc: Global,
-    workers: usize,
+    workers: u8,
     recording: &mut R,
     output: &mut W,
 ) -> Result<u64, PartFault> {
-    let played = match workers {
-        0 | 1 => play(alloc, recording, output),
-        workers => play_by(rt, alloc, workers.min(MOST_WORKERS), recording, output),
+    let workers = usize::from(workers);
+    let played = if workers > 1 {
+        play_by(rt, alloc, workers, recording, output)
+    } else {
+        play(alloc, recording, output)
     };
     match played {
         Ok((frames, _, _)) => Ok(frames),
