@@ -13,7 +13,7 @@ _jlsrec() {
         return
         ;;
     record) options+=' --workers --queue --window --preset --into --replace --progress --report --index' ;;
-    play) options+=' --frames --salvage' ;;
+    play) options+=' --frames --salvage --workers' ;;
     index) options+=' --no-sums' ;;
     check | code) options+=' --index' ;;
     replay) options+=' --sources --capacity' ;;

@@ -23,6 +23,7 @@ complete -c jlsrec -n '__fish_seen_subcommand_from record' -r -l report -d 'The 
 complete -c jlsrec -n '__fish_seen_subcommand_from record' -l index -d 'Write an index of each recording too'
 complete -c jlsrec -n '__fish_seen_subcommand_from code' -r -l index -d 'The file for an index'
 complete -c jlsrec -n '__fish_seen_subcommand_from play' -x -l frames -d 'The frames to play: A, A.., ..B or A..B'
+complete -c jlsrec -n '__fish_seen_subcommand_from play' -x -l workers -d 'How many workers decode, 1 to 16'
 complete -c jlsrec -n '__fish_seen_subcommand_from play' -l salvage -d 'Go on after a codestream at fault'
 complete -c jlsrec -n '__fish_seen_subcommand_from index' -l no-sums -d 'Leave the sum out'
 complete -c jlsrec -n '__fish_seen_subcommand_from check' -r -l index -d 'The index of the recording'

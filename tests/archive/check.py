@@ -3,102 +3,18 @@ passed."""
 
 import hashlib
 import os
-import subprocess
 import sys
 
+sys.dont_write_bytecode = True
+sys.path.insert(0, os.path.join(os.path.dirname(os.path.abspath(__file__)), "..", "program"))
+from cases import Cases, write
+from codestreams import (
+    ANNEX_H, BLACK, BLACK_AGAIN, BROKEN, COLOUR, MIXED, SIXTEEN, TWO_VALUES, WHITE, codestream, film, images_in, recording, segment,
+)
+
 program, fail_call = sys.argv[1:]
-passed = failed = 0
-
-
-def write(name, content):
-    with open(name, "wb") as file:
-        file.write(content)
-    return name
-
-
-def run(*words, **environment):
-    """The status, standard output and standard error of the program."""
-    ended = subprocess.run(
-        [program, *words], stdin=subprocess.DEVNULL, capture_output=True, env={**os.environ, **environment}
-    )
-    return ended.returncode, ended.stdout, ended.stderr.decode()
-
-
-def count(name, holds, shown):
-    global passed, failed
-    if holds:
-        passed += 1
-    else:
-        failed += 1
-        print(f"FAILED {name}: {shown}")
-
-
-def says(status, output, said, *words, **environment):
-    """A case: the words, and what comes of them."""
-    wanted = (status, output if isinstance(output, bytes) else output.encode(), said)
-    got = run(*words, **environment)
-    count(" ".join(words), got == wanted, f"{got} and not {wanted}")
-
-
-# ---- codestreams, written out by T.87 Annex C
-
-def segment(code, contents):
-    return bytes([0xFF, code]) + (len(contents) + 2).to_bytes(2, "big") + contents
-
-
-def codestream(precision, width, height, data, presets=b"", before=b"", components=1):
-    """One whose data was made elsewhere: of its components the scans, each with its stuffed bytes."""
-    header = bytes([precision]) + height.to_bytes(2, "big") + width.to_bytes(2, "big") + bytes([components])
-    header += b"".join(bytes([component, 0x11, 0]) for component in range(1, components + 1))
-    scans = b"".join(
-        segment(0xDA, bytes([1, component, 0, 0, 0, 0])) + data[component - 1] for component in range(1, components + 1)
-    )
-    return b"\xff\xd8" + before + segment(0xF7, header) + presets + scans + b"\xff\xd9"
-
-
-def image(magic, width, height, maxval, samples):
-    return b"%s\n%d %d\n%d\n" % (magic, width, height, maxval) + samples
-
-
-# The picture of T.87's Annex H.3; a sample of two values, of sixteen bits, and of colour. Each with its image, and with the columns of
-# its line after its size.
-ANNEX_H = (
-    codestream(8, 4, 4, [bytes.fromhex("c000006c80208e01c0000057400000" "6ee6000001bc18000005d800009160")]),
-    image(b"P5", 4, 4, 255, bytes.fromhex("00005a4a44322bcd4091919164919191")),
-    "gray 4 4 255 8 3 7 21 64",
-)
-TWO_VALUES = (
-    codestream(2, 1, 1, [b"\x40"], presets=segment(0xF8, bytes.fromhex("0100010001000100010040"))),
-    image(b"P5", 1, 1, 1, b"\x01"),
-    "gray 1 1 1 2 1 1 1 64",
-)
-SIXTEEN = (
-    codestream(16, 1, 1, [b"\x40\x00"]),
-    image(b"P5", 1, 1, 65535, b"\xff\xff"),
-    "gray 1 1 65535 16 18 67 276 64",
-)
-COLOUR = (
-    codestream(8, 1, 1, [b"\x80", b"\x80", b"\x80"], components=3),
-    image(b"P6", 1, 1, 255, b"\x00\x00\x00"),
-    "color 1 1 255 8 3 7 21 64",
-)
-BLACK = (codestream(8, 1, 1, [b"\x80"]), image(b"P5", 1, 1, 255, b"\x00"), "gray 1 1 255 8 3 7 21 64")
-WHITE = (codestream(8, 1, 1, [b"\x40"]), image(b"P5", 1, 1, 255, b"\xff"), "gray 1 1 255 8 3 7 21 64")
-# The same picture with other headers: a comment before the frame header, and RESET told.
-BLACK_AGAIN = (
-    codestream(8, 1, 1, [b"\x80"], presets=segment(0xF8, bytes.fromhex("0100000000000000000020")), before=segment(0xFE, b"A")),
-    BLACK[1],
-    "gray 1 1 255 8 3 7 21 32",
-)
-MIXED = [ANNEX_H, TWO_VALUES, SIXTEEN, COLOUR, BLACK]
-
-
-def recording(frames):
-    return b"".join(frame[0] for frame in frames)
-
-
-def film(frames):
-    return b"".join(frame[1] for frame in frames)
+cases = Cases(program)
+run, count, says, holds = cases.run, cases.count, cases.says, cases.holds
 
 
 def index_of(frames, sums=True):
@@ -108,25 +24,6 @@ def index_of(frames, sums=True):
         lines += f" {hashlib.sha256(stream).hexdigest()}\n" if sums else "\n"
         offset += len(stream)
     return lines
-
-
-def images_in(content):
-    """How many images, with headers as the program writes them."""
-    images = 0
-    while content:
-        magic, size, maxval, content = content.split(b"\n", 3)
-        width, height = size.split()
-        values = int(width) * int(height) * (3 if magic == b"P6" else 1)
-        content = content[values * (2 if int(maxval) > 255 else 1):]
-        images += 1
-    return images
-
-
-def holds(name, content):
-    """A case: the content of a file."""
-    with open(name, "rb") as file:
-        got = file.read()
-    count(name, got == content, f"{got} and not {content}")
 
 
 # ---- the index
@@ -277,9 +174,8 @@ says(1, f"{found}changed.jls: 1 frames, 1 damaged\n", "", "check", "--index", "o
 says(0, "changed.jls: 1 frames, 0 damaged\n", "", "check", "--index", "one.sizes", "changed.jls")
 says(1, "", "jlsrec: one.jls: read failed\n", "check", "one.jls", FAIL_READ="1", **preload)
 # The index as it was made of a recording that can't be decoded: it is as it was.
-broken = (codestream(8, 1, 1, [b"\x00"]), b"", "gray 1 1 255 8 3 7 21 64")
-write("broken.jls", recording([broken, BLACK]))
-write("broken.index", index_of([broken, BLACK]).encode())
+write("broken.jls", recording([BROKEN, BLACK]))
+write("broken.index", index_of([BROKEN, BLACK]).encode())
 says(
     1,
     "frame 0: bad code in component 0: 28 bytes at 0\nbroken.jls: 2 frames, 1 damaged\n",
@@ -327,7 +223,7 @@ for text, first, last in [("0", 0, 0), ("137", 137, 137), ("199", 199, 199), ("5
 for text, first in [("200", 200), ("7000..7001", 200), ("200..", 200), ("198..300", 198)]:
     says(1, film(many[first:]), "jlsrec: many.jls: only 200 frames\n", "play", "--frames", text, "many.jls")
 # A fault of the data before the first frame isn't looked for, one of the markers is; and none after the last is.
-write("some.jls", recording([broken, BLACK, broken]))
+write("some.jls", recording([BROKEN, BLACK, BROKEN]))
 says(0, film([BLACK]), "", "play", "--frames", "1", "some.jls")
 says(1, film([BLACK]), "jlsrec: some.jls: frame 2: bad code in component 0\n", "play", "--frames", "1..", "some.jls")
 says(1, "", "jlsrec: some.jls: frame 0: bad code in component 0\n", "play", "--frames", "0", "some.jls")
@@ -363,13 +259,13 @@ salvages("garbage between", [ANNEX_H, ("no SOI", noise), BLACK, COLOUR])
 salvages("garbage at the end", [BLACK, ("no SOI", noise)])
 salvages("two gaps", [BLACK, ("no SOI", b"A"), WHITE, ("no SOI", b"\xff\xd8\xff"[1:] + b"B"), BLACK])
 salvages("a frame without its end", [BLACK, ("unsupported: marker d8", ANNEX_H[0][:-2]), WHITE])
-salvages("data that is damaged", [ANNEX_H, ("bad code in component 0", broken[0]), BLACK])
-salvages("two of them", [("bad code in component 0", broken[0]), ("bad code in component 0", broken[0]), BLACK])
+salvages("data that is damaged", [ANNEX_H, ("bad code in component 0", BROKEN[0]), BLACK])
+salvages("two of them", [("bad code in component 0", BROKEN[0]), ("bad code in component 0", BROKEN[0]), BLACK])
 salvages("a codestream in a segment of a whole one", [held, WHITE])
 salvages("a lone FF at the end", [BLACK, ("truncated", b"\xff")])
 says(1, film([BLACK]), "jlsrec: one.jls: read failed\n", "play", "--salvage", "one.jls", FAIL_READ="2", **preload)
 says(1, "", "jlsrec: one.jls: output failed after 0 bytes\n", "play", "--salvage", "one.jls", FAIL_WRITE="1", **preload)
-write("damaged.jls", BLACK[0] + noise + broken[0] + WHITE[0])
+write("damaged.jls", BLACK[0] + noise + BROKEN[0] + WHITE[0])
 says(
     1,
     f"frame 1: no SOI: {len(noise)} bytes at 28 passed over\n"
@@ -386,5 +282,4 @@ says(1, "", f"jlsrec: film.pgm: {gap}{likeness}", "play", "--salvage", "--reason
 told = "jlsrec: film.pgm: only decoded: no index is named\n"
 says(1, f"{gap}film.pgm: 1 frames, 1 damaged\n", f"{told}{likeness}", "check", "--reasons", "film.pgm")
 
-print(f"{passed} passed, {failed} failed")
-sys.exit(failed > 0)
+cases.end()

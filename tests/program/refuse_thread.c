@@ -1,4 +1,4 @@
-/* Refuses a thread to the program that it is preloaded into: REFUSE_THREAD=N refuses number N, counted from 1. */
+/* Refuses threads to the program that it is preloaded into: REFUSE_THREAD=N refuses number N, counted from 1, and REFUSE_THREAD=0 all. */
 #define _GNU_SOURCE
 #include <dlfcn.h>
 #include <errno.h>
@@ -12,8 +12,9 @@ int pthread_create(pthread_t *thread, const pthread_attr_t *attributes, void *(*
 {
 	int (*create)(pthread_t *, const pthread_attr_t *, void *(*)(void *), void *) = dlsym(RTLD_NEXT, "pthread_create");
 	const char *refused = getenv("REFUSE_THREAD");
+	unsigned long number = atomic_fetch_add(&threads, 1) + 1;
 
-	if (refused && atomic_fetch_add(&threads, 1) + 1 == strtoul(refused, NULL, 10))
+	if (refused && (number == strtoul(refused, NULL, 10) || !strtoul(refused, NULL, 10)))
 		return EAGAIN;
 	return create(thread, attributes, start, argument);
 }
