@@ -25,31 +25,35 @@ untaken read read' next.TooLarge large complete = too-large-breaks read read' ne
 untaken read read' next.Io large complete = tt
 untaken read read' next.NoMemory large complete = tt
 
--- each job was made, of the same codestream
-abbrev pub IsMadeOf : Job → Job → Type 0
-IsMadeOf job job' = (job'.bytes ≡ job.bytes) × IsMade job'
+-- ---- the work on jobs
 
-abbrev pub EachIsMade : List Job → List Job → Type 0
-EachIsMade jobs jobs' = (i : ℕ) (d : Job) → i < length jobs → IsMadeOf (slice_index_or jobs i d) (slice_index_or jobs' i d)
+module _ {T : Type 0} (made : Picture → T → Type 0) where
+  -- it was done on a job, whose codestream stays
+  abbrev pub Works : Job T → Job T → Type 0
+  Works job job' = (job'.bytes ≡ job.bytes) × IsMade made job'
 
-later : (job job' : Job) (jobs jobs' : List Job) → EachIsMade (job ∷ jobs) (job' ∷ jobs') → EachIsMade jobs jobs'
-later job job' jobs jobs' each i d lt = each (suc i) d (omega arith)
+  abbrev pub EachWorks : List (Job T) → List (Job T) → Type 0
+  EachWorks jobs jobs' = (i : ℕ) (d : Job T) → i < length jobs → Works (slice_index_or jobs i d) (slice_index_or jobs' i d)
 
-pub all-made : (jobs jobs' : List Job) → length jobs' ≡ length jobs → EachIsMade jobs jobs' → AllByRecursion IsMade jobs' × (codestreams_of jobs' ≡ codestreams_of jobs)
-all-made [] [] len each = (tt, refl)
-all-made [] (job' ∷ jobs') len each = let no : ⊥ = omega arith in absurd no
-all-made (job ∷ jobs) [] len each = let no : ⊥ = omega arith in absurd no
-all-made (job ∷ jobs) (job' ∷ jobs') len each =
-    let first : IsMadeOf job job' = each 0 job (omega arith) in
-    let rest = all-made jobs jobs' (omega arith) (later job job' jobs jobs' each) in
-    ((first.1, rest.0), ap (λ bytes. bytes.items ∷ codestreams_of jobs') first.0 ∙ ap (λ more. job.bytes.items ∷ more) rest.1)
+  later : (job job' : Job T) (jobs jobs' : List (Job T)) → EachWorks (job ∷ jobs) (job' ∷ jobs') → EachWorks jobs jobs'
+  later job job' jobs jobs' each i d lt = each (suc i) d (omega arith)
+
+  pub all-made : (jobs jobs' : List (Job T)) → length jobs' ≡ length jobs → EachWorks jobs jobs' → AllByRecursion (IsMade made) jobs' × (codestreams_of jobs' ≡ codestreams_of jobs)
+  all-made [] [] len each = (tt, refl)
+  all-made [] (job' ∷ jobs') len each = let no : ⊥ = omega arith in absurd no
+  all-made (job ∷ jobs) [] len each = let no : ⊥ = omega arith in absurd no
+  all-made (job ∷ jobs) (job' ∷ jobs') len each =
+      let first : Works job job' = each 0 job (omega arith) in
+      let rest = all-made jobs jobs' (omega arith) (later job job' jobs jobs' each) in
+      ((first.1, rest.0), ap (λ bytes. bytes.items ∷ codestreams_of jobs') first.0 ∙ ap (λ more. job.bytes.items ∷ more) rest.1)
 
 -- ---- jobs that are taken off the front
 
-pub first-and-rest : (jobs : List Job) (job : Job) (rest : List Job) → 0 < length jobs → job ≡ slice_index_or jobs 0 job → rest ≡ remove jobs 0 → jobs ≡ job ∷ rest
-first-and-rest [] job rest some is are = let no : ⊥ = omega arith in absurd no
-first-and-rest (first ∷ more) job rest some is are = ap (λ j. j ∷ more) (sym is) ∙ ap (λ js. job ∷ js) (sym are)
+module _ {T : Type 0} where
+  pub first-and-rest : (jobs : List (Job T)) (job : Job T) (rest : List (Job T)) → 0 < length jobs → job ≡ slice_index_or jobs 0 job → rest ≡ remove jobs 0 → jobs ≡ job ∷ rest
+  first-and-rest [] job rest some is are = let no : ⊥ = omega arith in absurd no
+  first-and-rest (first ∷ more) job rest some is are = ap (λ j. j ∷ more) (sym is) ∙ ap (λ js. job ∷ js) (sym are)
 
-pub none-left : (jobs : List Job) → length jobs ≡ 0 → jobs ≡ []
-none-left [] is = refl
-none-left (job ∷ jobs) is = let no : ⊥ = omega arith in absurd no
+  pub none-left : (jobs : List (Job T)) → length jobs ≡ 0 → jobs ≡ []
+  none-left [] is = refl
+  none-left (job ∷ jobs) is = let no : ⊥ = omega arith in absurd no

@@ -1,5 +1,6 @@
 -- A codestream that was taken, and what its image or its fault says of what the reader had.
-use Rattle.std.proofs.Common.{◌≡◌, ◌⊎◌, ℕ, inl, inr, List, [], ◌∷◌, ◌++◌, take, Option, refl, sym, ap, ◌∙◌, append-nil}
+use Rattle.std.specs.Prelude.{Result, Ok, Err, IfOk}
+use Rattle.std.proofs.Common.{◌≡◌, ◌⊎◌, ℕ, inl, inr, List, [], ◌∷◌, ◌++◌, take, length, ◌<◌, ◌^◌, Option, refl, sym, ap, ◌∙◌, append-nil}
 use Rattle.std.proofs.lemmas.List.Concat.{flat_map-append}
 use Rattle.ls_frame.specs.Canonical.{canonical}
 use Rattle.ls_frame.specs.Picture.{Picture, IsFrame}
@@ -35,6 +36,11 @@ show-more frames f = flat_map-append canonical frames (f ∷ []) ∙ ap (λ s. s
 -- the image of the first frame that is shown
 pub image-is : (f : Picture) (image : List ℕ) → GrowsBy show 0 f image → image ≡ canonical f
 image-is f image grows = sym (grows [] refl) ∙ append-nil (canonical f)
+
+pub image-made : {Bytes E : Type 0} (items : Bytes → List ℕ) (f : Picture) (made : Result Bytes E) → IfOk made (λ image. GrowsBy show 0 f (items image)) → IfOk made (λ image. length (items image) < 2 ^ 32)
+    → IfOk made (λ image. (items image ≡ canonical f) × (length (items image) < 2 ^ 32))
+image-made items f (Ok image) grows short = (image-is f (items image) grows, short)
+image-made items f (Err fault) grows short = tt
 
 -- what decoding says of its fault
 pub fault-is : (bytes : List ℕ) (fault : StreamFault) → (fault ≡ stream.NoMemory) ⊎ ((front rest : List ℕ) (f : Picture) → bytes ≡ front ++ rest → Spells front f → ⊥)

@@ -1,3 +1,4 @@
-pub mod JobLemmas
+pub mod AheadLemmas
 pub mod BatchLemmas
+pub mod JobLemmas
 pub mod ShowLemmas

@@ -1,51 +1,87 @@
-//! A codestream that was taken off a reader, and the image of its frame.
-ghost use Rattle.std.specs.Prelude.{◌≡◌, IfOk, IfErr, MatchResult};
-ghost use Rattle.ls_player.specs.View.Jobs.{IsImageOf, IsFaultOf, IsMade};
+//! A codestream that was taken off a reader, and what is made of its frame.
+ghost use Rattle.std.specs.Prelude.{◌≡◌, IfOk, MatchResult};
+ghost use Rattle.ls_frame.specs.Picture.{Picture};
+ghost use Rattle.ls_player.specs.View.Jobs.{IsMadeOf, IsFaultOf, IsMade};
 
 use ls_film::engine::Text;
 use ls_film::playing::ImageText;
+use ls_frame::Frame;
 use ls_stream::{StreamFault, decode_frame};
-use std::alloc::Global;
+use std::alloc::{AllocError, Global};
 
-/// A codestream, and its image once that is made.
-#[derive(Drop)]
-pub struct Job {
-    /// The codestream's bytes.
-    pub bytes: Vec<u8>,
-    /// The canonical Netpbm image of its frame, or why there is none. Before it is made it counts as refused memory.
-    pub image: Result<Vec<u8>, StreamFault>,
+/// A way to make a value of each frame, in whichever thread is free.
+pub trait Making<T>: Send + Sync {
+    /// Whether a value was made of this frame.
+    ghost made: { Picture → T → Type 0 };
+
+    /// Makes it. Fails only if an allocation fails.
+    fn make(alloc: Global, frame: Frame) -> Result<T, AllocError>
+        ensures { IfOk result (made frame) };
 }
 
-impl Job {
-    /// A codestream whose image is yet to be made.
-    pub fn new(bytes: Vec<u8>) -> Job
+/// Of each frame its canonical Netpbm image.
+pub struct Images;
+
+impl Making<Vec<u8>> for Images {
+    ghost use Rattle.ls_player.specs.View.Jobs.{IsImage};
+
+    ghost made = { λ f image. IsImage f image.items };
+
+    fn make(alloc: Global, frame: Frame) -> Result<Vec<u8>, AllocError> {
+        ImageText::chunk(alloc, 0, &frame)
+    }
+}
+
+/// The frame itself.
+pub struct Frames;
+
+impl Making<Frame> for Frames {
+    ghost made = { λ f same. same ≡ f };
+
+    fn make(_alloc: Global, frame: Frame) -> Result<Frame, AllocError> {
+        Ok(frame)
+    }
+}
+
+/// A codestream, and what was made of its frame.
+#[derive(Drop)]
+pub struct Job<T> {
+    /// The codestream's bytes.
+    pub bytes: Vec<u8>,
+    /// What was made of its frame, or why there is none. Before it is made it counts as refused memory.
+    pub made: Result<T, StreamFault>,
+}
+
+impl<T> Job<T> {
+    /// A codestream of whose frame nothing was made yet.
+    pub fn new(bytes: Vec<u8>) -> Job<T>
         ensures { result.bytes ≡ bytes }
     {
         Job {
             bytes,
-            image: Err(StreamFault::NoMemory),
+            made: Err(StreamFault::NoMemory),
         }
-    }
-
-    /// Makes the image.
-    pub fn make(&mut self, alloc: Global)
-        ensures bytes { self.new.bytes ≡ self.old.bytes }
-        ensures made { IsMade self.new }
-    {
-        self.image = image_of(alloc, &self.bytes);
     }
 }
 
-/// The canonical Netpbm image of the frame that these bytes begin with the codestream of; or the fault of decoding them.
-fn image_of(alloc: Global, bytes: &[u8]) -> Result<Vec<u8>, StreamFault>
-    ensures { MatchResult result (λ image. IsImageOf bytes.now image.items) (IsFaultOf bytes.now) }
+/// Decodes a job's codestream, and makes of its frame what is to be made.
+pub fn work<T: Drop, M: Making<T>>(alloc: Global, job: &mut Job<T>)
+    ensures bytes { job.new.bytes ≡ job.old.bytes }
+    ensures made { IsMade M.made job.new }
+{
+    job.made = made_of::<T, M>(alloc, &job.bytes);
+}
+
+/// What is made of the frame that these bytes begin with the codestream of; or the fault of decoding them.
+fn made_of<T, M: Making<T>>(alloc: Global, bytes: &[u8]) -> Result<T, StreamFault>
+    ensures { MatchResult result (IsMadeOf M.made bytes.now) (IsFaultOf bytes.now) }
 {
     let decoded = match decode_frame(alloc, bytes) {
         Ok(decoded) => decoded,
         Err(fault) => return Err(fault),
     };
-    match ImageText::chunk(alloc, 0, &decoded.frame) {
-        Ok(image) => Ok(image),
+    match M::make(alloc, decoded.frame) {
+        Ok(made) => Ok(made),
         Err(_) => Err(StreamFault::NoMemory),
     }
 }

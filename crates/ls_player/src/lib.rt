@@ -20,10 +20,11 @@
 //! }
 //! ```
 //!
-//! In reading order: `playing` (batch by batch), `batch` (codestreams that are taken at once), `job` (one of them).
+//! In reading order: `playing` (image by image), `ahead` (codestreams that are taken ahead of their turn), `job` (what is
+//! made of one).
 #![tactic(auto)]
 
-pub mod batch;
+pub mod ahead;
 pub mod job;
 pub mod playing;
 

@@ -1,5 +1,5 @@
 -- A codestream that was taken off a reader, and what was made of it.
-use Rattle.std.specs.Prelude.{◌≡◌, ◌⊎◌, ◌↔◌, ℕ, ◌<◌, ◌^◌, List, ◌++◌, length, take, Option, MatchResult}
+use Rattle.std.specs.Prelude.{◌≡◌, ◌⊎◌, ◌↔◌, ◌<◌, ◌^◌, ℕ, List, ◌++◌, length, take, Option, MatchResult}
 use Rattle.ls_bits.specs.Bits.{AreBytes}
 use Rattle.ls_frame.specs.Canonical.{canonical}
 use Rattle.ls_frame.specs.Picture.{Picture}
@@ -18,15 +18,19 @@ pub record IsTaken (read read' : Option (List ℕ)) (bytes : List ℕ) : Type 0 
   pub complete : Tells read → (front rest : List ℕ) (f : Picture) → known read ≡ front ++ rest → Spells front f → bytes ≡ front
   pub fault : Tells read → AreBytes (known read) → (fault : StreamFault) → IsFirstFault bytes fault ↔ IsFirstFault (known read) fault
 
--- It is the canonical image of a frame whose codestream the bytes begin with.
-abbrev pub IsImageOf : List ℕ → List ℕ → Type 0
-IsImageOf bytes image = (f : Picture) × (used : ℕ) × Spells (take used bytes) f × (image ≡ canonical f) × (length image < 2 ^ 32)
+-- It was made of a frame whose codestream the bytes begin with. Of which frame it is made is said by a parameter.
+abbrev pub IsMadeOf : {T : Type 0} → (Picture → T → Type 0) → List ℕ → T → Type 0
+IsMadeOf made bytes x = (f : Picture) × (used : ℕ) × Spells (take used bytes) f × made f x
 
 -- Memory was refused; or the bytes begin with no codestream of a frame, and it is their first fault.
 abbrev pub IsFaultOf : List ℕ → StreamFault → Type 0
 IsFaultOf bytes fault =
     (fault ≡ stream.NoMemory) ⊎ (((front rest : List ℕ) (f : Picture) → bytes ≡ front ++ rest → Spells front f → ⊥) × IsFirstFault bytes fault)
 
--- The image of the job's codestream was made, or its fault found.
-abbrev pub IsMade : Job → Type 0
-IsMade job = MatchResult job.image (λ image. IsImageOf job.bytes.items image.items) (IsFaultOf job.bytes.items)
+-- It is the canonical Netpbm image of a frame.
+abbrev pub IsImage : Picture → List ℕ → Type 0
+IsImage f image = (image ≡ canonical f) × (length image < 2 ^ 32)
+
+-- What is to be made of the job's frame was made, or its fault found.
+abbrev pub IsMade : {T : Type 0} → (Picture → T → Type 0) → Job T → Type 0
+IsMade made job = MatchResult job.made (IsMadeOf made job.bytes.items) (IsFaultOf job.bytes.items)

@@ -1,10 +1,9 @@
 use Rattle.std.proofs.Common.{◌≡◌, [], ◌∷◌, refl, rules, sym, ap, subst, ◌∙◌}
 use Rattle.std.proofs.lemmas.List.{map-append}
-use Rattle.ls_player.specs.declared.job.Job.{Job}
 use Rattle.ls_player.specs.View.Jobs.{IsTaken}
 use Rattle.ls_player.specs.View.Batches.{AreTaken, codestreams_of}
 use Rattle.ls_player.proofs.BatchLemmas.{taken-more, untaken}
-use Rattle.ls_player.proofs.batch.Batch.take.Goals as goal
+use Rattle.ls_player.proofs.ahead.take.Goals as goal
 
 pub returns-in-Err-clause-taken : goal.returns-in-Err-clause-taken
 returns-in-Err-clause-taken g c = record {
@@ -33,7 +32,7 @@ loop-place-preserved g c =
     let bytes : c.in-Ok-Some.bytes.items ≡ job.bytes.items = sym (ap (λ b. b.items) c.new-in-Ok-Some.ensures ∙ c.shrink_to_fit.ensures.items) in
     let more = taken-more _ read read' (codestreams_of c.loop-place.jobs.items) job.bytes.items c.loop-place.invariant.taken (subst (IsTaken read read') bytes is) in
     record {
-      taken = rw c.push_reserved.ensures.items (subst (AreTaken (g.R.Read.remaining c.args.reader.now) read') (sym (map-append (λ (j : Job). j.bytes.items) c.loop-place.jobs.items (job ∷ []))) more);
+      taken = rw c.push_reserved.ensures.items (subst (AreTaken (g.R.Read.remaining c.args.reader.now) read') (sym (map-append (λ j. j.bytes.items) c.loop-place.jobs.items (job ∷ []))) more);
       len = search rules;
       room = search rules;
       reads = search rules;

@@ -1,6 +1,6 @@
 use Rattle.std.proofs.Common.{◌≡◌, ◌≤◌, length, vec_capacity}
 use Rattle.ls_player.specs.View.Batches.{AreTaken, codestreams_of}
-use Rattle.ls_player.proofs.batch.Batch.take.Given as goal
+use Rattle.ls_player.proofs.ahead.take.Given as goal
 
 -- so many codestreams were taken
 abbrev pub invariant-loop-place : goal.invariant-loop-place
