@@ -19,7 +19,7 @@ use Rattle.ls_player.proofs.JobLemmas.{taken_frame, taken_fault}
 pub unread : (place : Option (List ℕ)) (fault : NextFault) → IsUntaken place fault → IsUnread place (cause_of fault)
 unread place next.TooLarge why = inr why
 unread place next.Io why = tt
-unread place next.NoMemory why = inl refl
+unread place next.NoMemory why = inl (refl, why)
 
 module _ {T : Type 0} (made : Picture → T → Type 0) (place read : Option (List ℕ)) where
   -- nothing was taken yet

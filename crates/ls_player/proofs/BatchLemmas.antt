@@ -3,10 +3,12 @@ use Rattle.std.proofs.Common.{◌≡◌, ◌⊎◌, ◌<◌, ℕ, suc, List, [],
 use Rattle.std.specs.Prelude.{slice_index_or, remove}
 use Rattle.std.specs.List.{AllByRecursion}
 use Rattle.ls_frame.specs.Picture.{Picture}
-use Rattle.ls_frame.specs.View.Known.{Tells, Gave, known}
+use Rattle.ls_frame.specs.View.Known.{Tells, Gave, HadBytes, known}
 use Rattle.ls_stream.specs.declared.next.NextFault.{NextFault}
 use Rattle.ls_stream.specs.declared.next.NextFault.TheVariants as next
 use Rattle.ls_stream.specs.Grammar.{Spells, most_bytes}
+use Rattle.ls_stream.specs.View.Extents.{IsNext}
+use Rattle.ls_film.proofs.NextLemmas.{gave_some}
 use Rattle.ls_film.proofs.PartLemmas.{too-large-breaks}
 use Rattle.ls_player.specs.declared.job.Job.{Job}
 use Rattle.ls_player.specs.View.Jobs.{IsTaken, IsMade}
@@ -20,10 +22,14 @@ taken-more read mid read' (first ∷ more) bytes are is = (are.0, are.1, taken-m
 
 -- the next can't be taken
 pub untaken : (read read' : Option (List ℕ)) (fault : NextFault) → (fault ≡ next.TooLarge → Gave read read' (λ bytes. length bytes ≡ most_bytes))
-    → (Tells read → (front rest : List ℕ) (f : Picture) → known read ≡ front ++ rest → Spells front f → (fault ≡ next.Io) ⊎ (fault ≡ next.NoMemory)) → IsUntaken read fault
-untaken read read' next.TooLarge large complete = too-large-breaks read read' next.TooLarge refl large complete
-untaken read read' next.Io large complete = tt
-untaken read read' next.NoMemory large complete = tt
+    → (Tells read → (front rest : List ℕ) (f : Picture) → known read ≡ front ++ rest → Spells front f → (fault ≡ next.Io) ⊎ (fault ≡ next.NoMemory)) → (fault ≡ next.NoMemory → HadBytes read) → IsUntaken read fault
+untaken read read' next.TooLarge large complete memory = too-large-breaks read read' next.TooLarge refl large complete
+untaken read read' next.Io large complete memory = tt
+untaken read read' next.NoMemory large complete memory = memory refl
+
+-- what was taken had bytes
+pub had-bytes : (read read' : Option (List ℕ)) (bytes : List ℕ) → IsTaken read read' bytes → HadBytes read
+had-bytes read read' bytes taken = gave_some read read' (λ front. (bytes ≡ front) × IsNext front (known read')) taken.gave (λ front next. next.1.some)
 
 -- ---- the work on jobs
 

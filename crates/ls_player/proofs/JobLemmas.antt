@@ -4,7 +4,7 @@ use Rattle.std.proofs.Common.{◌≡◌, ◌⊎◌, ℕ, inl, inr, List, [], ◌
 use Rattle.std.proofs.lemmas.List.Concat.{flat_map-append}
 use Rattle.ls_frame.specs.Canonical.{canonical}
 use Rattle.ls_frame.specs.Picture.{Picture, IsFrame}
-use Rattle.ls_frame.specs.View.Known.{Tells, Gave, known}
+use Rattle.ls_frame.specs.View.Known.{Tells, Gave, HadBytes, known}
 use Rattle.ls_stream.specs.declared.faults.StreamFault.{StreamFault}
 use Rattle.ls_stream.specs.declared.faults.StreamFault.TheVariants as stream
 use Rattle.ls_stream.specs.Grammar.{Spells}
@@ -13,7 +13,8 @@ use Rattle.ls_stream.specs.View.Outlines.{IsFirstFault}
 use Rattle.ls_film.specs.Showing.{show}
 use Rattle.ls_film.specs.View.Playing.{BreaksBy}
 use Rattle.ls_film.specs.View.Texts.{GrowsBy}
-use Rattle.ls_film.proofs.NextLemmas.{gave_codestream, gave_some, breaks_by}
+use Rattle.ls_film.proofs.NextLemmas.{gave_codestream, breaks_by}
+use Rattle.ls_player.proofs.BatchLemmas.{had-bytes}
 use Rattle.ls_player.specs.View.Jobs.{IsTaken, IsFaultOf}
 
 module _ (read read' : Option (List ℕ)) (bytes : List ℕ) (taken : IsTaken read read' bytes) where
@@ -22,11 +23,11 @@ module _ (read read' : Option (List ℕ)) (bytes : List ℕ) (taken : IsTaken re
   taken_frame used f spells = (spells.frame, gave_codestream read read' bytes used f (λ front. IsNext front (known read')) taken.gave taken.complete spells)
 
   -- a fault of what was taken is one of all that the reader had
-  pub taken_fault : (fault : StreamFault) → IsFaultOf bytes fault → (fault ≡ stream.NoMemory) ⊎ (Tells read → BreaksBy fault (known read))
-  taken_fault fault (inl memory) = inl memory
+  pub taken_fault : (fault : StreamFault) → IsFaultOf bytes fault → ((fault ≡ stream.NoMemory) × HadBytes read) ⊎ (Tells read → BreaksBy fault (known read))
+  taken_fault fault (inl memory) = inl (memory, had-bytes read read' bytes taken)
   taken_fault fault (inr why) =
-      breaks_by (Tells read) (fault ≡ stream.NoMemory) (known read) bytes fault
-      (gave_some read read' (λ front. (bytes ≡ front) × IsNext front (known read')) taken.gave (λ front next. next.1.some))
+      breaks_by (Tells read) ((fault ≡ stream.NoMemory) × HadBytes read) (known read) bytes fault
+      (had-bytes read read' bytes taken)
       taken.complete taken.fault (inr why.0) (inr why.1)
 
 -- what is shown grows by the image of a frame

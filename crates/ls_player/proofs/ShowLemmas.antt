@@ -28,7 +28,8 @@ run-none read written = HasRun-none Spells show read written refl
 module _ (read place begun written : Option (List ℕ)) (n bytes : ℕ) (run : HasRun Spells show read place begun written n bytes) where
   -- the next codestream gives nothing
   pub stops-at : (fault : Untaken) → IsUnread place fault → StopsAhead read begun written (fault_of n fault)
-  stops-at (Stream fault) why = (place, stream-stops read place begun written place n bytes fault run why)
+  stops-at (Stream fault) (inl memory) = (place, stream-stops read place begun written place n bytes fault run (inl memory.0))
+  stops-at (Stream fault) (inr breaks) = (place, stream-stops read place begun written place n bytes fault run (inr breaks))
   stops-at Io why = (place, io-stops read place begun written place n bytes run)
 
   module _ (after : Option (List ℕ)) (f : Picture) (next : IsFrame f × Gave place after (λ image. Spells image f)) where

@@ -124,27 +124,24 @@ fn refill<T: Send + Drop, M: Making<T>, Rt: Threads + Sync, R: Feed>(
 }
 
 /// Takes so many codestreams off a reader, or as many as there are before the end or a fault.
-fn take<T, R: Feed>(alloc: Global, reader: &mut R, most: usize) -> Ahead<T>
+fn take<T: Drop, R: Feed>(alloc: Global, reader: &mut R, most: usize) -> Ahead<T>
     requires { 0 < most }
     ensures taken { IsBatch (R.remaining reader.old) (R.remaining reader.new) result }
     ensures full { IsFull most result }
     ensures failures { R.failed_reads reader.new ≡ count_after (failed_after result.after) (R.failed_reads reader.old) }
 {
-    let mut jobs = match Vec::with_capacity(alloc, most) {
-        Ok(jobs) => jobs,
-        Err(_) => {
-            return Ahead {
-                jobs: Vec::new(alloc),
-                after: After::Fault(NextFault::NoMemory),
-            };
-        }
-    };
+    let mut jobs = Vec::new(alloc);
     for _place in 0..most {
         match next_stream(alloc, reader) {
             Ok(Some(mut bytes)) => {
                 // Memory that is taken later can begin after the codestream then, and not after room for more of it.
                 bytes.shrink_to_fit();
-                jobs.push_reserved(Job::new(bytes));
+                if jobs.push(Job::new(bytes)).is_err() {
+                    return Ahead {
+                        jobs,
+                        after: After::Fault(NextFault::NoMemory),
+                    };
+                }
             }
             Ok(None) => {
                 return Ahead {

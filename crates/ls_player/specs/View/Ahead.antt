@@ -2,7 +2,7 @@
 use Rattle.std.specs.Prelude.{◌≡◌, ◌⊎◌, Bool, true, false, ℕ, List, Option, Some, None, Result, Ok, Err}
 use Rattle.std.specs.List.{AllByRecursion}
 use Rattle.ls_frame.specs.Picture.{Picture, IsFrame}
-use Rattle.ls_frame.specs.View.Known.{Tells, Gave, WasAtEnd, known}
+use Rattle.ls_frame.specs.View.Known.{Tells, Gave, HadBytes, WasAtEnd, known}
 use Rattle.ls_stream.specs.declared.faults.StreamFault.TheVariants as stream
 use Rattle.ls_stream.specs.declared.next.NextFault.{NextFault}
 use Rattle.ls_stream.specs.declared.next.NextFault.TheVariants as next
@@ -27,7 +27,7 @@ is_io Io = true
 
 -- what a fault of the next codestream says of the bytes from its place on
 abbrev pub IsUnread : Option (List ℕ) → Untaken → Type 0
-IsUnread place (Stream fault) = (fault ≡ stream.NoMemory) ⊎ (Tells place → BreaksBy fault (known place))
+IsUnread place (Stream fault) = ((fault ≡ stream.NoMemory) × HadBytes place) ⊎ (Tells place → BreaksBy fault (known place))
 IsUnread place Io = Unit {0}
 
 module _ {T : Type 0} (made : Picture → T → Type 0) where

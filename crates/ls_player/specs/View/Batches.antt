@@ -1,6 +1,6 @@
 -- Codestreams that were taken off a reader at once.
 use Rattle.std.specs.Prelude.{◌≡◌, ℕ, Bool, true, false, List, [], ◌∷◌, length, map, Option}
-use Rattle.ls_frame.specs.View.Known.{Tells, WasAtEnd, known}
+use Rattle.ls_frame.specs.View.Known.{Tells, HadBytes, WasAtEnd, known}
 use Rattle.ls_stream.specs.declared.faults.StreamFault.TheVariants as stream
 use Rattle.ls_stream.specs.declared.next.NextFault.{NextFault}
 use Rattle.ls_stream.specs.declared.next.NextFault.TheVariants as next
@@ -24,7 +24,7 @@ AreTaken read read' (bytes ∷ more) = (mid : Option (List ℕ)) × IsTaken read
 abbrev pub IsUntaken : Option (List ℕ) → NextFault → Type 0
 IsUntaken read next.TooLarge = Tells read → BreaksBy stream.TooLarge (known read)
 IsUntaken read next.Io = Unit {0}
-IsUntaken read next.NoMemory = Unit {0}
+IsUntaken read next.NoMemory = HadBytes read
 
 -- what comes after codestreams that were taken
 abbrev pub ComesAfter : Option (List ℕ) → Option (List ℕ) → After → Type 0

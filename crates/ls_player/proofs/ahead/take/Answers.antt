@@ -1,23 +1,32 @@
-use Rattle.std.proofs.Common.{◌≡◌, [], ◌∷◌, refl, rules, sym, ap, subst, ◌∙◌}
+use Rattle.std.proofs.Common.{◌≡◌, [], ◌∷◌, ◌++◌, rules, sym, ap, subst, ◌∙◌}
 use Rattle.std.proofs.lemmas.List.{map-append}
 use Rattle.ls_player.specs.View.Jobs.{IsTaken}
 use Rattle.ls_player.specs.View.Batches.{AreTaken, codestreams_of}
-use Rattle.ls_player.proofs.BatchLemmas.{taken-more, untaken}
+use Rattle.ls_player.proofs.BatchLemmas.{taken-more, untaken, had-bytes}
 use Rattle.ls_player.proofs.ahead.take.Goals as goal
 
 pub returns-in-Err-clause-taken : goal.returns-in-Err-clause-taken
 returns-in-Err-clause-taken g c = record {
-  mid = g.R.Read.remaining c.args.reader.now;
-  taken = rw c.new.ensures.items refl;
-  after = tt;
-}
-
-pub returns-in-Err-next_stream-clause-taken : goal.returns-in-Err-next_stream-clause-taken
-returns-in-Err-next_stream-clause-taken g c = record {
   mid = _;
   taken = c.loop-place.invariant.taken;
-  after = untaken _ _ c.in-Err-next_stream.fault c.in-Err-next_stream.ensures.too_large c.in-Err-next_stream.ensures.complete;
+  after = untaken _ _ c.in-Err.fault c.in-Err.ensures.too_large c.in-Err.ensures.complete c.in-Err.ensures.memory;
 }
+
+pub returns-then-is_err-clause-taken : goal.returns-then-is_err-clause-taken
+returns-then-is_err-clause-taken g c =
+    let read = g.R.Read.remaining c.loop-place.reader in
+    let read' = g.R.Read.remaining c.next_stream.new.reader in
+    let is : IsTaken read read' c.in-Ok-Some.bytes.items = record {
+      gave = rw c.in-Ok-Some.field-0-is at c.in-Ok-Some.ensures.stream;
+      complete = rw c.in-Ok-Some.field-0-is at c.in-Ok-Some.ensures.complete;
+      fault = rw c.in-Ok-Some.field-0-is at c.in-Ok-Some.ensures.fault;
+    } in
+    let kept : c.push.new.self.items ≡ c.loop-place.jobs.items = search rules in
+    record {
+      mid = read;
+      taken = rw kept c.loop-place.invariant.taken;
+      after = had-bytes read read' c.in-Ok-Some.bytes.items is;
+    }
 
 pub loop-place-preserved : goal.loop-place-preserved
 loop-place-preserved g c =
@@ -28,12 +37,12 @@ loop-place-preserved g c =
       complete = rw c.in-Ok-Some.field-0-is at c.in-Ok-Some.ensures.complete;
       fault = rw c.in-Ok-Some.field-0-is at c.in-Ok-Some.ensures.fault;
     } in
-    let job = c.new-in-Ok-Some.result in
-    let bytes : c.in-Ok-Some.bytes.items ≡ job.bytes.items = sym (ap (λ b. b.items) c.new-in-Ok-Some.ensures ∙ c.shrink_to_fit.ensures.items) in
+    let job = c.new.result in
+    let bytes : c.in-Ok-Some.bytes.items ≡ job.bytes.items = sym (ap (λ b. b.items) c.new.ensures ∙ c.shrink_to_fit.ensures.items) in
     let more = taken-more _ read read' (codestreams_of c.loop-place.jobs.items) job.bytes.items c.loop-place.invariant.taken (subst (IsTaken read read') bytes is) in
+    let pushed : c.push.new.self.items ≡ c.loop-place.jobs.items ++ job ∷ [] = search rules in
     record {
-      taken = rw c.push_reserved.ensures.items (subst (AreTaken (g.R.Read.remaining c.args.reader.now) read') (sym (map-append (λ j. j.bytes.items) c.loop-place.jobs.items (job ∷ []))) more);
+      taken = rw pushed (subst (AreTaken (g.R.Read.remaining c.args.reader.now) read') (sym (map-append (λ j. j.bytes.items) c.loop-place.jobs.items (job ∷ []))) more);
       len = search rules;
-      room = search rules;
       reads = search rules;
     }

@@ -1,4 +1,4 @@
-use Rattle.std.proofs.Common.{◌≡◌, ◌≤◌, length, vec_capacity}
+use Rattle.std.proofs.Common.{◌≡◌, length}
 use Rattle.ls_player.specs.View.Batches.{AreTaken, codestreams_of}
 use Rattle.ls_player.proofs.ahead.take.Given as goal
 
@@ -7,6 +7,5 @@ abbrev pub invariant-loop-place : goal.invariant-loop-place
 invariant-loop-place g l = record {
   taken : AreTaken (g.R.Read.remaining l.fn.reader) (g.R.Read.remaining l.reader) (codestreams_of l.jobs.items);
   len : length l.jobs.items ≡ l._place;
-  room : l.fn.most ≤ vec_capacity l.jobs;
   reads : g.R.Feed.failed_reads l.reader ≡ g.R.Feed.failed_reads l.fn.reader;
 }
