@@ -124,7 +124,11 @@ where
         Request::Play { file, .. } => show_whole(rt, file, output, console),
         Request::Index { file, sums } => index(rt, file, sums, output, console),
         Request::Check { file, index } => check_recording(rt, file, index, output, console),
-        Request::Verify { film, recording } => verify_files(rt, film, recording, console),
+        Request::Verify {
+            film,
+            recording,
+            workers,
+        } => verify_files(rt, film, recording, workers, console),
         Request::Record {
             workers,
             queue,

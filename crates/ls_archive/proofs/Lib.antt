@@ -4,6 +4,7 @@ pub mod FollowLemmas
 pub mod FormLemmas
 pub mod IndexLemmas
 pub mod LineLemmas
+pub mod SideLemmas
 pub mod VerdictLaws
 pub mod VerdictLemmas
 pub mod VerifyLemmas

@@ -5,4 +5,5 @@ pub mod Entries
 pub mod Followed
 pub mod Following
 pub mod Indexing
+pub mod SideBySide
 pub mod Verifying

@@ -41,4 +41,4 @@ pub use checking::{CheckFault, Checked, Damage, Finding, Findings, check};
 pub use faults::{IndexFault, VerifyFault};
 pub use following::{Follower, Indexing};
 pub use index::{index_bytes, write_index};
-pub use verifying::{Verdict, verify, verify_bytes};
+pub use verifying::{Verdict, verify, verify_by, verify_bytes};

@@ -1,11 +1,14 @@
 //! Whether a recording has a film's frames, frame by frame, whatever the headers' form.
-ghost use Rattle.std.specs.Prelude.{◌≡◌, ◌≤◌, ◌⊎◌, List, length, IfOk, IfErr, MatchResult};
+ghost use Rattle.std.specs.Prelude.{◌≡◌, ◌<◌, ◌≤◌, ◌^◌, ◌⊎◌, ℕ, true, false, List, Option, Ok, length, IfOk, IfErr, MatchResult};
 ghost use Rattle.ls_frame.specs.Netpbm.{IsImageOf};
 ghost use Rattle.ls_frame.specs.Picture.{Picture};
 ghost use Rattle.ls_frame.specs.View.Devices.{count_after};
 ghost use Rattle.ls_stream.specs.Grammar.{Spells};
 ghost use Rattle.ls_film.specs.Film.{most_frames, IsFilm};
+ghost use Rattle.ls_player.specs.View.Ahead.{IsAhead, GivesNext};
+ghost use Rattle.ls_player.specs.View.Batches.{failed_after};
 ghost use Rattle.ls_archive.specs.Verify.{Compares};
+ghost use Rattle.ls_archive.specs.View.SideBySide.{IsSame, HasCompared, FindsAhead, HasReadAhead};
 ghost use Rattle.ls_archive.specs.View.Verifying.{Finds, Stops, GaveNext, IsCompared, StopsFilm, StopsRecording, verdict_at, at_most, failed_film, failed_recording, FindsIn, StopsIn};
 
 use crate::faults::VerifyFault;
@@ -14,9 +17,12 @@ use ls_frame::laws::{
     bytes_break_or_hold_an_image, images_have_one_frame, no_image_begins_another,
 };
 use ls_frame::{Feed, Frame, next_frame};
+use ls_player::ahead::{Ahead, Untaken, next_made};
+use ls_player::job::Frames;
 use ls_stream::laws::{no_codestream_begins_another, one_frame_each};
 use ls_stream::{NextFault, StreamFault, decode_frame, next_stream};
 use std::alloc::Global;
+use std::thread::Threads;
 
 /// What a comparison finds.
 #[derive(Clone, Copy, Debug, Drop, PartialEq, Eq)]
@@ -52,6 +58,36 @@ pub fn verify<F: Feed, R: Feed>(
         }
     }
     at_most(compare(alloc, film, recording, MOST_FRAMES)?)
+}
+
+/// The same, where so many threads at most decode the recording's codestreams side by side (`ls_player`).
+///
+/// The recording may be read further than the verdict tells, and a read of it may have failed after the frames that it is of. It
+/// requires at least one worker, and no more than 2^32.
+pub fn verify_by<Rt: Threads + Sync, F: Feed, R: Feed>(
+    rt: &Rt,
+    alloc: Global,
+    workers: usize,
+    film: &mut F,
+    recording: &mut R,
+) -> Result<Verdict, VerifyFault>
+    requires some { 0 < workers }
+    requires few { workers ≤ 2 ^ 32 }
+    ensures finds { IfOk result (FindsAhead
+        (F.remaining film.old) (F.remaining film.new) (R.remaining recording.old)) }
+    ensures stops { IfErr result (Stops (F.remaining film.old) (R.remaining recording.old)) }
+    ensures film_reads { F.failed_reads film.new ≡ count_after (failed_film result) (F.failed_reads film.old) }
+    ensures recording_reads { HasReadAhead (R.failed_reads recording.old) (R.failed_reads recording.new) result }
+{
+    let mut ahead = Ahead::new(alloc);
+    for number in 0..MOST_FRAMES {
+        if let Some(verdict) = compare_by(
+            rt, alloc, workers, film, recording, &mut ahead, number,
+        )? {
+            return Ok(verdict);
+        }
+    }
+    at_most(compare_by(rt, alloc, workers, film, recording, &mut ahead, MOST_FRAMES)?)
 }
 
 /// Whether a recording in memory has the frames of a film in memory.
@@ -91,6 +127,59 @@ fn compare<F: Feed, R: Feed>(
     let image = next_image(alloc, film, number)?;
     let coded = next_coded(alloc, recording, number)?;
     Ok(verdict_at(number, &image, &coded))
+}
+
+/// The same, where the recording's frame comes of codestreams that are taken ahead.
+fn compare_by<Rt: Threads + Sync, F: Feed, R: Feed>(
+    rt: &Rt,
+    alloc: Global,
+    workers: usize,
+    film: &mut F,
+    recording: &mut R,
+    ahead: &mut Ahead<Frame>,
+    number: u64,
+) -> Result<Option<Verdict>, VerifyFault>
+    requires some { 0 < workers }
+    requires few { workers ≤ 2 ^ 32 }
+    ensures compared { (place : Option (List ℕ)) → IsAhead IsSame place (R.remaining recording.old) ahead.old
+        → IfOk result (HasCompared (F.remaining film.old) (F.remaining film.new) place (R.remaining recording.new) ahead.new number) }
+    ensures stops { (place : Option (List ℕ)) → IsAhead IsSame place (R.remaining recording.old) ahead.old
+        → IfErr result (λ fault. StopsFilm (F.remaining film.old) number fault ⊎ StopsRecording place number fault) }
+    ensures film_reads { F.failed_reads film.new ≡ count_after (failed_film result) (F.failed_reads film.old) }
+    ensures recording_reads { (failed : ℕ) → R.failed_reads recording.old ≡ count_after (failed_after ahead.old.after) failed
+        → R.failed_reads recording.new ≡ count_after (failed_after ahead.new.after) failed }
+    ensures io { failed_recording result ≡ true → failed_after ahead.new.after ≡ true }
+{
+    let image = next_image(alloc, film, number)?;
+    let coded = next_coded_by(rt, alloc, workers, recording, ahead, number)?;
+    Ok(verdict_at(number, &image, &coded))
+}
+
+/// The recording's frame of this number, of codestreams that are taken ahead; `None` exactly at its end.
+fn next_coded_by<Rt: Threads + Sync, R: Feed>(
+    rt: &Rt,
+    alloc: Global,
+    workers: usize,
+    recording: &mut R,
+    ahead: &mut Ahead<Frame>,
+    number: u64,
+) -> Result<Option<Frame>, VerifyFault>
+    requires some { 0 < workers }
+    requires few { workers ≤ 2 ^ 32 }
+    ensures next { (place : Option (List ℕ)) → IsAhead IsSame place (R.remaining recording.old) ahead.old
+        → IfOk result (λ next. GivesNext IsSame place (R.remaining recording.new) ahead.new (Ok next)) }
+    ensures stops { (place : Option (List ℕ)) → IsAhead IsSame place (R.remaining recording.old) ahead.old
+        → IfErr result (StopsRecording place number) }
+    ensures film_reads { failed_film result ≡ false }
+    ensures recording_reads { (failed : ℕ) → R.failed_reads recording.old ≡ count_after (failed_after ahead.old.after) failed
+        → R.failed_reads recording.new ≡ count_after (failed_after ahead.new.after) failed }
+    ensures io { failed_recording result ≡ true → failed_after ahead.new.after ≡ true }
+{
+    match next_made::<Frame, Frames, Rt, R>(ahead, rt, alloc, workers, recording) {
+        Ok(next) => Ok(next),
+        Err(Untaken::Stream(fault)) => Err(VerifyFault::of_recording(number, fault)),
+        Err(Untaken::Io) => Err(VerifyFault::RecordingIo(number)),
+    }
 }
 
 /// The film's frame of this number; `None` exactly at its end.

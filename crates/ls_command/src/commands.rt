@@ -4,7 +4,7 @@ use crate::texts::{
     INDEX_HELP, INDEX_OF_CODE_HELP, INDEX_OF_RECORDING_HELP, INTO_HELP, LIST_HELP, NO_SUMS_HELP,
     PLAY_HELP, PLAYERS_HELP, PRESET_HELP, PROGRESS_HELP, QUEUE_HELP, REASONS_HELP, RECORD_HELP,
     RECORDING_HELP, REPLACE_HELP, REPLAY_HELP, REPORT_HELP, SALVAGE_HELP, SOURCES_HELP, STEPS_HELP,
-    VERIFY_HELP, WINDOW_HELP, WORKERS_HELP,
+    VERIFIERS_HELP, VERIFY_HELP, WINDOW_HELP, WORKERS_HELP,
 };
 use clap::{Arg, ArgAction, Command, value_parser};
 use std::alloc::{AllocError, Global};
@@ -63,7 +63,7 @@ fn play_command<'a>(alloc: Global) -> Result<Command<'a>, AllocError> {
     )?
     .arg(option(alloc, "frames", "A..B", FRAMES_HELP))?
     .arg(flag(alloc, "salvage", SALVAGE_HELP))?
-    .arg(players_option(alloc))
+    .arg(decoders_option(alloc, PLAYERS_HELP))
 }
 
 /// The command that looks up a recording's codestreams.
@@ -92,6 +92,7 @@ fn verify_command<'a>(alloc: Global) -> Result<Command<'a>, AllocError> {
     let about = "Says whether a recording is of a film";
     command_with_help(alloc, "verify", about, VERIFY_HELP)
         .arg(reasons_flag(alloc))?
+        .arg(decoders_option(alloc, VERIFIERS_HELP))?
         .arg(Arg::new(alloc, "FILM").required(true).help(FILM_HELP))?
         .arg(file_argument(alloc, RECORDING_HELP))
 }
@@ -170,10 +171,10 @@ fn report_option<'a>(alloc: Global) -> Arg<'a> {
     option(alloc, "report", "REPORT", REPORT_HELP)
 }
 
-/// The option of `play` that says how many workers decode.
-fn players_option<'a>(alloc: Global) -> Arg<'a> {
+/// The option that says how many workers decode.
+fn decoders_option<'a>(alloc: Global, help: &'a str) -> Arg<'a> {
     let workers = value_parser!(u8).range(1..=16);
-    optional_count(alloc, "workers", "1", PLAYERS_HELP).value_parser(workers)
+    optional_count(alloc, "workers", "1", help).value_parser(workers)
 }
 
 /// An option whose value is a count, `usual` if the option is left out.

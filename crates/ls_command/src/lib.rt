@@ -64,6 +64,8 @@ pub enum Request<'a> {
     Verify {
         film: &'a str,
         recording: &'a str,
+        /// How many workers decode.
+        workers: u8,
     },
     /// Recordings of films, side by side.
     Record {
@@ -229,6 +231,7 @@ fn verify_request<'a>(words: &ArgMatches<'a>) -> Option<Request<'a>> {
     Some(Request::Verify {
         film: words.get_str("FILM")?,
         recording: words.get_str("FILE")?,
+        workers: words.get_one("workers")?,
     })
 }
 

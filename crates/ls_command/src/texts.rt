@@ -132,6 +132,9 @@ and the first frame that differs, is missing or is too many is said on standard 
 
   $ jlsrec verify film.pgm film.pgm.jls && echo the same";
 
+pub const VERIFIERS_HELP: &str = "\
+How many workers decode FILE, 1 to 16. From 2 on twice as many codestreams are read at once";
+
 pub const RECORD_HELP: &str = "\
 Records the films FILE.. side by side: writes beside each FILE a file FILE.jls, of a codestream of JPEG-LS
 (ITU-T T.87) for each of its frames. A FILE may be a named pipe that a camera writes to.

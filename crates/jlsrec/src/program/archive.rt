@@ -5,7 +5,8 @@ use crate::program::{
     DONE, FAILED, conclude, explain, finish_lines, no_memory, open_film, say_unwritten,
 };
 use ls_archive::{
-    CheckFault, Checked, Finding, Findings, Verdict, VerifyFault, check, verify, write_index,
+    CheckFault, Checked, Finding, Findings, Verdict, VerifyFault, check, verify, verify_by,
+    write_index,
 };
 use ls_frame::{Counted, Outlet, write_bytes};
 use ls_salvage::{Gap, Gaps, NoText, salvage};
@@ -13,6 +14,7 @@ use std::alloc::{AllocError, Global};
 use std::fmt::Display;
 use std::io::{BufWriter, Write};
 use std::rt::Files;
+use std::thread::Threads;
 
 /// Writes the index of a recording.
 pub fn index<R, W, E>(
@@ -137,10 +139,16 @@ where
     }
 }
 
-/// Compares a recording with its film, and says where they differ.
-pub fn verify_files<R, E>(rt: &R, film: &str, recording: &str, console: &mut Console<'_, E>) -> u8
+/// Compares a recording, which so many workers decode, with its film, and says where they differ.
+pub fn verify_files<R, E>(
+    rt: &R,
+    film: &str,
+    recording: &str,
+    workers: u8,
+    console: &mut Console<'_, E>,
+) -> u8
 where
-    R: Eprint + Files + AllocGlobal,
+    R: Eprint + Files + AllocGlobal + Threads + Sync,
     E: Outlet,
 {
     let mut images = match open_film(rt, film, console) {
@@ -151,7 +159,13 @@ where
         Ok(codestreams) => codestreams,
         Err(status) => return status,
     };
-    match verify(rt.alloc(), &mut images, &mut codestreams) {
+    let workers = usize::from(workers);
+    let verdict = if workers > 1 {
+        verify_by(rt, rt.alloc(), workers, &mut images, &mut codestreams)
+    } else {
+        verify(rt.alloc(), &mut images, &mut codestreams)
+    };
+    match verdict {
         Ok(verdict) => say_verdict(recording, verdict, console),
         Err(fault @ VerifyFault::Film(..)) => conclude(film, Err(fault), &images, None, console),
         Err(fault) => conclude(recording, Err(fault), &codestreams, None, console),

@@ -4,7 +4,7 @@ use Rattle.ls_stream.specs.Grammar.{Spells}
 use Rattle.ls_stream.specs.View.Outlines.{outline_of, IsFirstFault}
 use Rattle.ls_archive.specs.View.Checking.{Line, IsGood, IsDamage}
 use Rattle.ls_archive.specs.Index.{line}
-use Rattle.ls_archive.proofs.CheckLemmas.{spelled_front, has_line, good_line}
+use Rattle.ls_archive.proofs.CheckLemmas.{spelled_front, has_line}
 use Rattle.ls_archive.proofs.LineLemmas.{damage_by, first_fault}
 use Rattle.ls_archive.proofs.checking.damage_of.Goals as goal
 

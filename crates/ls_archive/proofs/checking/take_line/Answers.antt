@@ -1,4 +1,4 @@
-use Rattle.std.proofs.Common.{◌≡◌, ◌<◌, length, sym, subst, arith, rules}
+use Rattle.std.proofs.Common.{◌<◌, length, sym, subst, arith, rules}
 use Rattle.ls_archive.specs.View.Checking.{HasNoLineFeed}
 use Rattle.ls_archive.proofs.LineLemmas.{split_last, taken_line}
 use Rattle.ls_archive.proofs.checking.take_line.Goals as goal
