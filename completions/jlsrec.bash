@@ -14,6 +14,7 @@ _jlsrec() {
         ;;
     record) options+=' --workers --queue --window --preset --into --replace --progress --report --index' ;;
     play) options+=' --frames --salvage --workers' ;;
+    verify) options+=' --workers' ;;
     index) options+=' --no-sums' ;;
     check | code) options+=' --index' ;;
     replay) options+=' --sources --capacity' ;;

@@ -25,6 +25,7 @@ complete -c jlsrec -n '__fish_seen_subcommand_from code' -r -l index -d 'The fil
 complete -c jlsrec -n '__fish_seen_subcommand_from play' -x -l frames -d 'The frames to play: A, A.., ..B or A..B'
 complete -c jlsrec -n '__fish_seen_subcommand_from play' -x -l workers -d 'How many workers decode, 1 to 16'
 complete -c jlsrec -n '__fish_seen_subcommand_from play' -l salvage -d 'Go on after a codestream at fault'
+complete -c jlsrec -n '__fish_seen_subcommand_from verify' -x -l workers -d 'How many workers decode, 1 to 16'
 complete -c jlsrec -n '__fish_seen_subcommand_from index' -l no-sums -d 'Leave the sum out'
 complete -c jlsrec -n '__fish_seen_subcommand_from check' -r -l index -d 'The index of the recording'
 complete -c jlsrec -n '__fish_seen_subcommand_from replay' -x -l sources -d 'How many sources the queue has, 1 to 16'

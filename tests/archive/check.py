@@ -188,7 +188,9 @@ says(
 def verdict(frames, others, said):
     write("film.pgm", film(frames))
     write("of.jls", recording(others))
-    says(1 if said else 0, "", f"jlsrec: of.jls: {said}\n" if said else "", "verify", "film.pgm", "of.jls")
+    for workers in ("1", "2", "16"):
+        told = f"jlsrec: of.jls: {said}\n" if said else ""
+        says(1 if said else 0, "", told, "verify", "--workers", workers, "film.pgm", "of.jls")
 
 
 verdict([], [], "")
@@ -203,6 +205,9 @@ verdict([BLACK], [], "frame 0 is missing")
 verdict([BLACK], [BLACK, WHITE], "frame 1 is too many")
 verdict([], [BLACK], "frame 0 is too many")
 verdict([BLACK, WHITE], [BLACK, (WHITE[0][:-1], b"", "")], "frame 1: truncated")
+verdict([BLACK, WHITE] * 40, [BLACK, WHITE] * 40, "")
+verdict([BLACK, WHITE] * 40, [BLACK, WHITE] * 39 + [WHITE, WHITE], "frame 78 differs")
+verdict([BLACK] * 40, [BLACK] * 37 + [BROKEN] * 3, "frame 37: bad code in component 0")
 write("film.pgm", b"P5 # a comment\n1   1\n255\n\x00")
 write("of.jls", recording([BLACK]))
 says(0, "", "", "verify", "film.pgm", "of.jls")
