@@ -2,7 +2,6 @@ use crate::testing::check_bytes;
 use ls_film::PlayFault;
 use ls_frame::Counted;
 use ls_player::play_by;
-use ls_testing::films::{TWO_CODESTREAMS, TWO_IMAGES};
 use std::alloc::Global;
 use std::thread::Threads;
 
@@ -16,6 +15,6 @@ fn show<R: Threads + Sync>(rt: &R, alloc: Global, recording: &[u8]) -> Result<Ve
 
 #[test]
 fn the_page_shows_a_recording_with_ample_memory(rt: HostRuntime) {
-    let shown = show(&rt, rt.alloc(), TWO_CODESTREAMS).expect(&rt, "memory");
-    check_bytes(&rt, "the page", &shown, TWO_IMAGES);
+    let shown = show(&rt, rt.alloc(), ls_testing::films::TWO_CODESTREAMS).expect(&rt, "memory");
+    check_bytes(&rt, "the page", &shown, ls_testing::films::TWO_IMAGES);
 }
