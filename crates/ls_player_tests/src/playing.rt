@@ -11,11 +11,15 @@ use std::thread::Threads;
 /// What playing answered, what it wrote, and how many of its reader's and its writer's calls failed.
 type Outcome<'a> = (Result<u64, PlayFault>, &'a [u8], u64, u64);
 
-/// That playing ended so. Where memory may be refused it may say so, if it wrote a front of the images.
+/// That playing ended so. Where memory may be refused it may say so, if it wrote a front of the images; a read that fails may
+/// have been tried by then.
 fn check_outcome(rt: &impl Abort, got: Outcome<'_>, want: Outcome<'_>, ample: bool) {
-    let refused = !ample && got.0 == Err(PlayFault::NoMemory) && want.1.starts_with(got.1);
+    let refused = !ample
+        && got.0 == Err(PlayFault::NoMemory)
+        && want.1.starts_with(got.1)
+        && got.2 <= want.2;
     let want = if refused {
-        (Err(PlayFault::NoMemory), got.1, 0, 0)
+        (Err(PlayFault::NoMemory), got.1, got.2, 0)
     } else {
         want
     };
