@@ -13,7 +13,7 @@ abbrev pub may_follow_soi : ℕ → Bool
 may_follow_soi code =
     (code == code_of StartOfFrame) || ((code == code_of PresetParameters) || ((code == code_of Comment) || ((code == ff) || is_application code)))
 
--- the bytes begin with SOI (FF D8), and then FF and such a code
+-- the bytes begin with SOI, and then FF and such a code
 unfoldable pub is_start : List ℕ → Bool
 is_start [] = false
 is_start (a ∷ []) = false
