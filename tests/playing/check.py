@@ -43,6 +43,13 @@ for path in films:
     # With fewer threads than are asked for, or with the program's own alone.
     for number in range(6):
         plays(0, images, "", "film.jls", REFUSE_THREAD=str(number), **refusing)
+    # Threads decode: with the program's own at most as many as there are workers, in one batch or two.
+    for workers in (1, 2, 4):
+        write("asked", b"")
+        says(0, images, "", "play", "--workers", str(workers), "film.jls", ASKED="asked", **refusing)
+        with open("asked") as asked:
+            lines = len(asked.readlines())
+        cases.count(f"threads for {workers} workers", lines == 0 if workers == 1 else 0 < lines <= 2 * (workers - 1), lines)
     # A codestream that breaks off after whole ones.
     size = os.path.getsize("film.jls")
     with open("film.jls", "rb") as file:
