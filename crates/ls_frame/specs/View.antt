@@ -4,4 +4,5 @@ pub mod Chunks
 pub mod Devices
 pub mod Known
 pub mod Laws
+pub mod Numbers
 pub mod Reading

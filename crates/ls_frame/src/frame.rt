@@ -1,7 +1,9 @@
 //! Frames: pictures within the limits of this recorder.
-ghost use Rattle.std.specs.Prelude.{◌≡◌, ◌<◌, ◌↔◌, IsTrue, None, Some, IfOk, IfErr, MatchResult, nat_lt, position, fold, max};
+ghost use Rattle.std.specs.Prelude.{◌≡◌, ◌<◌, ◌↔◌, IsTrue, None, Some, IfOk, IfErr, MatchResult};
 ghost use Rattle.ls_frame.specs.Picture.{frame_fault, sample_count};
+ghost use Rattle.ls_frame.specs.View.Numbers.{numbers};
 
+use crate::samples::Samples;
 use std::marker::Model;
 use thiserror::Error;
 
@@ -98,7 +100,7 @@ impl Frame {
             (λ refused. frame_fault picture ≡ Some refused.0) }
         ensures returned { IfErr result (λ refused. refused.1 ≡ samples) }
     {
-        match FrameView::new(kind, width, height, maxval, &samples) {
+        match FrameView::new(kind, width, height, maxval, Samples::Words(&samples)) {
             Ok(_) => Ok(Frame::from_parts(kind, width, height, maxval, samples)),
             Err(fault) => Err((fault, samples)),
         }
@@ -180,7 +182,7 @@ impl Frame {
             width: self.width,
             height: self.height,
             maxval: self.maxval,
-            samples: self.samples.as_slice(),
+            samples: Samples::Words(self.samples.as_slice()),
         }
     }
 }
@@ -194,17 +196,18 @@ pub struct FrameView<'a> {
     width: u16,
     height: u16,
     maxval: u16,
-    samples: &'a [u16],
+    samples: Samples<'a>,
 }
 
 impl<'a> Model for FrameView<'a> {
     ghost use Rattle.ls_frame.specs.Picture.{Picture, IsFrame};
+    ghost use Rattle.ls_frame.specs.View.Numbers.{numbers};
 
     ghost Value = { Picture };
 
-    ghost view = { λ f. record { kind = f.kind; width = f.width; height = f.height; maxval = f.maxval; samples = f.samples.now } };
+    ghost view = { λ f. record { kind = f.kind; width = f.width; height = f.height; maxval = f.maxval; samples = numbers f.samples } };
 
-    ghost invariant = { λ f. IsFrame (record { kind = f.kind; width = f.width; height = f.height; maxval = f.maxval; samples = f.samples.now }) };
+    ghost invariant = { λ f. IsFrame (record { kind = f.kind; width = f.width; height = f.height; maxval = f.maxval; samples = numbers f.samples }) };
 }
 
 impl<'a> FrameView<'a> {
@@ -217,14 +220,14 @@ impl<'a> FrameView<'a> {
         width: u16,
         height: u16,
         maxval: u16,
-        samples: &'a [u16],
+        samples: Samples<'a>,
     ) -> Result<FrameView<'a>, FrameFault>
         ensures exactly { let picture : Picture = record {
           kind = kind;
           width = width;
           height = height;
           maxval = maxval;
-          samples = samples.now;
+          samples = numbers samples.entry;
         } in
             MatchResult result
             (λ f. (frame_fault picture ≡ None) × (f ≡ picture))
@@ -244,7 +247,7 @@ impl<'a> FrameView<'a> {
         if maxval == 0 {
             return Err(FrameFault::ZeroMaxval);
         }
-        if let Some(place) = first_above(samples, maxval) {
+        if let Some(place) = samples.first_above(maxval) {
             return Err(FrameFault::SampleTooLarge(place));
         }
         Ok(FrameView {
@@ -290,8 +293,8 @@ impl<'a> FrameView<'a> {
     }
 
     /// The samples.
-    pub fn samples(&self) -> &'a [u16]
-        ensures value { result.now ≡ self.now.samples }
+    pub fn samples(&self) -> Samples<'a>
+        ensures value { numbers result ≡ self.now.samples }
         ensures lawful { IsFrame self.now }
     {
         self.samples
@@ -316,24 +319,4 @@ impl PartialEq for Frame {
             && self.maxval == other.maxval
             && self.samples == other.samples
     }
-}
-
-/// The place of the first sample over `maxval`.
-fn first_above(samples: &[u16], maxval: u16) -> Option<usize>
-    ensures { result ≡ position (λ sample. nat_lt maxval sample) samples.now }
-{
-    if greatest(samples) <= maxval {
-        return None;
-    }
-    samples.iter().position(|sample| *sample > maxval)
-}
-
-/// The greatest of some samples, 0 of none. It looks at each, several at once, and so finds sooner that none is over
-/// maxval than a search for the first.
-fn greatest(samples: &[u16]) -> u16
-    ensures { result ≡ fold max 0 samples.now }
-{
-    samples
-        .iter()
-        .fold(0, |greatest: u16, sample| greatest.max(*sample))
 }

@@ -33,7 +33,7 @@
 //! frame is coded with parameters, `Presets::default_of(frame.maxval())` if none were chosen.
 //!
 //! In reading order: `device` (readers and writers that count), `buffered` (a reader for callers that read byte by
-//! byte), `frame`, `presets`, `tuning` (presets chosen in part), `output` (writing bytes whole), `netpbm` (reading an
+//! byte), `samples`, `frame`, `presets`, `tuning` (presets chosen in part), `output` (writing bytes whole), `netpbm` (reading an
 //! image and writing one), `laws` (what follows from the definitions alone); `memory` is for whole programs.
 #![tactic(auto)]
 
@@ -45,6 +45,7 @@ pub mod memory;
 pub mod netpbm;
 pub mod output;
 pub mod presets;
+pub mod samples;
 pub mod tuning;
 
 pub use buffered::Buffered;
@@ -54,4 +55,5 @@ pub use memory::keep_blocks;
 pub use netpbm::{NetpbmFault, first_frame, next_frame, write_frame};
 pub use output::{WriteFault, lay, write_bytes};
 pub use presets::{PresetFault, Presets};
+pub use samples::Samples;
 pub use tuning::Tuning;

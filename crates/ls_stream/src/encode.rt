@@ -42,10 +42,25 @@ pub fn encode_with(alloc: Global, frame: &Frame, presets: &Presets) -> Result<Ve
     ensures short { IfOk result (λ bytes. length bytes.items < 2 ^ 32) }
     ensures capacity { IfOk result (λ bytes. vec_capacity bytes ≡ bound frame.now presets.now) }
 {
-    let capacity = code_bound(frame, presets) as usize;
-    let bytes = Vec::with_capacity(alloc, capacity)?;
+    encode_view(alloc, &frame.view(), presets)
+}
+
+/// As `encode_with`, of a frame whose samples stand elsewhere.
+pub fn encode_view(
+    alloc: Global,
+    frame: &FrameView,
+    presets: &Presets,
+) -> Result<Vec<u8>, AllocError>
+    requires maxval { presets.now.maxval ≡ frame.now.maxval }
+    ensures bytes { IfOk result (λ bytes. bytes.items ≡ codestream frame.now presets.now) }
+    ensures short { IfOk result (λ bytes. length bytes.items < 2 ^ 32) }
+    ensures capacity { IfOk result (λ bytes. vec_capacity bytes ≡ bound frame.now presets.now) }
+{
+    let capacity = view_bound(frame, presets) as usize;
+    let mut bytes = Vec::with_capacity(alloc, capacity)?;
     let mut lines = Lines::new(alloc, frame.width())?;
-    Ok(encode_within(frame, presets, &mut lines, bytes))
+    put_codestream(frame, presets, &mut lines, &mut bytes);
+    Ok(bytes)
 }
 
 /// The codestream of a frame, written after the bytes that the vector has. The vector comes back with the capacity that it had.

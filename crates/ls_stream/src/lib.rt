@@ -42,7 +42,9 @@ mod shape;
 
 pub use buffers::{DecoderLines, Lines};
 pub use decode::{Decoded, Opening, decode_frame};
-pub use encode::{code_bound, encode_frame, encode_into, encode_with, encode_within, view_bound};
+pub use encode::{
+    code_bound, encode_frame, encode_into, encode_view, encode_with, encode_within, view_bound,
+};
 pub use faults::{StreamFault, What};
 pub use ls_coding::Regions;
 pub use next::{NextFault, next_stream};

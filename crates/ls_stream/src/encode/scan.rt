@@ -2,6 +2,7 @@
 ghost use Rattle.std.specs.Prelude.{◌≡◌, ◌+◌, ◌*◌, ◌/◌, ◌^◌, ◌<◌, ◌≤◌, ◌++◌, ℕ, false, [], List, length, slice_index, vec_len};
 ghost use Rattle.ls_frame.specs.Picture.{components};
 ghost use Rattle.ls_frame.specs.Parameters.{limit_of};
+ghost use Rattle.ls_frame.specs.View.Numbers.{numbers};
 ghost use Rattle.ls_bits.specs.View.Room.{Fits};
 ghost use Rattle.ls_bits.specs.Stuffing.{stuff};
 ghost use Rattle.ls_coding.specs.View.States.{state_of};
@@ -17,7 +18,7 @@ use crate::lines::{clear, fill_line};
 use crate::shape::{Shape, shape_of};
 use ls_bits::{Room, take_room};
 use ls_coding::State;
-use ls_frame::{FrameView, Presets};
+use ls_frame::{FrameView, Presets, Samples};
 
 /// Codes the scan of a component, after the bytes that a room has, into places that it has.
 pub fn put_scan<R: Room>(
@@ -89,7 +90,7 @@ fn code_rows<R: Room>(
     coder: &mut Coder<R>,
     above: &mut [u16],
     line: &mut [u16],
-    samples: &[u16],
+    samples: Samples,
     shape: Shape,
     component: usize,
 )
@@ -97,13 +98,13 @@ fn code_rows<R: Room>(
     requires line { length line.old ≡ shape.width + 2 }
     requires some { 1 ≤ shape.width }
     requires narrow { shape.width ≤ 65535 }
-    requires samples { length samples.now ≡ shape.height * (shape.width * shape.components) }
-    requires small { (k : ℕ) → slice_index samples.now k ≤ coder.old.state.parameters.maxval }
+    requires samples { length (numbers samples) ≡ shape.height * (shape.width * shape.components) }
+    requires small { (k : ℕ) → slice_index (numbers samples) k ≤ coder.old.state.parameters.maxval }
     requires component { component < shape.components }
     requires few { shape.width * shape.components < 2 ^ 32 }
     requires uninterrupted { coder.old.state.interrupted ≡ false }
     requires room { Fits (length coder.old.bits + limit_of coder.old.state.parameters.maxval * (shape.width * shape.height)) coder.old.capacity_left }
-    ensures rows { let plane = component_plane shape.width shape.components component samples.now in (more : List Span)
+    ensures rows { let plane = component_plane shape.width shape.components component (numbers samples.entry) in (more : List Span)
         → all_from plane coder.new.bits coder.new.state more
         ≡ all_from plane coder.old.bits coder.old.state (rows_from plane shape.height 0 ++ more) }
     ensures cost { length coder.new.bits ≤ length coder.old.bits + limit_of coder.old.state.parameters.maxval * (shape.width * shape.height) }
@@ -128,11 +129,11 @@ fn code_rows<R: Room>(
 }
 
 /// A row of samples, of `height` rows of `stride` samples each.
-fn row_of(samples: &[u16], row: usize, height: usize, stride: usize) -> &[u16]
-    requires samples { length samples.now ≡ height * stride }
+fn row_of(samples: Samples<'_>, row: usize, height: usize, stride: usize) -> Samples<'_>
+    requires samples { length (numbers samples) ≡ height * stride }
     requires row { row < height }
-    ensures len { length result.now ≡ stride }
-    ensures samples { (k : ℕ) → k < stride → slice_index result.now k ≡ slice_index samples.now (row * stride + k) }
+    ensures len { length (numbers result) ≡ stride }
+    ensures samples { (k : ℕ) → k < stride → slice_index (numbers result) k ≡ slice_index (numbers samples.entry) (row * stride + k) }
 {
-    &samples[row * stride..row * stride + stride]
+    samples.part(row * stride, stride)
 }

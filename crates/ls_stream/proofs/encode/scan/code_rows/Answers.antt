@@ -1,5 +1,6 @@
 use Rattle.std.proofs.Common.{◌≡◌, ℕ, suc, ◌+◌, ◌-◌, ◌*◌, ◌<◌, ◌≤◌, ◌++◌, List, length, get_or, refl, sym, ◌∙◌, ap, subst, append_assoc, arith}
 use Rattle.std.proofs.lemmas.Nat.{mul-le, mul-add-lt}
+use Rattle.ls_frame.specs.View.Numbers.{numbers}
 use Rattle.ls_frame.specs.Parameters.{Parameters, limit_of}
 use Rattle.ls_bits.specs.View.Room.{Fits}
 use Rattle.ls_stream.specs.Planes.{Plane, Span, at, row_spans, rows_from}
@@ -15,7 +16,7 @@ use Rattle.ls_stream.proofs.encode.scan.code_rows.Goals as goal
 pub code_row-requires-clause-lines : goal.code_row-requires-clause-lines
 code_row-requires-clause-lines g c =
     subst (λ (p : Parameters). ArePadded p.maxval c.args.shape.width c.loop-row.above c.fill_line.new.line) (sym c.loop-row.invariant.parameters)
-    (padded c.args.coder.now.state.parameters.maxval c.args.shape.width c.args.shape.components c.args.component (c.loop-row.row * (c.args.shape.width * c.args.shape.components)) c.args.samples.now c.row_of-pixels.result.now _ _ c.requires.some
+    (padded c.args.coder.now.state.parameters.maxval c.args.shape.width c.args.shape.components c.args.component (c.loop-row.row * (c.args.shape.width * c.args.shape.components)) (numbers c.args.samples) (numbers c.row_of-pixels.result) _ _ c.requires.some
     c.loop-row.invariant.above_length (omega (arith, c.fill_line.auto.line, c.loop-row.invariant.line_length)) c.loop-row.invariant.small c.row_of-pixels.ensures.len c.row_of-pixels.ensures.samples c.requires.small
     c.fill_line.ensures.left c.fill_line.ensures.samples c.fill_line.ensures.right)
 
@@ -29,7 +30,7 @@ code_row-requires-clause-room g c =
 
 pub loop-row-preserved : goal.loop-row-preserved
 loop-row-preserved g c =
-    let samples = c.args.samples.now in
+    let samples = numbers c.args.samples in
     let plane : Plane = component_plane c.args.shape.width c.args.shape.components c.args.component samples in
     let row = c.loop-row.row in
     let inside : row < c.args.shape.height = c.loop-row-test.true in
@@ -39,7 +40,7 @@ loop-row-preserved g c =
     let maxval = c.args.coder.now.state.parameters.maxval in
     let limit = limit_of maxval in
     let line_length : length c.fill_line.new.line ≡ c.args.shape.width + 2 = omega (arith, c.fill_line.auto.line, c.loop-row.invariant.line_length) in
-    let pads = padded maxval c.args.shape.width c.args.shape.components c.args.component (row * (c.args.shape.width * c.args.shape.components)) samples c.row_of-pixels.result.now _ _ c.requires.some
+    let pads = padded maxval c.args.shape.width c.args.shape.components c.args.component (row * (c.args.shape.width * c.args.shape.components)) samples (numbers c.row_of-pixels.result) _ _ c.requires.some
     c.loop-row.invariant.above_length line_length c.loop-row.invariant.small c.row_of-pixels.ensures.len c.row_of-pixels.ensures.samples c.requires.small
     c.fill_line.ensures.left c.fill_line.ensures.samples c.fill_line.ensures.right in
     let middle : (k : ℕ) → k < c.args.shape.width → get_or c.fill_line.new.line (k + 1) 0 ≡ at plane row k =

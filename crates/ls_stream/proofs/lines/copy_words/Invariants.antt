@@ -1,5 +1,5 @@
 use Rattle.std.proofs.Common.{◌≡◌, ◌+◌, ◌*◌, ◌<◌, ℕ, length, get_or}
-use Rattle.ls_stream.proofs.lines.copy_component.Given as goal
+use Rattle.ls_stream.proofs.lines.copy_words.Given as goal
 
 abbrev pub invariant-loop-column : goal.invariant-loop-column
 invariant-loop-column l = record {

@@ -1,0 +1,82 @@
+//! Samples in memory of their maker's, of 8 or of 16 bits.
+ghost use Rattle.std.specs.Prelude.{◌≡◌, ◌+◌, ◌≤◌, length, take, drop, nat_lt, position, fold, max};
+ghost use Rattle.ls_frame.specs.View.Numbers.{numbers};
+
+/// Samples one after the other, each a number of its size.
+#[derive(Clone, Copy, Debug, Drop)]
+pub enum Samples<'a> {
+    Bytes(&'a [u8]),
+    Words(&'a [u16]),
+}
+
+impl<'a> Samples<'a> {
+    /// How many there are.
+    pub fn len(self) -> usize
+        ensures { result ≡ length (numbers self.entry) }
+    {
+        match self {
+            Samples::Bytes(bytes) => bytes.len(),
+            Samples::Words(words) => words.len(),
+        }
+    }
+
+    /// So many of them from a place on.
+    pub fn part(self, start: usize, count: usize) -> Samples<'a>
+        requires { start + count ≤ length (numbers self) }
+        ensures { numbers result ≡ take count (drop start (numbers self.entry)) }
+    {
+        match self {
+            Samples::Bytes(bytes) => Samples::Bytes(&bytes[start..start + count]),
+            Samples::Words(words) => Samples::Words(&words[start..start + count]),
+        }
+    }
+
+    /// The place of the first over `maxval`.
+    pub(crate) fn first_above(self, maxval: u16) -> Option<usize>
+        ensures { result ≡ position (λ sample. nat_lt maxval sample) (numbers self.entry) }
+    {
+        match self {
+            Samples::Bytes(bytes) => first_byte_above(bytes, maxval),
+            Samples::Words(words) => first_word_above(words, maxval),
+        }
+    }
+}
+
+/// The place of the first byte over `maxval`.
+fn first_byte_above(bytes: &[u8], maxval: u16) -> Option<usize>
+    ensures { result ≡ position (λ sample. nat_lt maxval sample) bytes.now }
+{
+    if u16::from(greatest_byte(bytes)) <= maxval {
+        return None;
+    }
+    bytes.iter().position(|byte| u16::from(*byte) > maxval)
+}
+
+/// The place of the first word over `maxval`.
+fn first_word_above(words: &[u16], maxval: u16) -> Option<usize>
+    ensures { result ≡ position (λ sample. nat_lt maxval sample) words.now }
+{
+    if greatest_word(words) <= maxval {
+        return None;
+    }
+    words.iter().position(|word| *word > maxval)
+}
+
+/// The greatest of some bytes, 0 of none. It looks at each, several at once, and so finds sooner that none is over
+/// maxval than a search for the first.
+fn greatest_byte(bytes: &[u8]) -> u8
+    ensures { result ≡ fold max 0 bytes.now }
+{
+    bytes
+        .iter()
+        .fold(0, |greatest: u8, byte| greatest.max(*byte))
+}
+
+/// The greatest of some words, 0 of none; as `greatest_byte`.
+fn greatest_word(words: &[u16]) -> u16
+    ensures { result ≡ fold max 0 words.now }
+{
+    words
+        .iter()
+        .fold(0, |greatest: u16, word| greatest.max(*word))
+}
