@@ -1,5 +1,5 @@
-//! Samples in memory of their maker's, of 8 or of 16 bits.
-ghost use Rattle.std.specs.Prelude.{◌≡◌, ◌+◌, ◌≤◌, length, take, drop, nat_lt, position, fold, max};
+//! Samples in memory of their maker's, of 8 or of 16 bits, and places for such.
+ghost use Rattle.std.specs.Prelude.{◌≡◌, ℕ, ◌+◌, ◌<◌, ◌≤◌, List, length, take, drop, nat_lt, position, fold, max, set};
 ghost use Rattle.ls_frame.specs.View.Numbers.{numbers};
 
 /// Samples one after the other, each a number of its size.
@@ -39,6 +39,43 @@ impl<'a> Samples<'a> {
             Samples::Bytes(bytes) => first_byte_above(bytes, maxval),
             Samples::Words(words) => first_word_above(words, maxval),
         }
+    }
+}
+
+/// A place for a sample: 8 or 16 bits.
+pub trait Place {
+    /// The numbers that stand in places.
+    ghost numbers: { List Self → List ℕ };
+
+    /// The greatest number that a place holds.
+    ghost most: { ℕ };
+
+    /// Puts a sample into a place, by its number.
+    fn put(places: &mut [Self], place: usize, sample: u16)
+        requires inside { place < length (numbers places.old) }
+        requires small { sample ≤ most }
+        ensures { numbers places.new ≡ set (numbers places.old) place sample };
+}
+
+impl Place for u8 {
+    ghost numbers = { λ places. places };
+
+    ghost most = { 255 };
+
+    #[inline(always)]
+    fn put(places: &mut [u8], place: usize, sample: u16) {
+        places[place] = sample as u8;
+    }
+}
+
+impl Place for u16 {
+    ghost numbers = { λ places. places };
+
+    ghost most = { 65535 };
+
+    #[inline(always)]
+    fn put(places: &mut [u16], place: usize, sample: u16) {
+        places[place] = sample;
     }
 }
 

@@ -1,9 +1,6 @@
 -- Where the samples of a row stand among those of all components.
-use Rattle.std.proofs.Common.{◌≡◌, ◌≢◌, ℕ, zero, suc, ◌+◌, ◌-◌, ◌*◌, ◌%◌, ◌<◌, ◌≤◌, ◌⊎◌, List, length, get_or, inl, inr, sym, ◌∙◌, ap, subst, arith}
+use Rattle.std.proofs.Common.{◌≡◌, ◌≢◌, ℕ, zero, suc, ◌+◌, ◌-◌, ◌*◌, ◌^◌, ◌%◌, ◌<◌, ◌≤◌, ◌⊎◌, List, length, get_or, inl, inr, sym, ◌∙◌, ap, subst, arith}
 use Rattle.std.proofs.lemmas.Bool.{cases_lt}
-use Rattle.std.proofs.lemmas.List.{get_or-take, get_or-drop}
-use Rattle.std.proofs.lemmas.Slice.{take-put_mid_below, drop-put_mid}
-use borrow.Rule.Slice.PartMut.{put_mid}
 use Rattle.std.proofs.lemmas.Nat.{mul-le, mul-add-lt, mod-mul-add}
 use Rattle.ls_coding.proofs.FieldLemmas.{same_or_not}
 
@@ -15,6 +12,14 @@ place_inside row width height column count component h k l =
     let all : (row * width + column) * count + component < count * (height * width) = mul-add-lt (row * width + column) count component (height * width) (omega arith) l in
     let whole : count * (height * width) ≡ height * width * count = omega arith in
     omega arith
+
+-- what is computed on the way to a place is no more than it
+pub steps_inside : (row width height column count component : ℕ) → row < height → column < width → component < count → height * width * count < 2 ^ 32
+    → (row * width < 2 ^ 32) × (row * width + column < 2 ^ 32) × ((row * width + column) * count < 2 ^ 32) × ((row * width + column) * count + component < 2 ^ 32)
+steps_inside row width height column count component h k l few =
+    let inside = place_inside row width height column count component h k l in
+    let pixel : (row * width + column) * 1 ≤ (row * width + column) * count = mul-le (row * width + column) 1 (row * width + column) count (omega arith) (omega arith) in
+    (omega arith, omega arith, omega arith, omega arith)
 
 pub other_column : (row width j column count component : ℕ) → j < column → component < count
     → (row * width + j) * count + component ≢ (row * width + column) * count + component
@@ -62,19 +67,3 @@ small_stored maxval width count component row samples new line small line_small 
       | inl found ↦ subst (λ n. get_or new n 0 ≤ maxval) (sym found.2) (subst (λ v. v ≤ maxval) (sym (stored found.0 found.1)) (line_small (found.0 + 1)))
       | inr none ↦ subst (λ v. v ≤ maxval) (sym (kept k none)) (small k)
     ]
-
--- samples outside of a part that is overwritten stay
-pub kept_before : (start size k : ℕ) (samples part : List ℕ) → k < start → start ≤ length samples → get_or (put_mid start size samples part) k 0 ≡ get_or samples k 0
-kept_before start size k samples part before inside =
-    sym (get_or-take start (put_mid start size samples part) k 0 before)
-    ∙ ap (λ s. get_or s k 0) (take-put_mid_below start size samples part start (omega arith) inside)
-    ∙ get_or-take start samples k 0 before
-
-pub kept_after : (start size k : ℕ) (samples part : List ℕ) → start + size ≤ k → start ≤ length samples → length part ≡ size
-    → get_or (put_mid start size samples part) k 0 ≡ get_or samples k 0
-kept_after start size k samples part after inside whole =
-    let place : k ≡ start + size + (k - (start + size)) = omega arith in
-    let other : List ℕ = put_mid start size samples part in
-    subst (λ n. get_or other n 0 ≡ get_or samples n 0) (sym place) (sym (get_or-drop (start + size) other (k - (start + size)) 0)
-    ∙ ap (λ s. get_or s (k - (start + size)) 0) (drop-put_mid start size samples part (start + size) (omega arith) inside whole)
-    ∙ get_or-drop (start + size) samples (k - (start + size)) 0)

@@ -4,7 +4,7 @@ mod markers;
 mod row;
 mod scan;
 
-ghost use Rattle.std.specs.Prelude.{◌≡◌, ◌≢◌, ◌⊎◌, ◌+◌, ◌-◌, ◌*◌, ◌<◌, ◌≤◌, ◌++◌, ℕ, List, [], length, take, drop, slice_index, Result, Ok, IfOk, IfErr, MatchResult};
+ghost use Rattle.std.specs.Prelude.{◌≡◌, ◌≢◌, ◌⊎◌, ◌+◌, ◌-◌, ◌*◌, ◌^◌, ◌<◌, ◌≤◌, ◌++◌, ℕ, List, [], length, take, drop, slice_index, Result, Ok, IfOk, IfErr, MatchResult};
 ghost use Rattle.ls_bits.specs.Data.{stop_at};
 ghost use Rattle.ls_frame.specs.Picture.{Picture, IsFrame, components, sample_count, most_samples};
 ghost use Rattle.ls_stream.specs.Planes.{Plane, IsSamplePlane};
@@ -24,7 +24,7 @@ use crate::segments::read::FrameHeader;
 use crate::shape::Shape;
 use ls_bits::{CodeFault, Stop, data_of};
 use ls_coding::Regions;
-use ls_frame::{Frame, Kind, Presets};
+use ls_frame::{Frame, Kind, Place, Presets};
 use std::alloc::Global;
 use std::marker::Model;
 
@@ -174,22 +174,23 @@ impl<'a> Opening<'a> {
     /// Decodes the frame into its samples, row by row from the top, pixel by pixel, component by component. Answers how many bytes the
     /// codestream has. It allocates nothing.
     ///
-    /// It requires as many places as the frame has samples, none of which is over maxval (zeros, for one), lines at least as wide as
-    /// the frame, and the regions of the opening's parameters. On a fault, which is as `decode_frame` says it and never NoMemory,
+    /// It requires as many places as the frame has samples, which hold numbers up to maxval and none over it (zeros, for one), lines at
+    /// least as wide as the frame, and the regions of the opening's parameters. On a fault, which is as `decode_frame` says it and never NoMemory,
     /// nothing is said of the places.
-    pub fn decode(
+    pub fn decode<S: Place>(
         &self,
         lines: &mut DecoderLines,
         regions: &Regions,
-        samples: &mut [u16],
+        samples: &mut [S],
     ) -> Result<usize, StreamFault>
         requires regions { regions.now ≡ self.now.parameters }
         requires width { self.now.width ≤ lines.old }
-        requires samples { length samples.old ≡ sample_count self.now.kind self.now.width self.now.height }
-        requires small { (k : ℕ) → slice_index samples.old k ≤ self.now.parameters.maxval }
-        ensures ok { IfOk result (λ used. (used ≤ length self.now.bytes) × Spells (take used self.now.bytes) (picture_of self.now samples.new)) }
+        requires fits { self.now.parameters.maxval ≤ S.most }
+        requires samples { length (S.numbers samples.old) ≡ sample_count self.now.kind self.now.width self.now.height }
+        requires small { (k : ℕ) → slice_index (S.numbers samples.old) k ≤ self.now.parameters.maxval }
+        ensures ok { IfOk result (λ used. (used ≤ length self.now.bytes) × Spells (take used self.now.bytes) (picture_of self.now (S.numbers samples.new))) }
         ensures complete { (front rest : List ℕ) (f : Picture) → self.now.bytes ≡ front ++ rest → Spells front f
-            → MatchResult result (λ used. (picture_of self.now samples.new ≡ f) × (used ≡ length front)) (λ fault. ⊥) }
+            → MatchResult result (λ used. (picture_of self.now (S.numbers samples.new) ≡ f) × (used ≡ length front)) (λ fault. ⊥) }
         ensures first { IfErr result (λ fault. IsFirstFault self.now.bytes fault) }
         ensures memory { IfErr result (λ fault. fault ≢ StreamFault.NoMemory) }
     {
@@ -235,12 +236,12 @@ impl<'a> Opening<'a> {
 }
 
 /// Reads the scans after an opening, which was read off the front of no more bytes than a codestream may have.
-fn decode_opened(
+fn decode_opened<S: Place>(
     bytes: &[u8],
     opening: (FrameHeader, Presets, &[u8]),
     lines: &mut DecoderLines,
     regions: &Regions,
-    samples: &mut [u16],
+    samples: &mut [S],
 ) -> Result<usize, StreamFault>
     requires opening { opening_at bytes.now ≡ Ok (opening.0, opening.1, opening.2.now) }
     requires some_width { 0 < opening.0.width }
@@ -248,13 +249,14 @@ fn decode_opened(
     requires few { sample_count opening.0.kind opening.0.width opening.0.height ≤ most_samples }
     requires regions { regions.now ≡ opening.1 }
     requires width { opening.0.width ≤ lines.old }
-    requires samples { length samples.old ≡ sample_count opening.0.kind opening.0.width opening.0.height }
-    requires small { (k : ℕ) → slice_index samples.old k ≤ opening.1.maxval }
+    requires fits { opening.1.maxval ≤ S.most }
+    requires samples { length (S.numbers samples.old) ≡ sample_count opening.0.kind opening.0.width opening.0.height }
+    requires small { (k : ℕ) → slice_index (S.numbers samples.old) k ≤ opening.1.maxval }
     ensures ok { IfOk result (λ used. (o : Outline) × (left : List ℕ) × (outline_at bytes.now ≡ Ok (o, left))
-        × IsFrame (picture opening.entry.0 opening.entry.1.maxval samples.new) × IsOutlineOf (picture opening.entry.0 opening.entry.1.maxval samples.new) o
+        × IsFrame (picture opening.entry.0 opening.entry.1.maxval (S.numbers samples.new)) × IsOutlineOf (picture opening.entry.0 opening.entry.1.maxval (S.numbers samples.new)) o
         × (used + length left ≡ length bytes.now)) }
     ensures only { IfOk result (λ used. (o : Outline) (left : List ℕ) (f : Picture) → outline_at bytes.now ≡ Ok (o, left)
-        → IsFrame f → IsOutlineOf f o → picture opening.entry.0 opening.entry.1.maxval samples.new ≡ f) }
+        → IsFrame f → IsOutlineOf f o → picture opening.entry.0 opening.entry.1.maxval (S.numbers samples.new) ≡ f) }
     ensures none { IfErr result (λ fault. (o : Outline) (left : List ℕ) (f : Picture) → outline_at bytes.now ≡ Ok (o, left)
         → IsFrame f → IsOutlineOf f o → ⊥) }
     ensures stops { IfErr result (λ fault. DecodingStops bytes.now fault) }
@@ -268,27 +270,29 @@ fn decode_opened(
 }
 
 /// Reads the scans of all components, of which the first one's header was read, into the samples; answers what is left after EOI.
-fn decode_scans<'a>(
+fn decode_scans<'a, S: Place>(
     presets: &Presets,
     regions: &Regions,
     header: &FrameHeader,
     lines: &mut DecoderLines,
-    samples: &mut [u16],
+    samples: &mut [S],
     bytes: &'a [u8],
 ) -> Result<&'a [u8], StreamFault>
     requires regions { regions.now ≡ presets.now }
     requires width { header.now.width ≤ lines.old }
     requires some { 0 < header.now.width }
     requires ids { length (ids_in header.now) ≡ components header.now.kind }
-    requires samples { length samples.old ≡ header.now.height * header.now.width * components header.now.kind }
-    requires small { (k : ℕ) → slice_index samples.old k ≤ presets.now.maxval }
+    requires fits { presets.now.maxval ≤ S.most }
+    requires samples { length (S.numbers samples.old) ≡ header.now.height * header.now.width * components header.now.kind }
+    requires few { header.now.height * header.now.width * components header.now.kind < 2 ^ 32 }
+    requires small { (k : ℕ) → slice_index (S.numbers samples.old) k ≤ presets.now.maxval }
     ensures scans { IfOk result (λ rest. (scans : List (List ℕ)) × (scans_at (drop 1 (ids_in header.now)) bytes.now ≡ Ok (scans, rest.now))
-        × AreScansOf presets.now header.now.width header.now.height (components header.now.kind) samples.new scans) }
+        × AreScansOf presets.now header.now.width header.now.height (components header.now.kind) (S.numbers samples.new) scans) }
     ensures none { IfErr result (λ fault. (scans : List (List ℕ)) (left : List ℕ) → scans_at (drop 1 (ids_in header.now)) bytes.now ≡ Ok (scans, left)
         → NoScans presets.now header.now.width header.now.height (components header.now.kind) scans) }
     ensures stops { IfErr result (λ fault. ScansStop presets.now header.now.width header.now.height 0 (drop 1 (ids_in header.now)) bytes.now fault) }
-    ensures small { (k : ℕ) → slice_index samples.new k ≤ presets.now.maxval }
-    ensures len { length samples.new ≡ length samples.old }
+    ensures small { (k : ℕ) → slice_index (S.numbers samples.new) k ≤ presets.now.maxval }
+    ensures len { length (S.numbers samples.new) ≡ length (S.numbers samples.old) }
 {
     let shape = shape_of(header);
     let last = shape.components - 1;
@@ -323,11 +327,11 @@ fn after_data(bytes: &[u8]) -> &[u8]
 
 /// Reads the data at the front of bytes, which is of a component's scan, into the component's places among the samples; answers what is
 /// left after it.
-fn decode_data<'a>(
+fn decode_data<'a, S: Place>(
     presets: &Presets,
     regions: &Regions,
     lines: &mut DecoderLines,
-    samples: &mut [u16],
+    samples: &mut [S],
     shape: Shape,
     component: usize,
     bytes: &'a [u8],
@@ -336,22 +340,24 @@ fn decode_data<'a>(
     requires width { shape.width ≤ lines.old }
     requires some { 1 ≤ shape.width }
     requires narrow { shape.width ≤ 65535 }
-    requires samples { length samples.old ≡ shape.height * shape.width * shape.components }
-    requires small { (k : ℕ) → slice_index samples.old k ≤ presets.now.maxval }
+    requires fits { presets.now.maxval ≤ S.most }
+    requires samples { length (S.numbers samples.old) ≡ shape.height * shape.width * shape.components }
+    requires few { shape.height * shape.width * shape.components < 2 ^ 32 }
+    requires small { (k : ℕ) → slice_index (S.numbers samples.old) k ≤ presets.now.maxval }
     requires component { component < shape.components }
-    requires few { shape.components ≤ 3 }
+    requires components { shape.components ≤ 3 }
     ensures rest { IfOk result (λ rest. rest.now ≡ after_data bytes.now) }
-    ensures coded { IfOk result (λ _. IsCoded presets.now (component_plane shape.width shape.components component samples.new) (data_at bytes.now)) }
+    ensures coded { IfOk result (λ _. IsCoded presets.now (component_plane shape.width shape.components component (S.numbers samples.new)) (data_at bytes.now)) }
     ensures only { IfOk result (λ _. (plane : Plane) → IsSamplePlane presets.now.maxval shape.width shape.height plane
-        → IsCoded presets.now plane (data_at bytes.now) → plane ≡ component_plane shape.width shape.components component samples.new) }
+        → IsCoded presets.now plane (data_at bytes.now) → plane ≡ component_plane shape.width shape.components component (S.numbers samples.new)) }
     ensures none { IfErr result (λ _. (plane : Plane) → IsSamplePlane presets.now.maxval shape.width shape.height plane
         → IsCoded presets.now plane (data_at bytes.now) → ⊥) }
     ensures breaks { IfErr result (λ fault. BreaksData presets.now shape.width shape.height component
         (data_at bytes.now) (stop_at (after_data bytes.now)) fault) }
     ensures others { (k other : ℕ) → other < shape.components → other ≢ component
-        → slice_index samples.new (k * shape.components + other) ≡ slice_index samples.old (k * shape.components + other) }
-    ensures small { (k : ℕ) → slice_index samples.new k ≤ presets.now.maxval }
-    ensures len { length samples.new ≡ length samples.old }
+        → slice_index (S.numbers samples.new) (k * shape.components + other) ≡ slice_index (S.numbers samples.old) (k * shape.components + other) }
+    ensures small { (k : ℕ) → slice_index (S.numbers samples.new) k ≤ presets.now.maxval }
+    ensures len { length (S.numbers samples.new) ≡ length (S.numbers samples.old) }
     ensures lines { lines.new ≡ lines.old }
 {
     let found = data_of(bytes);

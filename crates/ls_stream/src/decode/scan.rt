@@ -1,5 +1,5 @@
 //! The scan of one component: the rows of its plane, out of its data (T.87 Annex A).
-ghost use Rattle.std.specs.Prelude.{◌≡◌, ◌≢◌, ◌↔◌, ◌+◌, ◌*◌, ◌<◌, ◌≤◌, ◌++◌, ℕ, false, Bool, List, length, slice_index, vec_len, [], IfOk, IfErr};
+ghost use Rattle.std.specs.Prelude.{◌≡◌, ◌≢◌, ◌↔◌, ◌+◌, ◌*◌, ◌^◌, ◌<◌, ◌≤◌, ◌++◌, ℕ, false, Bool, List, length, slice_index, vec_len, [], IfOk, IfErr};
 ghost use Rattle.ls_bits.specs.Stuffing.{unstuff};
 ghost use Rattle.ls_bits.specs.Data.{IsData};
 ghost use Rattle.ls_coding.specs.View.States.{state_of};
@@ -16,7 +16,7 @@ use crate::lines::clear;
 use crate::shape::Shape;
 use ls_bits::{CodeFault, WordTable};
 use ls_coding::{Regions, State};
-use ls_frame::Presets;
+use ls_frame::{Place, Presets};
 
 /// Why a scan's data isn't that of a plane.
 #[derive(Clone, Copy, Debug, PartialEq, Eq)]
@@ -28,12 +28,12 @@ pub enum ScanFault {
 }
 
 /// Reads the plane of a component out of a scan's data, into its places among the samples.
-pub fn decode_scan(
+pub fn decode_scan<S: Place>(
     presets: &Presets,
     regions: &Regions,
     bytes: &[u8],
     lines: &mut DecoderLines,
-    samples: &mut [u16],
+    samples: &mut [S],
     shape: Shape,
     component: usize,
 ) -> Result<(), ScanFault>
@@ -42,19 +42,21 @@ pub fn decode_scan(
     requires width { shape.width ≤ lines.old }
     requires some { 1 ≤ shape.width }
     requires narrow { shape.width ≤ 65535 }
-    requires samples { length samples.old ≡ shape.height * shape.width * shape.components }
-    requires small { (k : ℕ) → slice_index samples.old k ≤ presets.now.maxval }
+    requires fits { presets.now.maxval ≤ S.most }
+    requires samples { length (S.numbers samples.old) ≡ shape.height * shape.width * shape.components }
+    requires few { shape.height * shape.width * shape.components < 2 ^ 32 }
+    requires small { (k : ℕ) → slice_index (S.numbers samples.old) k ≤ presets.now.maxval }
     requires component { component < shape.components }
-    ensures coded { IfOk result (λ _. IsCoded presets.now (component_plane shape.width shape.components component samples.new) bytes.now) }
+    ensures coded { IfOk result (λ _. IsCoded presets.now (component_plane shape.width shape.components component (S.numbers samples.new)) bytes.now) }
     ensures only { IfOk result (λ _. (plane : Plane) → IsSamplePlane presets.now.maxval shape.width shape.height plane
-        → IsCoded presets.now plane bytes.now → plane ≡ component_plane shape.width shape.components component samples.new) }
+        → IsCoded presets.now plane bytes.now → plane ≡ component_plane shape.width shape.components component (S.numbers samples.new)) }
     ensures none { IfErr result (λ _. (plane : Plane) → IsSamplePlane presets.now.maxval shape.width shape.height plane
         → IsCoded presets.now plane bytes.now → ⊥) }
     ensures fault { IfErr result (λ fault. ScanBreaks presets.now shape.width shape.height (unstuff bytes.now) fault) }
     ensures others { (k other : ℕ) → other < shape.components → other ≢ component
-        → slice_index samples.new (k * shape.components + other) ≡ slice_index samples.old (k * shape.components + other) }
-    ensures small { (k : ℕ) → slice_index samples.new k ≤ presets.now.maxval }
-    ensures len { length samples.new ≡ length samples.old }
+        → slice_index (S.numbers samples.new) (k * shape.components + other) ≡ slice_index (S.numbers samples.old) (k * shape.components + other) }
+    ensures small { (k : ℕ) → slice_index (S.numbers samples.new) k ≤ presets.now.maxval }
+    ensures len { length (S.numbers samples.new) ≡ length (S.numbers samples.old) }
     ensures lines { lines.new ≡ lines.old }
 {
     let mut state = State::new(presets);
@@ -79,12 +81,12 @@ pub fn decode_scan(
 }
 
 /// Reads a component's plane, at a scan's start; `above`, `line` and `half_contexts` are buffers for what a row is read by.
-fn decode_plane(
+fn decode_plane<S: Place>(
     decoder: &mut Decoder,
     above: &mut Vec<u16>,
     line: &mut Vec<u16>,
     half_contexts: &mut Vec<i16>,
-    samples: &mut [u16],
+    samples: &mut [S],
     shape: Shape,
     component: usize,
 ) -> Result<(), CodeFault>
@@ -93,22 +95,24 @@ fn decode_plane(
     requires half_contexts { shape.width ≤ vec_len half_contexts.old }
     requires some { 1 ≤ shape.width }
     requires narrow { shape.width ≤ 65535 }
-    requires samples { length samples.old ≡ shape.height * shape.width * shape.components }
-    requires small { (k : ℕ) → slice_index samples.old k ≤ decoder.old.state.parameters.maxval }
+    requires fits { decoder.old.state.parameters.maxval ≤ S.most }
+    requires samples { length (S.numbers samples.old) ≡ shape.height * shape.width * shape.components }
+    requires few { shape.height * shape.width * shape.components < 2 ^ 32 }
+    requires small { (k : ℕ) → slice_index (S.numbers samples.old) k ≤ decoder.old.state.parameters.maxval }
     requires component { component < shape.components }
     requires state { decoder.old.state ≡ state_of decoder.old.state.parameters [] }
     ensures plane { IfOk result (λ _. decoder.old.bits
-        ≡ plane_bits decoder.old.state.parameters (component_plane shape.width shape.components component samples.new) ++ decoder.new.bits) }
+        ≡ plane_bits decoder.old.state.parameters (component_plane shape.width shape.components component (S.numbers samples.new)) ++ decoder.new.bits) }
     ensures only { IfOk result (λ _. (plane : Plane) → IsSamplePlane decoder.old.state.parameters.maxval shape.width shape.height plane → (rest : List Bool)
         → decoder.old.bits ≡ plane_bits decoder.old.state.parameters plane ++ rest
-        → (plane ≡ component_plane shape.width shape.components component samples.new) × (rest ≡ decoder.new.bits)) }
+        → (plane ≡ component_plane shape.width shape.components component (S.numbers samples.new)) × (rest ≡ decoder.new.bits)) }
     ensures none { IfErr result (λ _. (plane : Plane) → IsSamplePlane decoder.old.state.parameters.maxval shape.width shape.height plane → (rest : List Bool)
         → decoder.old.bits ≡ plane_bits decoder.old.state.parameters plane ++ rest → ⊥) }
     ensures breaks { IfErr result (λ fault. BreaksPlane decoder.old.state.parameters shape.width shape.height decoder.old.bits fault) }
     ensures others { (k other : ℕ) → other < shape.components → other ≢ component
-        → slice_index samples.new (k * shape.components + other) ≡ slice_index samples.old (k * shape.components + other) }
-    ensures small { (k : ℕ) → slice_index samples.new k ≤ decoder.old.state.parameters.maxval }
-    ensures len { length samples.new ≡ length samples.old }
+        → slice_index (S.numbers samples.new) (k * shape.components + other) ≡ slice_index (S.numbers samples.old) (k * shape.components + other) }
+    ensures small { (k : ℕ) → slice_index (S.numbers samples.new) k ≤ decoder.old.state.parameters.maxval }
+    ensures len { length (S.numbers samples.new) ≡ length (S.numbers samples.old) }
     ensures above { vec_len above.new ≡ vec_len above.old }
     ensures line { vec_len line.new ≡ vec_len line.old }
     ensures half_contexts { vec_len half_contexts.new ≡ vec_len half_contexts.old }
@@ -126,12 +130,12 @@ fn decode_plane(
 }
 
 /// Reads the rows of one component; `above`, `line` and `half_contexts` are buffers for what a row is read by.
-fn decode_rows(
+fn decode_rows<S: Place>(
     decoder: &mut Decoder,
     above: &mut [u16],
     line: &mut [u16],
     half_contexts: &mut [i16],
-    samples: &mut [u16],
+    samples: &mut [S],
     shape: Shape,
     component: usize,
 ) -> Result<(), CodeFault>
@@ -140,21 +144,23 @@ fn decode_rows(
     requires half_contexts { length half_contexts.old ≡ shape.width }
     requires some { 1 ≤ shape.width }
     requires narrow { shape.width ≤ 65535 }
-    requires samples { length samples.old ≡ shape.height * shape.width * shape.components }
-    requires small { (k : ℕ) → slice_index samples.old k ≤ decoder.old.state.parameters.maxval }
+    requires fits { decoder.old.state.parameters.maxval ≤ S.most }
+    requires samples { length (S.numbers samples.old) ≡ shape.height * shape.width * shape.components }
+    requires few { shape.height * shape.width * shape.components < 2 ^ 32 }
+    requires small { (k : ℕ) → slice_index (S.numbers samples.old) k ≤ decoder.old.state.parameters.maxval }
     requires component { component < shape.components }
     requires uninterrupted { decoder.old.state.interrupted ≡ false }
     ensures rows { IfOk result (λ _. (plane : Plane) → IsSamplePlane decoder.old.state.parameters.maxval shape.width shape.height plane → (rest : List Bool)
-        → RowsMayBeRead plane shape.height 0 shape.components component samples.old decoder.old.state decoder.old.bits rest
-        ↔ RowsMayBeRead plane shape.height shape.height shape.components component samples.new decoder.new.state decoder.new.bits rest) }
+        → RowsMayBeRead plane shape.height 0 shape.components component (S.numbers samples.old) decoder.old.state decoder.old.bits rest
+        ↔ RowsMayBeRead plane shape.height shape.height shape.components component (S.numbers samples.new) decoder.new.state decoder.new.bits rest) }
     ensures none { IfErr result (λ _. (plane : Plane) → IsSamplePlane decoder.old.state.parameters.maxval shape.width shape.height plane → (rest : List Bool)
-        → RowsMayBeRead plane shape.height 0 shape.components component samples.old decoder.old.state decoder.old.bits rest → ⊥) }
+        → RowsMayBeRead plane shape.height 0 shape.components component (S.numbers samples.old) decoder.old.state decoder.old.bits rest → ⊥) }
     ensures breaks { IfErr result (λ fault. (plane : Plane) × IsSamplePlane decoder.old.state.parameters.maxval shape.width shape.height plane
         × BreaksSpans plane (spans plane) decoder.old.state decoder.old.bits fault) }
     ensures others { (k other : ℕ) → other < shape.components → other ≢ component
-        → slice_index samples.new (k * shape.components + other) ≡ slice_index samples.old (k * shape.components + other) }
-    ensures small { (k : ℕ) → slice_index samples.new k ≤ decoder.old.state.parameters.maxval }
-    ensures len { length samples.new ≡ length samples.old }
+        → slice_index (S.numbers samples.new) (k * shape.components + other) ≡ slice_index (S.numbers samples.old) (k * shape.components + other) }
+    ensures small { (k : ℕ) → slice_index (S.numbers samples.new) k ≤ decoder.old.state.parameters.maxval }
+    ensures len { length (S.numbers samples.new) ≡ length (S.numbers samples.old) }
 {
     clear(above);
     clear(line);
@@ -169,23 +175,27 @@ fn decode_rows(
 }
 
 /// Puts the samples of a row, which stand in a line after its first place, where they belong among those of all components.
-fn store_row(samples: &mut [u16], line: &[u16], row: usize, shape: Shape, component: usize)
+fn store_row<S: Place>(
+    samples: &mut [S],
+    line: &[u16],
+    row: usize,
+    shape: Shape,
+    component: usize,
+)
     requires line { length line.now ≡ shape.width + 2 }
-    requires samples { length samples.old ≡ shape.height * shape.width * shape.components }
+    requires fits { (k : ℕ) → slice_index line.now k ≤ S.most }
+    requires samples { length (S.numbers samples.old) ≡ shape.height * shape.width * shape.components }
+    requires few { shape.height * shape.width * shape.components < 2 ^ 32 }
     requires row { row < shape.height }
     requires component { component < shape.components }
     ensures stored { (j : ℕ) → j < shape.width
-        → slice_index samples.new ((row * shape.width + j) * shape.components + component) ≡ slice_index line.now (j + 1) }
+        → slice_index (S.numbers samples.new) ((row * shape.width + j) * shape.components + component) ≡ slice_index line.now (j + 1) }
     ensures kept { (k : ℕ) → ((j : ℕ) → j < shape.width → k ≢ (row * shape.width + j) * shape.components + component)
-        → slice_index samples.new k ≡ slice_index samples.old k }
-    ensures len { length samples.new ≡ length samples.old }
+        → slice_index (S.numbers samples.new) k ≡ slice_index (S.numbers samples.old) k }
+    ensures len { length (S.numbers samples.new) ≡ length (S.numbers samples.old) }
 {
-    if shape.components == 1 {
-        let start = row * shape.width;
-        samples[start..start + shape.width].copy_from_slice(&line[1..shape.width + 1]);
-        return;
-    }
     for column in 0..shape.width {
-        samples[(row * shape.width + column) * shape.components + component] = line[column + 1];
+        let place = (row * shape.width + column) * shape.components + component;
+        S::put(samples, place, line[column + 1]);
     }
 }

@@ -1,5 +1,6 @@
 use Rattle.std.proofs.Common.{◌≡◌, ℕ, ◌+◌, ◌*◌, ◌<◌, ◌≤◌, length, get_or, sym, ◌∙◌, ap, subst, arith}
 use Rattle.std.proofs.Math.ListN.{set}
+use Rattle.std.proofs.Math.Nat.{le_trans}
 use Rattle.std.proofs.lemmas.List.{get_or-set_same, get_or-set_other, length-set}
 use Rattle.ls_coding.proofs.RegularLemmas.{err_always}
 use Rattle.ls_frame.specs.Parameters.{Parameters}
@@ -13,19 +14,19 @@ use Rattle.ls_stream.proofs.StoringLemmas.{other_row, other_component, small_sto
 use Rattle.ls_stream.proofs.decode.scan.decode_rows.Goals as goal
 
 pub returns-in_err-decode_row-clause-none : goal.returns-in_err-decode_row-clause-none
-returns-in_err-decode_row-clause-none c =
+returns-in_err-decode_row-clause-none g c =
     let maxval : ℕ = c.args.decoder.now.state.parameters.maxval in
     let line = set c.loop-row.line 0 (get_or c.loop-row.above 1 0) in
     let first : get_or line 0 0 ≡ get_or c.loop-row.above 1 0 = get_or-set_same c.loop-row.line 0 (get_or c.loop-row.above 1 0) 0 (omega (arith, c.loop-row.invariant.line_length)) in
     err_always c.from_residual.result _
     (λ plane is rest m.
-    no_row maxval c.args.shape.width c.args.shape.height c.args.shape.components c.args.component c.loop-row.row c.loop-row.above line c.loop-row.samples c.loop-row.decoder.state c.loop-row.decoder.bits plane rest
+    no_row maxval c.args.shape.width c.args.shape.height c.args.shape.components c.args.component c.loop-row.row c.loop-row.above line (g.S.Place.numbers c.loop-row.samples) c.loop-row.decoder.state c.loop-row.decoder.bits plane rest
     c.loop-row-test.true c.requires.some is (c.loop-row.invariant.held plane is)
     (subst (λ (p : Parameters). IsNoPlane p.maxval c.args.shape.width c.loop-row.above (place 0 line c.loop-row.decoder.state c.loop-row.decoder.bits)) c.loop-row.invariant.parameters c.in_err-decode_row.ensures.stops.none)
     first ((c.loop-row.invariant.same plane is rest).0 m))
 
 pub loop-row-preserved : goal.loop-row-preserved
-loop-row-preserved c =
+loop-row-preserved g c =
     let maxval : ℕ = c.args.decoder.now.state.parameters.maxval in
     let width : ℕ = c.args.shape.width in
     let height : ℕ = c.args.shape.height in
@@ -43,29 +44,29 @@ loop-row-preserved c =
     let read_length : length read ≡ width + 2 = c.in_ok-decode_row.ensures.on.lines.line_length in
     let last = set read (width + 1) (get_or read width 0) in
     let same_places : (k : ℕ) → k ≤ width → get_or last k 0 ≡ get_or read k 0 = λ k h. get_or-set_other read (width + 1) k (get_or read width 0) 0 (λ e. absurd (omega arith)) in
-    let stored : IsStored width count component row c.loop-row.samples c.store_row.new.samples read = record {
+    let stored : IsStored width count component row (g.S.Place.numbers c.loop-row.samples) (g.S.Place.numbers c.store_row.new.samples) read = record {
       stored = λ j h. c.store_row.ensures.stored j h ∙ same_places (j + 1) (omega arith);
       kept = λ r j h k. c.store_row.ensures.kept ((r * width + j) * count + component) (λ i l. other_row r row width j i count component h k c.requires.component);
     } in
     let last_small : (k : ℕ) → get_or last k 0 ≤ maxval = small_more maxval (width + 1) (get_or read width 0) read read_small (read_small width) (omega arith) in
     record {
       same = λ plane is rest.
-          let one = row_read maxval width height count component row c.loop-row.above line read c.loop-row.samples c.store_row.new.samples c.loop-row.decoder.state c.decode_row.new.decoder.state c.loop-row.decoder.bits c.decode_row.new.decoder.bits plane rest
+          let one = row_read maxval width height count component row c.loop-row.above line read (g.S.Place.numbers c.loop-row.samples) (g.S.Place.numbers c.store_row.new.samples) c.loop-row.decoder.state c.decode_row.new.decoder.state c.loop-row.decoder.bits c.decode_row.new.decoder.bits plane rest
           inside c.requires.some is (c.loop-row.invariant.held plane is) same first c.in_ok-decode_row.ensures.on.first stored in
           (λ m. one.0 ((c.loop-row.invariant.same plane is rest).0 m), λ m. (c.loop-row.invariant.same plane is rest).1 (one.1 m));
       held = λ plane is rows.
           subst (λ xs. HoldsLine plane (row + 1) xs) (sym c.copy_from_slice.ensures.after)
-          (line_held maxval width height count component row c.loop-row.above line read c.loop-row.samples c.store_row.new.samples plane
+          (line_held maxval width height count component row c.loop-row.above line read (g.S.Place.numbers c.loop-row.samples) (g.S.Place.numbers c.store_row.new.samples) plane
           inside c.requires.some is (c.loop-row.invariant.held plane is) first c.in_ok-decode_row.ensures.on.first read_length stored rows);
       breaks = λ plane is rows fault malformed.
-          let before = rows_later c.args.decoder.now.state.parameters c.loop-row.decoder.state.parameters width height count component row c.loop-row.above line read c.loop-row.samples c.store_row.new.samples
+          let before = rows_later c.args.decoder.now.state.parameters c.loop-row.decoder.state.parameters width height count component row c.loop-row.above line read (g.S.Place.numbers c.loop-row.samples) (g.S.Place.numbers c.store_row.new.samples)
           c.loop-row.decoder.state c.decode_row.new.decoder.state c.loop-row.decoder.bits c.decode_row.new.decoder.bits plane fault c.loop-row.invariant.parameters
           inside c.requires.some is (c.loop-row.invariant.held plane is) c.in_ok-decode_row.ensures.on.later first c.in_ok-decode_row.ensures.on.first stored rows malformed in
           c.loop-row.invariant.breaks plane is before.0 fault before.1;
       others = λ k other h differs.
           c.store_row.ensures.kept (k * count + other) (λ j l. other_component k other (row * width + j) count component h c.requires.component differs)
           ∙ c.loop-row.invariant.others k other h differs;
-      small = small_stored maxval width count component row c.loop-row.samples c.store_row.new.samples last c.loop-row.invariant.small last_small c.store_row.ensures.stored c.store_row.ensures.kept;
+      small = small_stored maxval width count component row (g.S.Place.numbers c.loop-row.samples) (g.S.Place.numbers c.store_row.new.samples) last c.loop-row.invariant.small last_small c.store_row.ensures.stored c.store_row.ensures.kept;
       above_small = λ k. subst (λ xs. get_or xs k 0 ≤ maxval) (sym c.copy_from_slice.ensures.after) (last_small k);
       line_small = last_small;
       above_length = ap length c.copy_from_slice.ensures.after ∙ length-set read (width + 1) (get_or read width 0) ∙ read_length;
@@ -77,7 +78,7 @@ loop-row-preserved c =
     }
 
 pub returns-in_err-decode_row-clause-breaks : goal.returns-in_err-decode_row-clause-breaks
-returns-in_err-decode_row-clause-breaks c =
+returns-in_err-decode_row-clause-breaks g c =
     let p : Parameters = c.args.decoder.now.state.parameters in
     let width : ℕ = c.args.shape.width in
     let height : ℕ = c.args.shape.height in
@@ -85,7 +86,18 @@ returns-in_err-decode_row-clause-breaks c =
     let first : get_or line 0 0 ≡ get_or c.loop-row.above 1 0 = get_or-set_same c.loop-row.line 0 (get_or c.loop-row.above 1 0) 0 (omega (arith, c.loop-row.invariant.line_length)) in
     let fault = err_from_is_err_and c.from_residual.result c.from_residual.ensures.1 in
     rw (fault.1, fault.2)
-    (rows_malformed p width height c.args.shape.components c.args.component c.loop-row.row c.loop-row.samples c.args.decoder.now.state c.loop-row.decoder.state c.args.decoder.now.bits c.loop-row.decoder.bits _
+    (rows_malformed p width height c.args.shape.components c.args.component c.loop-row.row (g.S.Place.numbers c.loop-row.samples) c.args.decoder.now.state c.loop-row.decoder.state c.args.decoder.now.bits c.loop-row.decoder.bits _
     c.requires.some c.loop-row.invariant.breaks
-    (row_malformed p c.loop-row.decoder.state.parameters width height c.args.shape.components c.args.component c.loop-row.row c.loop-row.above line c.loop-row.samples c.loop-row.decoder.state c.loop-row.decoder.bits _
+    (row_malformed p c.loop-row.decoder.state.parameters width height c.args.shape.components c.args.component c.loop-row.row c.loop-row.above line (g.S.Place.numbers c.loop-row.samples) c.loop-row.decoder.state c.loop-row.decoder.bits _
     c.loop-row.invariant.parameters c.loop-row-test.true c.requires.some c.loop-row.invariant.held c.loop-row.invariant.small first c.in_err-decode_row.ensures.stops.breaks))
+
+-- what is stored of a row fits its places
+pub store_row-requires-clause-fits : goal.store_row-requires-clause-fits
+store_row-requires-clause-fits g c =
+    let maxval : ℕ = c.args.decoder.now.state.parameters.maxval in
+    let width : ℕ = c.args.shape.width in
+    let read = c.decode_row.new.line in
+    let read_small : (k : ℕ) → get_or read k 0 ≤ maxval = subst (λ (p : Parameters). (k : ℕ) → get_or read k 0 ≤ p.maxval) (c.in_ok-decode_row.ensures.on.parameters ∙ c.loop-row.invariant.parameters) c.in_ok-decode_row.ensures.on.lines.line_small in
+    let read_length : length read ≡ width + 2 = c.in_ok-decode_row.ensures.on.lines.line_length in
+    let last_small : (k : ℕ) → get_or (set read (width + 1) (get_or read width 0)) k 0 ≤ maxval = small_more maxval (width + 1) (get_or read width 0) read read_small (read_small width) (omega arith) in
+    λ k. le_trans (last_small k) c.requires.fits

@@ -6,12 +6,12 @@ use Rattle.ls_stream.proofs.ScanReadingLemmas.{is_sample_plane}
 use Rattle.ls_stream.proofs.decode.scan.decode_scan.Goals as goal
 
 pub returns-then-left-ge16-clause-fault : goal.returns-then-left-ge16-clause-fault
-returns-then-left-ge16-clause-fault c =
+returns-then-left-ge16-clause-fault g c =
     let p : Parameters = c.args.presets.now in
     let width : ℕ = c.args.shape.width in
     let count : ℕ = c.args.shape.components in
     let component : ℕ = c.args.component in
-    let new = c.decode_plane-read.new.samples in
+    let new = (g.S.Place.numbers c.decode_plane-read.new.samples) in
     let coder : c.new-decoder.result.state.parameters ≡ p = c.new-decoder.ensures.parameters in
     let some : 1 ≤ count = omega (arith, c.requires.component) in
     record {
