@@ -3,6 +3,7 @@ ghost use Rattle.std.specs.Prelude.{◌≡◌, ◌⊎◌, ◌+◌, ◌*◌, ◌<
 ghost use Rattle.std.specs.List.{AllByRecursion};
 ghost use Rattle.ls_frame.specs.Picture.{Picture, IsFrame, sample_count, most_samples};
 ghost use Rattle.ls_frame.specs.Parameters.{IsLegal};
+ghost use Rattle.ls_frame.specs.View.Numbers.{numbers};
 ghost use Rattle.ls_stream.specs.Grammar.{Spells};
 ghost use Rattle.ls_stream.specs.Layout.{codestream};
 ghost use Rattle.ls_stream.specs.Grammar.{most_bytes};
@@ -16,11 +17,11 @@ ghost use Rattle.ls_c.specs.Requests.{shaped};
 
 use crate::form::{JlsrecFault, JlsrecForm, details_of, form_by, no_details, no_form};
 use crate::refusal::{NO_MEMORY, Refusal};
-use crate::request::{Request, Shape, adjacent, joined, request_of, widened};
-use ls_frame::{Frame, FrameView, Presets};
+use crate::request::{Request, Shape, adjacent, joined, request_of};
+use ls_frame::{FrameView, Place, Presets, Samples};
 use ls_stream::laws::codestreams_spell_their_frames;
 use ls_stream::{
-    DecoderLines, Lines, Opening, Regions, StreamFault, encode_into, encode_with, view_bound,
+    DecoderLines, Lines, Opening, Regions, StreamFault, encode_into, encode_view, view_bound,
 };
 use std::alloc::Global;
 
@@ -45,7 +46,7 @@ pub fn encode_words(
             alloc,
             request.shape,
             &request.presets,
-            samples,
+            Samples::Words(samples),
             bytes,
             written,
         );
@@ -55,7 +56,7 @@ pub fn encode_words(
         alloc,
         request.shape,
         &request.presets,
-        &joined,
+        Samples::Words(&joined),
         bytes,
         written,
     )
@@ -78,23 +79,21 @@ pub fn encode_bytes(
         Err(refused) => return Err(refused),
     };
     if let Some(samples) = adjacent(&request, samples) {
-        let samples = widened(alloc, samples)?;
         return encode_joined(
             alloc,
             request.shape,
             &request.presets,
-            &samples,
+            Samples::Bytes(samples),
             bytes,
             written,
         );
     }
     let joined = joined(alloc, &request.rows, samples)?;
-    let widened = widened(alloc, &joined)?;
     encode_joined(
         alloc,
         request.shape,
         &request.presets,
-        &widened,
+        Samples::Bytes(&joined),
         bytes,
         written,
     )
@@ -105,7 +104,7 @@ fn encode_joined(
     alloc: Global,
     shape: Shape,
     presets: &Presets,
-    samples: &[u16],
+    samples: Samples,
     bytes: &mut [u8],
     written: &mut usize,
 ) -> Result<(), Refusal>
@@ -115,17 +114,17 @@ fn encode_joined(
     requires maxval { presets.now.maxval ≡ shape.maxval }
     requires legal { IsLegal presets.now }
     requires few { sample_count shape.kind shape.width shape.height ≤ most_samples }
-    requires count { length samples.now ≡ sample_count shape.kind shape.width shape.height }
+    requires count { length (numbers samples) ≡ sample_count shape.kind shape.width shape.height }
     requires nothing { written.old ≡ 0 }
     ensures exactly { (result ≡ Err (Refusal.Stream StreamFault.NoMemory))
-        ⊎ (status_of result ≡ status_by (coding_refusal (shaped shape samples.now) presets.now (length bytes.old))) }
-    ensures frame { OnOk result (IsFrame (shaped shape samples.now)) }
-    ensures done { OnOk result (bytes.new ≡ codestream (shaped shape samples.now) presets.now ++ drop written.new bytes.old) }
-    ensures spells { OnOk result (Spells (codestream (shaped shape samples.now) presets.now) (shaped shape samples.now)) }
-    ensures written { OnOk result (written.new ≡ length (codestream (shaped shape samples.now) presets.now)) }
+        ⊎ (status_of result ≡ status_by (coding_refusal (shaped shape (numbers samples.entry)) presets.now (length bytes.old))) }
+    ensures frame { OnOk result (IsFrame (shaped shape (numbers samples.entry))) }
+    ensures done { OnOk result (bytes.new ≡ codestream (shaped shape (numbers samples.entry)) presets.now ++ drop written.new bytes.old) }
+    ensures spells { OnOk result (Spells (codestream (shaped shape (numbers samples.entry)) presets.now) (shaped shape (numbers samples.entry))) }
+    ensures written { OnOk result (written.new ≡ length (codestream (shaped shape (numbers samples.entry)) presets.now)) }
     ensures kept { OnErr result (bytes.new ≡ bytes.old) }
     ensures need { result ≡ Err Refusal.NoRoom
-        → (written.new ≡ length (codestream (shaped shape samples.now) presets.now)) × (length bytes.old < written.new) }
+        → (written.new ≡ length (codestream (shaped shape (numbers samples.entry)) presets.now)) × (length bytes.old < written.new) }
     ensures none { IfErr result (λ refused. (refused ≡ Refusal.NoRoom) ⊎ (written.new ≡ 0)) }
 {
     codestreams_spell_their_frames();
@@ -160,17 +159,7 @@ fn encode_apart(
         → (written.new ≡ length (codestream frame.now presets.now)) × (length bytes.old < written.new) }
     ensures none { IfErr result (λ refused. (refused ≡ Refusal.NoRoom) ⊎ (written.new ≡ 0)) }
 {
-    let samples = Vec::from_slice(alloc, frame.samples())?;
-    let frame = Frame::from_parts(
-        frame.kind(),
-        frame.width(),
-        frame.height(),
-        frame.maxval(),
-        samples,
-    );
-    let Ok(codestream) = encode_with(alloc, &frame, presets) else {
-        return Err(NO_MEMORY);
-    };
+    let codestream = encode_view(alloc, frame, presets)?;
     let count = codestream.len();
     *written = count;
     if count > bytes.len() {
@@ -226,9 +215,9 @@ pub fn decode_bytes(
         Ok(opening) => opening,
         Err(refused) => return Err(refused),
     };
-    match decode_apart(alloc, &opening) {
-        Ok((found, taken)) => {
-            lay_narrowed(&found, samples);
+    let count = opening.sample_count();
+    match decode_at(alloc, &opening, &mut samples[..count]) {
+        Ok(taken) => {
             *used = taken;
             Ok(())
         }
@@ -237,17 +226,6 @@ pub fn decode_bytes(
             *fault = details_of(first);
             Err(Refusal::Stream(first))
         }
-    }
-}
-
-/// Lays samples of at most 255 at the front of others.
-fn lay_narrowed(found: &[u16], samples: &mut [u8])
-    requires small { AllByRecursion (λ sample. sample ≤ 255) found.now }
-    requires room { length found.now ≤ length samples.old }
-    ensures { samples.new ≡ laid found.now samples.old }
-{
-    for place in 0..found.len() {
-        samples[place] = found[place] as u8;
     }
 }
 
@@ -288,42 +266,25 @@ fn open<'a>(
 }
 
 /// Decodes the frame of an opening into its samples' places.
-fn decode_at(alloc: Global, opening: &Opening, places: &mut [u16]) -> Result<usize, StreamFault>
-    requires samples { length places.old ≡ sample_count opening.now.kind opening.now.width opening.now.height }
-    ensures ok { IfOk result (λ used. (used ≤ length opening.now.bytes) × Spells (take used opening.now.bytes) (picture_of opening.now places.new)) }
+fn decode_at<S: Place>(
+    alloc: Global,
+    opening: &Opening,
+    places: &mut [S],
+) -> Result<usize, StreamFault>
+    requires fits { opening.now.parameters.maxval ≤ S.most }
+    requires samples { length (S.numbers places.old) ≡ sample_count opening.now.kind opening.now.width opening.now.height }
+    ensures ok { IfOk result (λ used. (used ≤ length opening.now.bytes)
+        × Spells (take used opening.now.bytes) (picture_of opening.now (S.numbers places.new))) }
     ensures complete { (front rest : List ℕ) (f : Picture) → opening.now.bytes ≡ front ++ rest → Spells front f
-        → MatchResult result (λ used. (picture_of opening.now places.new ≡ f) × (used ≡ length front)) (λ fault. fault ≡ StreamFault.NoMemory) }
+        → MatchResult result (λ used. (picture_of opening.now (S.numbers places.new) ≡ f) × (used ≡ length front)) (λ fault. fault ≡ StreamFault.NoMemory) }
     ensures first { IfErr result (λ fault. (fault ≡ StreamFault.NoMemory) ⊎ IsFirstFault opening.now.bytes fault) }
-    ensures kept { IfErr result (λ fault. fault ≡ StreamFault.NoMemory → places.new ≡ places.old) }
+    ensures kept { IfErr result (λ fault. fault ≡ StreamFault.NoMemory → S.numbers places.new ≡ S.numbers places.old) }
 {
     let mut lines = DecoderLines::new(alloc, opening.width())?;
     let regions = Regions::new(alloc, opening.presets())?;
-    clear(places);
+    S::clear(places);
     match opening.decode(&mut lines, &regions, places) {
         Ok(used) => Ok(used),
         Err(fault) => Err(fault),
-    }
-}
-
-/// Decodes the frame of an opening in memory of its own: its samples, and how many bytes its codestream has.
-fn decode_apart(alloc: Global, opening: &Opening) -> Result<(Vec<u16>, usize), StreamFault>
-    ensures ok { IfOk result (λ found. (found.1 ≤ length opening.now.bytes) × Spells (take found.1 opening.now.bytes) (picture_of opening.now found.0.items)) }
-    ensures complete { (front rest : List ℕ) (f : Picture) → opening.now.bytes ≡ front ++ rest → Spells front f
-        → MatchResult result (λ found. (picture_of opening.now found.0.items ≡ f) × (found.1 ≡ length front)) (λ fault. fault ≡ StreamFault.NoMemory) }
-    ensures first { IfErr result (λ fault. (fault ≡ StreamFault.NoMemory) ⊎ IsFirstFault opening.now.bytes fault) }
-{
-    let mut found = vec![in alloc; 0u16; opening.sample_count()]?;
-    match decode_at(alloc, opening, &mut found) {
-        Ok(used) => Ok((found, used)),
-        Err(fault) => Err(fault),
-    }
-}
-
-/// Writes 0 into each place.
-fn clear(places: &mut [u16])
-    ensures { (k : ℕ) → k < length places.new → slice_index places.new k ≡ 0 }
-{
-    for place in places.iter_mut() {
-        *place = 0;
     }
 }

@@ -188,16 +188,6 @@ pub fn joined<T: Copy>(alloc: Global, rows: &Rows, samples: &[T]) -> Result<Vec<
     Ok(joined)
 }
 
-/// Samples of 8 bits, each in 16.
-pub fn widened(alloc: Global, samples: &[u8]) -> Result<Vec<u16>, AllocError>
-    ensures { IfOk result (λ widened. widened.items ≡ samples.now) }
-{
-    samples
-        .iter()
-        .map(|sample| u16::from(*sample))
-        .collect(alloc)
-}
-
 /// The samples of rows that follow one another; `None` of others.
 pub fn adjacent<'a, T>(request: &Request, samples: &'a [T]) -> Option<&'a [T]>
     ensures { IfSome result (λ front. (request.now.rows.stride ≡ request.now.rows.row)

@@ -1,5 +1,5 @@
 //! Samples in memory of their maker's, of 8 or of 16 bits, and places for such.
-ghost use Rattle.std.specs.Prelude.{◌≡◌, ℕ, ◌+◌, ◌<◌, ◌≤◌, List, length, take, drop, nat_lt, position, fold, max, set};
+ghost use Rattle.std.specs.Prelude.{◌≡◌, ℕ, ◌+◌, ◌<◌, ◌≤◌, List, length, slice_index, take, drop, nat_lt, position, fold, max, set};
 ghost use Rattle.ls_frame.specs.View.Numbers.{numbers};
 
 /// Samples one after the other, each a number of its size.
@@ -55,6 +55,11 @@ pub trait Place {
         requires inside { place < length (numbers places.old) }
         requires small { sample ≤ most }
         ensures { numbers places.new ≡ set (numbers places.old) place sample };
+
+    /// Puts 0 into each place.
+    fn clear(places: &mut [Self])
+        ensures zeros { (k : ℕ) → k < length (numbers places.new) → slice_index (numbers places.new) k ≡ 0 }
+        ensures len { length (numbers places.new) ≡ length (numbers places.old) };
 }
 
 impl Place for u8 {
@@ -66,6 +71,10 @@ impl Place for u8 {
     fn put(places: &mut [u8], place: usize, sample: u16) {
         places[place] = sample as u8;
     }
+
+    fn clear(places: &mut [u8]) {
+        clear_bytes(places);
+    }
 }
 
 impl Place for u16 {
@@ -76,6 +85,10 @@ impl Place for u16 {
     #[inline(always)]
     fn put(places: &mut [u16], place: usize, sample: u16) {
         places[place] = sample;
+    }
+
+    fn clear(places: &mut [u16]) {
+        clear_words(places);
     }
 }
 
@@ -116,4 +129,20 @@ fn greatest_word(words: &[u16]) -> u16
     words
         .iter()
         .fold(0, |greatest: u16, word| greatest.max(*word))
+}
+
+fn clear_bytes(places: &mut [u8])
+    ensures { (k : ℕ) → k < length places.new → slice_index places.new k ≡ 0 }
+{
+    for place in places.iter_mut() {
+        *place = 0;
+    }
+}
+
+fn clear_words(places: &mut [u16])
+    ensures { (k : ℕ) → k < length places.new → slice_index places.new k ≡ 0 }
+{
+    for place in places.iter_mut() {
+        *place = 0;
+    }
 }

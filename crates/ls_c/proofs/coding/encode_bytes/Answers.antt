@@ -10,11 +10,11 @@ pub encode_joined-requires-clause-count : goal.encode_joined-requires-clause-cou
 encode_joined-requires-clause-count c =
     let near : c.in-Some.samples.now ≡ rows_of c.in-Ok.request.rows.row c.in-Ok.request.rows.stride c.in-Ok.request.rows.height c.args.samples.now =
     adjacent_rows c.args.form.now c.args.stride c.args.samples.now c.in-Some.samples.now c.in-Ok.request c.in-Ok.ensures.asked c.in-Some.ensures.0 c.in-Some.ensures.1 in
-    joined_count c.args.form.now c.args.stride c.args.samples.now c.deref.result.now c.in-Ok.request c.in-Ok.ensures.asked (c.deref.ensures.value ∙ c.in_ok-samples.ensures ∙ near)
+    joined_count c.args.form.now c.args.stride c.args.samples.now c.in-Some.samples.now c.in-Ok.request c.in-Ok.ensures.asked near
 
 pub encode_joined-requires-2-clause-count : goal.encode_joined-requires-2-clause-count
 encode_joined-requires-2-clause-count c =
-    joined_count c.args.form.now c.args.stride c.args.samples.now c.deref-3.result.now c.in-Ok.request c.in-Ok.ensures.asked (c.deref-3.ensures.value ∙ c.in_ok-widened.ensures ∙ c.deref-2.ensures.value ∙ c.in_ok-joined.ensures)
+    joined_count c.args.form.now c.args.stride c.args.samples.now c.deref.result.now c.in-Ok.request c.in-Ok.ensures.asked (c.deref.ensures.value ∙ c.in_ok-joined.ensures)
 
 pub returns-in-Some : goal.returns-in-Some
 returns-in-Some c =
@@ -30,8 +30,8 @@ returns-in-Some c =
       need = c.encode_joined.ensures.need;
       none = c.encode_joined.ensures.none;
     } in
-    answered 255 c.args.form.now c.args.stride c.args.samples.now c.deref.result.now c.args.bytes.now c.encode_joined.new.bytes c.encode_joined.new.written
-    c.in-Ok.request c.encode_joined.result c.in-Ok.ensures.exactly c.in-Ok.ensures.asked (c.deref.ensures.value ∙ c.in_ok-samples.ensures ∙ near) coding
+    answered 255 c.args.form.now c.args.stride c.args.samples.now c.in-Some.samples.now c.args.bytes.now c.encode_joined.new.bytes c.encode_joined.new.written
+    c.in-Ok.request c.encode_joined.result c.in-Ok.ensures.exactly c.in-Ok.ensures.asked near coding
 
 pub returns : goal.returns
 returns c =
@@ -45,5 +45,5 @@ returns c =
       need = c.encode_joined-2.ensures.need;
       none = c.encode_joined-2.ensures.none;
     } in
-    answered 255 c.args.form.now c.args.stride c.args.samples.now c.deref-3.result.now c.args.bytes.now c.encode_joined-2.new.bytes c.encode_joined-2.new.written
-    c.in-Ok.request c.encode_joined-2.result c.in-Ok.ensures.exactly c.in-Ok.ensures.asked (c.deref-3.ensures.value ∙ c.in_ok-widened.ensures ∙ c.deref-2.ensures.value ∙ c.in_ok-joined.ensures) coding
+    answered 255 c.args.form.now c.args.stride c.args.samples.now c.deref.result.now c.args.bytes.now c.encode_joined-2.new.bytes c.encode_joined-2.new.written
+    c.in-Ok.request c.encode_joined-2.result c.in-Ok.ensures.exactly c.in-Ok.ensures.asked (c.deref.ensures.value ∙ c.in_ok-joined.ensures) coding

@@ -1,10 +1,11 @@
 use Rattle.std.proofs.Common.{rules}
 use Rattle.ls_frame.specs.Picture.{IsFrame}
+use Rattle.ls_frame.specs.View.Numbers.{numbers}
 use Rattle.ls_c.specs.Requests.{shaped}
 use Rattle.ls_c.proofs.coding.encode_joined.Goals as goal
 
 pub returns-clause-spells : goal.returns-clause-spells
 returns-clause-spells c =
-    let f = shaped c.args.shape c.args.samples.now in
+    let f = shaped c.args.shape (numbers c.args.samples) in
     let frame : IsFrame f = search rules in
     c.codestreams_spell_their_frames.ensures f c.args.presets.now frame c.requires.legal c.requires.maxval
