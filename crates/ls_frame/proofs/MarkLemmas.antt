@@ -1,6 +1,6 @@
 -- The front of bytes up to a mark.
 use Rattle.std.proofs.Common.{◌≡◌, ◌≢◌, ℕ, zero, suc, ◌+◌, ◌-◌, ◌<◌, ◌≤◌, List, [], ◌∷◌, ◌++◌, length, take, drop, get_or, Some, sym, ap, subst, ◌∙◌, arith, take-append-drop, drop-drop, length-take}
-use Rattle.std.proofs.lemmas.List.{take-append-le, drop-take, take_more}
+use Rattle.std.proofs.lemmas.List.{take-append-le, drop-take, drop_more, take_more}
 use Rattle.std.proofs.lemmas.Bool.{eq-eqb}
 use Rattle.std.specs.Prelude.{slice_range}
 use Rattle.std.specs.List.{AllByRecursion}
@@ -49,4 +49,18 @@ chunk-until mark most bytes start count end before after within some few enough 
       given = chunk-parts bytes start count end within ∙ ap (λ bs. bs ++ slice_range bytes (start + count) end) front;
       unmarked = unmarked;
       few = omega arith;
+    }
+
+-- the first byte of a chunk was appended
+pub chunk-one : (mark most : ℕ) (bytes : List ℕ) (start end byte : ℕ) (before after : List ℕ) → start < end → start < length bytes → 0 < most → byte ≡ get_or bytes start byte → after ≡ before ++ byte ∷ []
+    → TakesUntil mark most (Some (slice_range bytes start end)) (Some (slice_range bytes (start + 1) end)) before after byte
+chunk-one mark most bytes start end byte before after some within any first is =
+    let size : end - start ≡ suc (end - (start + 1)) = omega arith in
+    let rest = take (end - (start + 1)) (drop (start + 1) bytes) in
+    record {
+      run = [];
+      appended = is;
+      given = ap (λ n. take n (drop start bytes)) size ∙ ap (take (suc (end - (start + 1)))) (drop_more bytes start byte within) ∙ ap (λ b. b ∷ rest) (sym first);
+      unmarked = tt;
+      few = any;
     }

@@ -145,6 +145,12 @@ impl<R> Buffered<R> {
         if self.start == self.end {
             return Ok(None);
         }
+        if most == 1 {
+            let byte = self.chunk[self.start];
+            bytes.push(byte)?;
+            self.start += 1;
+            return Ok(Some(byte));
+        }
         let chunk = &self.chunk[self.start..self.end];
         let count = count_until(mark, most, chunk);
         bytes.extend_from_slice(&chunk[..count])?;

@@ -1,8 +1,14 @@
 use Rattle.std.proofs.Common.{rules, ◌≡◌, ◌≢◌, ◌+◌, ◌-◌, Some, sym, subst, take, get_or, slice_range}
 use Rattle.std.specs.List.{AllByRecursion}
 use Rattle.ls_frame.specs.View.Known.{TakesUntil}
-use Rattle.ls_frame.proofs.MarkLemmas.{chunk-until}
+use Rattle.ls_frame.proofs.MarkLemmas.{chunk-one, chunk-until}
 use Rattle.ls_frame.proofs.buffered.Buffered.append_until.Goals as goal
+
+pub returns-then-most-eq1-clause-taken : goal.returns-then-most-eq1-clause-taken
+returns-then-most-eq1-clause-taken g c =
+    let now = c.args.self.now in
+    chunk-one c.args.mark c.args.most now.chunk.items now.start now.end c.index-byte.result.now c.args.bytes.now.items c.push.new.self.items (search rules) (search rules) c.requires.some
+    c.index-byte.ensures (search rules)
 
 pub returns-clause-taken : goal.returns-clause-taken
 returns-clause-taken g c =
