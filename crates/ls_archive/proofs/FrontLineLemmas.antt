@@ -49,10 +49,10 @@ front-fed most last old mid new before after taken feed one gave told =
     let all : known old ≡ (before ++ taken.run) ++ 10 ∷ known new =
     so_far.1 ∙ ap (λ s. before ++ s) (here ∙ append_assoc taken.run (10 ∷ []) (known new)) ∙ sym (append_assoc before taken.run (10 ∷ known new)) in
     λ front rest begins none few.
-        let same : front ≡ before ++ taken.run =
-        first_feed front (before ++ taken.run) rest (known new) none (all-append (λ byte. byte ≢ 10) before taken.run one taken.unmarked)
-        (sym (append_assoc front (10 ∷ []) rest) ∙ sym begins ∙ all) in
-        taken.appended ∙ ap (λ s. before ++ s) run ∙ sym (append_assoc before taken.run (10 ∷ [])) ∙ ap (λ s. s ++ 10 ∷ []) (sym same)
+    let same : front ≡ before ++ taken.run =
+    first_feed front (before ++ taken.run) rest (known new) none (all-append (λ byte. byte ≢ 10) before taken.run one taken.unmarked)
+    (sym (append_assoc front (10 ∷ []) rest) ∙ sym begins ∙ all) in
+    taken.appended ∙ ap (λ s. before ++ s) run ∙ sym (append_assoc before taken.run (10 ∷ [])) ∙ ap (λ s. s ++ 10 ∷ []) (sym same)
 
 -- bytes without LF are as many as a line may have
 pub front-full : (old new : Option (List ℕ)) (text : List ℕ) → HasNoLineFeed text → (Tells old → Tells new × (known old ≡ text ++ known new)) → 1024 ≤ length text → Tells old
@@ -142,7 +142,7 @@ pub beginning-parts : (n offset size : ℕ) (rest : List ℕ) → beginning n of
 beginning-parts n offset size rest =
     append_assoc (decimal n) (column offset ++ (column size ++ codes " ")) rest
     ∙ ap (λ s. decimal n ++ 32 ∷ s) (append_assoc (decimal offset) (column size ++ codes " ") rest ∙ ap (λ s. decimal offset ++ 32 ∷ s) (append_assoc (decimal size) (codes " ") rest)
-      ∙ sym (append_assoc (decimal offset) (codes " ") (decimal size ++ 32 ∷ rest)))
+    ∙ sym (append_assoc (decimal offset) (codes " ") (decimal size ++ 32 ∷ rest)))
     ∙ sym (append_assoc (decimal n) (codes " " ++ (decimal offset ++ codes " ")) (decimal size ++ 32 ∷ rest))
 
 -- a line's columns are that and then they
