@@ -18,7 +18,7 @@ use Rattle.ls_archive.specs.declared.checking.Finding.{Finding}
 use Rattle.ls_archive.specs.View.Checking.{Line, IsLine, AreLines, texts, HasLine, IsGood, IsOf, AreFound, size_of}
 use Rattle.ls_archive.specs.declared.checking.CheckFault.{CheckFault}
 use Rattle.ls_archive.specs.declared.checking.CheckFault.TheVariants as fault
-use Rattle.ls_archive.specs.View.Checks.{FindsMore, GaveAtMost, HasLooked, HasChecked, IsChecked, StopsAfter, GoesOn, BeginsWithLine, Anything, Stops, StopsNextLine, StopsReading}
+use Rattle.ls_archive.specs.View.Checks.{FindsMore, GaveAtMost, HasLooked, HasChecked, IsChecked, StopsAfter, BeginsOtherwise, BeginsWithLine, Anything, Stops, StopsNextLine, StopsReading}
 use Rattle.ls_archive.specs.View.Entries.{IsEntry}
 
 -- ---- reading
@@ -263,8 +263,8 @@ stops-after index mid recording half found some found' n offset damaged P run sa
 pub stops-next-line : (index mid recording half : Option (List ℕ)) (found found' : Option (List Finding)) (n offset damaged : ℕ) (why : CheckFault)
     → HasChecked index mid recording half found found' n offset damaged → StopsNextLine mid n offset why → Stops index recording found found' why
 stops-next-line index mid recording half found found' n offset damaged (fault.Line m) run stops =
-    subst (λ k. StopsAfter index recording found found' k GoesOn) (sym stops.0)
-    (stops-after index mid recording half found found' found' n offset damaged GoesOn run refl stops.1)
+    subst (λ k. StopsAfter index recording found found' k (BeginsOtherwise k)) (sym stops.0)
+    (stops-after index mid recording half found found' found' n offset damaged (BeginsOtherwise n) run refl stops.1)
 stops-next-line index mid recording half found found' n offset damaged fault.IndexIo run stops =
     (n, stops-after index mid recording half found found' found' n offset damaged Anything run refl (λ told. tt))
 stops-next-line index mid recording half found found' n offset damaged fault.Io run stops = absurd stops

@@ -2,6 +2,7 @@ pub mod CheckLemmas
 pub mod EntryLemmas
 pub mod FollowLemmas
 pub mod FormLemmas
+pub mod FrontLineLemmas
 pub mod IndexLemmas
 pub mod LineLemmas
 pub mod SideLemmas

@@ -5,12 +5,13 @@ use Rattle.ls_film.proofs.FilmLemmas.{all-more}
 use Rattle.ls_frame.specs.View.Known.{TakesUntil}
 use Rattle.ls_stream.specs.declared.faults.StreamFault.{StreamFault}
 use Rattle.ls_stream.specs.declared.faults.StreamFault.TheVariants as stream
+use Rattle.ls_stream.specs.Grammar.{most_bytes}
 use Rattle.ls_stream.specs.View.Outlines.{IsFirstFault}
 use Rattle.ls_archive.specs.declared.checking.Damage.TheVariants.{Truncated, Changed}
 use Rattle.ls_archive.specs.View.Checking.{Line, HasNoLineFeed, beginning, IsLine, HasLine, IsDamage}
 use Rattle.ls_archive.specs.View.Checks.{IsOneLine}
 
-all-append : {A : Type 0} (P : A → Type 0) (xs ys : List A) → AllByRecursion P xs → AllByRecursion P ys → AllByRecursion P (xs ++ ys)
+pub all-append : {A : Type 0} (P : A → Type 0) (xs ys : List A) → AllByRecursion P xs → AllByRecursion P ys → AllByRecursion P (xs ++ ys)
 all-append P [] ys all more = more
 all-append P (x ∷ xs) ys all more = (all.0, all-append P xs ys all.1 more)
 
@@ -35,12 +36,12 @@ taken_line most last old new before after taken one = record {
 pub no_feed : (text : List ℕ) (line : IsOneLine text) → line.last ≢ 10 → HasNoLineFeed text
 no_feed text line other = subst HasNoLineFeed (sym line.text_is) (all-more (λ byte. byte ≢ 10) line.first line.last line.one other)
 
-head_or : ℕ → List ℕ → ℕ
+unfoldable pub head_or : ℕ → List ℕ → ℕ
 head_or other [] = other
 head_or other (x ∷ xs) = x
 
 -- the same but for the last byte
-same_first : (a b : List ℕ) (x y : ℕ) → a ++ x ∷ [] ≡ b ++ y ∷ [] → a ≡ b
+pub same_first : (a b : List ℕ) (x y : ℕ) → a ++ x ∷ [] ≡ b ++ y ∷ [] → a ≡ b
 unfolding head_or
 same_first [] [] x y same = refl
 same_first [] (c ∷ b) x y same = absurd (omega (arith, ap length same, length-append b (y ∷ [])))
@@ -50,9 +51,10 @@ same_first (c ∷ a) (d ∷ b) x y same =
     let later : a ++ x ∷ [] ≡ b ++ y ∷ [] = ap (drop 1) same in
     ap (λ e. e ∷ a) first ∙ ap (λ s. d ∷ s) (same_first a b x y later)
 
-pub is_line : (n offset size : ℕ) (text rest : List ℕ) → IsOneLine text → length text ≤ 1024 → text ≡ (beginning n offset size ++ rest) ++ codes "\n"
+pub is_line : (n offset size : ℕ) (text rest : List ℕ) → size ≤ most_bytes → IsOneLine text → length text ≤ 1024 → text ≡ (beginning n offset size ++ rest) ++ codes "\n"
     → IsLine n offset (record { text = text; size = size })
-is_line n offset size text rest line short is = record {
+is_line n offset size text rest few line short is = record {
+  few = few;
   rest = rest;
   text_is = is;
   one = subst HasNoLineFeed (same_first line.first (beginning n offset size ++ rest) line.last 10 (sym line.text_is ∙ is)) line.one;

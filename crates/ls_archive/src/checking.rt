@@ -2,14 +2,14 @@
 //!
 //! A line of the index says at which offset its codestream begins and how many bytes it has. So damage, also to markers, keeps no other
 //! codestream from being looked at.
-ghost use Rattle.std.specs.Prelude.{if◌then◌else◌, ◌≡◌, ◌≢◌, ◌⊎◌, ◌+◌, ◌*◌, ◌^◌, ◌<◌, ◌≤◌, ◌++◌, ◌∷◌, ◌↔◌, ℕ, List, [], Option, Some, IsTrue, IfOk, IfErr, IfSome, IfNone, OnOk, OnErr, codes, length, true, false};
+ghost use Rattle.std.specs.Prelude.{if◌then◌else◌, ◌≡◌, ◌≢◌, ◌⊎◌, ◌+◌, ◌*◌, ◌^◌, ◌<◌, ◌≤◌, ◌++◌, ◌∷◌, ◌↔◌, ℕ, List, [], Option, Some, IsTrue, decimal, IfOk, IfErr, IfSome, IfNone, OnOk, OnErr, codes, length, true, false};
 ghost use Rattle.ls_frame.specs.Picture.{Picture};
 ghost use Rattle.ls_frame.specs.View.Devices.{count_after, failed_read};
 ghost use Rattle.ls_frame.specs.View.Known.{Tells, Gave, WasAtEnd, known};
-ghost use Rattle.ls_stream.specs.Grammar.{Spells};
+ghost use Rattle.ls_stream.specs.Grammar.{Spells, most_bytes};
 ghost use Rattle.ls_archive.specs.View.Checking.{Line, beginning, IsLine, HasLine, IsGood, IsDamage};
 ghost use Rattle.ls_archive.specs.Index.{line};
-ghost use Rattle.ls_archive.specs.View.Checks.{FindsMore, GaveAtMost, IsOneLine, HasLooked, IsChecked, StopsNextLine, StopsReading, Stops, failed_index, failed_recording};
+ghost use Rattle.ls_archive.specs.View.Checks.{FindsMore, GaveAtMost, IsOneLine, IsFrontLine, HasLooked, IsChecked, StopsNextLine, StopsReading, Stops, failed_index, failed_recording};
 ghost use Rattle.ls_archive.specs.declared.checking.Finding.{Finding};
 
 use crate::entry::Indexed;
@@ -18,6 +18,7 @@ use ls_film::MOST_FRAMES;
 use ls_frame::{Feed, FeedFault};
 use ls_stream::laws::outlines_follow_the_grammar;
 use ls_stream::{StreamFault, decode_frame};
+use memchr::memchr;
 use std::alloc::{AllocError, Global};
 use std::str::from_utf8;
 use thiserror::Error;
@@ -90,8 +91,8 @@ pub struct Checked {
 /// Exactly the findings on the lines before were told.
 #[derive(Clone, Copy, Debug, Drop, PartialEq, Eq, Error)]
 pub enum CheckFault {
-    /// After so many lines the index goes on with what isn't taken for the next: it has another number, or another offset than the one at
-    /// which the codestream before it ends, or no size, or no LF within 1,024 bytes, or the index ends before its LF.
+    /// After so many lines the index goes on with what isn't the next: it has another number, or another offset than the one at which the
+    /// codestream before it ends, or no size, or no LF within 1,024 bytes, or the index ends before its LF.
     #[error("line {0}: not of an index")]
     Line(u64),
     /// A read of the index failed.
@@ -206,6 +207,7 @@ fn next_line<I: Feed>(
 fn take_line<I: Feed>(alloc: Global, reader: &mut I) -> Result<Option<Vec<u8>>, FeedFault>
     ensures gave { IfOk result (λ next. IfSome next (λ line. Gave (I.remaining reader.old) (I.remaining reader.new) (λ bytes. line.items ≡ bytes))) }
     ensures one { IfOk result (λ next. IfSome next (λ line. IsOneLine line.items)) }
+    ensures front { IfOk result (λ next. IfSome next (λ line. Tells (I.remaining reader.old) → IsFrontLine (known (I.remaining reader.old)) line.items)) }
     ensures short { IfOk result (λ next. IfSome next (λ line. length line.items ≤ 1024)) }
     ensures end { IfOk result (λ next. IfNone next (WasAtEnd (I.remaining reader.old) (I.remaining reader.new))) }
     ensures failures { I.failed_reads reader.new ≡ count_after (failed_read result) (I.failed_reads reader.old) }
@@ -222,18 +224,25 @@ fn take_line<I: Feed>(alloc: Global, reader: &mut I) -> Result<Option<Vec<u8>>, 
     Ok(Some(line))
 }
 
-/// How many bytes the line of the codestream of this number, which begins at this offset, says that it has; `None` if the text doesn't
-/// begin as one or doesn't end in LF.
+/// How many bytes the line of the codestream of this number, which begins at this offset, says that it has; `None` if the text isn't
+/// such a line.
 fn size_in(alloc: Global, number: u64, offset: u64, text: &[u8]) -> Result<Option<u32>, AllocError>
-    ensures { IfOk result (λ found. IfSome found (λ size. (rest : List ℕ) × (text.now ≡ (beginning number offset size ++ rest) ++ codes "\n"))) }
+    ensures some { IfOk result (λ found. IfSome found (λ size. (rest : List ℕ) × (text.now ≡ (beginning number offset size ++ rest) ++ codes "\n"))) }
+    ensures none { IfOk result (λ found. IfNone found ((size : ℕ) (rest : List ℕ) → size ≤ most_bytes
+        → text.now ≡ (beginning number offset size ++ rest) ++ codes "\n" → ⊥)) }
 {
     let Some(columns) = text.strip_suffix(b"\n") else {
         return Ok(None);
     };
-    let Some(size) = third_number(columns) else {
+    let front = format!(in alloc; "{number} {offset} ")?;
+    let Some(columns) = columns.strip_prefix(front.as_bytes()) else {
         return Ok(None);
     };
-    let wanted = format!(in alloc; "{number} {offset} {size} ")?;
+    let Some(size) = leading_number(columns) else {
+        return Ok(None);
+    };
+    // As it is written, with no sign and no zero before it.
+    let wanted = format!(in alloc; "{size} ")?;
     if columns.starts_with(wanted.as_bytes()) {
         Ok(Some(size))
     } else {
@@ -241,10 +250,13 @@ fn size_in(alloc: Global, number: u64, offset: u64, text: &[u8]) -> Result<Optio
     }
 }
 
-/// The third of the numbers that a text has with blanks between, if there is one.
-fn third_number(text: &[u8]) -> Option<u32> {
-    let text = from_utf8(text).ok()?;
-    text.split(' ').nth(2)?.parse().ok()
+/// The number that stands in a text up to the first blank, if there is one.
+fn leading_number(text: &[u8]) -> Option<u32>
+    ensures { (number : ℕ) (rest : List ℕ) → number ≤ most_bytes → text.now ≡ decimal number ++ (codes " " ++ rest) → result ≡ Some number }
+{
+    let end = memchr(b' ', text)?;
+    let digits = from_utf8(&text[..end]).ok()?;
+    digits.parse().ok()
 }
 
 /// Takes so many bytes off a reader, or all that are left.

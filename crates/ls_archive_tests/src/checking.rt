@@ -90,7 +90,7 @@ type Case = (
     Option<(u64, Damage)>,
 );
 
-const CASES: [Case; 14] = [
+const CASES: [Case; 16] = [
     ("nothing", b"", b"", Ok((0, 0, false)), None),
     ("sizes", SIZES, TWO_CODESTREAMS, Ok((2, 0, false)), None),
     ("sums", SUMS, TWO_CODESTREAMS, Ok((2, 0, false)), None),
@@ -156,6 +156,20 @@ const CASES: [Case; 14] = [
         b"0 0 28 gray 1 1 255 8 3 7 21 64\n1 28 28 gray 1 1 255 8 3 7 21 64",
         TWO_CODESTREAMS,
         Err(CheckFault::Line(1)),
+        None,
+    ),
+    (
+        "a line whose end isn't text",
+        b"0 0 28 \xff\n",
+        TWO_CODESTREAMS,
+        Ok((1, 1, true)),
+        Some((0, Damage::Changed)),
+    ),
+    (
+        "a size that no codestream has",
+        b"0 0 4294967296 gray 1 1 255 8 3 7 21 64\n",
+        TWO_CODESTREAMS,
+        Err(CheckFault::Line(0)),
         None,
     ),
     (

@@ -1,7 +1,9 @@
 -- How far the data at the front of bytes goes.
-use Rattle.std.proofs.Common.{◌≡◌, ℕ, zero, suc, ◌+◌, ◌-◌, ◌<◌, ◌≤◌, inl, inr, Bool, true, false, eqb, cond, List, [], ◌∷◌, ◌++◌, length, take, drop, get_or, refl, sym, ◌∙◌, ap, subst, arith}
-use Rattle.std.proofs.lemmas.List.{take_more, drop_more, drop_all, append_assoc}
-use Rattle.std.proofs.lemmas.Bool.{cases_lt, and_parts, and_from, lt-ltb, le-ltb, ne_eqb, true≢false, cond-false}
+use Rattle.std.proofs.Common.{◌≡◌, ℕ, zero, suc, ◌+◌, ◌-◌, ◌<◌, ◌≤◌, inl, inr, Bool, true, false, eqb, cond, List, [], ◌∷◌, ◌++◌, length, take, drop, get_or, slice_range, Some, None, refl, sym, ◌∙◌, ap, subst, arith}
+use Rattle.std.proofs.Math.Seq.{take-add}
+use Rattle.std.proofs.lemmas.List.{length-drop, get_or-drop, take_all, take_more, drop_more, drop_all, append_assoc}
+use Rattle.std.proofs.lemmas.Bool.{cases_lt, and_parts, and_from, lt-ltb, le-ltb, ne_eqb, eq-eqb, eqb-true, true≢false, cond-false}
+use Rattle.memchr.specs.Find.{IsFirstByte, Nowhere, Passes, is_byte}
 use Rattle.ls_bits.specs.Data.{goes_on, is_data, IsData, DataAtFront}
 
 -- ---- data and what stands after it
@@ -33,17 +35,28 @@ data-pair byte h =
     let other : byte ≡ 255 → ⊥ = λ e. absurd (omega arith) in
     and_from _ _ (lt-ltb byte 128 h) (data-other byte other)
 
-pub data-more : (bytes : List ℕ) (len : ℕ) → len < length bytes → IsData (take len bytes) → (get_or bytes len 0 ≡ 255 → ⊥) → IsData (take (len + 1) bytes)
-data-more bytes len h so_far other =
-    subst IsData (sym (take_more bytes len 0 h)) (data-append (take len bytes) (get_or bytes len 0 ∷ []) so_far (data-other (get_or bytes len 0) other))
+plain-data : (count : ℕ) (bytes : List ℕ) → Nowhere (Passes (is_byte 255) bytes) 0 count → is_data (take count bytes) ≡ true
+plain-data zero bytes none = refl
+plain-data (suc count) [] none = refl
+plain-data (suc count) (byte ∷ bytes) none =
+    let other : byte ≡ 255 → ⊥ = λ is. none 0 (omega arith) (omega arith) (eq-eqb byte 255 is) in
+    and_from _ _ (cond-false (eqb byte 255) (goes_on (take count bytes)) true (ne_eqb byte 255 other))
+    (plain-data count bytes (λ k low less. none (suc k) (omega arith) (omega arith)))
 
-pub data-more_many : (bytes : List ℕ) (len count : ℕ) → len + count ≤ length bytes → IsData (take len bytes) → ((k : ℕ) → k < count → get_or bytes (len + k) 0 ≡ 255 → ⊥)
-    → IsData (take (len + count) bytes)
-data-more_many bytes len zero h so_far other = let same : len ≡ len + 0 = omega arith in subst (λ n. IsData (take n bytes)) same so_far
-data-more_many bytes len (suc count) h so_far other =
-    let same : len + count + 1 ≡ len + suc count = omega arith in
-    subst (λ n. IsData (take n bytes)) same
-    (data-more bytes (len + count) (omega arith) (data-more_many bytes len count (omega arith) so_far (λ k below. other k (omega arith))) (other count (omega arith)))
+-- over bytes that aren't FF
+pub data-more_plain : (bytes : List ℕ) (len count : ℕ) → IsData (take len bytes) → Nowhere (Passes (is_byte 255) (drop len bytes)) 0 count → IsData (take (len + count) bytes)
+data-more_plain bytes len count so_far none =
+    subst IsData (sym (take-add len count bytes)) (data-append (take len bytes) (take count (drop len bytes)) so_far (plain-data count (drop len bytes) none))
+
+rest-from : (bytes : List ℕ) (len : ℕ) → slice_range bytes len (length bytes) ≡ drop len bytes
+rest-from bytes len = take_all (length bytes - len) (drop len bytes) (omega (arith, length-drop len bytes))
+
+-- up to the first FF from there on
+pub data-up_to_ff : (bytes : List ℕ) (len place : ℕ) → IsData (take len bytes) → IsFirstByte (is_byte 255) (slice_range bytes len (length bytes)) (Some place)
+    → (len + place < length bytes) × IsData (take (len + place) bytes) × (get_or bytes (len + place) 0 ≡ 255)
+data-up_to_ff bytes len place so_far is =
+    let first : IsFirstByte (is_byte 255) (drop len bytes) (Some place) = subst (λ rest. IsFirstByte (is_byte 255) rest (Some place)) (rest-from bytes len) is in
+    (omega (arith, first.0.high, length-drop len bytes), data-more_plain bytes len place so_far first.0.before, sym (get_or-drop len bytes place 0) ∙ eqb-true _ _ first.1)
 
 pub data-more_pair : (bytes : List ℕ) (len : ℕ) → len + 1 < length bytes → IsData (take len bytes) → get_or bytes len 0 ≡ 255 → get_or bytes (len + 1) 0 < 128
     → IsData (take (len + 2) bytes)
@@ -98,6 +111,18 @@ data-longest bytes len h so_far ff stop = record {
   is_data = so_far;
   longest = λ more within is_data. no_more bytes len more h ff stop is_data;
 }
+
+-- no FF is left
+pub data-all : (bytes : List ℕ) (len : ℕ) → len ≤ length bytes → IsData (take len bytes) → IsFirstByte (is_byte 255) (slice_range bytes len (length bytes)) None
+    → DataAtFront bytes (length bytes)
+data-all bytes len h so_far is =
+    let none : IsFirstByte (is_byte 255) (drop len bytes) None = subst (λ rest. IsFirstByte (is_byte 255) rest None) (rest-from bytes len) is in
+    let all : len + length (drop len bytes) ≡ length bytes = omega (arith, length-drop len bytes) in
+    record {
+      within = omega arith;
+      is_data = subst (λ n. IsData (take n bytes)) all (data-more_plain bytes len (length (drop len bytes)) so_far none);
+      longest = λ more within is_data. within;
+    }
 
 -- the bytes end
 pub data-stop_end : (bytes : List ℕ) (len : ℕ) → len + 1 ≡ length bytes → goes_on (drop (len + 1) bytes) ≡ false

@@ -1,27 +1,62 @@
--- The front of bytes up to a mark.
-use Rattle.std.proofs.Common.{◌≡◌, ◌≢◌, ℕ, zero, suc, ◌+◌, ◌-◌, ◌<◌, ◌≤◌, List, [], ◌∷◌, ◌++◌, length, take, drop, get_or, Some, sym, ap, subst, ◌∙◌, arith, take-append-drop, drop-drop, length-take}
-use Rattle.std.proofs.lemmas.List.{take-append-le, drop-take, take_more}
-use Rattle.std.proofs.lemmas.Bool.{eq-eqb}
-use Rattle.std.specs.Prelude.{slice_range}
+-- The front of bytes past marks that are followed by a byte below a limit.
+use Rattle.std.proofs.Common.{◌≡◌, ◌≢◌, inl, inr, ℕ, suc, ◌+◌, ◌-◌, ◌<◌, ◌≤◌, List, [], ◌∷◌, ◌++◌, length, take, drop, get_or, slice_range, Option, None, Some, sym, ap, subst, ◌∙◌, arith, take-append-drop, drop-drop, length-take, length-drop, length-append}
+use Rattle.std.proofs.lemmas.List.{take-append-le, drop-take, drop_more, take_more, take_all, get_or-take, get_or-drop}
+use Rattle.std.proofs.lemmas.Bool.{cases_lt, eq-eqb}
 use Rattle.std.specs.List.{AllByRecursion}
-use Rattle.memchr.specs.Find.{Nowhere, Passes, is_byte}
-use Rattle.ls_frame.specs.View.Known.{TakesUntil}
+use Rattle.memchr.specs.Find.{IsFirstByte, Nowhere, Passes, is_byte}
+use Rattle.ls_frame.specs.View.Known.{TakesUntil, TakesPast, ArePassed}
 
--- none of the bytes before a place is the mark
-unmarked-before : (mark place : ℕ) (bytes : List ℕ) → ((k : ℕ) → k < place → ¬ (Passes (is_byte mark) bytes k)) → AllByRecursion (λ byte. byte ≢ mark) (take place bytes)
-unmarked-before mark zero [] none = tt
-unmarked-before mark zero (byte ∷ bytes) none = tt
-unmarked-before mark (suc place) [] none = tt
-unmarked-before mark (suc place) (byte ∷ bytes) none =
-    (λ is. none 0 (omega arith) (eq-eqb byte mark is), unmarked-before mark place bytes (λ k less. none (suc k) (omega arith)))
+-- ---- as far as they are passed
 
--- the same of a front of them
-pub unmarked-front : (mark most place : ℕ) (bytes : List ℕ) → place ≤ length (take most bytes) → Nowhere (Passes (is_byte mark) (take most bytes)) 0 place
-    → AllByRecursion (λ byte. byte ≢ mark) (take place bytes)
-unmarked-front mark most place bytes within none =
-    let same : take place (take most bytes) ≡ take place bytes =
-    sym (take-append-le place (take most bytes) (drop most bytes) within) ∙ ap (take place) (take-append-drop most bytes) in
-    subst (AllByRecursion (λ byte. byte ≢ mark)) same (unmarked-before mark place (take most bytes) (λ k less. none k (omega arith) less))
+-- each mark before a place is followed by a byte below the limit
+abbrev pub PassedBefore : ℕ → ℕ → List ℕ → ℕ → Type 0
+PassedBefore mark limit bytes place = (k : ℕ) → k < place → get_or bytes k 0 ≡ mark → get_or bytes (suc k) 0 < limit
+
+rest-from : (bytes : List ℕ) (count : ℕ) → slice_range bytes count (length bytes) ≡ drop count bytes
+rest-from bytes count = take_all (length bytes - count) (drop count bytes) (omega (arith, length-drop count bytes))
+
+-- over bytes that aren't marks
+pub passed-plain : (mark limit : ℕ) (bytes : List ℕ) (count more : ℕ) → PassedBefore mark limit bytes count → Nowhere (Passes (is_byte mark) (slice_range bytes count (length bytes))) 0 more
+    → PassedBefore mark limit bytes (count + more)
+passed-plain mark limit bytes count more so_far none k less is = elim (cases_lt k count) [
+  | inl before ↦ so_far k before is
+  | inr after ↦
+      let place : count + (k - count) ≡ k = omega arith in
+      let here : get_or (slice_range bytes count (length bytes)) (k - count) 0 ≡ mark =
+      ap (λ bs. get_or bs (k - count) 0) (rest-from bytes count) ∙ get_or-drop count bytes (k - count) 0 ∙ ap (λ n. get_or bytes n 0) place ∙ is in
+      absurd (none (k - count) (omega arith) (omega arith) (eq-eqb _ _ here))
+]
+
+-- over one byte more
+pub passed-one : (mark limit : ℕ) (bytes : List ℕ) (count next : ℕ) → next ≡ count + 1 → PassedBefore mark limit bytes count → get_or bytes next 0 < limit → PassedBefore mark limit bytes next
+passed-one mark limit bytes count next one so_far low k less is = elim (cases_lt k count) [
+  | inl before ↦ so_far k before is
+  | inr after ↦
+      let place : next ≡ suc k = omega arith in
+      subst (λ n. get_or bytes n 0 < limit) place low
+]
+
+-- so the front is passed
+pub passed-front : (mark limit : ℕ) (bytes : List ℕ) (place count : ℕ) → PassedBefore mark limit bytes place → count ≤ place + 1 → ArePassed mark limit (take count bytes)
+passed-front mark limit bytes place count passed near k less is =
+    let size = length-take count bytes in
+    let here = get_or-take count bytes k 0 (omega (arith, less, size)) in
+    let next = get_or-take count bytes (suc k) 0 (omega (arith, less, size)) in
+    let low = passed k (omega (arith, less, size, near)) (sym here ∙ is) in
+    subst (λ b. b < limit) (sym next) low
+
+-- and all of them, if there are no marks after a place
+pub passed-all : (mark limit : ℕ) (bytes : List ℕ) (count : ℕ) → PassedBefore mark limit bytes count → IsFirstByte (is_byte mark) (slice_range bytes count (length bytes)) None
+    → ArePassed mark limit (take (length bytes) bytes)
+passed-all mark limit bytes count so_far none =
+    let rest = slice_range bytes count (length bytes) in
+    let size : length rest ≡ length bytes - count = ap length (rest-from bytes count) ∙ length-drop count bytes in
+    passed-front mark limit bytes (count + length rest) (length bytes) (passed-plain mark limit bytes count (length rest) so_far none) (omega (arith, size))
+
+-- ---- chunks
+
+pub front-taken : (count most : ℕ) (bytes : List ℕ) → count ≤ length (take most bytes) → take count (take most bytes) ≡ take count bytes
+front-taken count most bytes within = sym (take-append-le count (take most bytes) (drop most bytes) within) ∙ ap (take count) (take-append-drop most bytes)
 
 -- a chunk is its front and what is left of it
 chunk-parts : (bytes : List ℕ) (start count end : ℕ) → start + count ≤ end → slice_range bytes start end ≡ take count (slice_range bytes start end) ++ slice_range bytes (start + count) end
@@ -34,10 +69,10 @@ chunk-parts bytes start count end within =
     sym (take-append-drop count chunk) ∙ ap (λ bs. take count chunk ++ bs) rest
 
 -- a front of a chunk was appended, and its last byte is this one
-pub chunk-until : (mark most : ℕ) (bytes : List ℕ) (start count end : ℕ) (before after : List ℕ) → start + count ≤ end → 0 < count → count ≤ most → count ≤ length (slice_range bytes start end)
-    → AllByRecursion (λ byte. byte ≢ mark) (take (count - 1) (slice_range bytes start end)) → after ≡ before ++ take count (slice_range bytes start end)
-    → TakesUntil mark most (Some (slice_range bytes start end)) (Some (slice_range bytes (start + count) end)) before after (get_or (slice_range bytes start end) (count - 1) 0)
-chunk-until mark most bytes start count end before after within some few enough unmarked is =
+pub chunk-past : (mark limit most : ℕ) (bytes : List ℕ) (start count end : ℕ) (before after : List ℕ) → start + count ≤ end → 0 < count → count ≤ most → count ≤ length (slice_range bytes start end)
+    → ArePassed mark limit (take count (slice_range bytes start end)) → after ≡ before ++ take count (slice_range bytes start end)
+    → TakesPast mark limit most (Some (slice_range bytes start end)) (Some (slice_range bytes (start + count) end)) before after (get_or (slice_range bytes start end) (count - 1) 0)
+chunk-past mark limit most bytes start count end before after within some few enough passed is =
     let chunk = slice_range bytes start end in
     let again : count ≡ (count - 1) + 1 = omega arith in
     let front : take count chunk ≡ take (count - 1) chunk ++ get_or chunk (count - 1) 0 ∷ [] =
@@ -47,6 +82,37 @@ chunk-until mark most bytes start count end before after within some few enough 
       run = take (count - 1) chunk;
       appended = is ∙ ap (λ bs. before ++ bs) front;
       given = chunk-parts bytes start count end within ∙ ap (λ bs. bs ++ slice_range bytes (start + count) end) front;
-      unmarked = unmarked;
+      passed = subst (ArePassed mark limit) front passed;
       few = omega arith;
     }
+
+pub passed-byte : (mark limit byte : ℕ) → ArePassed mark limit (byte ∷ [])
+passed-byte mark limit byte k less is = absurd (omega (arith, less))
+
+-- the first byte of a chunk was appended
+pub chunk-one : (mark limit most : ℕ) (bytes : List ℕ) (start end byte : ℕ) (before after : List ℕ) → start < end → start < length bytes → 0 < most → byte ≡ get_or bytes start byte → after ≡ before ++ byte ∷ []
+    → TakesPast mark limit most (Some (slice_range bytes start end)) (Some (slice_range bytes (start + 1) end)) before after byte
+chunk-one mark limit most bytes start end byte before after some within any first is =
+    let size : end - start ≡ suc (end - (start + 1)) = omega arith in
+    let rest = take (end - (start + 1)) (drop (start + 1) bytes) in
+    record {
+      run = [];
+      appended = is;
+      given = ap (λ n. take n (drop start bytes)) size ∙ ap (take (suc (end - (start + 1)))) (drop_more bytes start byte within) ∙ ap (λ b. b ∷ rest) (sym first);
+      passed = passed-byte mark limit byte;
+      few = any;
+    }
+
+-- ---- past no mark
+
+unmarked-run : (mark last : ℕ) (run : List ℕ) → ArePassed mark 0 (run ++ last ∷ []) → AllByRecursion (λ byte. byte ≢ mark) run
+unmarked-run mark last [] passed = tt
+unmarked-run mark last (byte ∷ run) passed = (
+  λ is. let never = passed 0 (omega (arith, length-append run (last ∷ []))) is in absurd (omega (arith, never)),
+  unmarked-run mark last run (λ k less is. passed (suc k) (omega (arith, less)) is),
+)
+
+-- no byte is below 0
+pub taken-until : (mark most : ℕ) (old new : Option (List ℕ)) (before after : List ℕ) (last : ℕ) → TakesPast mark 0 most old new before after last → TakesUntil mark most old new before after last
+taken-until mark most old new before after last taken =
+    record { run = taken.run; appended = taken.appended; given = taken.given; unmarked = unmarked-run mark last taken.run taken.passed; few = taken.few }

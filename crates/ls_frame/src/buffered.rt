@@ -1,9 +1,8 @@
 //! A reader that takes the bytes of another in chunks and hands them out.
-ghost use Rattle.std.specs.Prelude.{◌≡◌, ◌≢◌, ◌-◌, ◌<◌, ◌≤◌, [], ◌∷◌, ◌++◌, IfOk, OnOk, OnErr, Some, IfSome, IfNone, is_err, length, take};
-ghost use Rattle.std.specs.List.{AllByRecursion};
+ghost use Rattle.std.specs.Prelude.{◌≡◌, ◌<◌, ◌≤◌, [], ◌∷◌, ◌++◌, IfOk, OnOk, OnErr, Some, IfSome, IfNone, is_err, length, take};
 ghost use Rattle.std.specs.Io.KnownBytes.{Keeps, IsAtEnd, prepend_known};
 ghost use Rattle.ls_frame.specs.View.Devices.{count_after};
-ghost use Rattle.ls_frame.specs.View.Known.{TakesUntil};
+ghost use Rattle.ls_frame.specs.View.Known.{ArePassed, TakesPast};
 
 use crate::device::{Failed, Feed, FeedFault};
 use memchr::memchr;
@@ -126,17 +125,18 @@ impl<R> Buffered<R> {
         count
     }
 
-    /// Appends the front of the chunk, up to and with the first `mark` and `most` bytes at most, to `bytes`. Answers the last of them;
-    /// there is none only if the chunk was handed out.
-    fn append_until(
+    /// Appends the front of the chunk, up to and with the first `mark` that no byte below `limit` follows and `most` bytes at most, to
+    /// `bytes`. Answers the last of them; there is none only if the chunk was handed out.
+    fn append_past(
         &mut self,
         mark: u8,
+        limit: u8,
         most: usize,
         bytes: &mut Vec<u8>,
     ) -> Result<Option<u8>, AllocError>
         requires some { 0 < most }
         ensures taken { IfOk result (λ next. IfSome next
-            (TakesUntil mark most (Some (in_chunk self.old)) (Some (in_chunk self.new)) bytes.old.items bytes.new.items)) }
+            (TakesPast mark limit most (Some (in_chunk self.old)) (Some (in_chunk self.new)) bytes.old.items bytes.new.items)) }
         ensures end { IfOk result (λ next. IfNone next ((bytes.new.items ≡ bytes.old.items) × (in_chunk self.old ≡ []) × (in_chunk self.new ≡ []))) }
         ensures nothing { OnErr result (bytes.new.items ≡ bytes.old.items) }
         ensures memory { OnErr result (0 < length (in_chunk self.old)) }
@@ -145,8 +145,14 @@ impl<R> Buffered<R> {
         if self.start == self.end {
             return Ok(None);
         }
+        if most == 1 {
+            let byte = self.chunk[self.start];
+            bytes.push(byte)?;
+            self.start += 1;
+            return Ok(Some(byte));
+        }
         let chunk = &self.chunk[self.start..self.end];
-        let count = count_until(mark, most, chunk);
+        let count = count_past(mark, limit, &chunk[..most.min(chunk.len())]);
         bytes.extend_from_slice(&chunk[..count])?;
         let last = chunk[count - 1];
         self.start += count;
@@ -154,20 +160,24 @@ impl<R> Buffered<R> {
     }
 }
 
-/// How many bytes there are up to and with the first `mark`, `most` at most.
-fn count_until(mark: u8, most: usize, bytes: &[u8]) -> usize
-    requires some { 0 < most }
+/// How many bytes there are up to and with the first `mark` that no byte below `limit` follows, or all.
+fn count_past(mark: u8, limit: u8, bytes: &[u8]) -> usize
     requires any { 0 < length bytes.now }
     ensures some { 0 < result }
-    ensures most { result ≤ most }
     ensures within { result ≤ length bytes.now }
-    ensures unmarked { AllByRecursion (λ byte. byte ≢ mark) (take (result - 1) bytes.now) }
+    ensures passed { ArePassed mark limit (take result bytes.now) }
 {
-    let front = &bytes[..most.min(bytes.len())];
-    match memchr(mark, front) {
-        Some(place) => place + 1,
-        None => front.len(),
+    let mut count = 0;
+    while let Some(place) = memchr(mark, &bytes[count..]) {
+        count += place + 1;
+        if count == bytes.len() {
+            return count;
+        }
+        if bytes[count] >= limit {
+            return count;
+        }
     }
+    bytes.len()
 }
 
 impl<R: Read> Read for Buffered<R> {
@@ -197,16 +207,17 @@ impl<R: Feed> Feed for Buffered<R> {
         Ok(self.hand_out(buf))
     }
 
-    fn feed_until(
+    fn feed_past(
         &mut self,
         mark: u8,
+        limit: u8,
         most: usize,
         bytes: &mut Vec<u8>,
     ) -> Result<Option<u8>, FeedFault> {
         if self.fill_counted().is_err() {
             return Err(FeedFault::Io);
         }
-        match self.append_until(mark, most, bytes) {
+        match self.append_past(mark, limit, most, bytes) {
             Ok(next) => Ok(next),
             Err(AllocError) => Err(FeedFault::NoMemory),
         }

@@ -3,7 +3,7 @@ ghost use Rattle.std.specs.Prelude.{◌≡◌, ℕ, ◌<◌, List, Option, OnOk,
 ghost use Rattle.std.specs.Io.{ReadsAtMost, WritesAtMost};
 ghost use Rattle.std.specs.Io.KnownBytes.{Keeps, ReadConsumes, WriteAppends};
 ghost use Rattle.ls_frame.specs.View.Devices.{count_after, failed_read, last_after};
-ghost use Rattle.ls_frame.specs.View.Known.{TakesUntil, WasAtEnd, HadBytes};
+ghost use Rattle.ls_frame.specs.View.Known.{TakesUntil, TakesPast, WasAtEnd, HadBytes};
 
 use std::io;
 use std::io::{Read, Write};
@@ -42,7 +42,7 @@ pub enum FeedFault {
 
 /// A reader that counts its failed reads.
 pub trait Feed: Read {
-    /// How many reads, by `feed` or `feed_until`, have failed.
+    /// How many reads, by `feed`, `feed_until` or `feed_past`, have failed.
     ghost failed_reads: { Self → ℕ };
 
     /// Reads into `buf`, as `read` does. `Ok(0)` with room in `buf` is the end of input.
@@ -71,6 +71,27 @@ pub trait Feed: Read {
         ensures memory { IfErr result (λ fault. fault ≡ FeedFault.NoMemory → HadBytes (Self.remaining self.old)) }
         ensures failures { failed_reads self.new ≡ count_after (failed_read result) (failed_reads self.old) }
     {
+        self.feed_past(mark, 0, most, bytes)
+    }
+
+    /// The same, but it may go on after a `mark` that a byte below `limit` follows: of those after a mark it takes no other.
+    fn feed_past(
+        &mut self,
+        mark: u8,
+        limit: u8,
+        most: usize,
+        bytes: &mut Vec<u8>,
+    ) -> Result<Option<u8>, FeedFault>
+        requires some { 0 < most }
+        ensures taken { IfOk result (λ next. IfSome next
+            (TakesPast mark limit most (Self.remaining self.old) (Self.remaining self.new) bytes.old.items bytes.new.items)) }
+        ensures end { IfOk result (λ next. IfNone next
+            ((bytes.new.items ≡ bytes.old.items) × WasAtEnd (Self.remaining self.old) (Self.remaining self.new))) }
+        ensures nothing { OnErr result (bytes.new.items ≡ bytes.old.items) }
+        ensures fault { IfErr result (λ fault. fault ≡ FeedFault.Io → Keeps (Self.remaining self.old) (Self.remaining self.new)) }
+        ensures memory { IfErr result (λ fault. fault ≡ FeedFault.NoMemory → HadBytes (Self.remaining self.old)) }
+        ensures failures { failed_reads self.new ≡ count_after (failed_read result) (failed_reads self.old) }
+    {
         let mut byte = [0u8; 1];
         match self.feed(&mut byte) {
             Err(_) => Err(FeedFault::Io),
@@ -82,7 +103,7 @@ pub trait Feed: Read {
         }
     }
 
-    /// How many reads, by `feed` or `feed_until`, have failed; the count stays at the greatest `u64`.
+    /// How many reads, by `feed`, `feed_until` or `feed_past`, have failed; the count stays at the greatest `u64`.
     fn failures(&self) -> u64
         ensures { result ≡ failed_reads self.now };
 }
@@ -128,13 +149,14 @@ impl<R: Feed> Feed for &mut R {
         Feed::feed(&mut **self, buf)
     }
 
-    fn feed_until(
+    fn feed_past(
         &mut self,
         mark: u8,
+        limit: u8,
         most: usize,
         bytes: &mut Vec<u8>,
     ) -> Result<Option<u8>, FeedFault> {
-        Feed::feed_until(&mut **self, mark, most, bytes)
+        Feed::feed_past(&mut **self, mark, limit, most, bytes)
     }
 
     fn failures(&self) -> u64 {

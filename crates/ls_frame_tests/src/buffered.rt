@@ -151,10 +151,10 @@ fn chunks_join_with_ample_memory(rt: HostRuntime) {
     }
 }
 
-/// How many calls take all that a reader has, by this mark.
-fn count_takes<R: Feed>(reader: &mut R, mark: u8, bytes: &mut Vec<u8>) -> usize {
+/// How many calls take all that a reader has, by this mark and this limit.
+fn count_takes<R: Feed>(reader: &mut R, mark: u8, limit: u8, bytes: &mut Vec<u8>) -> usize {
     for call in 0..CHUNK {
-        match reader.feed_until(mark, usize::MAX, bytes) {
+        match reader.feed_past(mark, limit, usize::MAX, bytes) {
             Ok(Some(_)) => {}
             _ => return call,
         }
@@ -162,20 +162,23 @@ fn count_takes<R: Feed>(reader: &mut R, mark: u8, bytes: &mut Vec<u8>) -> usize 
     CHUNK
 }
 
-/// Each number of a place but the last ends a run of 251 bytes; a chunk's end cuts one in two.
+/// Each number of a place but the last ends a run of 251 bytes; a chunk's end cuts one in two. A 0 follows each mark.
 #[test]
 fn chunks_join_by_marks_with_ample_memory(rt: HostRuntime) {
     let numbered = numbered();
     for (count, calls) in [(0, 0), (251, 1), (252, 2), (CHUNK, 262), (CHUNK + 251, 264)] {
-        check_marks(&rt, rt.alloc(), &numbered[..count], calls);
+        check_marks(&rt, rt.alloc(), &numbered[..count], 0, calls);
+    }
+    for (count, calls) in [(0, 0), (251, 1), (252, 1), (CHUNK, 1), (CHUNK + 251, 2)] {
+        check_marks(&rt, rt.alloc(), &numbered[..count], 1, calls);
     }
 }
 
 /// That so many calls take all of these bytes.
-fn check_marks(rt: &impl Abort, alloc: Global, want: &[u8], calls: usize) {
+fn check_marks(rt: &impl Abort, alloc: Global, want: &[u8], limit: u8, calls: usize) {
     let mut reader = buffered(rt, alloc, Counted::new(want));
     let mut bytes = Vec::new(alloc);
-    let got = count_takes(&mut reader, 250, &mut bytes);
+    let got = count_takes(&mut reader, 250, limit, &mut bytes);
     check(rt, "calls", want.len(), &got, &calls);
     check_items(rt, "bytes", want.len(), &bytes, want);
 }

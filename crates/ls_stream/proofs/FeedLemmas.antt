@@ -1,44 +1,85 @@
--- Bytes that a reader gave up to an FF, after those that it gave before, and the place that they lead to.
-use Rattle.std.proofs.Common.{◌≡◌, ◌≢◌, ℕ, ◌-◌, ◌<◌, ◌≤◌, List, [], ◌∷◌, ◌++◌, ◌⊎◌, inl, inr, length, Option, Some, IfSome, sym, ap, subst, ◌∙◌, arith, append_assoc, append-nil, length-append}
-use Rattle.std.specs.List.{AllByRecursion}
-use Rattle.ls_frame.specs.View.Known.{Tells, TakesUntil, known}
+-- Bytes that a reader gave up to a marker, after those that it gave before, and the place that they lead to.
+use Rattle.std.proofs.Common.{◌≡◌, ℕ, suc, Bool, true, false, ◌-◌, ◌<◌, ◌≤◌, List, [], ◌∷◌, ◌++◌, ◌⊎◌, inl, inr, length, get_or, Option, Some, IfSome, refl, sym, ap, subst, ◌∙◌, arith, append_assoc, append-nil, length-append}
+use Rattle.std.proofs.lemmas.Bool.{cases_order}
+use Rattle.ls_frame.specs.View.Known.{Tells, TakesPast, ArePassed, known}
 use Rattle.ls_frame.proofs.KnownLemmas.{known-consumed}
 use Rattle.ls_stream.specs.declared.next.awaited.Awaited.{Awaited}
 use Rattle.ls_stream.specs.declared.next.awaited.Awaited.TheVariants as awaited
 use Rattle.ls_stream.specs.Grammar.{most_bytes}
 use Rattle.ls_stream.specs.View.Extents.{IsNext}
-use Rattle.ls_stream.specs.View.Places.{GoesOn, Ends, IsPlaceAfter}
+use Rattle.ls_stream.specs.View.Places.{GoesOn, Ends, IsPlaceAfter, read_on}
 use Rattle.ls_stream.proofs.ExtentLemmas.{one_more, ended}
-use Rattle.ls_stream.proofs.PlaceLemmas.{data_other}
+use Rattle.ls_stream.proofs.PlaceLemmas.{data_ff, data_other, code_low}
 
--- data without an FF is followed by data
-data_on : (bytes run : List ℕ) → IsPlaceAfter awaited.Data bytes → AllByRecursion (λ byte. byte ≢ 255) run → IsPlaceAfter awaited.Data (bytes ++ run)
-data_on bytes [] reached plain = subst (IsPlaceAfter awaited.Data) (sym (append-nil bytes)) reached
-data_on bytes (byte ∷ run) reached plain =
-    subst (IsPlaceAfter awaited.Data) (append_assoc bytes (byte ∷ []) run)
-    (data_on (bytes ++ byte ∷ []) run (one_more awaited.Data awaited.Data bytes byte reached (data_other byte plain.0)) plain.1)
+-- Before a byte of data: these bytes lead to a place from which that byte leads on as from data.
+record IsBefore (place : Awaited) (bytes : List ℕ) (last : ℕ) : Type 0 where
+  from : Awaited
+  reached : IsPlaceAfter from bytes
+  same : (rest : List ℕ) → read_on from (last ∷ rest) ≡ read_on place (last ∷ rest)
 
--- so is what stands before a single byte
-run_on : (place : Awaited) (bytes run : List ℕ) (most : ℕ) → IsPlaceAfter place bytes → (place ≡ awaited.Data) ⊎ (most ≡ 1) → length run < most → AllByRecursion (λ byte. byte ≢ 255) run
-    → IsPlaceAfter place (bytes ++ run)
-run_on place bytes [] most reached at few plain = subst (IsPlaceAfter place) (sym (append-nil bytes)) reached
-run_on place bytes (byte ∷ run) most reached (inl here) few plain =
-    subst (λ p. IsPlaceAfter p (bytes ++ byte ∷ run)) (sym here) (data_on bytes (byte ∷ run) (subst (λ p. IsPlaceAfter p bytes) here reached) plain)
-run_on place bytes (byte ∷ run) most reached (inr one) few plain = absurd (omega (arith, one))
+-- in data, or after an FF in it
+after_ff : Bool → Awaited
+after_ff false = awaited.Data
+after_ff true = awaited.DataCode
 
--- those bytes but the last lead to where they began, and all that was read is what was given
+-- data whose FFs are followed by bytes below 80 is followed by data
+passed_on : (ff : Bool) (bytes run : List ℕ) (last : ℕ) → IsPlaceAfter (after_ff ff) bytes → (ff ≡ true → get_or (run ++ last ∷ []) 0 0 < 128) → ArePassed 255 128 (run ++ last ∷ [])
+    → IsBefore awaited.Data (bytes ++ run) last
+unfolding after_ff
+passed_on false bytes [] last reached low passed =
+    record { from = awaited.Data; reached = subst (IsPlaceAfter awaited.Data) (sym (append-nil bytes)) reached; same = λ rest. refl }
+passed_on true bytes [] last reached low passed =
+    let below : last < 128 = low refl in
+    record {
+      from = awaited.DataCode;
+      reached = subst (IsPlaceAfter awaited.DataCode) (sym (append-nil bytes)) reached;
+      same = λ rest. (code_low last below).on rest ∙ sym ((data_other last (λ is. absurd (omega (arith, below, is)))).on rest);
+    }
+passed_on true bytes (byte ∷ run) last reached low passed =
+    let below : byte < 128 = low refl in
+    subst (λ bs. IsBefore awaited.Data bs last) (append_assoc bytes (byte ∷ []) run)
+    (passed_on false (bytes ++ byte ∷ []) run last (one_more awaited.DataCode awaited.Data bytes byte reached (code_low byte below)) (λ no. let clash : ⊥ = cc in absurd clash)
+    (λ k less is. passed (suc k) (omega (arith, less)) is))
+passed_on false bytes (byte ∷ run) last reached low passed =
+    let size = length-append run (last ∷ []) in
+    subst (λ bs. IsBefore awaited.Data bs last) (append_assoc bytes (byte ∷ []) run)
+    (elim (cases_order byte 255) [
+      | inl is ↦
+          passed_on true (bytes ++ byte ∷ []) run last (one_more awaited.Data awaited.DataCode bytes byte reached (data_ff byte is)) (λ yes. passed 0 (omega (arith, size)) is)
+          (λ k less is. passed (suc k) (omega (arith, less)) is)
+      | inr other ↦
+          passed_on false (bytes ++ byte ∷ []) run last (one_more awaited.Data awaited.Data bytes byte reached (data_other byte (λ is. elim other [ inl less ↦ omega (arith, less, is) | inr more ↦ omega (arith, more, is) ])))
+          (λ no. let clash : ⊥ = cc in absurd clash) (λ k less is. passed (suc k) (omega (arith, less)) is)
+    ])
+
+-- so it is with what stands before a single byte
+run_on : (place : Awaited) (bytes run : List ℕ) (last most : ℕ) → IsPlaceAfter place bytes → (place ≡ awaited.Data) ⊎ (most ≡ 1) → length run < most → ArePassed 255 128 (run ++ last ∷ [])
+    → IsBefore place (bytes ++ run) last
+unfolding after_ff
+run_on place bytes [] last most reached at few passed =
+    record { from = place; reached = subst (IsPlaceAfter place) (sym (append-nil bytes)) reached; same = λ rest. refl }
+run_on place bytes (byte ∷ run) last most reached (inl here) few passed =
+    subst (λ p. IsBefore p (bytes ++ byte ∷ run) last) (sym here)
+    (passed_on false bytes (byte ∷ run) last (subst (λ p. IsPlaceAfter p bytes) here reached) (λ no. let clash : ⊥ = cc in absurd clash) passed)
+run_on place bytes (byte ∷ run) last most reached (inr one) few passed = absurd (omega (arith, one))
+
+-- those bytes but the last lead to where it leads on as from the place, and all that was read is what was given
 pub record IsOneMore (place : Awaited) (first new : Option (List ℕ)) (after : List ℕ) (last : ℕ) : Type 0 where
   pub before : List ℕ
-  pub reached : IsPlaceAfter place before
+  pub from : Awaited
+  pub reached : IsPlaceAfter from before
+  pub same : (rest : List ℕ) → read_on from (last ∷ rest) ≡ read_on place (last ∷ rest)
   pub parts : after ≡ before ++ last ∷ []
   pub few : length before < most_bytes
   pub read : Tells first → Tells new × (known first ≡ after ++ known new)
 
 pub taken_on : (place : Awaited) (most : ℕ) (first old new : Option (List ℕ)) (bytes after : List ℕ) (last : ℕ) → IsPlaceAfter place bytes → (Tells first → Tells old × (known first ≡ bytes ++ known old))
-    → (place ≡ awaited.Data) ⊎ (most ≡ 1) → most ≤ most_bytes - length bytes → TakesUntil 255 most old new bytes after last → IsOneMore place first new after last
+    → (place ≡ awaited.Data) ⊎ (most ≡ 1) → most ≤ most_bytes - length bytes → TakesPast 255 128 most old new bytes after last → IsOneMore place first new after last
 taken_on place most first old new bytes after last reached read at room taken = record {
   before = bytes ++ taken.run;
-  reached = run_on place bytes taken.run most reached at taken.few taken.unmarked;
+  from = (run_on place bytes taken.run last most reached at taken.few taken.passed).from;
+  reached = (run_on place bytes taken.run last most reached at taken.few taken.passed).reached;
+  same = (run_on place bytes taken.run last most reached at taken.few taken.passed).same;
   parts = taken.appended ∙ sym (append_assoc bytes taken.run (last ∷ []));
   few = let few = taken.few in omega (arith, length-append bytes taken.run);
   read = λ told.
@@ -51,10 +92,17 @@ taken_on place most first old new bytes after last reached read at room taken = 
 
 -- where reading goes on from with the last byte, or what ends with it
 pub on_with : (place next : Awaited) (first new : Option (List ℕ)) (after : List ℕ) (last : ℕ) → IsOneMore place first new after last → GoesOn place last next → IsPlaceAfter next after
-on_with place next first new after last one goes = subst (IsPlaceAfter next) (sym one.parts) (one_more place next one.before last one.reached goes)
+on_with place next first new after last one goes =
+    subst (IsPlaceAfter next) (sym one.parts) (one_more one.from next one.before last one.reached (record { on = λ rest. one.same rest ∙ goes.on rest }))
+
+ends_from : (from place : Awaited) (last : ℕ) → ((rest : List ℕ) → read_on from (last ∷ rest) ≡ read_on place (last ∷ rest)) → Ends place last → Ends from last
+ends_from from place last same ends = elim ends.ends [
+  | inl whole ↦ record { ends = inl (λ rest. same rest ∙ whole rest) }
+  | inr bad ↦ record { ends = inr (bad.0, bad.1, λ rest. same rest ∙ bad.2 rest) }
+]
 
 pub ended_with : (place : Awaited) (first new : Option (List ℕ)) (after rest : List ℕ) (last : ℕ) → IsOneMore place first new after last → Ends place last → IsNext after rest
-ended_with place first new after rest last one ends = subst (λ bs. IsNext bs rest) (sym one.parts) (ended place one.before rest last one.reached ends one.few)
+ended_with place first new after rest last one ends = subst (λ bs. IsNext bs rest) (sym one.parts) (ended one.from one.before rest last one.reached (ends_from one.from place last one.same ends) one.few)
 
 pub length_with : (place : Awaited) (first new : Option (List ℕ)) (after : List ℕ) (last : ℕ) → IsOneMore place first new after last → length after ≤ most_bytes
 length_with place first new after last one = let few = one.few in omega (arith, ap length one.parts, length-append one.before (last ∷ []))

@@ -4,7 +4,7 @@ mod awaited;
 ghost use Rattle.std.specs.Prelude.{◌≡◌, ◌≢◌, ◌↔◌, ◌<◌, ◌⊎◌, ◌++◌, ℕ, List, length, IfOk, IfErr, IfSome, IfNone, MatchResult, MatchOption};
 ghost use Rattle.ls_frame.specs.Picture.{Picture};
 ghost use Rattle.ls_frame.specs.View.Devices.{count_after};
-ghost use Rattle.ls_frame.specs.View.Known.{Tells, Gave, WasAtEnd, HadBytes, TakesUntil, known};
+ghost use Rattle.ls_frame.specs.View.Known.{Tells, Gave, WasAtEnd, HadBytes, TakesPast, known};
 ghost use Rattle.ls_bits.specs.Bits.{AreBytes};
 ghost use Rattle.ls_stream.specs.declared.faults.StreamFault.{StreamFault};
 ghost use Rattle.ls_stream.specs.Grammar.{Spells, most_bytes};
@@ -89,7 +89,7 @@ fn read_stream<R: Feed>(alloc: Global, reader: &mut R) -> Result<Option<Vec<u8>>
     Err(NextFault::TooLarge)
 }
 
-/// Takes bytes up to and with the first FF, `most` at most, and answers the last of them; `None` at the end of input.
+/// Takes bytes, `most` at most and none of 80 or more after an FF, and answers the last of them; `None` at the end of input.
 fn next_bytes<R: Feed>(
     reader: &mut R,
     most: usize,
@@ -97,14 +97,14 @@ fn next_bytes<R: Feed>(
 ) -> Result<Option<u8>, NextFault>
     requires some { 0 < most }
     ensures taken { IfOk result (λ next. IfSome next
-        (TakesUntil 255 most (R.remaining reader.old) (R.remaining reader.new) bytes.old.items bytes.new.items)) }
+        (TakesPast 255 128 most (R.remaining reader.old) (R.remaining reader.new) bytes.old.items bytes.new.items)) }
     ensures end { IfOk result (λ next. IfNone next
         ((bytes.new.items ≡ bytes.old.items) × WasAtEnd (R.remaining reader.old) (R.remaining reader.new))) }
     ensures fault { IfErr result (λ fault. fault ≢ NextFault.TooLarge) }
     ensures memory { IfErr result (λ fault. fault ≡ NextFault.NoMemory → HadBytes (R.remaining reader.old)) }
     ensures failures { R.failed_reads reader.new ≡ count_after (failed_feed result) (R.failed_reads reader.old) }
 {
-    match reader.feed_until(0xFF, most, bytes) {
+    match reader.feed_past(0xFF, 0x80, most, bytes) {
         Ok(next) => Ok(next),
         Err(FeedFault::Io) => Err(NextFault::Io),
         Err(FeedFault::NoMemory) => Err(NextFault::NoMemory),

@@ -3,7 +3,7 @@ use Rattle.std.specs.Prelude.{◌≡◌, ◌≢◌, ◌⊎◌, ℕ, ◌+◌, ◌
 use Rattle.std.specs.List.{AllByRecursion}
 use Rattle.ls_film.specs.Listing.{column}
 use Rattle.ls_frame.specs.Picture.{Picture}
-use Rattle.ls_stream.specs.Grammar.{Spells}
+use Rattle.ls_stream.specs.Grammar.{Spells, most_bytes}
 use Rattle.ls_stream.specs.View.Outlines.{IsFirstFault}
 use Rattle.ls_archive.specs.Index.{Entry, line}
 use Rattle.ls_archive.specs.View.Entries.{IsEntry}
@@ -26,8 +26,10 @@ HasNoLineFeed bytes = AllByRecursion (λ byte. byte ≢ 10) bytes
 abbrev pub beginning : ℕ → ℕ → ℕ → List ℕ
 beginning n offset size = decimal n ++ (column offset ++ (column size ++ codes " "))
 
--- The line of codestream n, which begins at this offset: its beginning and what follows that, without LF, and then LF.
+-- The line of codestream n, which begins at this offset: its beginning and what follows that, without LF, and then LF. It says no more
+-- bytes than a codestream may have.
 pub record IsLine (n offset : ℕ) (l : Line) : Type 0 where
+  pub few : l.size ≤ most_bytes
   pub rest : List ℕ
   pub text_is : l.text ≡ (beginning n offset l.size ++ rest) ++ codes "\n"
   pub one : HasNoLineFeed (beginning n offset l.size ++ rest)

@@ -1,5 +1,5 @@
 -- What a check by an index says of its two readers and of whom it tells its findings.
-use Rattle.std.specs.Prelude.{◌≡◌, ◌⊎◌, ◌↔◌, ℕ, ◌<◌, ◌≤◌, Bool, true, false, IsTrue, List, [], ◌∷◌, ◌++◌, length, take, drop, Option, None, Some, Result, Ok, Err}
+use Rattle.std.specs.Prelude.{◌≡◌, ◌⊎◌, ◌↔◌, ℕ, ◌<◌, ◌≤◌, Bool, true, false, IsTrue, List, [], ◌∷◌, ◌++◌, length, take, drop, codes, Option, None, Some, Result, Ok, Err}
 use Rattle.ls_film.specs.Film.{most_frames}
 use Rattle.ls_frame.specs.View.Known.{Tells, Gave, known}
 use Rattle.ls_archive.specs.declared.checking.Finding.{Finding}
@@ -29,6 +29,10 @@ pub record IsOneLine (text : List ℕ) : Type 0 where
   pub last : ℕ
   pub text_is : text ≡ first ++ last ∷ []
   pub one : HasNoLineFeed first
+
+-- If the bytes begin with some up to LF, 1,024 of them at most, those are the text.
+abbrev pub IsFrontLine : List ℕ → List ℕ → Type 0
+IsFrontLine bytes text = (front rest : List ℕ) → bytes ≡ (front ++ codes "\n") ++ rest → HasNoLineFeed front → length front < 1024 → text ≡ front ++ codes "\n"
 
 -- ---- a check
 
@@ -83,22 +87,22 @@ pub record StopsAfter (index recording : Option (List ℕ)) (found found' : Opti
   pub told : FindsMore found found' findings
   pub are_found : Tells recording → AreFound 0 0 lines (known recording) findings
 
--- there are bytes
-abbrev pub GoesOn : ℕ → List ℕ → Type 0
-GoesOn offset bytes = 0 < length bytes
-
 -- the bytes begin with the line n, whose codestream begins at this offset
 abbrev pub BeginsWithLine : ℕ → ℕ → List ℕ → Type 0
 BeginsWithLine n offset bytes = (l : Line) × (rest : List ℕ) × (bytes ≡ l.text ++ rest) × IsLine n offset l
+
+-- there are bytes, and they don't begin with that line
+abbrev pub BeginsOtherwise : ℕ → ℕ → List ℕ → Type 0
+BeginsOtherwise n offset bytes = (0 < length bytes) × (BeginsWithLine n offset bytes → ⊥)
 
 -- nothing is said
 abbrev pub Anything : ℕ → List ℕ → Type 0
 Anything offset bytes = Unit {0}
 
--- What each fault says: the index goes on after the lines before the one that is told; a read or an allocation failed; there is a line
--- more than an index may have.
+-- What each fault says: after the lines before the one that is told the index goes on with no line; a read or an allocation failed; there
+-- is a line more than an index may have.
 abbrev pub Stops : Option (List ℕ) → Option (List ℕ) → Option (List Finding) → Option (List Finding) → CheckFault → Type 0
-Stops index recording found found' (fault.Line n) = StopsAfter index recording found found' n GoesOn
+Stops index recording found found' (fault.Line n) = StopsAfter index recording found found' n (BeginsOtherwise n)
 Stops index recording found found' fault.IndexIo = (m : ℕ) × StopsAfter index recording found found' m Anything
 Stops index recording found found' fault.Io = (m : ℕ) × StopsAfter index recording found found' m Anything
 Stops index recording found found' fault.NoMemory = (m : ℕ) × StopsAfter index recording found found' m Anything
@@ -106,7 +110,7 @@ Stops index recording found found' fault.TooMany = StopsAfter index recording fo
 
 -- what an end at line n, whose codestream begins at this offset, says of the index's bytes
 abbrev pub StopsNextLine : Option (List ℕ) → ℕ → ℕ → CheckFault → Type 0
-StopsNextLine index n offset (fault.Line m) = (m ≡ n) × (Tells index → GoesOn offset (known index))
+StopsNextLine index n offset (fault.Line m) = (m ≡ n) × (Tells index → BeginsOtherwise n offset (known index))
 StopsNextLine index n offset fault.IndexIo = Unit {0}
 StopsNextLine index n offset fault.Io = ⊥
 StopsNextLine index n offset fault.NoMemory = Unit {0}

@@ -1,5 +1,5 @@
 -- What is known of a reader's bytes, and what it gave.
-use Rattle.std.specs.Prelude.{◌≡◌, ◌≢◌, ℕ, ◌<◌, IsSome, List, [], ◌∷◌, ◌++◌, length, Option, unwrap_or}
+use Rattle.std.specs.Prelude.{◌≡◌, ◌≢◌, ℕ, suc, ◌<◌, IsSome, List, [], ◌∷◌, ◌++◌, length, slice_index, Option, unwrap_or}
 use Rattle.std.specs.List.{AllByRecursion}
 use Rattle.std.specs.Io.KnownBytes.{Consumes}
 
@@ -29,4 +29,16 @@ pub record TakesUntil (mark most : ℕ) (old new : Option (List ℕ)) (before af
   pub appended : after ≡ before ++ (run ++ last ∷ [])
   pub given : Consumes old new (run ++ last ∷ [])
   pub unmarked : AllByRecursion (λ byte. byte ≢ mark) run
+  pub few : length run < most
+
+-- after each mark, but perhaps the last byte, stands a byte below the limit
+abbrev pub ArePassed : ℕ → ℕ → List ℕ → Type 0
+ArePassed mark limit bytes = (k : ℕ) → suc k < length bytes → slice_index bytes k ≡ mark → slice_index bytes (suc k) < limit
+
+-- The same of bytes among which marks may be that are followed by a byte below the limit.
+pub record TakesPast (mark limit most : ℕ) (old new : Option (List ℕ)) (before after : List ℕ) (last : ℕ) : Type 0 where
+  pub run : List ℕ
+  pub appended : after ≡ before ++ (run ++ last ∷ [])
+  pub given : Consumes old new (run ++ last ∷ [])
+  pub passed : ArePassed mark limit (run ++ last ∷ [])
   pub few : length run < most

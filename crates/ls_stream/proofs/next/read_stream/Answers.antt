@@ -1,5 +1,5 @@
 use Rattle.std.proofs.Common.{◌++◌, length, sym, ap, subst, ◌∙◌, refl, arith}
-use Rattle.ls_frame.specs.View.Known.{TakesUntil, known}
+use Rattle.ls_frame.specs.View.Known.{TakesPast, known}
 use Rattle.ls_stream.specs.View.Places.{IsPlaceAfter}
 use Rattle.ls_stream.proofs.ExtentLemmas.{none_reached}
 use Rattle.ls_stream.proofs.FeedLemmas.{if_some, IsOneMore, taken_on, on_with, ended_with, length_with}
@@ -21,7 +21,7 @@ steps-preserved g c =
     let new = c.next_bytes.new in
     let last = c.in-Some.last in
     let most = c.most_at_once-most in
-    let taken = if_some (TakesUntil 255 most.result (remaining c.steps.reader) (remaining new.reader) c.steps.bytes.items new.bytes.items) c.in_ok-last.field-0 last c.in-Some.is c.in_ok-last.ensures.taken in
+    let taken = if_some (TakesPast 255 128 most.result (remaining c.steps.reader) (remaining new.reader) c.steps.bytes.items new.bytes.items) c.in_ok-last.field-0 last c.in-Some.is c.in_ok-last.ensures.taken in
     let one : IsOneMore c.steps.place (remaining c.args.reader.now) (remaining new.reader) new.bytes.items last =
     taken_on c.steps.place most.result (remaining c.args.reader.now) (remaining c.steps.reader) (remaining new.reader) c.steps.bytes.items new.bytes.items last before.place before.read most.ensures.one
     (omega (arith, most.ensures.most)) taken in
@@ -39,7 +39,7 @@ returns-in-None-after-clause-bytes g c = λ told.
     let new = c.next_bytes.new in
     let last = c.in-Some.last in
     let most = c.most_at_once-most in
-    let taken = if_some (TakesUntil 255 most.result (remaining c.steps.reader) (remaining new.reader) c.steps.bytes.items new.bytes.items) c.in_ok-last.field-0 last c.in-Some.is c.in_ok-last.ensures.taken in
+    let taken = if_some (TakesPast 255 128 most.result (remaining c.steps.reader) (remaining new.reader) c.steps.bytes.items new.bytes.items) c.in_ok-last.field-0 last c.in-Some.is c.in_ok-last.ensures.taken in
     let one : IsOneMore c.steps.place (remaining c.args.reader.now) (remaining new.reader) new.bytes.items last =
     taken_on c.steps.place most.result (remaining c.args.reader.now) (remaining c.steps.reader) (remaining new.reader) c.steps.bytes.items new.bytes.items last before.place before.read most.ensures.one
     (omega (arith, most.ensures.most)) taken in

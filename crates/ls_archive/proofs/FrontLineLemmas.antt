@@ -1,0 +1,167 @@
+-- The line that the bytes of an index begin with, and the number that stands in it up to a blank.
+use Rattle.std.proofs.Common.{◌≡◌, ◌≢◌, inl, inr, ℕ, suc, ◌+◌, ◌<◌, ◌≤◌, List, [], ◌∷◌, ◌++◌, length, take, drop, get_or, Option, None, Some, Result, Ok, Err, MatchResult, decimal, codes, refl, sym, ap, subst, ◌∙◌, arith, append_assoc, append-nil, length-append}
+use Rattle.std.proofs.Math.Seq.{get_or-append_seam, take-append_seam, drop-append_seam}
+use Rattle.std.proofs.lemmas.List.{get_or_append_left}
+use Rattle.std.proofs.lemmas.Bool.{cases_order, eqb-true, eq-eqb}
+use Rattle.std.proofs.lemmas.Fmt.{decimal_is_IsNumeral, parse-decimal, IsAscii-decimal}
+use Rattle.std.proofs.lemmas.Str.{IsUtf8-from_ascii}
+use Rattle.std.specs.Result.{result_ok}
+use Rattle.std.specs.Str.{IsUtf8}
+use Rattle.std.specs.Str.Parse.{ParsesUnsigned}
+use Rattle.std.proofs.lemmas.Str.Parse.{digit_at}
+use Rattle.memchr.specs.Find.{IsFirstByte, is_byte}
+use Rattle.ls_frame.specs.View.Known.{Tells, TakesUntil, known}
+use Rattle.ls_frame.proofs.KnownLemmas.{known-consumed}
+use Rattle.ls_stream.specs.Grammar.{most_bytes}
+use Rattle.ls_film.specs.Listing.{column}
+use Rattle.ls_archive.specs.View.Checking.{Line, HasNoLineFeed, beginning, IsLine}
+use Rattle.ls_archive.specs.View.Checks.{IsFrontLine, BeginsOtherwise}
+use Rattle.ls_archive.proofs.LineLemmas.{head_or, all-append, same_first}
+
+-- ---- up to the first LF
+
+first_feed : (front a rest b : List ℕ) → HasNoLineFeed front → HasNoLineFeed a → front ++ 10 ∷ rest ≡ a ++ 10 ∷ b → front ≡ a
+unfolding head_or
+first_feed [] [] rest b one other same = refl
+first_feed [] (y ∷ a) rest b one other same = absurd (other.0 (sym (ap (head_or 0) same)))
+first_feed (x ∷ front) [] rest b one other same = absurd (one.0 (ap (head_or 0) same))
+first_feed (x ∷ front) (y ∷ a) rest b one other same =
+    let first : x ≡ y = ap (head_or 0) same in
+    let later : front ++ 10 ∷ rest ≡ a ++ 10 ∷ b = ap (drop 1) same in
+    ap (λ e. e ∷ front) first ∙ ap (λ s. y ∷ s) (first_feed front a rest b one.1 other.1 later)
+
+no_feed_before : (front a rest b : List ℕ) → HasNoLineFeed a → front ++ 10 ∷ rest ≡ a ++ b → length front < length a → ⊥
+unfolding head_or
+no_feed_before [] [] rest b other same less = absurd (omega (arith, less))
+no_feed_before [] (y ∷ a) rest b other same less = other.0 (sym (ap (head_or 0) same))
+no_feed_before (x ∷ front) [] rest b other same less = absurd (omega (arith, less))
+no_feed_before (x ∷ front) (y ∷ a) rest b other same less =
+    let later : front ++ 10 ∷ rest ≡ a ++ b = ap (drop 1) same in
+    no_feed_before front a rest b other.1 later (omega (arith, less))
+
+-- what is taken up to LF after bytes without LF is the first line
+pub front-fed : (most last : ℕ) (old mid new : Option (List ℕ)) (before after : List ℕ) → TakesUntil 10 most mid new before after last → last ≡ 10 → HasNoLineFeed before
+    → (Tells old → Tells mid × (known old ≡ before ++ known mid)) → Tells old → IsFrontLine (known old) after
+front-fed most last old mid new before after taken feed one gave told =
+    let so_far = gave told in
+    let run : taken.run ++ last ∷ [] ≡ taken.run ++ 10 ∷ [] = ap (λ b. taken.run ++ b ∷ []) feed in
+    let here : known mid ≡ (taken.run ++ 10 ∷ []) ++ known new = (known-consumed mid new (taken.run ++ last ∷ []) so_far.0 taken.given).1 ∙ ap (λ s. s ++ known new) run in
+    let all : known old ≡ (before ++ taken.run) ++ 10 ∷ known new =
+    so_far.1 ∙ ap (λ s. before ++ s) (here ∙ append_assoc taken.run (10 ∷ []) (known new)) ∙ sym (append_assoc before taken.run (10 ∷ known new)) in
+    λ front rest begins none few.
+    let same : front ≡ before ++ taken.run =
+    first_feed front (before ++ taken.run) rest (known new) none (all-append (λ byte. byte ≢ 10) before taken.run one taken.unmarked)
+    (sym (append_assoc front (10 ∷ []) rest) ∙ sym begins ∙ all) in
+    taken.appended ∙ ap (λ s. before ++ s) run ∙ sym (append_assoc before taken.run (10 ∷ [])) ∙ ap (λ s. s ++ 10 ∷ []) (sym same)
+
+-- bytes without LF are as many as a line may have
+pub front-full : (old new : Option (List ℕ)) (text : List ℕ) → HasNoLineFeed text → (Tells old → Tells new × (known old ≡ text ++ known new)) → 1024 ≤ length text → Tells old
+    → IsFrontLine (known old) text
+front-full old new text one gave full told front rest begins none few =
+    absurd (no_feed_before front text rest (known new) one (sym (append_assoc front (10 ∷ []) rest) ∙ sym begins ∙ (gave told).1) (omega (arith, few, full)))
+
+-- bytes without LF are all that there are
+pub front-ended : (old mid : Option (List ℕ)) (before text : List ℕ) → HasNoLineFeed before → (Tells old → Tells mid × (known old ≡ before ++ known mid)) → (Tells mid → known mid ≡ []) → text ≡ before → Tells old
+    → IsFrontLine (known old) text
+front-ended old mid before text one gave end same told front rest begins none few =
+    let so_far = gave told in
+    let all : known old ≡ before = so_far.1 ∙ ap (λ s. before ++ s) (end so_far.0) ∙ append-nil before in
+    let whole : front ++ 10 ∷ rest ≡ before ++ [] = sym (append_assoc front (10 ∷ []) rest) ∙ sym begins ∙ all ∙ sym (append-nil before) in
+    let size : length front + suc (length rest) ≡ length before + 0 = sym (length-append front (10 ∷ rest)) ∙ ap length whole ∙ length-append before [] in
+    absurd (no_feed_before front before rest [] one whole (omega (arith, size)))
+
+-- the first line isn't the line n: nor do the bytes begin with that
+pub begins-otherwise : (n offset : ℕ) (bytes text : List ℕ) → 0 < length bytes → IsFrontLine bytes text
+    → ((size : ℕ) (rest : List ℕ) → size ≤ most_bytes → text ≡ (beginning n offset size ++ rest) ++ codes "\n" → ⊥) → BeginsOtherwise n offset bytes
+begins-otherwise n offset bytes text some is_front none = (
+  some,
+  λ line.
+      let l : Line = line.0 in
+      let is : IsLine n offset l = line.3 in
+      let front = beginning n offset l.size ++ is.rest in
+      let begins : bytes ≡ (front ++ codes "\n") ++ line.1 = line.2 ∙ ap (λ s. s ++ line.1) is.text_is in
+      let size : length l.text ≡ length front + 1 = ap length is.text_is ∙ length-append front (10 ∷ []) in
+      none l.size is.rest is.few (is_front front line.1 begins is.one (omega (arith, size, is.short))),
+)
+
+-- ---- up to the first blank
+
+first_blank : (number end : ℕ) (text rest : List ℕ) → number ≤ most_bytes → text ≡ decimal number ++ 32 ∷ rest → IsFirstByte (is_byte 32) text (Some end) → end ≡ length (decimal number)
+first_blank number end text rest small is first =
+    let digits = decimal number in
+    let numeral = (decimal_is_IsNumeral number (omega (arith, small))).0.1 in
+    let blank : get_or text (length digits) 0 ≡ 32 = ap (λ s. get_or s (length digits) 0) is ∙ get_or-append_seam digits 32 rest 0 in
+    let found : get_or text end 0 ≡ 32 = eqb-true _ _ first.1 in
+    elim (cases_order end (length digits)) [
+      | inl same ↦ same
+      | inr (inl less) ↦
+          let here : get_or text end 0 ≡ get_or digits end 0 = ap (λ s. get_or s end 0) is ∙ get_or_append_left digits (32 ∷ rest) 0 end less in
+          let range = digit_at digits end numeral less in
+          absurd (omega (arith, here, found, range))
+      | inr (inr more) ↦ absurd (first.0.before (length digits) (omega arith) more (eq-eqb _ _ blank))
+    ]
+
+-- the bytes before it are the number
+pub number-before : (number end : ℕ) (text rest : List ℕ) → number ≤ most_bytes → text ≡ decimal number ++ (codes " " ++ rest) → IsFirstByte (is_byte 32) text (Some end) → take end text ≡ decimal number
+number-before number end text rest small is first =
+    let place = first_blank number end text rest small is first in
+    ap (λ n. take n text) place ∙ ap (take (length (decimal number))) is ∙ take-append_seam (decimal number) (32 ∷ rest)
+
+-- there is one
+pub number-ends : (number : ℕ) (text rest : List ℕ) → text ≡ decimal number ++ (codes " " ++ rest) → IsFirstByte (is_byte 32) text None → ⊥
+number-ends number text rest is none =
+    let digits = decimal number in
+    let blank : get_or text (length digits) 0 ≡ 32 = ap (λ s. get_or s (length digits) 0) is ∙ get_or-append_seam digits 32 rest 0 in
+    let size : length text ≡ length digits + suc (length rest) = ap length is ∙ length-append digits (32 ∷ rest) in
+    none (length digits) (omega arith) (omega (arith, size)) (eq-eqb _ _ blank)
+
+-- if what is read up to the blank is read as a number, it is that
+pub number-read : {E : Type 0} (number end : ℕ) (text rest : List ℕ) (r : Result ℕ E) → number ≤ most_bytes → text ≡ decimal number ++ (codes " " ++ rest) → IsFirstByte (is_byte 32) text (Some end)
+    → ParsesUnsigned 32 10 (take end text) r → r ≡ Ok number
+number-read number end text rest r small is first parsed =
+    parse-decimal 32 number (take end text) r (omega (arith, small)) (omega (arith, small)) (number-before number end text rest small is first) parsed
+
+-- it is text
+pub number-is_text : (number end : ℕ) (text rest : List ℕ) → number ≤ most_bytes → text ≡ decimal number ++ (codes " " ++ rest) → IsFirstByte (is_byte 32) text (Some end) → IsUtf8 (take end text)
+number-is_text number end text rest small is first =
+    subst IsUtf8 (sym (number-before number end text rest small is first)) (IsUtf8-from_ascii (decimal number) (IsAscii-decimal number (omega (arith, small))))
+
+-- what is kept of an answer that was Ok, and of one that wasn't
+pub kept : {A E : Type 0} (P : A → Type 0) (Q : E → Type 0) (a : A) (r : Result A E) → MatchResult r P Q → Some a ≡ result_ok r → P a
+kept P Q a (Ok b) m same = let is : a ≡ b = cc in subst P (sym is) m
+kept P Q a (Err e) m same = let clash : ⊥ = cc in absurd clash
+
+pub refused : {A E : Type 0} (P : A → Type 0) (Q : E → Type 0) (r : Result A E) → MatchResult r P Q → None ≡ result_ok r → ((e : E) → Q e → ⊥) → ⊥
+refused P Q (Ok b) m same never = let clash : ⊥ = cc in absurd clash
+refused P Q (Err e) m same never = never e m
+
+-- ---- the columns of a line
+
+-- what stands after the number and the offset of a line
+pub beginning-parts : (n offset size : ℕ) (rest : List ℕ) → beginning n offset size ++ rest ≡ (decimal n ++ (codes " " ++ (decimal offset ++ codes " "))) ++ (decimal size ++ (codes " " ++ rest))
+beginning-parts n offset size rest =
+    append_assoc (decimal n) (column offset ++ (column size ++ codes " ")) rest
+    ∙ ap (λ s. decimal n ++ 32 ∷ s) (append_assoc (decimal offset) (column size ++ codes " ") rest ∙ ap (λ s. decimal offset ++ 32 ∷ s) (append_assoc (decimal size) (codes " ") rest)
+    ∙ sym (append_assoc (decimal offset) (codes " ") (decimal size ++ 32 ∷ rest)))
+    ∙ sym (append_assoc (decimal n) (codes " " ++ (decimal offset ++ codes " ")) (decimal size ++ 32 ∷ rest))
+
+-- a line's columns are that and then they
+pub line-columns : (n offset size : ℕ) (text columns rest : List ℕ) → text ≡ columns ++ codes "\n" → text ≡ (beginning n offset size ++ rest) ++ codes "\n"
+    → columns ≡ (decimal n ++ (codes " " ++ (decimal offset ++ codes " "))) ++ (decimal size ++ (codes " " ++ rest))
+line-columns n offset size text columns rest ends line =
+    same_first columns (beginning n offset size ++ rest) 10 10 (sym ends ∙ line) ∙ beginning-parts n offset size rest
+
+pub columns-left : (n offset size : ℕ) (text columns left rest : List ℕ) → text ≡ columns ++ codes "\n" → columns ≡ (decimal n ++ (codes " " ++ (decimal offset ++ codes " "))) ++ left
+    → text ≡ (beginning n offset size ++ rest) ++ codes "\n" → left ≡ decimal size ++ (codes " " ++ rest)
+columns-left n offset size text columns left rest ends begins line =
+    let front = decimal n ++ (codes " " ++ (decimal offset ++ codes " ")) in
+    let all : front ++ left ≡ front ++ (decimal size ++ (codes " " ++ rest)) = sym begins ∙ line-columns n offset size text columns rest ends line in
+    sym (drop-append_seam front left) ∙ ap (drop (length front)) all ∙ drop-append_seam front (decimal size ++ (codes " " ++ rest))
+
+-- and the other way round
+pub line-of_columns : (n offset size : ℕ) (text columns left rest : List ℕ) → text ≡ columns ++ codes "\n" → columns ≡ (decimal n ++ (codes " " ++ (decimal offset ++ codes " "))) ++ left
+    → left ≡ (decimal size ++ codes " ") ++ rest → text ≡ (beginning n offset size ++ rest) ++ codes "\n"
+line-of_columns n offset size text columns left rest ends begins number =
+    let front = decimal n ++ (codes " " ++ (decimal offset ++ codes " ")) in
+    ends ∙ ap (λ s. s ++ codes "\n")
+    (begins ∙ ap (λ s. front ++ s) (number ∙ append_assoc (decimal size) (codes " ") rest) ∙ sym (beginning-parts n offset size rest))
