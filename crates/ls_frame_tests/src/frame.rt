@@ -1,5 +1,5 @@
-use crate::testing::{Parts, check, check_items, frame_of};
-use ls_frame::{Frame, FrameFault, FrameView, Kind};
+use crate::testing::{Parts, check, check_items, check_samples, frame_of};
+use ls_frame::{Frame, FrameFault, FrameView, Kind, Samples};
 use std::alloc::{AllocError, Global};
 use std::process::Abort;
 
@@ -50,7 +50,7 @@ fn check_refused(rt: &impl Abort, alloc: Global, i: usize, parts: &Parts<'_>, wa
 /// That parts make no view either, for the same reason.
 fn check_view_refused(rt: &impl Abort, i: usize, parts: &Parts<'_>, want: FrameFault) {
     let (kind, width, height, maxval, samples) = *parts;
-    match FrameView::new(kind, width, height, maxval, samples) {
+    match FrameView::new(kind, width, height, maxval, Samples::Words(samples)) {
         Ok(_) => panic!(rt; "parts {i} make a view"),
         Err(fault) => check(rt, "a view's fault", i, &fault, &want),
     }
@@ -88,7 +88,7 @@ fn check_view(rt: &impl Abort, i: usize, view: &FrameView<'_>, parts: &Parts<'_>
     check(rt, "its width", i, &view.width(), &width);
     check(rt, "its height", i, &view.height(), &height);
     check(rt, "its maxval", i, &view.maxval(), &maxval);
-    check_items(rt, "its samples", i, view.samples(), samples);
+    check_samples(rt, "its samples", i, view.samples(), Samples::Words(samples));
 }
 
 #[test]

@@ -19,6 +19,8 @@ mod page;
 #[cfg(test)]
 mod presets;
 #[cfg(test)]
+mod samples;
+#[cfg(test)]
 mod testing;
 #[cfg(test)]
 mod tuning;

@@ -2,7 +2,7 @@
 ghost use Rattle.std.specs.Prelude.{◌≤◌};
 ghost use Rattle.ls_frame_tests.specs.declared.testing.TheConstants.{ROOM};
 
-use ls_frame::{Failed, Feed, FeedFault, Frame, Kind};
+use ls_frame::{Failed, Feed, FeedFault, Frame, Kind, Samples};
 use std::alloc::{AllocError, Global};
 use std::fmt::Debug;
 use std::io;
@@ -34,6 +34,15 @@ pub fn check_items<T: PartialEq + Debug>(
 /// That this holds.
 pub fn check_so(rt: &impl Abort, case: &str, at: usize, holds: bool) {
     assert!(rt; holds, "{case}, at {at}");
+}
+
+/// That samples are the wanted ones, of the wanted size.
+pub fn check_samples(rt: &impl Abort, case: &str, at: usize, got: Samples<'_>, want: Samples<'_>) {
+    match (got, want) {
+        (Samples::Bytes(got), Samples::Bytes(want)) => check_items(rt, case, at, got, want),
+        (Samples::Words(got), Samples::Words(want)) => check_items(rt, case, at, got, want),
+        _ => panic!(rt; "{case}, at {at}: samples of another size"),
+    }
 }
 
 /// Kind, width, height, maxval, samples.

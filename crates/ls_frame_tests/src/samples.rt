@@ -1,0 +1,72 @@
+use crate::testing::{check, check_items, check_samples};
+use ls_frame::{FrameFault, FrameView, Kind, Place, Samples};
+use std::process::Abort;
+
+/// Rows of bytes by their maxval, and why they make no view of one row.
+const ROWS: [(u16, &[u8], Option<FrameFault>); 6] = [
+    (255, &[0, 255], None),
+    (256, &[0, 255], None),
+    (254, &[255, 0], Some(FrameFault::SampleTooLarge(0))),
+    (7, &[7, 6, 8, 9], Some(FrameFault::SampleTooLarge(2))),
+    (1, &[1, 0, 1], None),
+    (0, &[0], Some(FrameFault::ZeroMaxval)),
+];
+
+/// What a row of bytes makes: a view of it, or this fault.
+fn check_row(rt: &impl Abort, i: usize, maxval: u16, row: &[u8], want: Option<FrameFault>) {
+    match FrameView::new(Kind::Gray, row.len() as u16, 1, maxval, Samples::Bytes(row)) {
+        Ok(view) => {
+            check_samples(rt, "the bytes of a view", i, view.samples(), Samples::Bytes(row));
+            check(rt, "no fault", i, &None, &want);
+        }
+        Err(fault) => check(rt, "the fault of a view of bytes", i, &Some(fault), &want),
+    }
+}
+
+#[test]
+fn a_view_is_made_of_bytes_too(rt: HostRuntime) {
+    for (i, (maxval, row, want)) in ROWS.iter().enumerate() {
+        check_row(&rt, i, *maxval, row, *want);
+    }
+}
+
+const BYTES: [u8; 5] = [1, 2, 3, 4, 5];
+
+const WORDS: [u16; 5] = [100, 200, 300, 400, 500];
+
+/// Parts of both by start and count, and the samples that they have.
+const PARTS: [(usize, usize, &[u8], &[u16]); 4] = [
+    (0, 5, &[1, 2, 3, 4, 5], &[100, 200, 300, 400, 500]),
+    (1, 3, &[2, 3, 4], &[200, 300, 400]),
+    (4, 1, &[5], &[500]),
+    (5, 0, &[], &[]),
+];
+
+fn check_part(rt: &impl Abort, i: usize, all: Samples<'_>, start: usize, count: usize, want: Samples<'_>) {
+    check(rt, "how many there are in all", i, &all.len(), &5);
+    if start + count <= all.len() {
+        check_samples(rt, "a part", i, all.part(start, count), want);
+    }
+}
+
+#[test]
+fn a_part_has_its_samples(rt: HostRuntime) {
+    for (i, (start, count, bytes, words)) in PARTS.iter().enumerate() {
+        check_part(&rt, i, Samples::Bytes(&BYTES), *start, *count, Samples::Bytes(bytes));
+        check_part(&rt, i, Samples::Words(&WORDS), *start, *count, Samples::Words(words));
+    }
+}
+
+#[test]
+fn places_take_samples_up_to_their_greatest(rt: HostRuntime) {
+    let mut bytes = [7u8; 3];
+    u8::put(&mut bytes, 1, 255);
+    check_items(&rt, "bytes", 0, &bytes, &[7, 255, 7]);
+    u8::clear(&mut bytes);
+    check_items(&rt, "cleared bytes", 1, &bytes, &[0, 0, 0]);
+    let mut words = [7u16; 3];
+    u16::put(&mut words, 2, 65535);
+    check_items(&rt, "words", 2, &words, &[7, 7, 65535]);
+    u16::clear(&mut words);
+    check_items(&rt, "cleared words", 3, &words, &[0, 0, 0]);
+}
