@@ -15,7 +15,7 @@ ghost use Rattle.ls_stream.specs.View.Outlines.{outline_of, IsFirstFault};
 use crate::segments::MOST_BYTES;
 use awaited::Awaited;
 use ls_frame::{Feed, FeedFault};
-use std::alloc::Global;
+use std::alloc::{AllocError, Global};
 use thiserror::Error;
 
 /// Why the next codestream can't be taken.
@@ -89,6 +89,9 @@ fn read_stream<R: Feed>(alloc: Global, reader: &mut R) -> Result<Option<Vec<u8>>
     Err(NextFault::TooLarge)
 }
 
+/// How many bytes there is room for after the first.
+const FIRST_ROOM: usize = 65_536;
+
 /// Takes bytes, `most` at most and none of 80 or more after an FF, and answers the last of them; `None` at the end of input.
 fn next_bytes<R: Feed>(
     reader: &mut R,
@@ -105,8 +108,22 @@ fn next_bytes<R: Feed>(
     ensures failures { R.failed_reads reader.new ≡ count_after (failed_feed result) (R.failed_reads reader.old) }
 {
     match reader.feed_past(0xFF, 0x80, most, bytes) {
-        Ok(next) => Ok(next),
+        Ok(Some(last)) => match make_room(bytes) {
+            Ok(()) => Ok(Some(last)),
+            Err(AllocError) => Err(NextFault::NoMemory),
+        },
+        Ok(None) => Ok(None),
         Err(FeedFault::Io) => Err(NextFault::Io),
         Err(FeedFault::NoMemory) => Err(NextFault::NoMemory),
     }
+}
+
+/// Room for bytes after the first one: it grows alike for each codestream then, so that memory which one has freed fits the next.
+fn make_room(bytes: &mut Vec<u8>) -> Result<(), AllocError>
+    ensures { bytes.new.items ≡ bytes.old.items }
+{
+    if bytes.len() == 1 {
+        bytes.reserve(FIRST_ROOM)?;
+    }
+    Ok(())
 }
