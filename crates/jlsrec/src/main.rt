@@ -1,15 +1,13 @@
 //! `jlsrec`: a lossless recorder of image sequences.
 //!
-//! In reading order: `console` (what is said on standard error), `cause` (what faults come of), `program` (the whole program over words,
-//! files and its two streams). The words of the command line are read in `ls_command`, films are read and written in `ls_film`, files as
-//! files are in `ls_files`, and what `replay` reads and writes is in `ls_replay`.
+//! `program` is the whole program over words, files and its two streams. The words of the command line are read in
+//! `ls_command`, and what they ask for is done in `ls_reading`; but for `record`, which begins in `ls_setup` and goes on
+//! here. What is said on standard error, and by what files are read, is in `ls_console`.
 #![tactic(auto)]
 
-mod cause;
-mod console;
 mod program;
 
-use console::Console;
+use ls_console::Console;
 use ls_files::Opener;
 use ls_frame::Counted;
 use std::io::IsTerminal;

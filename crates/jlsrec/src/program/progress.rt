@@ -1,14 +1,12 @@
 //! The progress of a recording, said on standard error while it goes on: on a terminal as a line in its place,
 //! elsewhere as lines.
-mod text;
-
-use crate::console::Console;
 use crate::program::watch::Watch;
+use ls_console::Console;
 use ls_frame::Outlet;
+use ls_progress::{Pace, line_of};
 use std::alloc::{AllocError, Global};
 use std::sync::Wait;
 use std::time::{Clock, Duration};
-use text::{Pace, line_of};
 
 /// After so many nanoseconds progress is said again: a little less than the wait, which may end a little early.
 const DUE: u64 = 450_000_000;

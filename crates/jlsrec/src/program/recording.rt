@@ -1,22 +1,18 @@
 //! The command `record`: films are opened, their recordings made, and what came of each is said.
 mod ending;
-mod given;
-mod opening;
-mod preset;
 
-use crate::console::Console;
 use crate::program::progress::tell_progress;
-use crate::program::report::{Report, write_report};
+use crate::program::report::write_report;
 use crate::program::watch::Watch;
-use crate::program::{DONE, Reader, USAGE, misused, no_memory};
 use ending::say_recorded;
-use given::{Names, named_as_report, named_twice, names_of};
-use ls_archive::Indexing;
-use ls_files::{Opens, Target};
+use ls_console::{Console, DONE, Reader, misused, no_memory};
+use ls_files::Opens;
 use ls_frame::{Counted, Feed, Outlet, Tuning};
 use ls_recorder::{Gate, OpenGate, RecordFault, Recording, Track, record};
-use opening::{Opened, open_films};
-use preset::tuning_of;
+use ls_setup::{
+    Film, Names, Opened, Report, Task, Writer, given_twice, named_as_report, named_twice, names_of,
+    open_films, tuning_of,
+};
 use std::alloc::Global;
 use std::io::Write;
 use std::rt::Files;
@@ -28,27 +24,6 @@ use std::time::Clock;
 /// The most films of a recording.
 const MOST_FILES: usize = 16;
 
-/// What `record` is asked to do.
-#[derive(Drop)]
-pub struct Task<'a> {
-    pub workers: usize,
-    pub queue: usize,
-    pub window: usize,
-    /// The coding parameters that were chosen, as they were written.
-    pub preset: Option<&'a str>,
-    /// The folder for the recordings, if they aren't to stand beside their films.
-    pub into: Option<&'a str>,
-    /// Whether a recording that is there is emptied, in place of being renamed.
-    pub replace: bool,
-    /// Whether it is said meanwhile how far the films are.
-    pub progress: bool,
-    /// The file for a report.
-    pub report: Option<&'a str>,
-    /// Whether an index is written of each recording.
-    pub index: bool,
-    pub files: Vec<&'a str>,
-}
-
 /// How many workers code, how many frames may wait for one, and how many of a film may be read and not written.
 #[derive(Clone, Copy)]
 struct Sizes {
@@ -57,21 +32,13 @@ struct Sizes {
     window: usize,
 }
 
-impl<'a> Task<'a> {
-    fn sizes(&self) -> Sizes {
-        Sizes {
-            workers: self.workers,
-            queue: self.queue,
-            window: self.window,
-        }
+fn sizes_of(task: &Task<'_>) -> Sizes {
+    Sizes {
+        workers: task.workers,
+        queue: task.queue,
+        window: task.window,
     }
 }
-
-/// The file that a film's codestreams are written to, and that of their index, if there is one.
-type Writer<'a, O> = Indexing<Counted<Target<'a, O>>, Counted<Target<'a, O>>>;
-
-/// A film: what it is read by, what its codestreams are written to, and its tuning.
-type Film<'a, O> = (Reader<'a, O>, Writer<'a, O>, Tuning);
 
 /// What came of a film.
 type FilmTrack<'a, O> = Track<Reader<'a, O>, Writer<'a, O>>;
@@ -139,7 +106,7 @@ where
         record_watched(rt, task, names, films, report, output, console)
     } else {
         let alloc = rt.alloc();
-        let recorded = record_through(rt, alloc, films, task.sizes(), &OpenGate);
+        let recorded = record_through(rt, alloc, films, sizes_of(task), &OpenGate);
         say_recorded(
             alloc,
             &task.files,
@@ -174,7 +141,7 @@ where
     let Ok(watch) = Watch::new(rt, alloc, films.len()) else {
         return no_memory(console);
     };
-    let (files, sizes) = (task.files.as_slice(), task.sizes());
+    let (files, sizes) = (task.files.as_slice(), sizes_of(task));
     let recorded = record_seen(
         rt,
         alloc,
@@ -321,10 +288,4 @@ where
         window,
     } = sizes;
     record(rt, alloc, films, workers, queue, window, gate)
-}
-
-/// Says that a film, or the file of a recording, is given twice.
-fn given_twice<E: Outlet>(file: &str, console: &mut Console<'_, E>) -> u8 {
-    console.say(format_args!("{file}: given twice"));
-    USAGE
 }

@@ -1,21 +1,12 @@
 //! The report of a recording: a table of what came of each film, and how busy the workers were.
-mod table;
-
-use crate::console::Console;
 use crate::program::watch::Watch;
-use crate::program::{DONE, FAILED};
-use ls_files::{Opens, Target};
+use ls_console::{Console, DONE, FAILED};
+use ls_files::Opens;
 use ls_frame::{Counted, Failed, Outlet, write_bytes};
-use std::alloc::Global;
+use ls_progress::{add_film, add_workers, head};
+use ls_setup::Report;
+use std::alloc::{AllocError, Global};
 use std::time::Clock;
-use table::table_of;
-
-/// Where a report goes: its file, and how that is called.
-#[derive(Drop)]
-pub struct Report<'a, O: Opens> {
-    pub path: &'a str,
-    pub target: Target<'a, O>,
-}
 
 /// Writes the report of a recording that has ended, of films by their names, and brings it onto the disk; or says that
 /// it can't. Answers the status.
@@ -54,4 +45,21 @@ where
     };
     target.release();
     status
+}
+
+/// A line for each film, by its name, and one of the workers.
+fn table_of<R: Clock>(
+    alloc: Global,
+    watch: &Watch<'_, R>,
+    files: &[&str],
+    workers: usize,
+) -> Result<String, AllocError> {
+    let mut table = head(alloc)?;
+    for (film, file) in files.iter().enumerate() {
+        if let Some(seen) = watch.seen(film) {
+            add_film(alloc, &mut table, *file, &seen)?;
+        }
+    }
+    add_workers(alloc, &mut table, watch.coding(), watch.lasted(), workers)?;
+    Ok(table)
 }

@@ -2,7 +2,7 @@
 mod film;
 
 use film::FilmWatch;
-pub use film::{Doing, Seen};
+use ls_progress::Seen;
 use ls_recorder::{Gate, LaneFault, Moment, Notice};
 use std::alloc::{AllocError, Global};
 use std::sync::Wait;
@@ -55,7 +55,7 @@ impl<'r, R: Clock> Watch<'r, R> {
     }
 
     /// What is seen of the film of this number, if there is one.
-    pub fn seen(&self, film: usize) -> Option<Seen> {
+    pub fn seen(&self, film: usize) -> Option<Seen<LaneFault>> {
         Some(self.films.get(film)?.seen())
     }
 

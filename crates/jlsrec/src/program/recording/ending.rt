@@ -1,11 +1,11 @@
 //! What came of each film, said once its recording has ended and is on the disk.
-use crate::cause::Caused;
-use crate::console::Console;
-use crate::program::indexing::{EndedIndex, say_index_end, say_unsynced};
-use crate::program::recording::{FilmTrack, Recorded, Writer};
-use crate::program::{DONE, FAILED, Reader, explain, no_memory, write_text};
+use crate::program::recording::{FilmTrack, Recorded};
+use ls_console::{Cause, Console, DONE, FAILED, Reader, explain, no_memory, write_text};
 use ls_files::{Opens, Target};
 use ls_frame::{Counted, Failed, Outlet};
+use ls_reading::{EndedIndex, cause_of_input, say_index_end, say_unsynced};
+use ls_recorder::LaneFault;
+use ls_setup::Writer;
 use std::alloc::Global;
 use std::io::Write;
 
@@ -120,7 +120,7 @@ where
             if !was_told {
                 console.say(format_args!("{file}: {fault}"));
             }
-            explain(file, fault.cause(), &track.reader, written, console);
+            explain(file, cause_of(fault), &track.reader, written, console);
             None
         }
     };
@@ -134,6 +134,15 @@ where
         frames,
         target,
         index,
+    }
+}
+
+/// What it comes of that a lane stopped.
+fn cause_of(fault: LaneFault) -> Cause {
+    match fault {
+        LaneFault::Input(number, fault) => cause_of_input(number, fault),
+        LaneFault::Output(_) => Cause::Writing,
+        _ => Cause::Other,
     }
 }
 

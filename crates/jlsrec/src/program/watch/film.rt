@@ -1,42 +1,9 @@
 //! What is seen of one film.
+use ls_progress::{Doing, Seen};
 use ls_recorder::{LaneFault, MOST_WINDOW, Notice};
 use std::alloc::{AllocError, Global};
 use std::sync::OnceLock;
 use std::sync::atomic::{AtomicBool, AtomicU64, Ordering};
-
-/// What a film's lane does.
-#[derive(Clone, Copy, Drop)]
-pub enum Doing {
-    /// It waits for a place in the window, or hasn't begun.
-    AwaitsWindow,
-    /// It reads a frame.
-    Reads,
-    /// It waits for a place in the queue.
-    AwaitsQueue,
-    /// It has ended, and so many frames were recorded; or why it stops.
-    Ended(Result<u64, LaneFault>),
-}
-
-/// What was seen of a film at a moment.
-#[derive(Clone, Copy, Drop)]
-pub struct Seen {
-    pub doing: Doing,
-    /// When it began to do that.
-    pub since: u64,
-    /// How many frames were read, and how many written.
-    pub read: u64,
-    pub written: u64,
-    /// How many bytes of samples were read, and how many bytes of codestreams written.
-    pub bytes_in: u64,
-    pub bytes_out: u64,
-    /// When the first frame was read.
-    pub first: u64,
-    /// The longest that a frame took from being read to being written.
-    pub delay: u64,
-    /// How long it waited for places in the window, and in the queue.
-    pub window_wait: u64,
-    pub queue_wait: u64,
-}
 
 /// What is seen of a film. Each word is written by one thread at a time: `bytes_out`, `written` and `delay` by the half
 /// of its lane that writes, all others by the half that reads.
@@ -148,7 +115,7 @@ impl FilmWatch {
     }
 
     /// What is seen of it now.
-    pub fn seen(&self) -> Seen {
+    pub fn seen(&self) -> Seen<LaneFault> {
         // What is written was read before: in this order no frame is seen as written that isn't seen as read.
         let written = self.written.load(Ordering::SeqCst);
         let bytes_out = self.bytes_out.load(Ordering::SeqCst);
@@ -166,7 +133,7 @@ impl FilmWatch {
         }
     }
 
-    fn doing(&self) -> Doing {
+    fn doing(&self) -> Doing<LaneFault> {
         if let Some(result) = self.end.get() {
             return Doing::Ended(*result);
         }

@@ -1,6 +1,6 @@
 //! How far films are, in words.
-use crate::console::COLUMNS;
-use crate::program::watch::{Doing, Seen};
+use crate::seen::{Doing, Seen};
+use ls_console::COLUMNS;
 use std::alloc::{AllocError, Global};
 
 /// So many nanoseconds a film may give no frame before that is said.
@@ -38,10 +38,10 @@ impl Pace {
     }
 
     /// Takes in what is seen now, `time` nanoseconds after the last look; whether that makes other words.
-    pub fn step(
+    pub fn step<F: Copy>(
         &mut self,
         alloc: Global,
-        seen: &Seen,
+        seen: &Seen<F>,
         now: u64,
         time: u64,
     ) -> Result<bool, AllocError> {
@@ -74,9 +74,9 @@ fn speed_after(speed: u64, bytes: u64, time: u64) -> u64 {
 }
 
 /// How far a film is, by what is seen of it now and how fast it goes.
-fn text_of(
+fn text_of<F: Copy>(
     alloc: Global,
-    seen: &Seen,
+    seen: &Seen<F>,
     now: u64,
     speed_in: u64,
     speed_out: u64,
@@ -110,7 +110,7 @@ fn rough(seconds: u64) -> (u64, &'static str) {
 }
 
 /// What is full, so that the lane waits.
-fn fullness(doing: Doing) -> &'static str {
+fn fullness<F: Copy>(doing: Doing<F>) -> &'static str {
     match doing {
         Doing::AwaitsWindow => ", window full",
         Doing::AwaitsQueue => ", queue full",

@@ -1,8 +1,6 @@
 //! Playing a recording: all of it, a part, or what stands whole of one that is damaged.
-use crate::cause::Cause;
-use crate::console::Console;
-use crate::program::{DONE, FAILED, conclude, explain, open_film};
-use ls_command::Frames;
+use crate::cause::conclude;
+use ls_console::{Cause, Console, DONE, FAILED, explain, open_film};
 use ls_film::{MOST_FRAMES, Part, PartFault, play, play_part};
 use ls_frame::{Counted, Feed, Outlet};
 use ls_player::play_by;
@@ -12,11 +10,11 @@ use std::io::Write;
 use std::rt::Files;
 use std::thread::Threads;
 
-/// Plays a recording, by so many workers, or the frames of it that are asked for.
+/// Plays a recording, by so many workers, or the part of it that is asked for.
 pub fn show<R, W, E>(
     rt: &R,
     file: &str,
-    frames: Option<Frames>,
+    part: Option<Part>,
     workers: u8,
     output: &mut Counted<W>,
     console: &mut Console<'_, E>,
@@ -30,8 +28,8 @@ where
         Ok(recording) => recording,
         Err(status) => return status,
     };
-    let result = match frames {
-        Some(frames) => play_frames(rt.alloc(), frames, &mut recording, output),
+    let result = match part {
+        Some(part) => play_frames(rt.alloc(), part, &mut recording, output),
         None => play_all(rt, rt.alloc(), workers, &mut recording, output),
     };
     conclude(file, result, &recording, output.last_failure(), console)
@@ -61,16 +59,15 @@ fn play_all<Rt: Threads + Sync, R: Feed, W: Outlet>(
 /// Plays the frames that are asked for; of ones that are out of order, which the words can't ask for, none.
 fn play_frames<R: Feed, W: Outlet>(
     alloc: Global,
-    frames: Frames,
+    part: Part,
     recording: &mut R,
     output: &mut W,
 ) -> Result<u64, PartFault> {
-    let first = u64::from(frames.first);
-    let last = frames.last.map(u64::from);
+    let Part { first, last } = part;
     if first >= MOST_FRAMES || last.is_some_and(|last| last < first || last >= MOST_FRAMES) {
         return Ok(0);
     }
-    play_part(alloc, Part { first, last }, recording, output)
+    play_part(alloc, part, recording, output)
 }
 
 /// Plays what stands whole of a recording, and says what is passed over.

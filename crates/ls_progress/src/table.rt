@@ -1,33 +1,45 @@
 //! The lines of a report.
-use crate::program::watch::{Doing, Seen, Watch};
+use crate::seen::{Doing, Seen};
 use std::alloc::{AllocError, Global};
-use std::time::Clock;
+use std::fmt::Display;
 
 /// The columns' names, with their units. Each name ends where its numbers do, but for the last.
 const HEAD: &str =
     "    frames         bytes-in        bytes-out    ratio      seconds   frames/s   delay-ms   window-s    queue-s film\n";
 
-/// A line for each film, by its name, and one of the workers.
-pub fn table_of<R: Clock>(
+/// The line with the columns' names.
+pub fn head(alloc: Global) -> Result<String, AllocError> {
+    HEAD.to_string(alloc)
+}
+
+/// Adds the line of a film, by its name.
+pub fn add_film<F: Copy + Display>(
     alloc: Global,
-    watch: &Watch<'_, R>,
-    files: &[&str],
+    table: &mut String,
+    file: &str,
+    seen: &Seen<F>,
+) -> Result<(), AllocError> {
+    add_numbers(alloc, table, seen)?;
+    add_name(alloc, table, file, seen)
+}
+
+/// Adds the line of the workers, who coded for so long together, each for as long as the recording lasted at most.
+pub fn add_workers(
+    alloc: Global,
+    table: &mut String,
+    coding: u64,
+    lasted: u64,
     workers: usize,
-) -> Result<String, AllocError> {
-    let mut table = HEAD.to_string(alloc)?;
-    for (film, file) in files.iter().enumerate() {
-        if let Some(seen) = watch.seen(film) {
-            add_film(alloc, &mut table, &seen)?;
-            add_name(alloc, &mut table, *file, &seen)?;
-        }
-    }
-    let busy = busy_text(alloc, watch.coding(), watch.lasted(), workers)?;
-    table.push_str(&busy)?;
-    Ok(table)
+) -> Result<(), AllocError> {
+    let whole = lasted.saturating_mul(workers as u64) / 1000;
+    let thousandths = coding.checked_div(whole).unwrap_or(0);
+    let (percent, tenth) = (thousandths / 10, thousandths % 10);
+    let busy = format!(in alloc; "workers: {workers}, busy {percent}.{tenth} % of the time\n")?;
+    table.push_str(&busy)
 }
 
 /// Adds the numbers of a film.
-fn add_film(alloc: Global, table: &mut String, seen: &Seen) -> Result<(), AllocError> {
+fn add_numbers<F>(alloc: Global, table: &mut String, seen: &Seen<F>) -> Result<(), AllocError> {
     let frames = seen.written;
     let (bytes_in, bytes_out) = (seen.bytes_in, seen.bytes_out);
     let time = if seen.read == 0 {
@@ -42,7 +54,12 @@ fn add_film(alloc: Global, table: &mut String, seen: &Seen) -> Result<(), AllocE
 }
 
 /// Adds the times of a film, which took so many nanoseconds.
-fn add_times(alloc: Global, table: &mut String, seen: &Seen, time: u64) -> Result<(), AllocError> {
+fn add_times<F>(
+    alloc: Global,
+    table: &mut String,
+    seen: &Seen<F>,
+    time: u64,
+) -> Result<(), AllocError> {
     let seconds = seconds_text(alloc, time)?;
     let speed = hundredths(alloc, seen.written.saturating_mul(1_000_000), time / 1000)?;
     let (milliseconds, tenth) = (seen.delay / 1_000_000, seen.delay / 100_000 % 10);
@@ -56,7 +73,12 @@ fn add_times(alloc: Global, table: &mut String, seen: &Seen, time: u64) -> Resul
 }
 
 /// Adds the name of a film, and why its recording stopped, if it did.
-fn add_name(alloc: Global, table: &mut String, file: &str, seen: &Seen) -> Result<(), AllocError> {
+fn add_name<F: Copy + Display>(
+    alloc: Global,
+    table: &mut String,
+    file: &str,
+    seen: &Seen<F>,
+) -> Result<(), AllocError> {
     let name = match seen.doing {
         Doing::Ended(Err(fault)) => format!(in alloc; " {file}: {fault}\n"),
         _ => format!(in alloc; " {file}\n"),
@@ -79,17 +101,4 @@ fn hundredths(alloc: Global, dividend: u64, divisor: u64) -> Result<String, Allo
 fn seconds_text(alloc: Global, time: u64) -> Result<String, AllocError> {
     let (seconds, thousandth) = (time / 1_000_000_000, time / 1_000_000 % 1000);
     format!(in alloc; "{seconds}.{thousandth:03}")
-}
-
-/// The line of the workers, who coded for so long together, each for as long as the recording lasted at most.
-fn busy_text(
-    alloc: Global,
-    coding: u64,
-    lasted: u64,
-    workers: usize,
-) -> Result<String, AllocError> {
-    let whole = lasted.saturating_mul(workers as u64) / 1000;
-    let thousandths = coding.checked_div(whole).unwrap_or(0);
-    let (percent, tenth) = (thousandths / 10, thousandths % 10);
-    format!(in alloc; "workers: {workers}, busy {percent}.{tenth} % of the time\n")
 }

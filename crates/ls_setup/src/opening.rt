@@ -1,16 +1,25 @@
 //! Opening: the films to read, and the files for what is made of them.
-use crate::console::Console;
-use crate::program::recording::given::{
-    Given, Names, has_index_at, is_met, look_at, written_twice,
-};
-use crate::program::recording::{Film, Task, Writer, given_twice};
-use crate::program::report::Report;
-use crate::program::{FAILED, Reader, buffered, no_memory};
+use crate::given::{Given, Names, has_index_at, is_met, look_at, written_twice};
+use crate::task::Task;
 use ls_archive::{Follower, Indexing};
+use ls_console::{Console, FAILED, Reader, USAGE, buffered, no_memory};
 use ls_files::{Opens, Place, Source, Target};
 use ls_frame::{Counted, Outlet, Tuning};
 use std::alloc::{AllocError, Global};
 use std::rt::Files;
+
+/// The file that a film's codestreams are written to, and that of their index, if there is one.
+pub type Writer<'a, O> = Indexing<Counted<Target<'a, O>>, Counted<Target<'a, O>>>;
+
+/// A film: what it is read by, what its codestreams are written to, and its tuning.
+pub type Film<'a, O> = (Reader<'a, O>, Writer<'a, O>, Tuning);
+
+/// Where a report goes: its file, and how that is called.
+#[derive(Drop)]
+pub struct Report<'a, O: Opens> {
+    pub path: &'a str,
+    pub target: Target<'a, O>,
+}
 
 /// The films, and where the report goes, if there is to be one.
 #[derive(Drop)]
@@ -194,4 +203,10 @@ where
         }
     }
     Ok(readers)
+}
+
+/// Says that a film, or the file of a recording, is given twice.
+pub fn given_twice<E: Outlet>(file: &str, console: &mut Console<'_, E>) -> u8 {
+    console.say(format_args!("{file}: given twice"));
+    USAGE
 }

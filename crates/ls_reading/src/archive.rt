@@ -1,12 +1,11 @@
 //! What is asked of a recording that is kept: its index, whether it is damaged, and whether it is of a film.
-use crate::cause::Cause;
-use crate::console::Console;
-use crate::program::{
-    DONE, FAILED, conclude, explain, finish_lines, no_memory, open_film, say_unwritten,
-};
+use crate::cause::conclude;
 use ls_archive::{
     CheckFault, Checked, Finding, Findings, Verdict, VerifyFault, check, verify, verify_by,
     write_index,
+};
+use ls_console::{
+    Cause, Console, DONE, FAILED, explain, finish_lines, no_memory, open_film, say_unwritten,
 };
 use ls_frame::{Counted, Outlet, write_bytes};
 use ls_salvage::{Gap, Gaps, NoText, salvage};

@@ -1,6 +1,6 @@
 //! The films that are given, by which names and which files, and whether one of them is given twice.
-use crate::console::CLEARED;
-use crate::program::recording::Task;
+use crate::task::Task;
+use ls_console::CLEARED;
 use ls_files::identity::last_part;
 use ls_files::{Identity, Opens, Place, Source, Spot};
 use std::alloc::{AllocError, Global};

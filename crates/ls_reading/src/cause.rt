@@ -1,22 +1,12 @@
-//! What faults come of.
+//! What faults come of, and what is said of one that an engine over a file stops with.
 use ls_archive::{CheckFault, IndexFault, VerifyFault};
+use ls_console::{Cause, Console, DONE, FAILED, Reader, explain};
+use ls_files::Opens;
 use ls_film::{FilmFault, PartFault, PlayFault};
-use ls_frame::NetpbmFault;
-use ls_recorder::LaneFault;
+use ls_frame::{Failed, NetpbmFault, Outlet};
 use ls_salvage::SalvageFault;
 use ls_stream::StreamFault;
-
-/// What a fault comes of.
-#[derive(Clone, Copy)]
-pub enum Cause {
-    /// A read failed.
-    Reading,
-    /// A write failed.
-    Writing,
-    /// The file isn't of the kind that was wanted: its first bytes show it.
-    Format,
-    Other,
-}
+use std::fmt::Display;
 
 /// A fault that has a cause.
 pub trait Caused {
@@ -28,16 +18,6 @@ impl Caused for FilmFault {
         match self {
             FilmFault::Input(number, fault) => cause_of_input(*number, *fault),
             FilmFault::Output(_) => Cause::Writing,
-            _ => Cause::Other,
-        }
-    }
-}
-
-impl Caused for LaneFault {
-    fn cause(&self) -> Cause {
-        match self {
-            LaneFault::Input(number, fault) => cause_of_input(*number, *fault),
-            LaneFault::Output(_) => Cause::Writing,
             _ => Cause::Other,
         }
     }
@@ -105,8 +85,31 @@ impl Caused for VerifyFault {
     }
 }
 
+/// Says why an engine over a file stopped, if it did, and answers the status. `written` is the last failure of what it wrote to.
+pub fn conclude<O, X, E>(
+    file: &str,
+    outcome: Result<u64, X>,
+    reader: &Reader<'_, O>,
+    written: Option<Failed>,
+    console: &mut Console<'_, E>,
+) -> u8
+where
+    O: Opens,
+    X: Caused + Copy + Display + Drop,
+    E: Outlet,
+{
+    match outcome {
+        Ok(_frames) => DONE,
+        Err(fault) => {
+            console.say(format_args!("{file}: {fault}"));
+            explain(file, fault.cause(), reader, written, console);
+            FAILED
+        }
+    }
+}
+
 /// What it comes of that a frame of a film can't be read.
-fn cause_of_input(number: u64, fault: NetpbmFault) -> Cause {
+pub fn cause_of_input(number: u64, fault: NetpbmFault) -> Cause {
     match fault {
         NetpbmFault::Io => Cause::Reading,
         NetpbmFault::BadMagic if number == 0 => Cause::Format,

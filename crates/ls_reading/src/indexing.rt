@@ -1,8 +1,7 @@
 //! Indexes that are written while their recordings are.
-use crate::cause::{Cause, Caused};
-use crate::console::Console;
-use crate::program::{FAILED, Reader, USAGE};
+use crate::cause::Caused;
 use ls_archive::IndexFault;
+use ls_console::{Cause, Console, FAILED, Reader, USAGE};
 use ls_files::{Opener, Opens, Place, Target};
 use ls_frame::{Counted, Failed, Outlet};
 use std::rt::Files;

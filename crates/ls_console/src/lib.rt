@@ -1,0 +1,34 @@
+//! What the program says of its files and devices, and the statuses that it ends with.
+//!
+//! ```
+//! use ls_console::{Console, DONE, open_film};
+//! use ls_frame::Outlet;
+//! use std::rt::Files;
+//!
+//! /// Opens a film, or says why it can't; answers the status.
+//! pub fn try_film<R, E>(rt: &R, file: &str, console: &mut Console<'_, E>) -> u8
+//! where
+//!     R: Eprint + Files + AllocGlobal,
+//!     E: Outlet,
+//! {
+//!     match open_film(rt, file, console) {
+//!         Ok(_film) => DONE,
+//!         Err(status) => status,
+//!     }
+//! }
+//! ```
+//!
+//! In reading order: `console` (what is said on standard error), `output` (what goes to standard output, and the
+//! statuses), `reader` (what films and recordings are read by, and what a fault of that comes of). No contract says what
+//! is said; the tests of the whole program show it.
+#![tactic(auto)]
+
+mod console;
+mod output;
+mod reader;
+
+pub use console::{CLEARED, COLUMNS, Console};
+pub use output::{
+    DONE, FAILED, USAGE, finish, finish_lines, misused, no_memory, say_unwritten, write_text,
+};
+pub use reader::{Cause, Reader, buffered, explain, open_film};
