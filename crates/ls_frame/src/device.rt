@@ -74,7 +74,7 @@ pub trait Feed: Read {
         self.feed_past(mark, 0, most, bytes)
     }
 
-    /// The same, but it may go on after a `mark` that a byte below `limit` follows: of those after a mark it takes no other.
+    /// The same, but it may go on after a `mark` with a byte below `limit`.
     fn feed_past(
         &mut self,
         mark: u8,

@@ -118,7 +118,7 @@ fn next_bytes<R: Feed>(
     }
 }
 
-/// Room for bytes after the first one: it grows alike for each codestream then, so that memory which one has freed fits the next.
+/// Makes room after the first byte. All codestreams grow alike from there on, so memory that one has freed fits the next.
 fn make_room(bytes: &mut Vec<u8>) -> Result<(), AllocError>
     ensures { bytes.new.items ≡ bytes.old.items }
 {
