@@ -88,7 +88,13 @@ fn check_view(rt: &impl Abort, i: usize, view: &FrameView<'_>, parts: &Parts<'_>
     check(rt, "its width", i, &view.width(), &width);
     check(rt, "its height", i, &view.height(), &height);
     check(rt, "its maxval", i, &view.maxval(), &maxval);
-    check_samples(rt, "its samples", i, view.samples(), Samples::Words(samples));
+    check_samples(
+        rt,
+        "its samples",
+        i,
+        view.samples(),
+        Samples::Words(samples),
+    );
 }
 
 #[test]

@@ -16,7 +16,13 @@ const ROWS: [(u16, &[u8], Option<FrameFault>); 6] = [
 fn check_row(rt: &impl Abort, i: usize, maxval: u16, row: &[u8], want: Option<FrameFault>) {
     match FrameView::new(Kind::Gray, row.len() as u16, 1, maxval, Samples::Bytes(row)) {
         Ok(view) => {
-            check_samples(rt, "the bytes of a view", i, view.samples(), Samples::Bytes(row));
+            check_samples(
+                rt,
+                "the bytes of a view",
+                i,
+                view.samples(),
+                Samples::Bytes(row),
+            );
             check(rt, "no fault", i, &None, &want);
         }
         Err(fault) => check(rt, "the fault of a view of bytes", i, &Some(fault), &want),
@@ -42,7 +48,14 @@ const PARTS: [(usize, usize, &[u8], &[u16]); 4] = [
     (5, 0, &[], &[]),
 ];
 
-fn check_part(rt: &impl Abort, i: usize, all: Samples<'_>, start: usize, count: usize, want: Samples<'_>) {
+fn check_part(
+    rt: &impl Abort,
+    i: usize,
+    all: Samples<'_>,
+    start: usize,
+    count: usize,
+    want: Samples<'_>,
+) {
     check(rt, "how many there are in all", i, &all.len(), &5);
     if start + count <= all.len() {
         check_samples(rt, "a part", i, all.part(start, count), want);
@@ -52,8 +65,22 @@ fn check_part(rt: &impl Abort, i: usize, all: Samples<'_>, start: usize, count: 
 #[test]
 fn a_part_has_its_samples(rt: HostRuntime) {
     for (i, (start, count, bytes, words)) in PARTS.iter().enumerate() {
-        check_part(&rt, i, Samples::Bytes(&BYTES), *start, *count, Samples::Bytes(bytes));
-        check_part(&rt, i, Samples::Words(&WORDS), *start, *count, Samples::Words(words));
+        check_part(
+            &rt,
+            i,
+            Samples::Bytes(&BYTES),
+            *start,
+            *count,
+            Samples::Bytes(bytes),
+        );
+        check_part(
+            &rt,
+            i,
+            Samples::Words(&WORDS),
+            *start,
+            *count,
+            Samples::Words(words),
+        );
     }
 }
 

@@ -60,7 +60,38 @@ fn check_opened(
         }
         Err(fault) => check_parts(rt, name, Err(fault), want),
     }
+    check_opened_to_bytes(rt, alloc, name, &opening, want)
+}
+
+/// That an opening's frame is decoded to this in places of 8 bits, if its samples fit these.
+fn check_opened_to_bytes(
+    rt: &impl Abort,
+    alloc: Global,
+    name: &str,
+    opening: &Opening<'_>,
+    want: Answer<'_>,
+) -> Result<(), AllocError> {
+    let (kind, width, height) = (opening.kind(), opening.width(), opening.height());
+    let maxval = opening.presets().maxval();
+    if maxval > 255 {
+        return Ok(());
+    }
+    let mut lines = DecoderLines::new(alloc, width)?;
+    let regions = Regions::new(alloc, opening.presets())?;
+    let mut places = vec![in alloc; 0u8; opening.sample_count()]?;
+    match opening.decode(&mut lines, &regions, &mut places) {
+        Ok(used) => {
+            let samples = widened(alloc, &places)?;
+            let parts = (kind, width, height, maxval, &*samples);
+            check_parts(rt, name, Ok((parts, used)), want);
+        }
+        Err(fault) => check_parts(rt, name, Err(fault), want),
+    }
     Ok(())
+}
+
+fn widened(alloc: Global, bytes: &[u8]) -> Result<Vec<u16>, AllocError> {
+    bytes.iter().map(|byte| u16::from(*byte)).collect(alloc)
 }
 
 /// That bytes are decoded to this.

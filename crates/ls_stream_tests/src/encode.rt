@@ -7,7 +7,8 @@ use crate::testing::{
 };
 use ls_frame::{Frame, Kind, Presets, Tuning};
 use ls_stream::{
-    Lines, code_bound, encode_frame, encode_into, encode_with, encode_within, view_bound,
+    Lines, code_bound, encode_frame, encode_into, encode_view, encode_with, encode_within,
+    view_bound,
 };
 use std::alloc::{AllocError, Global};
 use std::process::Abort;
@@ -61,6 +62,8 @@ fn check_codestream(
     check_coded(rt, alloc, "by default", &frame, want)?;
     let explicit = encode_with(alloc, &frame, &presets)?;
     check_bytes(rt, "explicit", &explicit, want);
+    let viewed = encode_view(alloc, &frame.view(), &presets)?;
+    check_bytes(rt, "of a view", &viewed, want);
     check_number(rt, "bound", code_bound(&frame, &presets), bound);
     Ok(())
 }

@@ -175,13 +175,7 @@ fn decode_rows<S: Place>(
 }
 
 /// Puts the samples of a row, which stand in a line after its first place, where they belong among those of all components.
-fn store_row<S: Place>(
-    samples: &mut [S],
-    line: &[u16],
-    row: usize,
-    shape: Shape,
-    component: usize,
-)
+fn store_row<S: Place>(samples: &mut [S], line: &[u16], row: usize, shape: Shape, component: usize)
     requires line { length line.now ≡ shape.width + 2 }
     requires fits { (k : ℕ) → slice_index line.now k ≤ S.most }
     requires samples { length (S.numbers samples.old) ≡ shape.height * shape.width * shape.components }

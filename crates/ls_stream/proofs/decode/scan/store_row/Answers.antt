@@ -27,8 +27,12 @@ overflow_add-place-in-loop-column g c =
 
 pub put-requires-clause-inside : goal.put-requires-clause-inside
 put-requires-clause-inside g c =
-    omega (arith, place_inside c.args.row c.args.shape.width c.args.shape.height c.loop-column.column c.args.shape.components c.args.component c.requires.row c.loop-column-test.true c.requires.component,
-    c.loop-column.invariant.whole, c.requires.samples)
+    omega (
+      arith,
+      place_inside c.args.row c.args.shape.width c.args.shape.height c.loop-column.column c.args.shape.components c.args.component c.requires.row c.loop-column-test.true c.requires.component,
+      c.loop-column.invariant.whole,
+      c.requires.samples,
+    )
 
 pub loop-column-preserved : goal.loop-column-preserved
 loop-column-preserved g c =
