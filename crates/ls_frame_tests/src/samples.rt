@@ -14,7 +14,10 @@ const ROWS: [(u16, &[u8], Option<FrameFault>); 6] = [
 
 /// What a row of bytes makes: a view of it, or this fault.
 fn check_row(rt: &impl Abort, i: usize, maxval: u16, row: &[u8], want: Option<FrameFault>) {
-    match FrameView::new(Kind::Gray, row.len() as u16, 1, maxval, Samples::Bytes(row)) {
+    let Ok(width) = u16::try_from(row.len()) else {
+        panic!(rt; "row {i} is too long");
+    };
+    match FrameView::new(Kind::Gray, width, 1, maxval, Samples::Bytes(row)) {
         Ok(view) => {
             check_samples(
                 rt,
@@ -41,7 +44,7 @@ const BYTES: [u8; 5] = [1, 2, 3, 4, 5];
 const WORDS: [u16; 5] = [100, 200, 300, 400, 500];
 
 /// Parts of both by start and count, and the samples that they have.
-const PARTS: [(usize, usize, &[u8], &[u16]); 4] = [
+const PARTS: [(u8, u8, &[u8], &[u16]); 4] = [
     (0, 5, &[1, 2, 3, 4, 5], &[100, 200, 300, 400, 500]),
     (1, 3, &[2, 3, 4], &[200, 300, 400]),
     (4, 1, &[5], &[500]),
@@ -52,14 +55,16 @@ fn check_part(
     rt: &impl Abort,
     i: usize,
     all: Samples<'_>,
-    start: usize,
-    count: usize,
+    start: u8,
+    count: u8,
     want: Samples<'_>,
 ) {
     check(rt, "how many there are in all", i, &all.len(), &5);
-    if start + count <= all.len() {
-        check_samples(rt, "a part", i, all.part(start, count), want);
+    let (start, count) = (usize::from(start), usize::from(count));
+    if start + count > all.len() {
+        panic!(rt; "part {i} goes past the samples");
     }
+    check_samples(rt, "a part", i, all.part(start, count), want);
 }
 
 #[test]
