@@ -2,8 +2,9 @@
 
 The recording's codestreams take the place of the files' pixel data, in the order in which the files are named to
 to_film.py: transfer syntax 1.2.840.10008.1.2.4.80 (JPEG-LS lossless), a fragment a frame, with a basic offset table, or
-with --extended with an extended one. All other attributes stay. OUT is a file where one FILE is named, else a folder that
-gets a file of the same name for each. Nothing that is there is written over. It wants pydicom.
+with --extended with an extended one. All other attributes stay, but group lengths, which DICOM has retired. OUT is a
+file where one FILE is named, else a folder that gets a file of the same name for each. Nothing that is there is written
+over. It wants pydicom.
 
 Each codestream's size, components and precision must be those of its frame, or nothing is written; that its samples are
 the frame's is for the film to see to. The status is 0, or 1 if a file can't be made.
@@ -115,6 +116,9 @@ def main() -> int:
         left = codestreams(Path(words.recording).read_bytes())
         for name in words.files:
             dataset = pydicom.dcmread(name)
+            # An element that is kept as it was read may lack its VR, and could not be written.
+            for _ in dataset.iterall():
+                pass
             count = int(dataset.get("NumberOfFrames", 1))
             if len(left) < count:
                 raise Refused(f"{name}: the recording has {len(left)} frames for it, and it has {count}")
