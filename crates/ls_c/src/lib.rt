@@ -95,7 +95,6 @@ pub extern "C" fn jlsrec_decode_8(
     status_of(decode_bytes(alloc, bytes, samples, form, used, fault))
 }
 
-/// How many bytes the next codestream has, by its markers alone.
 /// Says the form of the codestream at the front of bytes, by its headers alone, or the details of its first fault.
 #[unsafe(no_mangle)]
 pub extern "C" fn jlsrec_read_form(
@@ -108,6 +107,7 @@ pub extern "C" fn jlsrec_read_form(
     status_of(read_form(bytes, form, fault))
 }
 
+/// How many bytes the next codestream has, by its markers alone.
 #[unsafe(no_mangle)]
 pub extern "C" fn jlsrec_extent(alloc: Global, bytes: &[u8], extent: &mut usize) -> u32
     ensures { IsExtent bytes.now extent.new result }

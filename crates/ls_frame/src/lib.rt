@@ -33,8 +33,9 @@
 //! frame is coded with parameters, `Presets::default_of(frame.maxval())` if none were chosen.
 //!
 //! In reading order: `device` (readers and writers that count), `buffered` (a reader for callers that read byte by
-//! byte), `samples`, `frame`, `presets`, `tuning` (presets chosen in part), `output` (writing bytes whole), `netpbm` (reading an
-//! image and writing one), `laws` (what follows from the definitions alone); `memory` is for whole programs.
+//! byte), `samples`, `frame`, `presets`, `tuning` (presets chosen in part), `output` (writing bytes whole), `netpbm`
+//! (reading an image and writing one), `laws` (what follows from the definitions alone); `memory` is for whole
+//! programs.
 #![tactic(auto)]
 
 pub mod buffered;

@@ -20,7 +20,7 @@ impl<'a> Samples<'a> {
         }
     }
 
-    /// So many of them from a place on.
+    /// So many of them from a place on. Requires that they are there.
     pub fn part(self, start: usize, count: usize) -> Samples<'a>
         requires { start + count ≤ length (numbers self) }
         ensures { numbers result ≡ take count (drop start (numbers self.entry)) }
@@ -50,7 +50,8 @@ pub trait Place {
     /// The greatest number that a place holds.
     ghost most: { ℕ };
 
-    /// Puts a sample into a place, by its number.
+    /// Puts a sample into the place of this number. Requires that there is such a place, and that it holds the sample: one of 8 bits
+    /// holds 255 at most.
     fn put(places: &mut [Self], place: usize, sample: u16)
         requires inside { place < length (numbers places.old) }
         requires small { sample ≤ most }
