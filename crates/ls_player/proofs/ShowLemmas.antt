@@ -1,5 +1,5 @@
 -- Images that are shown one after the other, and why that stops.
-use Rattle.std.proofs.Common.{◌≡◌, ◌<◌, ◌+◌, ℕ, Bool, true, false, List, [], ◌∷◌, ◌++◌, length, Option, refl, sym, ap, subst, ◌∙◌, inl, inr}
+use Rattle.std.proofs.Common.{◌≡◌, ◌<◌, ◌+◌, ℕ, Bool, true, false, List, [], ◌∷◌, ◌++◌, length, Option, refl, sym, ap, subst, ◌∙◌, inl, inr, arith}
 use Rattle.std.specs.Io.KnownBytes.{Appends}
 use Rattle.ls_frame.specs.Canonical.{canonical}
 use Rattle.ls_frame.specs.Picture.{Picture, IsFrame}
@@ -76,3 +76,8 @@ reads-ahead false old new fault unread is = inl (is ∙ ap (λ b. count_after b 
 pub reads-at : (failed : Bool) (old new n : ℕ) (fault : Untaken) → (is_io fault ≡ true → failed ≡ true) → new ≡ count_after failed old → HasReadAhead old new (fault_of n fault)
 reads-at failed old new n (Stream fault) io is = reads-ahead failed old new (stream_fault n fault) (is-no-read n fault) is
 reads-at failed old new n Io io is = inl (is ∙ ap (λ b. count_after b old) (io refl))
+
+-- no read of bytes in memory fails
+pub none-failed : (fault : PlayFault) → HasReadAhead 0 0 fault → 0 ≡ count_after (blames_reader fault) 0
+none-failed fault (inl none) = none
+none-failed fault (inr one) = absurd (omega (arith, one))

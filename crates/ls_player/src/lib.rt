@@ -28,4 +28,4 @@ pub mod ahead;
 pub mod job;
 pub mod playing;
 
-pub use playing::play_by;
+pub use playing::{play_by, play_bytes_by};

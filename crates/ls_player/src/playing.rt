@@ -1,18 +1,26 @@
 //! Playing a recording by several threads.
-ghost use Rattle.std.specs.Prelude.{◌≡◌, ◌<◌, ◌≤◌, ◌+◌, ◌^◌, length, IfOk, IfErr, OnOk, MatchResult};
+ghost use Rattle.std.specs.Prelude.{◌≡◌, ◌<◌, ◌≤◌, ◌+◌, ◌^◌, ℕ, List, [], length, Option, Some, false, IfOk, IfErr, OnOk, MatchResult};
+ghost use Rattle.std.specs.List.{AllByRecursion};
 ghost use Rattle.std.specs.Io.KnownBytes.{Appends};
+ghost use Rattle.ls_frame.specs.Picture.{Picture};
+ghost use Rattle.ls_frame.specs.Parameters.{Parameters};
 ghost use Rattle.ls_frame.specs.View.Devices.{count_after};
 ghost use Rattle.ls_stream.specs.Grammar.{Spells};
+ghost use Rattle.ls_film.specs.Film.{most_frames, IsFilm};
+ghost use Rattle.ls_film.specs.Coding.{file};
 ghost use Rattle.ls_film.specs.Showing.{show};
 ghost use Rattle.ls_film.specs.View.Engine.{Completes};
-ghost use Rattle.ls_film.specs.View.Playing.{blames_writer};
+ghost use Rattle.ls_film.specs.View.Playing.{Stops, blames_reader, blames_writer, IsShownOf, IsOutOfMemory, IsCodable, frames_of};
 ghost use Rattle.ls_player.specs.View.Playing.{StopsAhead, StopsImage, HasReadAhead, failed_writer, fault_of};
 
 use crate::ahead::{Ahead, Untaken, next_made};
 use crate::job::Images;
 use ls_film::{MOST_FRAMES, PlayFault};
-use ls_frame::{Feed, Outlet, write_bytes};
+use ls_frame::{Counted, Feed, Outlet, write_bytes};
 use ls_stream::StreamFault;
+use ls_stream::laws::{
+    codestreams_spell_their_frames, no_codestream_begins_another, one_frame_each,
+};
 use std::alloc::Global;
 use std::thread::Threads;
 
@@ -46,6 +54,36 @@ pub fn play_by<Rt: Threads + Sync, R: Feed, W: Outlet>(
     match show_all(rt, alloc, workers, &mut reader, &mut writer) {
         Ok(frames) => Ok((frames, reader, writer)),
         Err(fault) => Err((fault, reader, writer)),
+    }
+}
+
+/// What a recording in memory shows, its frames decoded by so many threads at most, as far as it was written, and how the playing
+/// ended: what `ls_film::play_bytes` says, whatever the threads do.
+///
+/// It requires at least one worker, and no more than 2^32.
+pub fn play_bytes_by<Rt: Threads + Sync>(
+    rt: &Rt,
+    alloc: Global,
+    workers: usize,
+    recording: &[u8],
+) -> (Vec<u8>, Result<u64, PlayFault>)
+    requires some { 0 < workers }
+    requires few { workers ≤ 2 ^ 32 }
+    ensures completes { IfOk result.1 (IsShownOf recording.now result.0.items) }
+    ensures stops { IfErr result.1 (λ fault. (left : Option (List ℕ)) × Stops (Some recording.now) left (Some []) (Some result.0.items) fault) }
+    ensures device { IfErr result.1 (λ fault. blames_reader fault ≡ false) }
+    ensures of_frames { (frames : List Picture) → length frames ≤ most_frames → IsFilm Spells recording.now frames
+        → MatchResult result.1 (λ n. (n ≡ length frames) × (result.0.items ≡ show frames)) IsOutOfMemory }
+    ensures recorded { (frames : List (Picture × Parameters)) → length frames ≤ most_frames → AllByRecursion IsCodable frames
+        → recording.now ≡ file frames
+        → MatchResult result.1 (λ n. (n ≡ length frames) × (result.0.items ≡ show (frames_of frames))) IsOutOfMemory }
+{
+    no_codestream_begins_another();
+    one_frame_each();
+    codestreams_spell_their_frames();
+    match play_by(rt, alloc, workers, recording, Counted::new(Vec::new(alloc))) {
+        Ok((frames, _rest, shown)) => (shown.into_inner(), Ok(frames)),
+        Err((fault, _rest, shown)) => (shown.into_inner(), Err(fault)),
     }
 }
 

@@ -1,6 +1,5 @@
 pub mod BoxLemmas
 pub mod HandedOverLemmas
-pub mod HeadlineLemmas
 pub mod LaneEndLemmas
 pub mod LaneLemmas
 pub mod ListLemmas

@@ -1,6 +1,5 @@
 -- What a recording does, seen by its films, its threads and their boxes.
 pub mod Boxes
 pub mod Halves
-pub mod Headline
 pub mod Lanes
 pub mod Recordings

@@ -31,18 +31,17 @@
 //! }
 //! ```
 //!
-//! With playing (of `ls_film`, handed on by name): films that are recorded come back (`record_and_play`,
-//! `specs/View/Headline.antt`). Orders, pieces and the collector are those of `ls_pieces`, handed on too.
+//! Playing is of `ls_film`, and orders, pieces and the collector are those of `ls_pieces`: both are handed on by name.
+//! That films which are recorded come back is said in `ls_roundtrip`.
 //!
 //! In reading order: `sizes` (how many threads, how many places), `delivery` (how pieces come to their lane), `lane` (a
 //! film's way from its reader to its writer, `docs/LANE.md`), `working` (what a worker does), `gate` (what can be seen
-//! meanwhile), `recording` with its threads, `faults` (why a recording isn't begun); `headline`, `laws`.
+//! meanwhile), `recording` with its threads, `faults` (why a recording isn't begun); `laws`.
 #![tactic(auto)]
 
 pub mod delivery;
 pub mod faults;
 pub mod gate;
-pub mod headline;
 pub mod lane;
 pub mod laws;
 pub mod recording;
@@ -52,9 +51,9 @@ pub mod working;
 pub use delivery::{Answer, Inbox, Outbox, boxes};
 pub use faults::RecordFault;
 pub use gate::{Gate, Moment, Notice, OpenGate};
-pub use headline::{PlayedBack, record_and_play};
 pub use lane::{LaneEnd, LaneFault};
 pub use ls_film::{PlayFault, play, play_bytes};
 pub use ls_pieces::{Coded, Collector, CollectorFault, MOST_WINDOW, Misfit, Order, Uncoded};
 pub use recording::{Recording, Track, record};
+pub use sizes::Sizes;
 pub use working::{Worked, work};

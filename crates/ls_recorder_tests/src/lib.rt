@@ -8,8 +8,6 @@ mod delivery;
 #[cfg(test)]
 mod faults;
 #[cfg(test)]
-mod headline;
-#[cfg(test)]
 mod lane;
 #[cfg(test)]
 mod page;

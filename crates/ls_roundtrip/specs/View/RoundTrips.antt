@@ -16,7 +16,7 @@ use Rattle.ls_recorder.specs.declared.lane.LaneFault.{LaneFault}
 use Rattle.ls_recorder.specs.declared.lane.LaneFault.TheVariants.{Input, Output, NoMemory, Misfit, Lost, NotStarted, TooMany, Tuning as BadTuning}
 use Rattle.ls_film.specs.declared.playing.PlayFault.{PlayFault}
 use Rattle.ls_recorder.specs.declared.recording.Track.{Track}
-use Rattle.ls_recorder.specs.declared.headline.PlayedBack.{PlayedBack}
+use Rattle.ls_roundtrip.specs.declared.round_trip.PlayedBack.{PlayedBack}
 use Rattle.ls_pieces.specs.Orders.{Ordered}
 use Rattle.ls_film.specs.Showing.{show}
 use Rattle.ls_recorder.specs.View.Lanes.{tuned_file, StopsLane}

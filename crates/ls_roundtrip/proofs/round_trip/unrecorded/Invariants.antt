@@ -1,7 +1,7 @@
 use Rattle.std.proofs.Common.{◌≡◌, ◌+◌, ◌≤◌, length, vec_capacity}
-use Rattle.ls_recorder.specs.View.Headline.{IsUnrecorded}
+use Rattle.ls_roundtrip.specs.View.RoundTrips.{IsUnrecorded}
 use Rattle.ls_recorder.proofs.ListLemmas.{ZippedSoFar}
-use Rattle.ls_recorder.proofs.headline.unrecorded.Given as goal
+use Rattle.ls_roundtrip.proofs.round_trip.unrecorded.Given as goal
 
 -- the first films are made ready, and the others are left
 abbrev pub invariant-loop-alloc : goal.invariant-loop-alloc

@@ -1,8 +1,8 @@
 use Rattle.std.proofs.Common.{◌≡◌, ◌+◌, ◌∷◌, length, Some, refl, sym, ap, subst, ◌∙◌, arith}
-use Rattle.ls_recorder.specs.View.Headline.{IsUnrecorded}
+use Rattle.ls_roundtrip.specs.View.RoundTrips.{IsUnrecorded}
 use Rattle.ls_queue.proofs.EndLemmas.{took_first}
 use Rattle.ls_recorder.proofs.ListLemmas.{ZippedSoFar, zipped-more}
-use Rattle.ls_recorder.proofs.headline.unrecorded.Goals as goal
+use Rattle.ls_roundtrip.proofs.round_trip.unrecorded.Goals as goal
 
 pub loop-alloc-preserved : goal.loop-alloc-preserved
 loop-alloc-preserved c =

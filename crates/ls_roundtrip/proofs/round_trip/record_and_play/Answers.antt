@@ -1,8 +1,8 @@
 use Rattle.std.proofs.Common.{◌≡◌, length, arith}
-use Rattle.ls_recorder.proofs.HeadlineLemmas.{all_back}
+use Rattle.ls_roundtrip.proofs.RoundTripLemmas.{all_back}
 use Rattle.ls_recorder.proofs.ListLemmas.{zip-length}
 use Rattle.ls_recorder.proofs.RecordingLemmas.{each-track}
-use Rattle.ls_recorder.proofs.headline.record_and_play.Goals as goal
+use Rattle.ls_roundtrip.proofs.round_trip.record_and_play.Goals as goal
 
 pub play_all-requires-clause-room : goal.play_all-requires-clause-room
 play_all-requires-clause-room g c =

@@ -1,19 +1,17 @@
-//! What the recorder is for, in one function: films are recorded side by side, and what was recorded of each is played back.
-ghost use Rattle.std.specs.Prelude.{◌≡◌, ◌⊎◌, ◌≤◌, [], None, Some, length, vec_capacity, IfOk, IfErr};
+//! Films that are recorded side by side, and played back.
+ghost use Rattle.std.specs.Prelude.{◌≡◌, ◌⊎◌, ◌<◌, ◌≤◌, ◌^◌, [], None, Some, length, vec_capacity, IfOk, IfErr};
 ghost use Rattle.std.specs.List.{AllZip};
-ghost use Rattle.ls_recorder.specs.View.Headline.{IsUnrecorded, IsPlayed, ComeBack};
+ghost use Rattle.ls_roundtrip.specs.View.RoundTrips.{IsUnrecorded, IsPlayed, ComeBack};
 ghost use Rattle.ls_recorder.specs.Sizes.{record_fault};
 
-use crate::faults::RecordFault;
-use crate::gate::Gate;
-use crate::lane::LaneFault;
-use crate::recording::{Track, record};
-use ls_film::{PlayFault, play_bytes};
+use ls_film::PlayFault;
 use ls_frame::laws::{
     default_parameters_are_legal, images_have_one_frame, no_image_begins_another,
     parameters_are_legal_or_at_fault,
 };
 use ls_frame::{Counted, Tuning};
+use ls_player::play_bytes_by;
+use ls_recorder::{Gate, LaneFault, RecordFault, Sizes, Track, record};
 use std::alloc::{AllocError, Global};
 use std::sync::Wait;
 use std::thread::Threads;
@@ -31,29 +29,34 @@ pub struct PlayedBack {
     pub played: Result<u64, PlayFault>,
 }
 
-/// Records films side by side, each with its tuning, and plays back what was recorded of each.
+/// Records films side by side, each with its tuning, and plays back what was recorded of each, one after the other and each by so
+/// many players.
 ///
-/// With any number of workers, any capacity and any window, and in whatever order the threads run: of each film that was recorded
-/// whole (`recorded` is `Ok`), the recording is the codestreams of all its frames, in order, with nothing between; if its tuning is
-/// all zeros, that is what `ls_film::code_film` writes of the film. Playing it shows exactly the film's frames, each as its
+/// With any numbers of workers and players, any capacity and any window, and in whatever order the threads run: of each film that was
+/// recorded whole (`recorded` is `Ok`), the recording is the codestreams of all its frames, in order, with nothing between; if its
+/// tuning is all zeros, that is what `ls_film::code_film` writes of the film. Playing it shows exactly the film's frames, each as its
 /// canonical Netpbm image, unless memory is refused. Of a film whose lane stopped, the recording is what its fault says
 /// (`LaneFault`); but for `Output` it is whole codestreams, and playing it shows exactly their frames, unless memory is refused.
 ///
 /// Fails for `NoMemory` only if an allocation fails; else for the first of `Sources`, `Workers`, `Capacity` and `Window` that is so;
-/// else for `NotStarted` only if no thread can be made for a worker. Then nothing comes back.
+/// else for `NotStarted` only if no thread can be made for a worker. Then nothing comes back. Where none can be made for a player,
+/// the calling thread plays.
+///
+/// It requires at least one player, and no more than 2^32.
 pub fn record_and_play<Rt: Threads + Wait + Sync, G: Gate>(
     rt: &Rt,
     alloc: Global,
     films: Vec<(&[u8], Tuning)>,
-    workers: usize,
-    capacity: usize,
-    window: usize,
+    sizes: Sizes,
+    players: usize,
     gate: &G,
 ) -> Result<Vec<PlayedBack>, RecordFault>
+    requires some { 0 < players }
+    requires few { players ≤ 2 ^ 32 }
     ensures comes_back { IfOk result (λ played_back. ComeBack films.entry.items played_back.items) }
     ensures refused { IfErr result (λ fault. (fault ≡ RecordFault.NoMemory)
-        ⊎ ((record_fault (length films.entry.items) workers capacity window ≡ Some fault)
-        ⊎ ((record_fault (length films.entry.items) workers capacity window ≡ None) × (fault ≡ RecordFault.NotStarted)))) }
+        ⊎ ((record_fault (length films.entry.items) sizes.workers sizes.capacity sizes.window ≡ Some fault)
+        ⊎ ((record_fault (length films.entry.items) sizes.workers sizes.capacity sizes.window ≡ None) × (fault ≡ RecordFault.NotStarted)))) }
 {
     default_parameters_are_legal();
     parameters_are_legal_or_at_fault();
@@ -65,8 +68,13 @@ pub fn record_and_play<Rt: Threads + Wait + Sync, G: Gate>(
     let Ok(unrecorded) = unrecorded(alloc, films) else {
         return Err(RecordFault::NoMemory);
     };
+    let Sizes {
+        workers,
+        capacity,
+        window,
+    } = sizes;
     match record(rt, alloc, unrecorded, workers, capacity, window, gate) {
-        Ok(recording) => Ok(play_all(alloc, recording.tracks, room)),
+        Ok(recording) => Ok(play_all(rt, alloc, players, recording.tracks, room)),
         Err((fault, _unrecorded)) => Err(fault),
     }
 }
@@ -91,29 +99,40 @@ fn unrecorded<'a>(
 }
 
 /// Plays back what was recorded of each film. It requires room for as many answers.
-fn play_all(
+fn play_all<Rt: Threads + Sync>(
+    rt: &Rt,
     alloc: Global,
+    players: usize,
     mut tracks: Vec<Track<&[u8], Counted<Vec<u8>>>>,
     room: Vec<PlayedBack>,
 ) -> Vec<PlayedBack>
+    requires some { 0 < players }
+    requires few { players ≤ 2 ^ 32 }
     requires room { length tracks.items ≤ vec_capacity room }
     requires none { room.items ≡ [] }
     ensures { AllZip IsPlayed tracks.entry.items result.items }
 {
     let mut played_back = room;
-    while !tracks.is_empty() {
+    'tracks: while !tracks.is_empty() {
         let track = tracks.remove(0);
-        played_back.push_reserved(play_back(alloc, track));
+        played_back.push_reserved(play_back(rt, alloc, players, track));
     }
     played_back
 }
 
 /// Plays back what was recorded of a film.
-fn play_back(alloc: Global, track: Track<&[u8], Counted<Vec<u8>>>) -> PlayedBack
+fn play_back<Rt: Threads + Sync>(
+    rt: &Rt,
+    alloc: Global,
+    players: usize,
+    track: Track<&[u8], Counted<Vec<u8>>>,
+) -> PlayedBack
+    requires some { 0 < players }
+    requires few { players ≤ 2 ^ 32 }
     ensures { IsPlayed track.entry result }
 {
     let recording = track.writer.into_inner();
-    let (shown, played) = play_bytes(alloc, &recording);
+    let (shown, played) = play_bytes_by(rt, alloc, players, &recording);
     PlayedBack {
         recording,
         recorded: track.result,

@@ -1,6 +1,8 @@
-use crate::testing::{DEFAULTS, MEANS, RUNS, RUNS_CODED, THREE, THREE_CODED, check};
+use crate::testing::check;
 use ls_frame::Tuning;
-use ls_recorder::{OpenGate, PlayedBack, record_and_play};
+use ls_recorder::{OpenGate, Sizes};
+use ls_roundtrip::{PlayedBack, record_and_play};
+use ls_testing::films::{FILM, FILM_CODESTREAMS, TWO_CODESTREAMS, TWO_IMAGES};
 use std::alloc::Global;
 use std::process::Abort;
 use std::sync::Wait;
@@ -19,27 +21,50 @@ fn comes_back(
     recorded && (played || !ample) || !ample && played_back.recorded.is_err()
 }
 
-/// Whether two films come back from a recording by so many workers with such a window. `None` if memory is refused.
+/// Each parameter by default.
+const DEFAULTS: Tuning = Tuning {
+    t1: 0,
+    t2: 0,
+    t3: 0,
+    reset: 0,
+};
+
+/// How many workers there are, the window, and how many players.
+const MEANS: [(usize, usize, usize); 6] = [
+    (1, 1, 1),
+    (1, 8, 16),
+    (2, 1, 2),
+    (2, 8, 3),
+    (4, 1, 4),
+    (4, 8, 1),
+];
+
+/// Whether two films come back from a recording by such numbers. `None` if memory is refused.
 fn two_come_back<R: Threads + Wait + Sync>(
     rt: &R,
     alloc: Global,
-    workers: usize,
-    window: usize,
+    means: (usize, usize, usize),
     ample: bool,
 ) -> Option<bool> {
+    let (workers, window, players) = means;
+    let sizes = Sizes {
+        workers,
+        capacity: 8,
+        window,
+    };
     let mut films: Vec<(&[u8], Tuning)> = Vec::with_capacity(alloc, 2).ok()?;
-    films.push_reserved((THREE, DEFAULTS));
-    films.push_reserved((RUNS, DEFAULTS));
-    let mut played_back = record_and_play(rt, alloc, films, workers, 8, window, &OpenGate).ok()?;
+    films.push_reserved((FILM, DEFAULTS));
+    films.push_reserved((TWO_IMAGES, DEFAULTS));
+    let mut played_back = record_and_play(rt, alloc, films, sizes, players, &OpenGate).ok()?;
     let second = played_back.pop()?;
     let first = played_back.pop()?;
-    let first = comes_back(&first, THREE, THREE_CODED, 3, ample);
-    Some(first && comes_back(&second, RUNS, RUNS_CODED, 2, ample))
+    let first = comes_back(&first, FILM, FILM_CODESTREAMS, 3, ample);
+    Some(first && comes_back(&second, TWO_IMAGES, TWO_CODESTREAMS, 2, ample))
 }
 
 fn check_films<R: Threads + Wait + Sync + Abort>(rt: &R, alloc: Global, ample: bool) {
-    for (workers, window) in MEANS {
-        let right = two_come_back(rt, alloc, workers, window, ample);
+    for means in MEANS {
+        let right = two_come_back(rt, alloc, means, ample);
         check(rt, "two films", right, ample);
     }
 }

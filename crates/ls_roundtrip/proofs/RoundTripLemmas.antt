@@ -23,14 +23,14 @@ use Rattle.ls_film.specs.Coding.{file, with_defaults, default_file}
 use Rattle.ls_film.proofs.OneFilmLemmas.{one_film}
 use Rattle.ls_film.specs.declared.playing.PlayFault.{PlayFault}
 use Rattle.ls_recorder.specs.declared.recording.Track.{Track}
-use Rattle.ls_recorder.specs.declared.headline.PlayedBack.{PlayedBack}
+use Rattle.ls_roundtrip.specs.declared.round_trip.PlayedBack.{PlayedBack}
 use Rattle.ls_pieces.specs.Orders.{Ordered}
 use Rattle.ls_recorder.specs.View.Lanes.{with_tuning, AreTuned, tuned_file, Records, StopsLane, HasPut, AreOrdersOf}
 use Rattle.ls_film.specs.View.Playing.{IsCodable, frames_of}
 use Rattle.ls_recorder.specs.View.Recordings.{IsTrack, AreTracks}
 use Rattle.ls_recorder.proofs.ListLemmas.{zip-through, zip-weaker}
 use Rattle.ls_recorder.proofs.RecordingLemmas.{each-track}
-use Rattle.ls_recorder.specs.View.Headline.{by_default, ComesBack, StopsShort, ShowsFront, PlaysFront, CameOf, ComeBack, PlaysBack, IntoMemory, held_by, IsUnrecorded, IsPlayed}
+use Rattle.ls_roundtrip.specs.View.RoundTrips.{by_default, ComesBack, StopsShort, ShowsFront, PlaysFront, CameOf, ComeBack, PlaysBack, IntoMemory, held_by, IsUnrecorded, IsPlayed}
 
 -- ---- a film of Netpbm images is of one list of frames
 

@@ -1,0 +1,2 @@
+-- How the code's values are seen.
+pub mod RoundTrips
