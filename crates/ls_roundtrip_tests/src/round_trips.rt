@@ -30,7 +30,7 @@ const DEFAULTS: Tuning = Tuning {
 };
 
 /// How many workers there are, the window, and how many players.
-const MEANS: [(usize, usize, usize); 6] = [
+const MEANS: [(usize, usize, u8); 6] = [
     (1, 1, 1),
     (1, 8, 16),
     (2, 1, 2),
@@ -43,10 +43,11 @@ const MEANS: [(usize, usize, usize); 6] = [
 fn two_come_back<R: Threads + Wait + Sync>(
     rt: &R,
     alloc: Global,
-    means: (usize, usize, usize),
+    means: (usize, usize, u8),
     ample: bool,
 ) -> Option<bool> {
     let (workers, window, players) = means;
+    let players = usize::from(players).max(1);
     let sizes = Sizes {
         workers,
         capacity: 8,
