@@ -203,6 +203,33 @@ found_by_quotient n a q k some few small e f =
     (λ h. let product : 1 * 1 ≤ q * n = mul-le 1 1 q n h some in omega arith)
     f
 
+-- ---- the one before, which mostly stays
+
+half_below : (n a k : ℕ) → n * 2 ^ k < a + a → 1 ≤ k → n * 2 ^ (k - 1) < a
+half_below n a zero less some = absurd (omega arith)
+half_below n a (suc k) less some =
+    let doubled : 2 ^ suc k ≡ 2 ^ k * 2 = pow-suc 2 k in
+    let scaled : n * 2 ^ suc k ≡ n * (2 ^ k * 2) = ap (λ m. n * m) doubled in
+    let back : suc k - 1 ≡ k = omega arith in
+    subst (λ m. n * 2 ^ m < a) (sym back) (omega (arith, less, scaled))
+
+-- it reaches the sum, and half of it doesn't
+pub kept : (n a k : ℕ) → 1 ≤ n → a < 2 ^ 31 → n * 2 ^ k < 2 ^ 32 → (n * 2 ^ k % 2 ^ 32 + (2 ^ 32 - a)) % 2 ^ 32 < a → k ≡ golomb_parameter n a
+kept n a k some few fits less =
+    let same : n * 2 ^ k % 2 ^ 32 ≡ n * 2 ^ k = mod-eq_of_lt fits in
+    let reaches : a ≤ n * 2 ^ k = omega (arith, same, fits, less, few) in
+    let half : n * 2 ^ k < a + a = omega (arith, same, fits, less, few) in
+    is_least n a k (far n a some few) reaches (half_below n a k half)
+
+-- of counters that are sound it is 16 at most, and no shift by it loses bits
+pub shifts : (n a k m bound : ℕ) → k ≡ golomb_parameter n a → a ≤ n * bound → bound ≤ 65536 → m ≤ 65535 → (k < 32) × (m * 2 ^ k < 2 ^ 32)
+shifts n a k m bound is sum small few =
+    let scaled : n * bound ≤ n * 2 ^ 16 = mul-le n bound n (2 ^ 16) (omega arith) small in
+    let least : golomb_parameter n a ≤ 16 = golomb_parameter-least n a 16 (omega (arith, sum, scaled)) in
+    let low : k ≤ 16 = omega (arith, is, least) in
+    let top : m * 2 ^ k ≤ m * 2 ^ 16 = grown m k 16 low in
+    (omega (arith, low), omega (arith, top, few))
+
 -- ---- the table of reciprocals
 
 reciprocals-all : map (λ n. 4294967295 / n) (range_with_len 0 257) ≡ RECIPROCALS

@@ -224,14 +224,14 @@ counted_few reset maxval n a most wide counted =
 pub counted_by_code : (reset maxval a n size a1 n1 from : ℕ) (b c e : ℤ) → 3 ≤ reset → reset ≤ 65535 → maxval ≤ 65535
     → AreSound reset (error_bound maxval) (stats a b c n) → IsReduced (range_of maxval) e → size ≡ unsigned_abs (to_z w32 (of_z w32 e)) → from ≡ reset
     → a1 ≡ cond (eqb n from) ((a + size) / 2) (a + size) → n1 ≡ cond (eqb n from) (n / 2 + 1) (n + 1)
-    → (0 < n1) × (a1 < 2 ^ 31) × (a1 ≤ n1 * 65535)
+    → (0 < n1) × (a1 < 2 ^ 31) × (a1 ≤ n1 * 65535) × (n1 ≤ 65535)
 counted_by_code reset maxval a n size a1 n1 from b c e least most wide sound error sized same f g =
     let size_is : size ≡ unsigned_abs e = sized ∙ ap unsigned_abs (error_through e (error_low maxval e wide error) (error_high maxval e wide error)) in
     let sizes = error_size maxval e error in
     let counted = counted_is reset (error_bound maxval) a n size a1 n1 b c least sound (omega arith)
     (f ∙ ap (λ r. cond (eqb n r) ((a + size) / 2) (a + size)) same) (g ∙ ap (λ r. cond (eqb n r) (n / 2 + 1) (n + 1)) same) in
     let few = counted_few reset maxval n1 a1 most wide counted in
-    (omega (arith, counted.some), few.0, few.1)
+    (omega (arith, counted.some), few.0, few.1, omega (arith, counted.few))
 
 -- all that the counters keep to
 pub sound_is : (reset bound a n size a1 n1 : ℕ) (b c b1 b2 c2 : ℤ) → 3 ≤ reset → AreSound reset bound (stats a b c n) → size ≤ bound

@@ -1,5 +1,5 @@
 //! The counters of a context with one error more (T.87 A.6).
-ghost use Rattle.std.specs.Prelude.{◌≡◌, ◌+◌, ◌/◌, ◌==◌, ◌<◌, ◌≤◌, pos, neg_ℤ, ◌+ℤ◌, ◌-ℤ◌, ◌≤ℤ◌, ◌<ℤ◌, int_le, int_lt, false, if◌then◌else◌};
+ghost use Rattle.std.specs.Prelude.{◌≡◌, ◌+◌, ◌/◌, ◌==◌, ◌<◌, ◌≤◌, pos, neg_ℤ, ◌+ℤ◌, ◌-ℤ◌, ◌≤ℤ◌, ◌<ℤ◌, ◌*◌, ◌^◌, int_le, int_lt, true, false, if◌then◌else◌};
 ghost use Rattle.ls_coding.specs.Numbers.{halved, golomb_parameter};
 ghost use Rattle.ls_frame.specs.Parameters.{range_of};
 ghost use Rattle.ls_coding.specs.Errors.{IsReduced};
@@ -20,6 +20,7 @@ pub fn update(
 )
     requires sound { AreSound presets.reset (error_bound presets.maxval) (stats a.old b.old c.old n.old) }
     requires error { IsReduced (range_of presets.maxval) error }
+    requires parameter { k.old ≡ golomb_parameter n.old a.old }
     ensures step { stats a.new b.new c.new n.new ≡ stats_step presets.reset (stats a.old b.old c.old n.old) error }
     ensures sound { AreSound presets.reset (error_bound presets.maxval) (stats a.new b.new c.new n.new) }
     ensures parameter { k.new ≡ golomb_parameter n.new a.new }
@@ -28,8 +29,34 @@ pub fn update(
     *a += error.unsigned_abs();
     *b += error;
     count_error(a, b, n, reset);
-    *k = golomb_parameter(*n, *a);
+    if !is_parameter(*k, *n, *a) {
+        *k = other_parameter(*n, *a);
+    }
     correct_bias(b, c, *n);
+}
+
+/// Whether this is the Golomb parameter of N and A (A.5.1), as it mostly is if it was before an error was counted: N * 2^k reaches A,
+/// and half of that doesn't, by one comparison. (Of a parameter 0 this may deny it, where half reaches too.)
+fn is_parameter(k: u32, n: u32, a: u32) -> bool
+    requires some { 0 < n }
+    requires few { a < 2 ^ 31 }
+    requires small { k < 32 }
+    requires fits { n * 2 ^ k < 2 ^ 32 }
+    ensures { result ≡ true → k ≡ golomb_parameter n a }
+{
+    (n << k).wrapping_sub(a) < a
+}
+
+/// The Golomb parameter of N and A, where it isn't the one before.
+#[cold]
+#[inline(never)]
+fn other_parameter(n: u32, a: u32) -> u32
+    requires some { 0 < n }
+    requires few { a < 2 ^ 31 }
+    requires sum { a ≤ n * 65535 }
+    ensures { result ≡ golomb_parameter n a }
+{
+    golomb_parameter(n, a)
 }
 
 /// Halves the sums if N is RESET, and counts one error more (A.6.1).

@@ -1,10 +1,21 @@
-use Rattle.std.proofs.Common.{◌≡◌, ap, ◌∙◌, neg_ℤ, pos, ◌≤ℤ◌, arith}
+use Rattle.std.proofs.Common.{◌≡◌, ◌≤◌, ap, ◌∙◌, neg_ℤ, pos, ◌≤ℤ◌, arith}
 use Rattle.std.specs.Prelude.{unsigned_abs}
+use Rattle.ls_coding.specs.Stats.{error_bound}
+use Rattle.ls_coding.proofs.GolombParameterLemmas.{shifts}
 use Rattle.ls_coding.proofs.StatsLemmas.{counted_by_code, step_is, sound_is, error_through, error_size, error_low, error_high, sum_through}
 use Rattle.ls_coding.proofs.update.update.Goals as goal
 
-pub golomb_parameter-requires : goal.golomb_parameter-requires
-golomb_parameter-requires c =
+pub is_parameter-requires : goal.is_parameter-requires
+is_parameter-requires c =
+    let facts = counted_by_code c.args.presets.reset c.args.presets.maxval c.args.a.now c.args.n.now c.unsigned_abs.result c.count_error.new.a c.count_error.new.n c.from-reset.result
+    c.args.b.now c.args.c.now c.args.error (omega arith) (omega arith) (omega arith) c.requires.sound c.requires.error c.unsigned_abs.ensures.value
+    (c.from-reset.ensures ∙ c.reset.ensures.value) c.count_error.ensures.a c.count_error.ensures.n in
+    let bound : error_bound c.args.presets.maxval ≤ 65536 = omega arith in
+    let shifted = shifts c.args.n.now c.args.a.now c.args.k.now c.count_error.new.n (error_bound c.args.presets.maxval) c.requires.parameter c.requires.sound.sum bound facts.3 in
+    record { some = facts.0; few = facts.1; small = shifted.0; fits = shifted.1 }
+
+pub other_parameter-requires : goal.other_parameter-requires
+other_parameter-requires c =
     let facts = counted_by_code c.args.presets.reset c.args.presets.maxval c.args.a.now c.args.n.now c.unsigned_abs.result c.count_error.new.a c.count_error.new.n c.from-reset.result
     c.args.b.now c.args.c.now c.args.error (omega arith) (omega arith) (omega arith) c.requires.sound c.requires.error c.unsigned_abs.ensures.value
     (c.from-reset.ensures ∙ c.reset.ensures.value) c.count_error.ensures.a c.count_error.ensures.n in
