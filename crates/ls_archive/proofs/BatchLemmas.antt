@@ -1,14 +1,12 @@
 -- Lines that are taken at once, what is found of them, and what is told.
-use Rattle.std.proofs.Common.{◌≡◌, ◌<◌, ◌≤◌, ◌+◌, ℕ, suc, Bool, true, false, inl, inr, List, [], ◌∷◌, ◌++◌, length, get_or, take, drop, append-nil, Option, None, Some, Result, Ok, Err, IfOk, IfSome, refl, sym, ap, subst, ◌∙◌, arith}
+use Rattle.std.proofs.Common.{◌≡◌, ◌<◌, ◌≤◌, ◌+◌, ℕ, suc, Bool, inl, inr, List, [], ◌∷◌, ◌++◌, length, get_or, take, drop, append-nil, Option, None, Some, Result, Ok, Err, IfOk, IfSome, refl, sym, ap, subst, ◌∙◌, arith}
 use Rattle.std.specs.Prelude.{IfNone, OnErr, slice_index_or}
 use Rattle.std.specs.List.{AllZip}
 use Rattle.std.proofs.lemmas.List.{at_drop_more, at_drop_all, take_all, drop_all}
 use Rattle.ls_film.specs.Film.{most_frames}
-use Rattle.ls_frame.specs.View.Devices.{count_after}
 use Rattle.ls_frame.specs.View.Known.{Gave}
 use Rattle.ls_archive.specs.declared.checking.CheckFault.{CheckFault}
 use Rattle.ls_archive.specs.declared.checking.CheckFault.TheVariants as fault
-use Rattle.ls_archive.specs.declared.checking.Checked.{Checked}
 use Rattle.ls_archive.specs.declared.checking.Damage.{Damage}
 use Rattle.ls_archive.specs.declared.checking.Finding.{Finding}
 use Rattle.ls_archive.specs.declared.checking.IndexLine.{IndexLine}
@@ -19,7 +17,7 @@ use Rattle.ls_archive.specs.declared.checking.batches.Job.{Job}
 use Rattle.ls_archive.specs.declared.checking.batches.SoFar.{SoFar}
 use Rattle.ls_archive.specs.View.Checking.{Line, IsLine, IsGood, IsDamage}
 use Rattle.ls_archive.specs.View.Checks.{GaveAtMost, IsFound, HasLooked, HasChecked, IsChecked, Stops, Anything}
-use Rattle.ls_archive.specs.View.Batches.{Place, line_of, IsTaken, AreTaken, ComesAfter, IsBatch, IsLookedAt, IsLooked, AreLooked, HasCheckedTo, LeadsOn, LeadsSomewhere, HasReadBeyond}
+use Rattle.ls_archive.specs.View.Batches.{Place, line_of, IsTaken, AreTaken, ComesAfter, IsBatch, IsLookedAt, IsLooked, AreLooked, HasCheckedTo, LeadsOn, LeadsSomewhere}
 use Rattle.ls_archive.proofs.CheckLemmas.{checked-more, checked-end, stops-after, stops-next-line, stops-reading}
 
 -- ---- lines that are taken
@@ -186,9 +184,3 @@ module _ (index recording : Option (List ℕ)) (found : Option (List Finding)) w
 
     pub fault-comes : (why : CheckFault) → after ≡ Fault why → Stops index recording found told why
     fault-comes why is = stops-either why (subst (ComesAfter at index' recording') is comes)
-
--- ---- reads that failed
-
-pub read-beyond : (failed blamed : Bool) (old new : ℕ) (result : Result Checked CheckFault) → result ≡ Err fault.NoMemory → blamed ≡ false → new ≡ count_after failed old → HasReadBeyond blamed old new result
-read-beyond true blamed old new result refused none is = inr (refused, is)
-read-beyond false blamed old new result refused none is = inl (is ∙ ap (λ b. count_after b old) (sym none))

@@ -82,6 +82,7 @@ pub record IsLooked (at next : Place) (job : Job) : Type 0 where
   pub next_number : next.number ≡ at.number + 1
   pub next_offset : next.offset ≡ at.offset + job.line.size
 
+-- They were taken one after the other, and looked at.
 abbrev pub AreLooked : Place → Place → List Job → Type 0
 AreLooked at next [] = at ≡ next
 AreLooked at next (job ∷ jobs) = (mid : Place) × IsLooked at mid job × AreLooked mid next jobs
@@ -94,13 +95,13 @@ pub record HasCheckedTo (index recording : Option (List ℕ)) (found found' : Op
   pub offset : so_far.offset ≡ at.offset
   pub checked : HasChecked index at.index recording at.recording found found' at.number at.offset so_far.damaged
 
--- From a place to which was checked what was told of jobs leads on to another, where these are left.
+-- A check that stood before these jobs, wherever that was, stands before those that are left, by what was told since.
 abbrev pub LeadsOn : Option (List Finding) → Option (List Finding) → SoFar → SoFar → List Job → List Job → Type 0
 LeadsOn told told' so_far so_far' jobs left =
     (index recording : Option (List ℕ)) (found : Option (List Finding)) (at next : Place) → HasCheckedTo index recording found told at so_far → AreLooked at next jobs
     → (mid : Place) × HasCheckedTo index recording found told' mid so_far' × AreLooked mid next left
 
--- the same, wherever that is
+-- the same, however many are left
 abbrev pub LeadsSomewhere : Option (List Finding) → Option (List Finding) → SoFar → List Job → Type 0
 LeadsSomewhere told told' so_far jobs = (so_far' : SoFar) × (left : List Job) × LeadsOn told told' so_far so_far' jobs left
 
