@@ -16,7 +16,8 @@ _jlsrec() {
     play) options+=' --frames --salvage --workers' ;;
     verify) options+=' --workers' ;;
     index) options+=' --no-sums' ;;
-    check | code) options+=' --index' ;;
+    code) options+=' --index' ;;
+    check) options+=' --index --workers' ;;
     replay) options+=' --sources --capacity' ;;
     esac
     case $before in

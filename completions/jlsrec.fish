@@ -28,5 +28,6 @@ complete -c jlsrec -n '__fish_seen_subcommand_from play' -l salvage -d 'Go on af
 complete -c jlsrec -n '__fish_seen_subcommand_from verify' -x -l workers -d 'How many workers decode, 1 to 16'
 complete -c jlsrec -n '__fish_seen_subcommand_from index' -l no-sums -d 'Leave the sum out'
 complete -c jlsrec -n '__fish_seen_subcommand_from check' -r -l index -d 'The index of the recording'
+complete -c jlsrec -n '__fish_seen_subcommand_from check' -x -l workers -d 'How many workers decode, 1 to 16'
 complete -c jlsrec -n '__fish_seen_subcommand_from replay' -x -l sources -d 'How many sources the queue has, 1 to 16'
 complete -c jlsrec -n '__fish_seen_subcommand_from replay' -x -l capacity -d 'How many jobs it may hold, 1 to 256'

@@ -26,6 +26,12 @@ def index_of(frames, sums=True):
     return lines
 
 
+def checks(status, shown, said, index, name, **environment):
+    """Cases of a check by an index: as it is, and by so many workers."""
+    for workers in [[], ["--workers", "1"], ["--workers", "2"], ["--workers", "3"], ["--workers", "16"]]:
+        says(status, shown, said, "check", *workers, "--index", index, name, **environment)
+
+
 # ---- the index
 
 for name, frames in [("none", []), ("one", [BLACK]), ("mixed", MIXED), ("many", [BLACK, WHITE] * 100)]:
@@ -36,7 +42,7 @@ for name, frames in [("none", []), ("one", [BLACK]), ("mixed", MIXED), ("many", 
     write(f"{name}.index", index_of(frames).encode())
     write(f"{name}.sizes", index_of(frames, sums=False).encode())
     for index in (f"{name}.index", f"{name}.sizes"):
-        says(0, f"{name}.jls: {len(frames)} frames, 0 damaged\n", "", "check", "--index", index, f"{name}.jls")
+        checks(0, f"{name}.jls: {len(frames)} frames, 0 damaged\n", "", index, f"{name}.jls")
     told = f"jlsrec: {name}.jls: only decoded: no index is named\n"
     says(0, f"{name}.jls: {len(frames)} frames, 0 damaged\n", told, "check", f"{name}.jls")
     says(0, film(frames), "", "play", "--salvage", f"{name}.jls")
@@ -103,7 +109,7 @@ for length in range(len(whole)):
         for number, frame in enumerate(MIXED)
         if number >= frames
     )
-    says(1, f"{found}cut.jls: 5 frames, {5 - frames} damaged\n", "", "check", "--index", "mixed.index", "cut.jls")
+    checks(1, f"{found}cut.jls: 5 frames, {5 - frames} damaged\n", "", "mixed.index", "cut.jls")
 
 says(1, "", "jlsrec: none.pgm: can't open\n", "index", "none.pgm")
 says(1, "", "jlsrec: .: read failed\n", "index", ".")
@@ -129,7 +135,7 @@ for bit in range(8 * len(content)):
     write("changed.jls", bytes(changed))
     number = max(number for number in range(3) if damaged_ends[number] <= bit // 8)
     found = f"frame {number}: changed: {len(three[number][0])} bytes at {damaged_ends[number]}\n"
-    says(1, f"{found}changed.jls: 3 frames, 1 damaged\n", "", "check", "--index", "three.index", "changed.jls")
+    checks(1, f"{found}changed.jls: 3 frames, 1 damaged\n", "", "three.index", "changed.jls")
     status, shown, said = run("play", "--salvage", "changed.jls")
     others = shown.startswith(film(three[:number])) and shown.endswith(film(three[number + 1:]))
     is_gap = status == 1 and said.count("passed over") == 1
@@ -138,16 +144,13 @@ for bit in range(8 * len(content)):
     count(f"salvage with bit {bit} turned", holds, (status, shown, said))
 
 write("more.jls", whole + b"more")
-says(
-    1,
-    "more.jls: more bytes than the index has\nmore.jls: 5 frames, 0 damaged\n",
-    "",
-    "check", "--index", "mixed.index", "more.jls",
-)
+checks(1, "more.jls: more bytes than the index has\nmore.jls: 5 frames, 0 damaged\n", "", "mixed.index", "more.jls")
 swapped = [TWO_VALUES, ANNEX_H] + MIXED[2:]
 write("swapped.jls", recording(swapped))
-status, output, said = run("check", "--index", "mixed.index", "swapped.jls")
-count("frames that were swapped", status == 1 and b"frame 0: changed" in output and b"frame 1: changed" in output, output)
+for workers in "1", "3":
+    status, output, said = run("check", "--workers", workers, "--index", "mixed.index", "swapped.jls")
+    found = b"frame 0: changed" in output and b"frame 1: changed" in output
+    count(f"frames that were swapped, by {workers}", status == 1 and found, output)
 for line, lines in [
     (0, "0 0 28\n"),
     (1, index_of([BLACK]) + "0 28 28 gray\n"),
@@ -159,29 +162,56 @@ for line, lines in [
     (0, film([BLACK]).decode("latin-1")),
 ]:
     write("bad.index", lines.encode())
-    says(1, "", f"jlsrec: bad.index: line {line}: not of an index\n", "check", "--index", "bad.index", "one.jls")
-says(1, "", "jlsrec: none.index: can't open\n".replace("none", "no"), "check", "--index", "no.index", "one.jls")
-says(1, "", "jlsrec: one.index: read failed\n", "check", "--index", "one.index", "one.jls", FAIL_READ="1", **preload)
-says(1, "", "jlsrec: one.jls: read failed\n", "check", "--index", "one.index", "one.jls", FAIL_READ="2", **preload)
-says(1, "", "jlsrec: output failed\n", "check", "--index", "one.index", "one.jls", FAIL_WRITE="1", **preload)
+    checks(1, "", f"jlsrec: bad.index: line {line}: not of an index\n", "bad.index", "one.jls")
+checks(1, "", "jlsrec: no.index: can't open\n", "no.index", "one.jls")
+checks(1, "", "jlsrec: one.index: read failed\n", "one.index", "one.jls", FAIL_READ="1", **preload)
+checks(1, "", "jlsrec: one.jls: read failed\n", "one.index", "one.jls", FAIL_READ="2", **preload)
+checks(1, "", "jlsrec: output failed\n", "one.index", "one.jls", FAIL_WRITE="1", **preload)
 # Of a sum that is damaged; and of a change that an index without sums doesn't show.
 sums = index_of([BLACK])
 write("sum.index", (sums[:-2] + ("1" if sums[-2] == "0" else "0") + "\n").encode())
 found = "frame 0: changed: 28 bytes at 0\n"
-says(1, f"{found}one.jls: 1 frames, 1 damaged\n", "", "check", "--index", "sum.index", "one.jls")
+checks(1, f"{found}one.jls: 1 frames, 1 damaged\n", "", "sum.index", "one.jls")
 write("changed.jls", recording([WHITE]))
-says(1, f"{found}changed.jls: 1 frames, 1 damaged\n", "", "check", "--index", "one.index", "changed.jls")
-says(0, "changed.jls: 1 frames, 0 damaged\n", "", "check", "--index", "one.sizes", "changed.jls")
+checks(1, f"{found}changed.jls: 1 frames, 1 damaged\n", "", "one.index", "changed.jls")
+checks(0, "changed.jls: 1 frames, 0 damaged\n", "", "one.sizes", "changed.jls")
 says(1, "", "jlsrec: one.jls: read failed\n", "check", "one.jls", FAIL_READ="1", **preload)
 # The index as it was made of a recording that can't be decoded: it is as it was.
 write("broken.jls", recording([BROKEN, BLACK]))
 write("broken.index", index_of([BROKEN, BLACK]).encode())
-says(
-    1,
-    "frame 0: bad code in component 0: 28 bytes at 0\nbroken.jls: 2 frames, 1 damaged\n",
-    "",
-    "check", "--index", "broken.index", "broken.jls",
-)
+checks(1, "frame 0: bad code in component 0: 28 bytes at 0\nbroken.jls: 2 frames, 1 damaged\n", "", "broken.index", "broken.jls")
+# Damage at each place of a batch of workers, and of the next; and a fault after it, which comes after what is damaged before it.
+lines = index_of([BLACK, WHITE] * 20)
+for place in range(40):
+    frames = [BLACK, WHITE] * 20
+    frames[place] = (b"\x00" * len(frames[place][0]), b"", "")
+    write("changed.jls", recording(frames))
+    write("forty.index", lines.encode())
+    found = f"frame {place}: changed: {len(frames[place][0])} bytes at {sum(len(frame[0]) for frame in frames[:place])}\n"
+    checks(1, f"{found}changed.jls: 40 frames, 1 damaged\n", "", "forty.index", "changed.jls")
+    front = "".join(lines.splitlines(keepends=True)[:place + 1])
+    write("front.index", front.encode() + b"x\n")
+    checks(1, found, f"jlsrec: front.index: line {place + 1}: not of an index\n", "front.index", "changed.jls")
+# A read of 64 KiB fails, of the index or of the recording: what is damaged before it was told.
+long = [ANNEX_H] * 2000
+content = recording(long)
+size = len(ANNEX_H[0])
+write("long.jls", b"\x00" * size + content[size:])
+write("long.index", index_of(long).encode())
+write("long.sizes", index_of(long, sums=False).encode())
+found = f"frame 0: changed: {size} bytes at 0\n"
+checks(1, found, "jlsrec: long.index: read failed\n", "long.index", "long.jls", FAIL_READ="3", **preload)
+checks(1, found, "jlsrec: long.jls: read failed\n", "long.sizes", "long.jls", FAIL_READ="3", **preload)
+
+# Without an index one worker decodes.
+for words in [["--workers", "2"], ["--workers=16"]]:
+    status, output, said = run("check", *words, "one.jls")
+    count(f"{words} without an index", status == 2 and not output and "--workers goes only with --index" in said, (status, output, said))
+for number in ["0", "17", "x", ""]:
+    status, output, said = run("check", f"--workers={number}", "--index", "one.index", "one.jls")
+    count(f"check --workers={number}", status == 2 and not output and "--workers" in said, (status, output, said))
+told = "jlsrec: one.jls: only decoded: no index is named\n"
+says(0, "one.jls: 1 frames, 0 damaged\n", told, "check", "--workers", "1", "one.jls")
 
 # ---- films and their recordings
 

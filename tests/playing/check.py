@@ -50,6 +50,18 @@ for path in films:
         with open("asked") as asked:
             lines = len(asked.readlines())
         cases.count(f"threads for {workers} workers", lines == 0 if workers == 1 else 0 < lines <= 2 * (workers - 1), lines)
+    # A check by an index goes the same way.
+    index = write("film.index", cases.run("index", "film.jls")[1])
+    checked = cases.run("check", "--index", index, "film.jls")
+    for number in range(6):
+        for workers in ALL:
+            says(*checked, "check", "--workers", workers, "--index", index, "film.jls", REFUSE_THREAD=str(number), **refusing)
+    for workers in (1, 2, 4):
+        write("asked", b"")
+        says(*checked, "check", "--workers", str(workers), "--index", index, "film.jls", ASKED="asked", **refusing)
+        with open("asked") as asked:
+            lines = len(asked.readlines())
+        cases.count(f"threads of a check by {workers} workers", lines == 0 if workers == 1 else 0 < lines <= 2 * (workers - 1), lines)
     # A codestream that breaks off after whole ones.
     size = os.path.getsize("film.jls")
     with open("film.jls", "rb") as file:

@@ -106,7 +106,11 @@ where
         } if !salvage => show(rt, file, frames.map(part_of), workers, output, console),
         Request::Play { file, .. } => show_whole(rt, file, output, console),
         Request::Index { file, sums } => index(rt, file, sums, output, console),
-        Request::Check { file, index } => check_recording(rt, file, index, output, console),
+        Request::Check {
+            file,
+            index,
+            workers,
+        } => check_recording(rt, file, index, workers, output, console),
         Request::Verify {
             film,
             recording,

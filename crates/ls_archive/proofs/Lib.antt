@@ -1,3 +1,4 @@
+pub mod BatchLemmas
 pub mod CheckLemmas
 pub mod EntryLemmas
 pub mod FollowLemmas

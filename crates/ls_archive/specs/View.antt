@@ -1,4 +1,5 @@
 -- How a reader, a writer and the code's faults are seen as recordings and what is said of them.
+pub mod Batches
 pub mod Checking
 pub mod Checks
 pub mod Entries

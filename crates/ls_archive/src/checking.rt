@@ -6,14 +6,18 @@ ghost use Rattle.std.specs.Prelude.{if◌then◌else◌, ◌≡◌, ◌≢◌, �
 ghost use Rattle.ls_frame.specs.Picture.{Picture};
 ghost use Rattle.ls_frame.specs.View.Devices.{count_after, failed_read};
 ghost use Rattle.ls_frame.specs.View.Known.{Tells, Gave, WasAtEnd, known};
+ghost use Rattle.ls_film.specs.Film.{most_frames};
 ghost use Rattle.ls_stream.specs.Grammar.{Spells, most_bytes};
 ghost use Rattle.ls_archive.specs.View.Checking.{Line, beginning, IsLine, HasLine, IsGood, IsDamage};
 ghost use Rattle.ls_archive.specs.Index.{line};
-ghost use Rattle.ls_archive.specs.View.Checks.{FindsMore, GaveAtMost, IsOneLine, IsFrontLine, HasLooked, IsChecked, StopsNextLine, StopsReading, Stops, failed_index, failed_recording};
+ghost use Rattle.ls_archive.specs.View.Checks.{FindsMore, GaveAtMost, IsOneLine, IsFrontLine, IsFound, HasLooked, HasChecked, IsChecked, StopsNextLine, StopsReading, Stops, failed_index, failed_recording};
 ghost use Rattle.ls_archive.specs.declared.checking.Finding.{Finding};
+
+mod batches;
 
 use crate::entry::Indexed;
 use crate::index::line;
+pub use batches::check_by;
 use ls_film::MOST_FRAMES;
 use ls_frame::{Feed, FeedFault};
 use ls_stream::laws::outlines_follow_the_grammar;
@@ -156,6 +160,26 @@ pub fn check<I: Feed, R: Feed, F: Findings>(
         damaged += look_at(alloc, number, offset, &line, bytes, findings)?;
         offset += u64::from(line.size);
     }
+    end_at_most(alloc, index, recording, offset, damaged)
+}
+
+/// What a check comes to after the most lines that an index may have: there it has to end.
+fn end_at_most<I: Feed, R: Feed>(
+    alloc: Global,
+    index: &mut I,
+    recording: &mut R,
+    offset: u64,
+    damaged: u64,
+) -> Result<Checked, CheckFault>
+    ensures checked { (lines whole : Option (List ℕ)) (found found' : Option (List Finding))
+        → HasChecked lines (I.remaining index.old) whole (R.remaining recording.old) found found' most_frames offset damaged
+        → IfOk result (IsChecked lines whole found found') }
+    ensures stops { (lines whole : Option (List ℕ)) (found found' : Option (List Finding))
+        → HasChecked lines (I.remaining index.old) whole (R.remaining recording.old) found found' most_frames offset damaged
+        → IfErr result (Stops lines whole found found') }
+    ensures index_reads { I.failed_reads index.new ≡ count_after (failed_index result) (I.failed_reads index.old) }
+    ensures reads { R.failed_reads recording.new ≡ count_after (failed_recording result) (R.failed_reads recording.old) }
+{
     let None = next_line(alloc, index, MOST_FRAMES, offset)? else {
         return Err(CheckFault::TooMany);
     };
@@ -302,13 +326,31 @@ fn look_at<F: Findings>(
         (F.found findings.old) (F.found findings.new)) }
     ensures none { OnErr result (F.found findings.new ≡ F.found findings.old) }
 {
-    let Some(damage) = damage_of(alloc, number, offset, line, bytes)? else {
+    let damage = damage_of(alloc, number, offset, line, bytes)?;
+    tell_damage(number, offset, line.size, damage, findings)
+}
+
+/// Tells of what is wrong with the bytes at the offset of a codestream, which should be so many, if anything is; and says
+/// how many are damaged: 1 or none.
+fn tell_damage<F: Findings>(
+    number: u64,
+    offset: u64,
+    size: u32,
+    damage: Option<Damage>,
+    findings: &mut F,
+) -> Result<u64, AllocError>
+    ensures looked { (text bytes : List ℕ) → IsFound number offset (record { text = text; size = size }) bytes damage
+        → IfOk result (HasLooked number offset (record { text = text; size = size }) bytes (F.found findings.old) (F.found findings.new)) }
+    ensures few { IfOk result (λ damaged. damaged ≤ 1) }
+    ensures none { OnErr result (F.found findings.new ≡ F.found findings.old) }
+{
+    let Some(damage) = damage else {
         return Ok(0);
     };
     findings.tell(Finding {
         number,
         place: offset,
-        count: u64::from(line.size),
+        count: u64::from(size),
         damage,
     })?;
     Ok(1)

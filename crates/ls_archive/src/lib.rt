@@ -4,8 +4,10 @@
 //! (`specs/Index.antt`); its making, where it stops, says which lines it wrote (`specs/View/Indexing.antt`). A film is
 //! compared with its recording frame by frame, whatever the form of the headers on both sides; the verdict says whether
 //! their frames are equal, or where they aren't (`specs/Verify.antt`, `specs/View/Verifying.antt`). A recording is checked
-//! by its index, line by line; what is damaged is told (`specs/View/Checking.antt`, `specs/View/Checks.antt`). An index can
-//! also be written while its recording is (`specs/View/Following.antt`).
+//! by its index, line by line; what is damaged is told (`specs/View/Checking.antt`, `specs/View/Checks.antt`). Of a
+//! comparison several threads can decode the recording, and of a check by an index look at it; both say the same then
+//! (`specs/View/SideBySide.antt`, `specs/View/Batches.antt`). An index can also be written while its recording is
+//! (`specs/View/Following.antt`).
 //!
 //! ```
 //! use ls_archive::{IndexFault, write_index};
@@ -26,7 +28,7 @@
 //!
 //! In reading order: `faults` (why the making of an index, or a comparison, stopped), `index` (the lines), `entry` (a
 //! codestream, and what its headers say), `following` (an index that is written with its recording), `checking` (a
-//! recording and its index), `verifying` (a film and its recording), `laws`.
+//! recording and its index, by several threads in its `batches`), `verifying` (a film and its recording), `laws`.
 #![tactic(auto)]
 
 pub mod checking;
@@ -37,7 +39,7 @@ pub mod index;
 pub mod laws;
 pub mod verifying;
 
-pub use checking::{CheckFault, Checked, Damage, Finding, Findings, check};
+pub use checking::{CheckFault, Checked, Damage, Finding, Findings, check, check_by};
 pub use faults::{IndexFault, VerifyFault};
 pub use following::{Follower, Indexing};
 pub use index::{index_bytes, write_index};

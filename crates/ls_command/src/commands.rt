@@ -1,10 +1,10 @@
 //! The commands and options, as `clap` is told of them.
 use crate::texts::{
-    CAPACITY_HELP, CHECK_HELP, CODE_HELP, FILM_HELP, FILMS_HELP, FRAMES_HELP, INDEX_FILE_HELP,
-    INDEX_HELP, INDEX_OF_CODE_HELP, INDEX_OF_RECORDING_HELP, INTO_HELP, LIST_HELP, NO_SUMS_HELP,
-    PLAY_HELP, PLAYERS_HELP, PRESET_HELP, PROGRESS_HELP, QUEUE_HELP, REASONS_HELP, RECORD_HELP,
-    RECORDING_HELP, REPLACE_HELP, REPLAY_HELP, REPORT_HELP, SALVAGE_HELP, SOURCES_HELP, STEPS_HELP,
-    VERIFIERS_HELP, VERIFY_HELP, WINDOW_HELP, WORKERS_HELP,
+    CAPACITY_HELP, CHECK_HELP, CHECKERS_HELP, CODE_HELP, FILM_HELP, FILMS_HELP, FRAMES_HELP,
+    INDEX_FILE_HELP, INDEX_HELP, INDEX_OF_CODE_HELP, INDEX_OF_RECORDING_HELP, INTO_HELP, LIST_HELP,
+    NO_SUMS_HELP, PLAY_HELP, PLAYERS_HELP, PRESET_HELP, PROGRESS_HELP, QUEUE_HELP, REASONS_HELP,
+    RECORD_HELP, RECORDING_HELP, REPLACE_HELP, REPLAY_HELP, REPORT_HELP, SALVAGE_HELP,
+    SOURCES_HELP, STEPS_HELP, VERIFIERS_HELP, VERIFY_HELP, WINDOW_HELP, WORKERS_HELP,
 };
 use clap::{Arg, ArgAction, Command, value_parser};
 use std::alloc::{AllocError, Global};
@@ -79,12 +79,9 @@ fn index_command<'a>(alloc: Global) -> Result<Command<'a>, AllocError> {
 /// The command that looks for damage in a recording.
 fn check_command<'a>(alloc: Global) -> Result<Command<'a>, AllocError> {
     let about = "Says what is damaged of a recording";
-    file_command(alloc, "check", about, CHECK_HELP, RECORDING_HELP)?.arg(option(
-        alloc,
-        "index",
-        "INDEX",
-        INDEX_FILE_HELP,
-    ))
+    file_command(alloc, "check", about, CHECK_HELP, RECORDING_HELP)?
+        .arg(option(alloc, "index", "INDEX", INDEX_FILE_HELP))?
+        .arg(decoders_option(alloc, CHECKERS_HELP))
 }
 
 /// The command that compares a recording with its film.

@@ -28,7 +28,7 @@ use commands::command;
 pub use frames::Frames;
 use frames::read_frames;
 use std::alloc::{AllocError, Global};
-use texts::{BEGINNING, FRAMES_WANTED, PLAYERS_WANTED};
+use texts::{BEGINNING, CHECKERS_WANTED, FRAMES_WANTED, PLAYERS_WANTED};
 
 /// What the words ask for.
 #[derive(Drop)]
@@ -59,6 +59,8 @@ pub enum Request<'a> {
     Check {
         file: &'a str,
         index: Option<&'a str>,
+        /// How many workers decode; one, if it is by itself.
+        workers: u8,
     },
     /// Whether a recording's frames are a film's.
     Verify {
@@ -167,7 +169,7 @@ fn request_of<'a>(
         "code" => Ok(code_request(words)),
         "play" => play_request(alloc, words),
         "index" => Ok(index_request(words)),
-        "check" => Ok(check_request(words)),
+        "check" => check_request(alloc, words),
         "verify" => Ok(verify_request(words)),
         "record" => Ok(record_request(alloc, words)?),
         "replay" => Ok(replay_request(words)),
@@ -219,11 +221,19 @@ fn index_request<'a>(words: &ArgMatches<'a>) -> Option<Request<'a>> {
 }
 
 /// What the words of `check` ask for, which `clap` has looked at.
-fn check_request<'a>(words: &ArgMatches<'a>) -> Option<Request<'a>> {
-    Some(Request::Check {
-        file: words.get_str("FILE")?,
-        index: words.get_str("index"),
-    })
+fn check_request<'a>(alloc: Global, words: &ArgMatches<'a>) -> Result<Option<Request<'a>>, Error> {
+    let index = words.get_str("index");
+    let workers = words.get_one("workers").unwrap_or(1);
+    if workers > 1 && index.is_none() {
+        return Err(usage_fault(alloc, CHECKERS_WANTED)?);
+    }
+    Ok(
+        words.get_str("FILE").map(|file| Request::Check {
+            file,
+            index,
+            workers,
+        }),
+    )
 }
 
 /// What the words of `verify` ask for, which `clap` has looked at.

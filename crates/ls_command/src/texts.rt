@@ -125,6 +125,12 @@ pub const INDEX_FILE_HELP: &str = "\
 The recording's index, as `index` wrote it: each codestream has to be where it stood, and to have its sum if the index
 has one";
 
+pub const CHECKERS_HELP: &str = "\
+How many workers decode by an index, 1 to 16. From 2 on twice as many codestreams are read at once, and their lines
+written in order when all of them were looked at";
+
+pub const CHECKERS_WANTED: &str = "--workers goes only with --index";
+
 pub const VERIFY_HELP: &str = "\
 Compares the frames of FILE, a recording, with those of FILM, frame by frame. The status is 0 exactly if they are the
 same, each with its size, its maxval and all its samples; whatever form the headers of either file have. Else it is 1,

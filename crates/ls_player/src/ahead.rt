@@ -193,6 +193,15 @@ fn threads_for<T>(jobs: &[Job<T>], workers: usize) -> usize
     for job in jobs {
         bytes = bytes.saturating_add(job.bytes.len());
     }
+    threads_worth(bytes, workers)
+}
+
+/// How many threads so many bytes of codestreams are worth that are to be decoded: no more than the workers, of which it
+/// requires one at least.
+pub fn threads_worth(bytes: usize, workers: usize) -> usize
+    requires { 0 < workers }
+    ensures { (0 < result) × (result ≤ workers) }
+{
     workers.min(1 + bytes / BYTES_A_THREAD)
 }
 

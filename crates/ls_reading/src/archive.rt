@@ -1,8 +1,8 @@
 //! What is asked of a recording that is kept: its index, whether it is damaged, and whether it is of a film.
 use crate::cause::conclude;
 use ls_archive::{
-    CheckFault, Checked, Finding, Findings, Verdict, VerifyFault, check, verify, verify_by,
-    write_index,
+    CheckFault, Checked, Finding, Findings, Verdict, VerifyFault, check, check_by, verify,
+    verify_by, write_index,
 };
 use ls_console::{
     Cause, Console, DONE, FAILED, explain, finish_lines, no_memory, open_film, say_unwritten,
@@ -42,16 +42,18 @@ where
     finish_lines(status, lines, console)
 }
 
-/// Looks for what is damaged of a recording, by its index if one is named, and writes a line of each by way of a buffer.
+/// Looks for what is damaged of a recording, by its index if one is named, and then with so many workers that decode; and
+/// writes a line of each by way of a buffer.
 pub fn check_recording<R, W, E>(
     rt: &R,
     file: &str,
     index: Option<&str>,
+    workers: u8,
     output: &mut Counted<W>,
     console: &mut Console<'_, E>,
 ) -> u8
 where
-    R: Eprint + Files + AllocGlobal,
+    R: Eprint + Files + AllocGlobal + Threads + Sync,
     W: Write,
     E: Outlet,
 {
@@ -60,7 +62,7 @@ where
     };
     let mut lines = Counted::new(buffered);
     let status = match index {
-        Some(index) => check_by(rt, file, index, &mut lines, console),
+        Some(index) => check_with(rt, file, index, workers, &mut lines, console),
         None => check_alone(rt, file, &mut lines, console),
     };
     let status = if Outlet::failures(&lines) > 0 {
@@ -71,16 +73,17 @@ where
     finish_lines(status, lines, console)
 }
 
-/// Looks for what is damaged of a recording by its index.
-fn check_by<R, L, E>(
+/// Looks for what is damaged of a recording, which so many workers decode, by its index.
+fn check_with<R, L, E>(
     rt: &R,
     file: &str,
     index: &str,
+    workers: u8,
     lines: &mut L,
     console: &mut Console<'_, E>,
 ) -> u8
 where
-    R: Eprint + Files + AllocGlobal,
+    R: Eprint + Files + AllocGlobal + Threads + Sync,
     L: Outlet,
     E: Outlet,
 {
@@ -93,7 +96,20 @@ where
         Err(status) => return status,
     };
     let mut report = Report::new(rt.alloc(), lines);
-    match check(rt.alloc(), &mut wanted, &mut recording, &mut report) {
+    let workers = usize::from(workers);
+    let checked = if workers > 1 {
+        check_by(
+            rt,
+            rt.alloc(),
+            workers,
+            &mut wanted,
+            &mut recording,
+            &mut report,
+        )
+    } else {
+        check(rt.alloc(), &mut wanted, &mut recording, &mut report)
+    };
+    match checked {
         Ok(checked) => report.end(file, checked, console),
         Err(fault) if is_of_index(fault) => conclude(index, Err(fault), &wanted, None, console),
         Err(fault) => conclude(file, Err(fault), &recording, None, console),

@@ -2,11 +2,12 @@
 use Rattle.std.specs.Prelude.{◌≡◌, ◌⊎◌, ◌↔◌, ℕ, ◌<◌, ◌≤◌, Bool, true, false, IsTrue, List, [], ◌∷◌, ◌++◌, length, take, drop, codes, Option, None, Some, Result, Ok, Err}
 use Rattle.ls_film.specs.Film.{most_frames}
 use Rattle.ls_frame.specs.View.Known.{Tells, Gave, known}
+use Rattle.ls_archive.specs.declared.checking.Damage.{Damage}
 use Rattle.ls_archive.specs.declared.checking.Finding.{Finding}
 use Rattle.ls_archive.specs.declared.checking.Checked.{Checked}
 use Rattle.ls_archive.specs.declared.checking.CheckFault.{CheckFault}
 use Rattle.ls_archive.specs.declared.checking.CheckFault.TheVariants as fault
-use Rattle.ls_archive.specs.View.Checking.{Line, HasNoLineFeed, IsLine, AreLines, texts, IsGood, IsOf, AreFound, size_of}
+use Rattle.ls_archive.specs.View.Checking.{Line, HasNoLineFeed, IsLine, AreLines, texts, IsGood, IsDamage, IsOf, AreFound, size_of}
 
 -- ---- what is told
 
@@ -48,6 +49,11 @@ pub record IsChecked (index recording : Option (List ℕ)) (found found' : Optio
   pub told : FindsMore found found' findings
   pub are_found : Tells recording → AreFound 0 0 lines (known recording) findings
   pub more : Tells recording → IsTrue checked.more ↔ (size_of lines < length (known recording))
+
+-- what is wrong with the bytes of a line, or that they are good
+abbrev pub IsFound : ℕ → ℕ → Line → List ℕ → Option Damage → Type 0
+IsFound n offset l bytes None = IsGood n offset l.text bytes
+IsFound n offset l bytes (Some damage) = (IsGood n offset l.text bytes → ⊥) × IsDamage n offset l bytes damage
 
 -- The bytes of a line were looked at: they are good, and nothing was told; or they aren't, and one finding was.
 pub record HasLooked (n offset : ℕ) (l : Line) (bytes : List ℕ) (found found' : Option (List Finding)) (damaged : ℕ) : Type 0 where

@@ -1,9 +1,9 @@
-use Rattle.std.proofs.Common.{◌≡◌, refl, sym, subst, arith, rules}
+use Rattle.std.proofs.Common.{◌≡◌, refl, subst, arith, rules}
 use Rattle.std.proofs.lemmas.Result.{err_from_is_err_and}
 use Rattle.ls_film.specs.Film.{most_frames}
 use Rattle.ls_archive.specs.View.Checking.{Line}
-use Rattle.ls_archive.specs.View.Checks.{IsChecked, StopsAfter, BeginsWithLine, Anything, StopsNextLine}
-use Rattle.ls_archive.proofs.CheckLemmas.{checked-none, checked-more, checked-end, stops-after, stops-next-line, stops-reading, begins-with}
+use Rattle.ls_archive.specs.View.Checks.{HasChecked, Anything}
+use Rattle.ls_archive.proofs.CheckLemmas.{checked-none, checked-more, checked-end, stops-after, stops-next-line, stops-reading}
 use Rattle.ls_archive.proofs.checking.check.Goals as goal
 
 pub loop-number-init : goal.loop-number-init
@@ -33,12 +33,17 @@ loop-number-preserved g c =
 
 pub returns-clause-checked : goal.returns-clause-checked
 returns-clause-checked g c =
-    let end = rw c.in-None.is at c.in_ok-next_line.ensures.end in
     let all : c.loop-number.number ≡ most_frames = omega arith in
-    subst (λ n. IsChecked (g.I.Read.remaining c.args.index.now) (g.R.Read.remaining c.args.recording.now) (g.F.Findings.found c.args.findings.now) (g.F.Findings.found c.loop-number.findings)
-    (record { frames = n; damaged = c.loop-number.damaged; more = c.in_ok-more-2.more })) all
-    (checked-end _ (g.I.Read.remaining c.loop-number.index) (g.I.Read.remaining c.next_line-2.new.index) _ (g.R.Read.remaining c.loop-number.recording) _ _
-    c.loop-number.number c.loop-number.offset c.loop-number.damaged c.in_ok-more-2.more c.loop-number.invariant.so_far end c.in_ok-more-2.ensures.more)
+    c.end_at_most.ensures.checked _ _ _ _
+    (subst (λ n. HasChecked (g.I.Read.remaining c.args.index.now) (g.I.Read.remaining c.loop-number.index) (g.R.Read.remaining c.args.recording.now) (g.R.Read.remaining c.loop-number.recording)
+    (g.F.Findings.found c.args.findings.now) (g.F.Findings.found c.loop-number.findings) n c.loop-number.offset c.loop-number.damaged) all c.loop-number.invariant.so_far)
+
+pub returns-clause-stops : goal.returns-clause-stops
+returns-clause-stops g c =
+    let all : c.loop-number.number ≡ most_frames = omega arith in
+    c.end_at_most.ensures.stops _ _ _ _
+    (subst (λ n. HasChecked (g.I.Read.remaining c.args.index.now) (g.I.Read.remaining c.loop-number.index) (g.R.Read.remaining c.args.recording.now) (g.R.Read.remaining c.loop-number.recording)
+    (g.F.Findings.found c.args.findings.now) (g.F.Findings.found c.loop-number.findings) n c.loop-number.offset c.loop-number.damaged) all c.loop-number.invariant.so_far)
 
 pub returns-in_err-line-clause-stops : goal.returns-in_err-line-clause-stops
 returns-in_err-line-clause-stops g c =
@@ -67,31 +72,3 @@ returns-in_err-damaged-clause-stops g c =
           _ (g.F.Findings.found c.loop-number.findings) _ c.loop-number.number c.loop-number.offset c.loop-number.damaged Anything
           c.loop-number.invariant.so_far c.in_err-damaged.ensures.none (λ told. tt),
     )
-
-pub returns-in_err-next_line-clause-stops : goal.returns-in_err-next_line-clause-stops
-returns-in_err-next_line-clause-stops g c =
-    let p = err_from_is_err_and c.from_residual-in_err-next_line.result c.from_residual-in_err-next_line.ensures.1 in
-    let all : c.loop-number.number ≡ most_frames = omega arith in
-    let stops = subst (λ n. StopsNextLine (g.I.Read.remaining c.loop-number.index) n c.loop-number.offset c.in_err-next_line.field-0.0) (sym all) c.in_err-next_line.ensures.stops in
-    rw (p.1, p.2) (stops-next-line _ (g.I.Read.remaining c.loop-number.index) _ (g.R.Read.remaining c.loop-number.recording) _ _
-    c.loop-number.number c.loop-number.offset c.loop-number.damaged _ c.loop-number.invariant.so_far stops)
-
-pub returns-in_default-2-clause-stops : goal.returns-in_default-2-clause-stops
-returns-in_default-2-clause-stops g c =
-    let next = c.in_default-2.field-0 in
-    let l : Line = record { text = next.text.items; size = next.size } in
-    let is = rw c.in_default-2.is at c.in_ok-next_line.ensures.is in
-    let gave = rw c.in_default-2.is at c.in_ok-next_line.ensures.gave in
-    let mid = g.I.Read.remaining c.loop-number.index in
-    let all : c.loop-number.number ≡ most_frames = omega arith in
-    subst (λ n. StopsAfter (g.I.Read.remaining c.args.index.now) (g.R.Read.remaining c.args.recording.now) (g.F.Findings.found c.args.findings.now) (g.F.Findings.found c.loop-number.findings) n (BeginsWithLine most_frames)) all
-    (stops-after (g.I.Read.remaining c.args.index.now) mid (g.R.Read.remaining c.args.recording.now) (g.R.Read.remaining c.loop-number.recording)
-    (g.F.Findings.found c.args.findings.now) (g.F.Findings.found c.loop-number.findings) (g.F.Findings.found c.loop-number.findings)
-    c.loop-number.number c.loop-number.offset c.loop-number.damaged (BeginsWithLine most_frames) c.loop-number.invariant.so_far refl
-    (λ told. begins-with most_frames c.loop-number.offset mid (g.I.Read.remaining c.next_line-2.new.index) l is gave told))
-
-pub returns-in_err-more-2-clause-stops : goal.returns-in_err-more-2-clause-stops
-returns-in_err-more-2-clause-stops g c =
-    let p = err_from_is_err_and c.from_residual-in_err-more-2.result c.from_residual-in_err-more-2.ensures.1 in
-    rw (p.1, p.2) (stops-reading _ (g.I.Read.remaining c.loop-number.index) _ (g.R.Read.remaining c.loop-number.recording) _ _
-    c.loop-number.number c.loop-number.offset c.loop-number.damaged _ c.loop-number.invariant.so_far c.in_err-more-2.ensures.stops)

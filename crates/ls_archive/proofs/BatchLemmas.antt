@@ -1,0 +1,186 @@
+-- Lines that are taken at once, what is found of them, and what is told.
+use Rattle.std.proofs.Common.{◌≡◌, ◌<◌, ◌≤◌, ◌+◌, ℕ, suc, Bool, inl, inr, List, [], ◌∷◌, ◌++◌, length, get_or, take, drop, append-nil, Option, None, Some, Result, Ok, Err, IfOk, IfSome, refl, sym, ap, subst, ◌∙◌, arith}
+use Rattle.std.specs.Prelude.{IfNone, OnErr, slice_index_or}
+use Rattle.std.specs.List.{AllZip}
+use Rattle.std.proofs.lemmas.List.{at_drop_more, at_drop_all, take_all, drop_all}
+use Rattle.ls_film.specs.Film.{most_frames}
+use Rattle.ls_frame.specs.View.Known.{Gave}
+use Rattle.ls_archive.specs.declared.checking.CheckFault.{CheckFault}
+use Rattle.ls_archive.specs.declared.checking.CheckFault.TheVariants as fault
+use Rattle.ls_archive.specs.declared.checking.Damage.{Damage}
+use Rattle.ls_archive.specs.declared.checking.Finding.{Finding}
+use Rattle.ls_archive.specs.declared.checking.IndexLine.{IndexLine}
+use Rattle.ls_archive.specs.declared.checking.batches.After.{After}
+use Rattle.ls_archive.specs.declared.checking.batches.After.TheVariants.{More, End, Fault}
+use Rattle.ls_archive.specs.declared.checking.batches.Batch.{Batch}
+use Rattle.ls_archive.specs.declared.checking.batches.Job.{Job}
+use Rattle.ls_archive.specs.declared.checking.batches.SoFar.{SoFar}
+use Rattle.ls_archive.specs.View.Checking.{Line, IsLine, IsGood, IsDamage}
+use Rattle.ls_archive.specs.View.Checks.{GaveAtMost, IsFound, HasLooked, HasChecked, IsChecked, Stops, Anything}
+use Rattle.ls_archive.specs.View.Batches.{Place, line_of, IsTaken, AreTaken, ComesAfter, IsBatch, IsLookedAt, IsLooked, AreLooked, HasCheckedTo, LeadsOn, LeadsSomewhere}
+use Rattle.ls_archive.proofs.CheckLemmas.{checked-more, checked-end, stops-after, stops-next-line, stops-reading}
+
+-- ---- lines that are taken
+
+-- one more
+pub taken-more : (at mid next : Place) (jobs : List Job) (job : Job) → AreTaken at mid jobs → IsTaken mid next job → AreTaken at next (jobs ++ job ∷ [])
+taken-more at mid next [] job are is = (next, subst (λ p. IsTaken p next job) (sym are) is, refl)
+taken-more at mid next (first ∷ jobs) job are is = (are.0, are.1, taken-more are.0 mid next jobs job are.2 is)
+
+-- ---- what is found of them
+
+-- what was looked at is what was taken
+looked-one : (at next : Place) (job job' : Job) → IsTaken at next job → IsLookedAt job job' → IsLooked at next job'
+looked-one at next job job' taken looked = record {
+  number = looked.number ∙ taken.number;
+  offset = looked.offset ∙ taken.offset;
+  is = subst (λ (line : IndexLine). IsLine at.number at.offset (line_of line)) (sym looked.line) taken.is;
+  gave = subst (λ (line : IndexLine). Gave at.index next.index (λ bytes. line.text.items ≡ bytes)) (sym looked.line) taken.gave;
+  bytes = job.bytes.items;
+  taken = subst (λ (line : IndexLine). GaveAtMost at.recording next.recording line.size job.bytes.items) (sym looked.line) taken.taken;
+  found = looked.found;
+  next_number = taken.next_number;
+  next_offset = taken.next_offset ∙ ap (λ (line : IndexLine). at.offset + line.size) (sym looked.line);
+}
+
+pub all-looked : (at next : Place) (jobs jobs' : List Job) → AreTaken at next jobs → AllZip IsLookedAt jobs jobs' → AreLooked at next jobs'
+all-looked at next [] [] are looked = are
+all-looked at next [] (job' ∷ jobs') are looked = absurd looked
+all-looked at next (job ∷ jobs) [] are looked = absurd looked
+all-looked at next (job ∷ jobs) (job' ∷ jobs') are looked =
+    (are.0, looked-one at are.0 job job' are.1 looked.0, all-looked are.0 next jobs jobs' are.2 looked.1)
+
+-- each was looked at
+abbrev pub EachIsLookedAt : List Job → List Job → Type 0
+EachIsLookedAt jobs jobs' = (i : ℕ) (d : Job) → i < length jobs → IsLookedAt (slice_index_or jobs i d) (slice_index_or jobs' i d)
+
+later : (job job' : Job) (jobs jobs' : List Job) → EachIsLookedAt (job ∷ jobs) (job' ∷ jobs') → EachIsLookedAt jobs jobs'
+later job job' jobs jobs' each i d lt = each (suc i) d (omega arith)
+
+pub each-looked : (jobs jobs' : List Job) → length jobs' ≡ length jobs → EachIsLookedAt jobs jobs' → AllZip IsLookedAt jobs jobs'
+each-looked [] [] len each = tt
+each-looked [] (job' ∷ jobs') len each = let no : ⊥ = omega arith in absurd no
+each-looked (job ∷ jobs) [] len each = let no : ⊥ = omega arith in absurd no
+each-looked (job ∷ jobs) (job' ∷ jobs') len each = (each 0 job (omega arith), each-looked jobs jobs' (omega arith) (later job job' jobs jobs' each))
+
+-- jobs that were lent as a slice were looked at where they stand
+pub looked-whole : (jobs lent after jobs' : List Job) (len : ℕ) → lent ≡ jobs → length lent ≡ len → length after ≡ length lent → AllZip IsLookedAt lent after
+    → jobs' ≡ take len (after ++ drop (length after) jobs) → AllZip IsLookedAt jobs jobs'
+looked-whole jobs lent after jobs' len same size kept looked is =
+    let none : drop (length after) jobs ≡ [] = drop_all (length after) jobs (omega (arith, kept, ap length same)) in
+    let all : take len (after ++ []) ≡ after = ap (take len) (append-nil after) ∙ take_all len after (omega (arith, kept, size)) in
+    subst (AllZip IsLookedAt jobs) (sym (is ∙ ap (λ rest. take len (after ++ rest)) none ∙ all)) (subst (λ (js : List Job). AllZip IsLookedAt js after) same looked)
+
+-- what was found
+found-is : (n offset : ℕ) (l : Line) (bytes : List ℕ) (found : Option Damage) → IfNone found (IsGood n offset l.text bytes) → IfSome found (λ damage. IsGood n offset l.text bytes → ⊥)
+    → IfSome found (IsDamage n offset l bytes) → IsFound n offset l bytes found
+found-is n offset l bytes None good damaged damage = good
+found-is n offset l bytes (Some is) good damaged damage = (damaged, damage)
+
+pub found-of : {E : Type 0} (n offset : ℕ) (l : Line) (bytes : List ℕ) (result : Result (Option Damage) E) → IfOk result (λ found. IfNone found (IsGood n offset l.text bytes))
+    → IfOk result (λ found. IfSome found (λ damage. IsGood n offset l.text bytes → ⊥)) → IfOk result (λ found. IfSome found (IsDamage n offset l bytes)) → IfOk result (IsFound n offset l bytes)
+found-of n offset l bytes (Ok found) good damaged damage = found-is n offset l bytes found good damaged damage
+found-of n offset l bytes (Err refused) good damaged damage = tt
+
+-- ---- what is told
+
+pub on-err : {X E P : Type 0} (result : Result X E) → P → OnErr result P
+on-err (Ok x) holds = tt
+on-err (Err fault) holds = holds
+
+-- the next job
+pub looked-step : (at next : Place) (jobs : List Job) (i : ℕ) (job : Job) → i < length jobs → job ≡ get_or jobs i job → AreLooked at next (drop i jobs)
+    → (mid : Place) × IsLooked at mid job × AreLooked mid next (drop (i + 1) jobs)
+looked-step at next jobs i job lt is are =
+    let split = subst (AreLooked at next) (at_drop_more (λ (js : List Job). js) jobs i job lt) are in
+    (split.0, subst (IsLooked at split.0) (sym is) split.1, split.2)
+
+module _ (told told' : Option (List Finding)) (so_far so_far' : SoFar) (jobs : List Job) where
+  -- nothing was told yet
+  pub leads-none : told' ≡ told → so_far' ≡ so_far → LeadsOn told told' so_far so_far' jobs (drop 0 jobs)
+  leads-none same none index recording found at next to are = (
+    at,
+    subst (λ t. HasCheckedTo index recording found t at so_far') (sym same) (subst (λ (s : SoFar). HasCheckedTo index recording found told at s) (sym none) to),
+    are,
+  )
+
+  -- the next was
+  pub leads-more : (told'' : Option (List Finding)) (done : SoFar) (i : ℕ) (job : Job) → LeadsOn told told' so_far so_far' jobs (drop i jobs) → i < length jobs → job ≡ get_or jobs i job
+      → ((index recording : Option (List ℕ)) (found : Option (List Finding)) (at next : Place) → HasCheckedTo index recording found told' at so_far' → IsLooked at next job → HasCheckedTo index recording found told'' next done)
+      → LeadsOn told told'' so_far done jobs (drop (i + 1) jobs)
+  leads-more told'' done i job leads lt is one index recording found at next to are =
+      let here = leads index recording found at next to are in
+      let step = looked-step here.0 next jobs i job lt is here.2 in
+      (step.0, one index recording found here.0 step.0 here.1 step.1, step.2)
+
+  -- all were
+  pub leads-all : (i : ℕ) → LeadsOn told told' so_far so_far' jobs (drop i jobs) → length jobs ≤ i → LeadsOn told told' so_far so_far' jobs []
+  leads-all i leads all = subst (LeadsOn told told' so_far so_far' jobs) (at_drop_all (λ (js : List Job). js) jobs i all) leads
+
+module _ (index recording : Option (List ℕ)) (found : Option (List Finding)) where
+  -- of one job more
+  pub told-more : (told told' : Option (List Finding)) (at next : Place) (so_far done : SoFar) (job : Job) (d : ℕ) → HasCheckedTo index recording found told at so_far
+      → (is : IsLooked at next job) → so_far.number < most_frames → HasLooked job.number job.offset (line_of job.line) is.bytes told told' d
+      → done.number ≡ so_far.number + 1 → done.offset ≡ so_far.offset + job.line.size → done.damaged ≡ so_far.damaged + d → HasCheckedTo index recording found told' next done
+  told-more told told' at next so_far done job d to is room looked number offset damaged =
+      let here = subst (λ n. HasLooked n job.offset (line_of job.line) is.bytes told told' d) is.number looked in
+      let there = subst (λ o. HasLooked at.number o (line_of job.line) is.bytes told told' d) is.offset here in
+      let more = checked-more index at.index next.index recording at.recording next.recording found told told' at.number at.offset so_far.damaged d (line_of job.line) is.bytes
+      to.checked (omega (arith, room, to.number)) is.is is.gave is.taken there in
+      record {
+        number = number ∙ ap (λ k. k + 1) to.number ∙ sym is.next_number;
+        offset = offset ∙ ap (λ k. k + job.line.size) to.offset ∙ sym is.next_offset;
+        checked = rw (is.next_number, is.next_offset, damaged) more;
+      }
+
+  -- an allocation failed
+  pub stops-telling : (told told' : Option (List Finding)) (at : Place) (so_far : SoFar) → HasCheckedTo index recording found told at so_far → told' ≡ told → Stops index recording found told' fault.NoMemory
+  stops-telling told told' at so_far to same =
+      (at.number, stops-after index at.index recording at.recording found told told' at.number at.offset so_far.damaged Anything to.checked same (λ known. tt))
+
+  -- of a batch
+  module _ (told told' : Option (List Finding)) (so_far : SoFar) (index0 recording0 index' recording' : Option (List ℕ)) (batch : Batch) (jobs' : List Job)
+      (checked : HasChecked index index0 recording recording0 found told so_far.number so_far.offset so_far.damaged)
+      (is : IsBatch (record { index = index0; recording = recording0; number = so_far.number; offset = so_far.offset }) index' recording' batch) (looked : AllZip IsLookedAt batch.jobs.items jobs') where
+    to-begun : HasCheckedTo index recording found told (record { index = index0; recording = recording0; number = so_far.number; offset = so_far.offset }) so_far
+    to-begun = record { number = refl; offset = refl; checked = checked }
+
+    are : AreLooked (record { index = index0; recording = recording0; number = so_far.number; offset = so_far.offset }) is.mid jobs'
+    are = all-looked (record { index = index0; recording = recording0; number = so_far.number; offset = so_far.offset }) is.mid batch.jobs.items jobs' is.taken looked
+
+    -- all of it
+    pub told-batch : (done : SoFar) → LeadsOn told told' so_far done jobs' [] → (mid : Place) × HasCheckedTo index recording found told' mid done × ComesAfter mid index' recording' batch.after
+    told-batch done leads =
+        let there = leads index recording found (record { index = index0; recording = recording0; number = so_far.number; offset = so_far.offset }) is.mid to-begun are in
+        (is.mid, subst (λ (p : Place). HasCheckedTo index recording found told' p done) there.2 there.1, is.after)
+
+    -- or as far as an allocation failed
+    pub stops-batch : LeadsSomewhere told told' so_far jobs' → Stops index recording found told' fault.NoMemory
+    stops-batch leads =
+        let there = leads.2 index recording found (record { index = index0; recording = recording0; number = so_far.number; offset = so_far.offset }) is.mid to-begun are in
+        stops-telling told' told' there.0 leads.0 there.1 refl
+
+  -- ---- what comes after a batch
+
+  module _ (told : Option (List Finding)) (done : SoFar) (at : Place) (index' recording' : Option (List ℕ)) (to : HasCheckedTo index recording found told at done)
+      (after : After) (comes : ComesAfter at index' recording' after) where
+    pub more-comes : after ≡ More → HasChecked index index' recording recording' found told done.number done.offset done.damaged
+    more-comes more =
+        let same : ComesAfter at index' recording' More = subst (ComesAfter at index' recording') more comes in
+        let number = subst (λ n. HasChecked index at.index recording at.recording found told n at.offset done.damaged) (sym to.number) to.checked in
+        let offset = subst (λ o. HasChecked index at.index recording at.recording found told done.number o done.damaged) (sym to.offset) number in
+        let lines = subst (λ i. HasChecked index i recording at.recording found told done.number done.offset done.damaged) same.0 offset in
+        subst (λ r. HasChecked index index' recording r found told done.number done.offset done.damaged) same.1 lines
+
+    pub end-comes : (more : Bool) → after ≡ End more → IsChecked index recording found told (record { frames = done.number; damaged = done.damaged; more = more })
+    end-comes more is =
+        let end : ComesAfter at index' recording' (End more) = subst (ComesAfter at index' recording') is comes in
+        subst (λ n. IsChecked index recording found told (record { frames = n; damaged = done.damaged; more = more })) (sym to.number)
+        (checked-end index at.index index' recording at.recording found told at.number at.offset done.damaged more to.checked end.0 end.1)
+
+    stops-either : (why : CheckFault) → ComesAfter at index' recording' (Fault why) → Stops index recording found told why
+    stops-either why (inl line) = stops-next-line index at.index recording at.recording found told at.number at.offset done.damaged why to.checked line
+    stops-either why (inr reading) = stops-reading index at.index recording at.recording found told at.number at.offset done.damaged why to.checked reading
+
+    pub fault-comes : (why : CheckFault) → after ≡ Fault why → Stops index recording found told why
+    fault-comes why is = stops-either why (subst (ComesAfter at index' recording') is comes)

@@ -1,0 +1,26 @@
+use Rattle.std.proofs.Common.{◌≡◌, ◌+◌, [], ◌∷◌, ◌++◌, length, sym, ap, subst, arith, rules}
+use Rattle.std.proofs.lemmas.List.{length_push}
+use Rattle.ls_archive.specs.View.Batches.{Place, IsTaken}
+use Rattle.ls_archive.proofs.BatchLemmas.{taken-more}
+use Rattle.ls_archive.proofs.checking.batches.take.Goals as goal
+
+pub loop-number-preserved : goal.loop-number-preserved
+loop-number-preserved g c =
+    let i = c.loop-number.invariant in
+    let job = c.in-Ok.job in
+    let index = g.I.Read.remaining c.next_job.new.index in
+    let recording = g.R.Read.remaining c.next_job.new.recording in
+    let start : Place = record { index = g.I.Read.remaining c.args.index.now; recording = g.R.Read.remaining c.args.recording.now; number = c.args.so_far.number; offset = c.args.so_far.offset } in
+    let mid : Place = record { index = g.I.Read.remaining c.loop-number.index; recording = g.R.Read.remaining c.loop-number.recording; number = c.loop-number.number; offset = c.loop-number.offset } in
+    let next : Place = record { index = index; recording = recording; number = c.loop-number.number + 1; offset = c.loop-number.offset + c.from-offset.result } in
+    let taken = c.in-Ok.ensures.taken in
+    let is : IsTaken mid next job =
+    subst (λ size. IsTaken mid (record { index = index; recording = recording; number = c.loop-number.number + 1; offset = c.loop-number.offset + size }) job) (sym c.from-offset.ensures) taken in
+    let pushed : c.push.new.self.items ≡ c.loop-number.jobs.items ++ job ∷ [] = search rules in
+    record {
+      taken = rw pushed (taken-more start mid next c.loop-number.jobs.items job i.taken is);
+      len = omega (arith, i.len, ap length pushed, length_push c.loop-number.jobs.items job);
+      bounded = omega (arith, i.bounded, c.from-offset.ensures, taken.is.few);
+      index_reads = search rules;
+      reads = search rules;
+    }
