@@ -96,14 +96,6 @@ looked-step at next jobs i job lt is are =
     (split.0, subst (IsLooked at split.0) (sym is) split.1, split.2)
 
 module _ (told told' : Option (List Finding)) (so_far so_far' : SoFar) (jobs : List Job) where
-  -- nothing was told yet
-  pub leads-none : told' ≡ told → so_far' ≡ so_far → LeadsOn told told' so_far so_far' jobs (drop 0 jobs)
-  leads-none same none index recording found at next to are = (
-    at,
-    subst (λ t. HasCheckedTo index recording found t at so_far') (sym same) (subst (λ (s : SoFar). HasCheckedTo index recording found told at s) (sym none) to),
-    are,
-  )
-
   -- the next was
   pub leads-more : (told'' : Option (List Finding)) (done : SoFar) (i : ℕ) (job : Job) → LeadsOn told told' so_far so_far' jobs (drop i jobs) → i < length jobs → job ≡ get_or jobs i job
       → ((index recording : Option (List ℕ)) (found : Option (List Finding)) (at next : Place) → HasCheckedTo index recording found told' at so_far' → IsLooked at next job → HasCheckedTo index recording found told'' next done)
