@@ -1,11 +1,12 @@
 use crate::testing::{BROKEN_DATA, check_text};
-use ls_archive::{CheckFault, Checked, Damage, Finding, check};
+use ls_archive::{CheckFault, Checked, Damage, Finding, check, check_by};
 use ls_frame::{Counted, Feed};
 use ls_stream::StreamFault;
 use ls_testing::Pieces;
 use ls_testing::films::TWO_CODESTREAMS;
 use std::alloc::Global;
 use std::process::Abort;
+use std::thread::Threads;
 
 /// What a check answered, its first finding, and how many reads of the index and of the recording failed.
 type Outcome = (Result<Checked, CheckFault>, Option<Finding>, u64, u64);
@@ -21,10 +22,11 @@ fn check_outcome(rt: &impl Abort, name: &str, got: Outcome, want: Outcome, ample
     assert_eq!(rt; got, want, "{name}");
 }
 
-/// Checks what a reader gives by an index, and looks at how that ends.
-fn check_checked(
-    rt: &impl Abort,
+/// Checks what a reader gives by an index, by `check` or by so many workers, and looks at how that ends.
+fn check_checked<Rt: Threads + Abort + Sync>(
+    rt: &Rt,
     alloc: Global,
+    workers: u8,
     name: &str,
     index: Pieces<'_>,
     recording: Pieces<'_>,
@@ -34,7 +36,19 @@ fn check_checked(
     let mut index = Counted::new(index);
     let mut recording = Counted::new(recording);
     let mut findings: Vec<Finding> = Vec::new(alloc);
-    let ended = check(alloc, &mut index, &mut recording, &mut findings);
+    let workers = usize::from(workers);
+    let ended = if workers > 0 {
+        check_by(
+            rt,
+            alloc,
+            workers,
+            &mut index,
+            &mut recording,
+            &mut findings,
+        )
+    } else {
+        check(alloc, &mut index, &mut recording, &mut findings)
+    };
     let first = findings.as_slice().first().copied();
     let got = (
         ended,
@@ -90,7 +104,7 @@ type Case = (
     Option<(u64, Damage)>,
 );
 
-const CASES: [Case; 16] = [
+const CASES: [Case; 17] = [
     ("nothing", b"", b"", Ok((0, 0, false)), None),
     ("sizes", SIZES, TWO_CODESTREAMS, Ok((2, 0, false)), None),
     ("sums", SUMS, TWO_CODESTREAMS, Ok((2, 0, false)), None),
@@ -179,9 +193,16 @@ const CASES: [Case; 16] = [
         Err(CheckFault::Line(0)),
         None,
     ),
+    (
+        "a change before what is no line",
+        b"0 0 28 gray 1 1 255 8 3 7 21 65\nx\n",
+        TWO_CODESTREAMS,
+        Err(CheckFault::Line(1)),
+        Some((0, Damage::Changed)),
+    ),
 ];
 
-fn check_cases(rt: &impl Abort, alloc: Global, ample: bool) {
+fn check_cases<Rt: Threads + Abort + Sync>(rt: &Rt, alloc: Global, workers: u8, ample: bool) {
     for (name, index, recording, result, first) in CASES {
         let index = Pieces::new(index, 7, None);
         let recording = Pieces::new(recording, 5, None);
@@ -190,6 +211,7 @@ fn check_cases(rt: &impl Abort, alloc: Global, ample: bool) {
         check_checked(
             rt,
             alloc,
+            workers,
             name,
             index,
             recording,
@@ -201,12 +223,19 @@ fn check_cases(rt: &impl Abort, alloc: Global, ample: bool) {
 
 #[test]
 fn recordings_are_checked_with_ample_memory(rt: HostRuntime) {
-    check_cases(&rt, rt.alloc(), true);
+    for workers in [0, 1, 2, 16] {
+        check_cases(&rt, rt.alloc(), workers, true);
+    }
 }
 
 #[test]
 fn recordings_are_checked_or_memory_is_refused(rt: HostRuntime) {
-    check_cases(&rt, rt.alloc(), false);
+    check_cases(&rt, rt.alloc(), 0, false);
+}
+
+#[test]
+fn recordings_are_checked_by_several_or_memory_is_refused(rt: HostRuntime) {
+    check_cases(&rt, rt.alloc(), 2, false);
 }
 
 #[test]
@@ -218,6 +247,7 @@ fn failed_reads_end_a_check_with_ample_memory(rt: HostRuntime) {
         check_checked(
             &rt,
             rt.alloc(),
+            2 * (at % 2) as u8,
             "a read of the index",
             index,
             recording,
@@ -232,6 +262,7 @@ fn failed_reads_end_a_check_with_ample_memory(rt: HostRuntime) {
         check_checked(
             &rt,
             rt.alloc(),
+            2 * (at % 2) as u8,
             "a read of the recording",
             index,
             recording,
