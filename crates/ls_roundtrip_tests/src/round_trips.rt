@@ -47,6 +47,7 @@ fn two_come_back<R: Threads + Wait + Sync>(
     ample: bool,
 ) -> Option<bool> {
     let (workers, window, players) = means;
+    // There has to be one.
     let players = usize::from(players).max(1);
     let sizes = Sizes {
         workers,
