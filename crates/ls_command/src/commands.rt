@@ -11,21 +11,41 @@ use std::alloc::{AllocError, Global};
 
 /// The program's commands, options and help.
 pub fn command<'a>(alloc: Global) -> Result<Command<'a>, AllocError> {
-    let list = "Lists the frames of a film";
-    Command::new(alloc, "jlsrec")
+    let program = with_command(bare_command(alloc), record_command(alloc));
+    let program = with_command(program, play_command(alloc));
+    let program = with_command(program, code_command(alloc));
+    let program = with_command(program, list_command(alloc));
+    let program = with_command(program, index_command(alloc));
+    let program = with_command(program, check_command(alloc));
+    let program = with_command(program, verify_command(alloc));
+    with_command(program, replay_command(alloc))
+}
+
+/// The program without its commands.
+fn bare_command<'a>(alloc: Global) -> Result<Command<'a>, AllocError> {
+    let program = Command::new(alloc, "jlsrec")
         .version("0.1.0")
         .about("A lossless recorder of image sequences: JPEG-LS, ITU-T T.87")
         .bin_name("jlsrec")?
         .no_binary_name(true)
-        .subcommand_required(true)
-        .subcommand(record_command(alloc)?)?
-        .subcommand(play_command(alloc)?)?
-        .subcommand(code_command(alloc)?)?
-        .subcommand(file_command(alloc, "list", list, LIST_HELP, FILM_HELP)?)?
-        .subcommand(index_command(alloc)?)?
-        .subcommand(check_command(alloc)?)?
-        .subcommand(verify_command(alloc)?)?
-        .subcommand(replay_command(alloc)?)
+        .subcommand_required(true);
+    Ok(program)
+}
+
+/// The program with one command more; an error if memory was refused for either.
+fn with_command<'a>(
+    program: Result<Command<'a>, AllocError>,
+    command: Result<Command<'a>, AllocError>,
+) -> Result<Command<'a>, AllocError> {
+    program?.subcommand(command?)
+}
+
+/// A command with one argument more; an error if memory was refused for it.
+fn with_argument<'a>(
+    command: Result<Command<'a>, AllocError>,
+    argument: Arg<'a>,
+) -> Result<Command<'a>, AllocError> {
+    command?.arg(argument)
 }
 
 /// A command that reads a file.
@@ -36,90 +56,84 @@ fn file_command<'a>(
     help: &'a str,
     file_help: &'a str,
 ) -> Result<Command<'a>, AllocError> {
-    command_with_help(alloc, name, about, help)
-        .arg(reasons_flag(alloc))?
-        .arg(file_argument(alloc, file_help))
+    let command = Ok(command_with_help(alloc, name, about, help));
+    let command = with_argument(command, reasons_flag(alloc));
+    with_argument(command, file_argument(alloc, file_help))
+}
+
+/// The command that lists a film.
+fn list_command<'a>(alloc: Global) -> Result<Command<'a>, AllocError> {
+    let about = "Lists the frames of a film";
+    file_command(alloc, "list", about, LIST_HELP, FILM_HELP)
 }
 
 /// The command that codes a film.
 fn code_command<'a>(alloc: Global) -> Result<Command<'a>, AllocError> {
     let about = "Codes the frames of a film";
-    file_command(alloc, "code", about, CODE_HELP, FILM_HELP)?.arg(option(
-        alloc,
-        "index",
-        "INDEX",
-        INDEX_OF_CODE_HELP,
-    ))
+    let command = file_command(alloc, "code", about, CODE_HELP, FILM_HELP);
+    with_argument(command, option(alloc, "index", "INDEX", INDEX_OF_CODE_HELP))
 }
 
 /// The command that plays a recording.
 fn play_command<'a>(alloc: Global) -> Result<Command<'a>, AllocError> {
-    file_command(
-        alloc,
-        "play",
-        "Plays a recording",
-        PLAY_HELP,
-        RECORDING_HELP,
-    )?
-    .arg(option(alloc, "frames", "A..B", FRAMES_HELP))?
-    .arg(flag(alloc, "salvage", SALVAGE_HELP))?
-    .arg(decoders_option(alloc, PLAYERS_HELP))
+    let about = "Plays a recording";
+    let command = file_command(alloc, "play", about, PLAY_HELP, RECORDING_HELP);
+    let command = with_argument(command, option(alloc, "frames", "A..B", FRAMES_HELP));
+    let command = with_argument(command, flag(alloc, "salvage", SALVAGE_HELP));
+    with_argument(command, decoders_option(alloc, PLAYERS_HELP))
 }
 
 /// The command that looks up a recording's codestreams.
 fn index_command<'a>(alloc: Global) -> Result<Command<'a>, AllocError> {
     let about = "Lists the codestreams of a recording";
-    file_command(alloc, "index", about, INDEX_HELP, RECORDING_HELP)?.arg(flag(
-        alloc,
-        "no-sums",
-        NO_SUMS_HELP,
-    ))
+    let command = file_command(alloc, "index", about, INDEX_HELP, RECORDING_HELP);
+    with_argument(command, flag(alloc, "no-sums", NO_SUMS_HELP))
 }
 
 /// The command that looks for damage in a recording.
 fn check_command<'a>(alloc: Global) -> Result<Command<'a>, AllocError> {
     let about = "Says what is damaged of a recording";
-    file_command(alloc, "check", about, CHECK_HELP, RECORDING_HELP)?
-        .arg(option(alloc, "index", "INDEX", INDEX_FILE_HELP))?
-        .arg(decoders_option(alloc, CHECKERS_HELP))
+    let command = file_command(alloc, "check", about, CHECK_HELP, RECORDING_HELP);
+    let command = with_argument(command, option(alloc, "index", "INDEX", INDEX_FILE_HELP));
+    with_argument(command, decoders_option(alloc, CHECKERS_HELP))
 }
 
 /// The command that compares a recording with its film.
 fn verify_command<'a>(alloc: Global) -> Result<Command<'a>, AllocError> {
     let about = "Says whether a recording is of a film";
-    command_with_help(alloc, "verify", about, VERIFY_HELP)
-        .arg(reasons_flag(alloc))?
-        .arg(decoders_option(alloc, VERIFIERS_HELP))?
-        .arg(Arg::new(alloc, "FILM").required(true).help(FILM_HELP))?
-        .arg(file_argument(alloc, RECORDING_HELP))
+    let command = Ok(command_with_help(alloc, "verify", about, VERIFY_HELP));
+    let command = with_argument(command, reasons_flag(alloc));
+    let command = with_argument(command, decoders_option(alloc, VERIFIERS_HELP));
+    let command = with_argument(command, film_argument(alloc));
+    with_argument(command, file_argument(alloc, RECORDING_HELP))
 }
 
 /// The command that records films.
 fn record_command<'a>(alloc: Global) -> Result<Command<'a>, AllocError> {
-    let workers = value_parser!(u8).range(1..=16);
-    let queue = value_parser!(u16).range(1..=256);
-    let window = value_parser!(u8).range(1..=64);
-    command_with_help(alloc, "record", "Records films side by side", RECORD_HELP)
-        .arg(optional_count(alloc, "workers", "2", WORKERS_HELP).value_parser(workers))?
-        .arg(optional_count(alloc, "queue", "8", QUEUE_HELP).value_parser(queue))?
-        .arg(optional_count(alloc, "window", "4", WINDOW_HELP).value_parser(window))?
-        .arg(option(alloc, "preset", "T1,T2,T3,RESET", PRESET_HELP))?
-        .arg(option(alloc, "into", "FOLDER", INTO_HELP))?
-        .arg(flag(alloc, "replace", REPLACE_HELP))?
-        .arg(progress_flag(alloc))?
-        .arg(report_option(alloc))?
-        .arg(flag(alloc, "index", INDEX_OF_RECORDING_HELP))?
-        .arg(reasons_flag(alloc))?
-        .arg(file_argument(alloc, FILMS_HELP).num_args(1..))
+    let about = "Records films side by side";
+    let command = Ok(command_with_help(alloc, "record", about, RECORD_HELP));
+    let command = with_argument(command, coders_option(alloc));
+    let command = with_argument(command, queue_option(alloc));
+    let command = with_argument(command, window_option(alloc));
+    let preset = option(alloc, "preset", "T1,T2,T3,RESET", PRESET_HELP);
+    let command = with_argument(command, preset);
+    let command = with_argument(command, option(alloc, "into", "FOLDER", INTO_HELP));
+    let command = with_argument(command, flag(alloc, "replace", REPLACE_HELP));
+    let command = with_argument(command, progress_flag(alloc));
+    let command = with_argument(command, report_option(alloc));
+    let command = with_argument(command, flag(alloc, "index", INDEX_OF_RECORDING_HELP));
+    let command = with_argument(command, reasons_flag(alloc));
+    with_argument(command, file_argument(alloc, FILMS_HELP).num_args(1..))
 }
 
 /// The command that replays steps.
 fn replay_command<'a>(alloc: Global) -> Result<Command<'a>, AllocError> {
-    command_with_help(alloc, "replay", "Replays the steps of a queue", REPLAY_HELP)
-        .arg(required_count(alloc, "sources", SOURCES_HELP).value_parser(value_parser!(u8)))?
-        .arg(required_count(alloc, "capacity", CAPACITY_HELP).value_parser(value_parser!(u32)))?
-        .arg(reasons_flag(alloc))?
-        .arg(file_argument(alloc, STEPS_HELP))
+    let about = "Replays the steps of a queue";
+    let command = Ok(command_with_help(alloc, "replay", about, REPLAY_HELP));
+    let command = with_argument(command, sources_option(alloc));
+    let command = with_argument(command, capacity_option(alloc));
+    let command = with_argument(command, reasons_flag(alloc));
+    with_argument(command, file_argument(alloc, STEPS_HELP))
 }
 
 /// A command of this name, with its help in a line and at length.
@@ -166,6 +180,39 @@ fn progress_flag<'a>(alloc: Global) -> Arg<'a> {
 /// The option of `record` that names the file for a report.
 fn report_option<'a>(alloc: Global) -> Arg<'a> {
     option(alloc, "report", "REPORT", REPORT_HELP)
+}
+
+/// The argument of `verify` that names the film.
+fn film_argument<'a>(alloc: Global) -> Arg<'a> {
+    Arg::new(alloc, "FILM").required(true).help(FILM_HELP)
+}
+
+/// The option of `record` that says how many workers code.
+fn coders_option<'a>(alloc: Global) -> Arg<'a> {
+    let workers = value_parser!(u8).range(1..=16);
+    optional_count(alloc, "workers", "2", WORKERS_HELP).value_parser(workers)
+}
+
+/// The option of `record` that says how many frames may wait for a worker.
+fn queue_option<'a>(alloc: Global) -> Arg<'a> {
+    let queue = value_parser!(u16).range(1..=256);
+    optional_count(alloc, "queue", "8", QUEUE_HELP).value_parser(queue)
+}
+
+/// The option of `record` that says how many frames of a film may be read and not written.
+fn window_option<'a>(alloc: Global) -> Arg<'a> {
+    let window = value_parser!(u8).range(1..=64);
+    optional_count(alloc, "window", "4", WINDOW_HELP).value_parser(window)
+}
+
+/// The option of `replay` that says how many sources there are.
+fn sources_option<'a>(alloc: Global) -> Arg<'a> {
+    required_count(alloc, "sources", SOURCES_HELP).value_parser(value_parser!(u8))
+}
+
+/// The option of `replay` that says how many places the queue has.
+fn capacity_option<'a>(alloc: Global) -> Arg<'a> {
+    required_count(alloc, "capacity", CAPACITY_HELP).value_parser(value_parser!(u32))
 }
 
 /// The option that says how many workers decode.

@@ -70,30 +70,34 @@ pub enum Request<'a> {
         workers: u8,
     },
     /// Recordings of films, side by side.
-    Record {
-        workers: u8,
-        queue: u16,
-        window: u8,
-        /// The coding parameters that were chosen, as they were written.
-        preset: Option<&'a str>,
-        /// The folder for the recordings.
-        into: Option<&'a str>,
-        /// Whether recordings that are there are emptied.
-        replace: bool,
-        /// Whether it is said meanwhile how far they are.
-        progress: bool,
-        /// The file for a report.
-        report: Option<&'a str>,
-        /// Whether each recording gets an index.
-        index: bool,
-        files: Vec<&'a str>,
-    },
+    Record(Recording<'a>),
     /// The replies of a queue to the steps of a file.
     Replay {
         sources: u8,
         capacity: u32,
         file: &'a str,
     },
+}
+
+/// Recordings of films that are asked for.
+#[derive(Drop)]
+pub struct Recording<'a> {
+    pub workers: u8,
+    pub queue: u16,
+    pub window: u8,
+    /// The coding parameters that were chosen, as they were written.
+    pub preset: Option<&'a str>,
+    /// The folder for the recordings.
+    pub into: Option<&'a str>,
+    /// Whether recordings that are there are emptied.
+    pub replace: bool,
+    /// Whether it is said meanwhile how far they are.
+    pub progress: bool,
+    /// The file for a report.
+    pub report: Option<&'a str>,
+    /// Whether each recording gets an index.
+    pub index: bool,
+    pub files: Vec<&'a str>,
 }
 
 /// What is answered to words that ask for nothing that the program does.
@@ -256,7 +260,7 @@ fn record_request<'a>(
 
 /// The same, of the films that the words name.
 fn recording_of<'a>(words: &ArgMatches<'a>, files: Vec<&'a str>) -> Option<Request<'a>> {
-    Some(Request::Record {
+    Some(Request::Record(Recording {
         workers: words.get_one("workers")?,
         queue: words.get_one("queue")?,
         window: words.get_one("window")?,
@@ -267,7 +271,7 @@ fn recording_of<'a>(words: &ArgMatches<'a>, files: Vec<&'a str>) -> Option<Reque
         report: words.get_str("report"),
         index: words.get_flag("index"),
         files,
-    })
+    }))
 }
 
 /// What the words of `replay` ask for, which `clap` has looked at.

@@ -2,7 +2,7 @@
 use crate::console::Console;
 use crate::output::FAILED;
 use ls_files::{Opener, Opens, Source, likeness_of};
-use ls_frame::{Buffered, Counted, Failed, Outlet};
+use ls_frame::{Buffered, Counted, Failed, NetpbmFault, Outlet};
 use std::alloc::Global;
 use std::rt::Files;
 
@@ -57,6 +57,15 @@ where
             console.say(format_args!("{file}: no memory"));
             Err(FAILED)
         }
+    }
+}
+
+/// What it comes of that a frame of a film can't be read.
+pub fn cause_of_input(number: u64, fault: NetpbmFault) -> Cause {
+    match fault {
+        NetpbmFault::Io => Cause::Reading,
+        NetpbmFault::BadMagic if number == 0 => Cause::Format,
+        _ => Cause::Other,
     }
 }
 

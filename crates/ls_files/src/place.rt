@@ -100,27 +100,55 @@ impl<'a> Place<'a> {
         replace: bool,
         is_film: bool,
     ) -> io::Result<Made<'a, O>> {
-        let mut kept = None;
-        let target = match self.standing {
-            Standing::Nothing => Target::regular(opener, self.path, create_new(rt, self.path)?),
-            Standing::Empty(_) if !is_film => {
-                let file = opener.open_to_write(self.path)?;
-                Target::regular(opener, self.path, file)
-            }
-            Standing::File(_) if replace => {
-                Target::regular(opener, self.path, File::create(rt, self.path)?)
-            }
-            Standing::Empty(_) | Standing::File(_) | Standing::Astray => {
-                kept = Some(keep(rt, alloc, self.path)?);
-                Target::regular(opener, self.path, create_new(rt, self.path)?)
-            }
-            Standing::Pipe(_) => Target::pipe(opener, self.path),
-            Standing::Other(_) => {
-                let file = opener.open_to_write(self.path)?;
-                Target::device(opener, self.path, file)
-            }
+        let keeps = match self.standing {
+            Standing::Empty(_) => is_film,
+            Standing::File(_) => !replace,
+            Standing::Astray => true,
+            Standing::Nothing | Standing::Pipe(_) | Standing::Other(_) => false,
         };
-        Ok(Made { target, kept })
+        let kept = if keeps {
+            Some(keep(rt, alloc, self.path)?)
+        } else {
+            None
+        };
+        match self.open(rt, opener, keeps) {
+            Ok(target) => Ok(Made { target, kept }),
+            Err(fault) => Err(fault),
+        }
+    }
+
+    /// Opens what is to be written to; what stood there is `gone` if it was renamed.
+    fn open<R: Files, O: Opens<File = R::File> + Drop>(
+        &self,
+        rt: &R,
+        opener: O,
+        gone: bool,
+    ) -> io::Result<Target<'a, O>> {
+        match self.standing {
+            Standing::Pipe(_) => Ok(Target::pipe(opener, self.path)),
+            Standing::Other(_) => match opener.open_to_write(self.path) {
+                Ok(file) => Ok(Target::device(opener, self.path, file)),
+                Err(fault) => Err(fault),
+            },
+            _ => match self.open_regular(rt, &opener, gone) {
+                Ok(file) => Ok(Target::regular(opener, self.path, file)),
+                Err(fault) => Err(fault),
+            },
+        }
+    }
+
+    /// The same of a regular file.
+    fn open_regular<R: Files, O: Opens<File = R::File>>(
+        &self,
+        rt: &R,
+        opener: &O,
+        gone: bool,
+    ) -> io::Result<R::File> {
+        match self.standing {
+            Standing::Empty(_) if !gone => opener.open_to_write(self.path),
+            Standing::File(_) if !gone => File::create(rt, self.path),
+            _ => create_new(rt, self.path),
+        }
     }
 }
 

@@ -148,13 +148,23 @@ fn line_from(
     first: usize,
 ) -> Result<String, AllocError> {
     let mut line = String::new(alloc);
-    for (file, pace) in files.iter().zip(paces.iter()).skip(first) {
-        add_film(&mut line, *file, pace)?;
-    }
-    for (file, pace) in files.iter().zip(paces.iter()).take(first) {
-        add_film(&mut line, *file, pace)?;
-    }
+    add_films(&mut line, files, paces, first, usize::MAX)?;
+    add_films(&mut line, files, paces, 0, first)?;
     Ok(line)
+}
+
+/// Adds so many films to a line, or as many as there are, from the one of this number on.
+fn add_films(
+    line: &mut String,
+    files: &[&str],
+    paces: &[Pace],
+    first: usize,
+    count: usize,
+) -> Result<(), AllocError> {
+    for (file, pace) in files.iter().zip(paces.iter()).skip(first).take(count) {
+        add_film(line, *file, pace)?;
+    }
+    Ok(())
 }
 
 /// Adds a film to a line.

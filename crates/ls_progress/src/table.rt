@@ -66,6 +66,11 @@ fn add_times<F>(
     let delay = format!(in alloc; "{milliseconds}.{tenth}")?;
     let times = format!(in alloc; " {seconds:>12} {speed:>10} {delay:>10}")?;
     table.push_str(&times)?;
+    add_waits(alloc, table, seen)
+}
+
+/// Adds how long a film waited.
+fn add_waits<F>(alloc: Global, table: &mut String, seen: &Seen<F>) -> Result<(), AllocError> {
     let window = seconds_text(alloc, seen.window_wait)?;
     let queue = seconds_text(alloc, seen.queue_wait)?;
     let waits = format!(in alloc; " {window:>10} {queue:>10}")?;

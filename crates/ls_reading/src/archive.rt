@@ -1,14 +1,14 @@
 //! What is asked of a recording that is kept: its index, whether it is damaged, and whether it is of a film.
 use crate::cause::conclude;
 use ls_archive::{
-    CheckFault, Checked, Finding, Findings, Verdict, VerifyFault, check, check_by, verify,
-    verify_by, write_index,
+    CheckFault, Checked, Finding, Findings, IndexFault, Verdict, VerifyFault, check, check_by,
+    verify, verify_by, write_index,
 };
 use ls_console::{
     Cause, Console, DONE, FAILED, explain, finish_lines, no_memory, open_film, say_unwritten,
 };
-use ls_frame::{Counted, Outlet, write_bytes};
-use ls_salvage::{Gap, Gaps, NoText, salvage};
+use ls_frame::{Buffered, Counted, Feed, Outlet, write_bytes};
+use ls_salvage::{Gap, Gaps, NoText, SalvageFault, Salvaged, salvage};
 use std::alloc::{AllocError, Global};
 use std::fmt::Display;
 use std::io::{BufWriter, Write};
@@ -34,12 +34,22 @@ where
     let mut lines = Counted::new(buffered);
     let status = match open_film(rt, file, console) {
         Ok(mut recording) => {
-            let result = write_index(rt.alloc(), &mut recording, &mut lines, sums);
+            let result = index_to(rt.alloc(), &mut recording, &mut lines, sums);
             conclude(file, result, &recording, lines.last_failure(), console)
         }
         Err(status) => status,
     };
     finish_lines(status, lines, console)
+}
+
+/// Writes the index of a recording that is lent, to lines that are lent.
+fn index_to<R: Feed, L: Outlet>(
+    alloc: Global,
+    recording: &mut R,
+    lines: &mut L,
+    sums: bool,
+) -> Result<u64, IndexFault> {
+    write_index(alloc, recording, lines, sums)
 }
 
 /// Looks for what is damaged of a recording, by its index if one is named, and then with so many workers that decode; and
@@ -96,23 +106,34 @@ where
         Err(status) => return status,
     };
     let mut report = Report::new(rt.alloc(), lines);
-    let workers = usize::from(workers);
-    let checked = if workers > 1 {
-        check_by(
-            rt,
-            rt.alloc(),
-            workers,
-            &mut wanted,
-            &mut recording,
-            &mut report,
-        )
-    } else {
-        check(rt.alloc(), &mut wanted, &mut recording, &mut report)
-    };
-    match checked {
+    match check_lent(
+        rt,
+        rt.alloc(),
+        workers,
+        &mut wanted,
+        &mut recording,
+        &mut report,
+    ) {
         Ok(checked) => report.end(file, checked, console),
         Err(fault) if is_of_index(fault) => conclude(index, Err(fault), &wanted, None, console),
         Err(fault) => conclude(file, Err(fault), &recording, None, console),
+    }
+}
+
+/// Looks for what is damaged of a recording that is lent, which so many workers decode, by its index.
+fn check_lent<Rt: Threads + Sync, I: Feed, R: Feed, F: Findings>(
+    rt: &Rt,
+    alloc: Global,
+    workers: u8,
+    index: &mut I,
+    recording: &mut R,
+    findings: &mut F,
+) -> Result<Checked, CheckFault> {
+    let workers = usize::from(workers);
+    if workers > 1 {
+        check_by(rt, alloc, workers, index, recording, findings)
+    } else {
+        check(alloc, index, recording, findings)
     }
 }
 
@@ -136,8 +157,7 @@ where
         Err(status) => return status,
     };
     let mut report = Report::new(rt.alloc(), lines);
-    let mut nothing = Counted::new(Vec::new(rt.alloc()));
-    match salvage::<NoText, _, _, _>(rt.alloc(), &mut recording, &mut nothing, &mut report) {
+    match decode_only(rt.alloc(), &mut recording, &mut report) {
         Ok(salvaged) => {
             console.say(format_args!("{file}: only decoded: no index is named"));
             if salvaged.frames == 0 {
@@ -152,6 +172,16 @@ where
         }
         Err(fault) => conclude(file, Err(fault), &recording, None, console),
     }
+}
+
+/// Decodes what stands whole of a recording that is lent, shows nothing of it, and tells of what it passes over.
+fn decode_only<R: Feed, G: Gaps>(
+    alloc: Global,
+    recording: &mut Buffered<R>,
+    gaps: &mut G,
+) -> Result<Salvaged, SalvageFault> {
+    let mut nothing = Counted::new(Vec::new(alloc));
+    salvage::<NoText, _, _, _>(alloc, recording, &mut nothing, gaps)
 }
 
 /// Compares a recording, which so many workers decode, with its film, and says where they differ.
@@ -174,16 +204,26 @@ where
         Ok(codestreams) => codestreams,
         Err(status) => return status,
     };
-    let workers = usize::from(workers);
-    let verdict = if workers > 1 {
-        verify_by(rt, rt.alloc(), workers, &mut images, &mut codestreams)
-    } else {
-        verify(rt.alloc(), &mut images, &mut codestreams)
-    };
-    match verdict {
+    match verify_lent(rt, rt.alloc(), workers, &mut images, &mut codestreams) {
         Ok(verdict) => say_verdict(recording, verdict, console),
         Err(fault @ VerifyFault::Film(..)) => conclude(film, Err(fault), &images, None, console),
         Err(fault) => conclude(recording, Err(fault), &codestreams, None, console),
+    }
+}
+
+/// Compares a recording that is lent, which so many workers decode, with its film.
+fn verify_lent<Rt: Threads + Sync, F: Feed, R: Feed>(
+    rt: &Rt,
+    alloc: Global,
+    workers: u8,
+    film: &mut F,
+    recording: &mut R,
+) -> Result<Verdict, VerifyFault> {
+    let workers = usize::from(workers);
+    if workers > 1 {
+        verify_by(rt, alloc, workers, film, recording)
+    } else {
+        verify(alloc, film, recording)
     }
 }
 

@@ -1,9 +1,9 @@
 //! What faults come of, and what is said of one that an engine over a file stops with.
 use ls_archive::{CheckFault, IndexFault, VerifyFault};
-use ls_console::{Cause, Console, DONE, FAILED, Reader, explain};
+use ls_console::{Cause, Console, DONE, FAILED, Reader, cause_of_input, explain};
 use ls_files::Opens;
 use ls_film::{FilmFault, PartFault, PlayFault};
-use ls_frame::{Failed, NetpbmFault, Outlet};
+use ls_frame::{Failed, Outlet};
 use ls_salvage::SalvageFault;
 use ls_stream::StreamFault;
 use std::fmt::Display;
@@ -105,14 +105,5 @@ where
             explain(file, fault.cause(), reader, written, console);
             FAILED
         }
-    }
-}
-
-/// What it comes of that a frame of a film can't be read.
-pub fn cause_of_input(number: u64, fault: NetpbmFault) -> Cause {
-    match fault {
-        NetpbmFault::Io => Cause::Reading,
-        NetpbmFault::BadMagic if number == 0 => Cause::Format,
-        _ => Cause::Other,
     }
 }

@@ -1,10 +1,11 @@
 //! Listing a film, and coding it, with the index of its codestreams or without.
-use crate::cause::conclude;
-use crate::indexing::{make_index, say_index_end};
-use ls_archive::{Follower, Indexing};
-use ls_console::{Console, FAILED, finish_lines, no_memory, open_film};
-use ls_film::{code_film, list_film};
-use ls_frame::{Counted, Outlet};
+use crate::cause::{Caused, conclude};
+use crate::indexing::make_index;
+use ls_archive::{Follower, IndexFault, Indexing};
+use ls_console::{Console, FAILED, finish_lines, no_memory, open_film, say_index_end};
+use ls_film::{FilmFault, code_film, list_film};
+use ls_frame::{Counted, Feed, Outlet};
+use std::alloc::Global;
 use std::io::{BufWriter, Write};
 use std::rt::Files;
 
@@ -26,12 +27,22 @@ where
     let mut lines = Counted::new(buffered);
     let status = match open_film(rt, file, console) {
         Ok(mut film) => {
-            let result = list_film(rt.alloc(), &mut film, &mut lines);
+            let result = list_to(rt.alloc(), &mut film, &mut lines);
             conclude(file, result, &film, lines.last_failure(), console)
         }
         Err(status) => status,
     };
     finish_lines(status, lines, console)
+}
+
+/// Lists a film that is lent, to lines that are lent. (Engines are called by functions of their own, over any reader and
+/// any writer: where those are known, it takes a quarter of a minute to prove what calls an engine.)
+fn list_to<R: Feed, W: Outlet>(
+    alloc: Global,
+    film: &mut R,
+    lines: &mut W,
+) -> Result<u64, FilmFault> {
+    list_film(alloc, film, lines)
 }
 
 /// Codes a film.
@@ -50,8 +61,17 @@ where
         Ok(film) => film,
         Err(status) => return status,
     };
-    let result = code_film(rt.alloc(), &mut film, output);
+    let result = code_to(rt.alloc(), &mut film, output);
     conclude(file, result, &film, output.last_failure(), console)
+}
+
+/// Codes a film that is lent, to an output that is lent.
+fn code_to<R: Feed, W: Outlet>(
+    alloc: Global,
+    film: &mut R,
+    output: &mut W,
+) -> Result<u64, FilmFault> {
+    code_film(alloc, film, output)
 }
 
 /// Codes a film, and writes the index of its codestreams to a file.
@@ -76,14 +96,31 @@ where
         Err(status) => return status,
     };
     let follower = Follower::new(rt.alloc(), Counted::new(target));
-    let mut indexing = Indexing::new(&mut *output, Some(follower));
-    let result = code_film(rt.alloc(), &mut film, &mut indexing);
-    let (_output, follower, broken) = indexing.into_parts();
+    let (result, follower, broken) = code_followed(rt.alloc(), &mut film, &mut *output, follower);
     let status = conclude(file, result, &film, output.last_failure(), console);
     let Some(follower) = follower else {
         return status;
     };
+    let broken = broken.map(|fault| (fault, fault.cause()));
     let ended = say_index_end(index, follower.into_inner(), broken, console);
     ended.target.release();
     if ended.is_whole { status } else { FAILED }
+}
+
+/// Codes a film that is lent, to an output that is lent, and has a follower write the index: that comes back, with why the
+/// index broke off, if it did.
+fn code_followed<R: Feed, W: Outlet, I: Outlet + Drop>(
+    alloc: Global,
+    film: &mut R,
+    output: &mut W,
+    follower: Follower<I>,
+) -> (
+    Result<u64, FilmFault>,
+    Option<Follower<I>>,
+    Option<IndexFault>,
+) {
+    let mut indexing = Indexing::new(output, Some(follower));
+    let result = code_film(alloc, film, &mut indexing);
+    let (_output, follower, broken) = indexing.into_parts();
+    (result, follower, broken)
 }

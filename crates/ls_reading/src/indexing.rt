@@ -1,9 +1,7 @@
-//! Indexes that are written while their recordings are.
-use crate::cause::Caused;
-use ls_archive::IndexFault;
-use ls_console::{Cause, Console, FAILED, Reader, USAGE};
-use ls_files::{Opener, Opens, Place, Target};
-use ls_frame::{Counted, Failed, Outlet};
+//! The file of an index that is written while its recording is.
+use ls_console::{Console, FAILED, Reader, USAGE};
+use ls_files::{Opener, Place, Target};
+use ls_frame::Outlet;
 use std::rt::Files;
 
 /// Makes the file for the index of a film's codestreams; or says why it can't be made, and gives the status.
@@ -37,57 +35,4 @@ where
             Err(FAILED)
         }
     }
-}
-
-/// An index whose recording has ended: whether it is whole, and its file.
-#[derive(Drop)]
-pub struct EndedIndex<'a, O: Opens> {
-    pub is_whole: bool,
-    pub target: Target<'a, O>,
-}
-
-/// Brings an index onto the disk, and says why it isn't whole, if it isn't.
-pub fn say_index_end<'a, O, E>(
-    path: &str,
-    index: Counted<Target<'a, O>>,
-    broken: Option<IndexFault>,
-    console: &mut Console<'_, E>,
-) -> EndedIndex<'a, O>
-where
-    O: Opens,
-    E: Outlet,
-{
-    let written = index.last_failure();
-    let target = index.into_inner();
-    let is_whole = match (broken, target.sync()) {
-        (None, Ok(())) => true,
-        (None, Err(fault)) => {
-            say_unsynced(path, &target, Failed::from(fault), console);
-            false
-        }
-        (Some(fault), _) => {
-            console.say(format_args!("{path}: {fault}"));
-            if matches!(fault.cause(), Cause::Writing) {
-                console.blame(path, written);
-            }
-            false
-        }
-    };
-    EndedIndex { is_whole, target }
-}
-
-/// Says that what was written can't be brought onto the disk.
-pub fn say_unsynced<O, E>(
-    path: &str,
-    target: &Target<'_, O>,
-    failure: Failed,
-    console: &mut Console<'_, E>,
-)
-where
-    O: Opens,
-    E: Outlet,
-{
-    let bytes = target.written();
-    console.say(format_args!("{path}: output failed after {bytes} bytes"));
-    console.blame(path, Some(failure));
 }

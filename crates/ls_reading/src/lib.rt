@@ -1,7 +1,7 @@
 //! The commands that read a film or a recording and record none: each answers the status that the program ends with.
 //!
-//! In reading order: `cause` (what faults come of), `films` (`list` and `code`), `indexing` (indexes that are written
-//! while their recordings are), `playing` (`play`), `archive` (`index`, `check` and `verify`), `replaying` (`replay`). No
+//! In reading order: `cause` (what faults come of), `films` (`list` and `code`), `indexing` (the file of an
+//! index that is written while its recording is), `playing` (`play`), `archive` (`index`, `check` and `verify`), `replaying` (`replay`). No
 //! contract says what is written and said; the tests of the whole program show it.
 #![tactic(auto)]
 
@@ -13,8 +13,6 @@ mod playing;
 mod replaying;
 
 pub use archive::{check_recording, index, verify_files};
-pub use cause::cause_of_input;
 pub use films::{code, code_with_index, list};
-pub use indexing::{EndedIndex, say_index_end, say_unsynced};
 pub use playing::{show, show_whole};
 pub use replaying::replay_file;

@@ -2,9 +2,9 @@
 use crate::cause::conclude;
 use ls_console::{Cause, Console, DONE, FAILED, explain, open_film};
 use ls_film::{MOST_FRAMES, Part, PartFault, play, play_part};
-use ls_frame::{Counted, Feed, Outlet};
+use ls_frame::{Buffered, Counted, Feed, Outlet};
 use ls_player::play_by;
-use ls_salvage::{Gap, Gaps, ImageText, salvage};
+use ls_salvage::{Gap, Gaps, ImageText, SalvageFault, Salvaged, salvage};
 use std::alloc::{AllocError, Global};
 use std::io::Write;
 use std::rt::Files;
@@ -87,7 +87,7 @@ where
         Err(status) => return status,
     };
     let mut gaps = SaidGaps { file, console };
-    match salvage::<ImageText, _, _, _>(rt.alloc(), &mut recording, output, &mut gaps) {
+    match play_whole(rt.alloc(), &mut recording, output, &mut gaps) {
         Ok(salvaged) if salvaged.gaps == 0 => DONE,
         Ok(salvaged) => {
             if salvaged.frames == 0 {
@@ -97,6 +97,16 @@ where
         }
         Err(fault) => conclude(file, Err(fault), &recording, output.last_failure(), console),
     }
+}
+
+/// Plays what stands whole of a recording that is lent, to an output that is lent.
+fn play_whole<R: Feed, W: Outlet, G: Gaps>(
+    alloc: Global,
+    recording: &mut Buffered<R>,
+    output: &mut W,
+    gaps: &mut G,
+) -> Result<Salvaged, SalvageFault> {
+    salvage::<ImageText, _, _, _>(alloc, recording, output, gaps)
 }
 
 /// Gaps of a file that are said on standard error.

@@ -90,19 +90,31 @@ where
 {
     let mut given = Vec::new(rt.alloc());
     for ((file, name), source) in files.iter().zip(&names.recordings).zip(sources) {
-        let index = match names.indexes.get(given.len()) {
-            Some(index) => Some(Place::of(rt, index.as_str())),
-            None => None,
-        };
-        given.push(Given {
-            file: *file,
-            identity: source.identity(),
-            spot: Spot::of(rt, *file),
-            place: Place::of(rt, name.as_str()),
-            index,
-        })?;
+        let index = names.indexes.get(given.len());
+        given.push(given_of(rt, *file, name, index, source))?;
     }
     Ok(given)
+}
+
+/// The same, of one film, whose recording and index are to be called so.
+fn given_of<'a, R, O>(
+    rt: &R,
+    file: &'a str,
+    name: &'a String,
+    index: Option<&'a String>,
+    source: &Source<'a, O>,
+) -> Given<'a>
+where
+    R: Files,
+    O: Opens,
+{
+    Given {
+        file,
+        identity: source.identity(),
+        spot: Spot::of(rt, file),
+        place: Place::of(rt, name.as_str()),
+        index: index.map(|index| Place::of(rt, index.as_str())),
+    }
 }
 
 /// The first name that is given twice, or is the name of another film's recording or of an index, or has a recording of a

@@ -44,26 +44,90 @@ where
     E: Outlet,
 {
     let sources = open_sources(rt, opener, task.files.as_slice(), console)?;
-    let given = match look_at(rt, task.files.as_slice(), names, &sources) {
-        Ok(given) => given,
-        Err(AllocError) => return Err(no_memory(console)),
-    };
-    if let Some(file) = written_twice(&given, task.replace) {
-        return Err(given_twice(file, console));
-    }
+    let (report, writers) = make_files(rt, opener, task, names, &sources, console)?;
+    let films = films_of(rt.alloc(), task, names, sources, writers, tuning, console)?;
+    Ok(Opened { films, report })
+}
+
+/// Makes the file for the report, if there is to be one, and those for the recordings, once none is given twice; or says
+/// why not, and gives the status.
+fn make_files<'a, R, O, E>(
+    rt: &R,
+    opener: O,
+    task: &Task<'a>,
+    names: &'a Names,
+    sources: &[Source<'a, O>],
+    console: &mut Console<'_, E>,
+) -> Result<(Option<Report<'a, O>>, Vec<Writer<'a, O>>), u8>
+where
+    R: Files + AllocGlobal,
+    O: Opens<File = R::File> + Copy,
+    E: Outlet,
+{
+    let given = given_once(rt, task, names, sources, console)?;
     let report = match task.report {
         Some(path) => Some(make_report(rt, opener, path, &given, task.replace, console)?),
         None => None,
     };
     let writers = make_writers(rt, opener, &given, task.replace, console)?;
-    let readers = buffered_sources(rt.alloc(), &task.files, sources, &names.notices, console)?;
-    let mut films = Vec::new(rt.alloc());
-    for (reader, writer) in readers.into_iter().zip(writers) {
-        if films.push((reader, writer, tuning)).is_err() {
-            return Err(no_memory(console));
-        }
+    Ok((report, writers))
+}
+
+/// What the films are and where their recordings are to be made, if none is given twice; or says so, and gives the status.
+fn given_once<'a, R, O, E>(
+    rt: &R,
+    task: &Task<'a>,
+    names: &'a Names,
+    sources: &[Source<'a, O>],
+    console: &mut Console<'_, E>,
+) -> Result<Vec<Given<'a>>, u8>
+where
+    R: Files + AllocGlobal,
+    O: Opens,
+    E: Outlet,
+{
+    let Ok(given) = look_at(rt, task.files.as_slice(), names, sources) else {
+        return Err(no_memory(console));
+    };
+    match written_twice(&given, task.replace) {
+        Some(file) => Err(given_twice(file, console)),
+        None => Ok(given),
     }
-    Ok(Opened { films, report })
+}
+
+/// The films: each is read by way of a buffer. Or gives the status, if memory is refused.
+fn films_of<'a, O, E>(
+    alloc: Global,
+    task: &Task<'a>,
+    names: &'a Names,
+    sources: Vec<Source<'a, O>>,
+    writers: Vec<Writer<'a, O>>,
+    tuning: Tuning,
+    console: &mut Console<'_, E>,
+) -> Result<Vec<Film<'a, O>>, u8>
+where
+    O: Opens + Copy,
+    E: Outlet,
+{
+    let readers = buffered_sources(alloc, &task.files, sources, &names.notices, console)?;
+    match joined(alloc, readers, writers, tuning) {
+        Ok(films) => Ok(films),
+        Err(AllocError) => Err(no_memory(console)),
+    }
+}
+
+/// Each film's reader and writer together.
+fn joined<'a, O: Opens + Drop>(
+    alloc: Global,
+    readers: Vec<Reader<'a, O>>,
+    writers: Vec<Writer<'a, O>>,
+    tuning: Tuning,
+) -> Result<Vec<Film<'a, O>>, AllocError> {
+    let mut films = Vec::new(alloc);
+    for (reader, writer) in readers.into_iter().zip(writers) {
+        films.push((reader, writer, tuning))?;
+    }
+    Ok(films)
 }
 
 /// Opens the films; or says of the first that can't be opened, and gives the status.
@@ -131,21 +195,37 @@ where
     O: Opens<File = R::File> + Copy,
     E: Outlet,
 {
-    let alloc = rt.alloc();
-    let mut writers = Vec::new(alloc);
+    let mut writers = Vec::new(rt.alloc());
     for film in given {
-        let target = make_target(rt, opener, &film.place, given, replace, console)?;
-        let index = match &film.index {
-            Some(place) => Some(make_target(rt, opener, place, given, replace, console)?),
-            None => None,
-        };
-        let follower = index.map(|target| Follower::new(alloc, Counted::new(target)));
-        let writer = Indexing::new(Counted::new(target), follower);
+        let writer = make_writer(rt, opener, film, given, replace, console)?;
         if writers.push(writer).is_err() {
             return Err(no_memory(console));
         }
     }
     Ok(writers)
+}
+
+/// The same, of one film among those that are given.
+fn make_writer<'a, R, O, E>(
+    rt: &R,
+    opener: O,
+    film: &Given<'a>,
+    given: &[Given<'a>],
+    replace: bool,
+    console: &mut Console<'_, E>,
+) -> Result<Writer<'a, O>, u8>
+where
+    R: Files + AllocGlobal,
+    O: Opens<File = R::File> + Copy,
+    E: Outlet,
+{
+    let target = make_target(rt, opener, &film.place, given, replace, console)?;
+    let index = match &film.index {
+        Some(place) => Some(make_target(rt, opener, place, given, replace, console)?),
+        None => None,
+    };
+    let follower = index.map(|target| Follower::new(rt.alloc(), Counted::new(target)));
+    Ok(Indexing::new(Counted::new(target), follower))
 }
 
 /// Makes the file of a recording, of its index or of the report, and says how what stood there is called now, if that is told; or
@@ -192,17 +272,33 @@ where
     E: Outlet,
 {
     let mut readers = Vec::new(alloc);
-    for ((file, notice), mut source) in files.iter().zip(notices).zip(sources) {
-        if source.is_awaited() && console.is_terminal() {
-            source.announce(notice.as_str());
-            console.say(format_args!("{file}: waiting for what writes to it"));
-        }
-        let reader = buffered(alloc, *file, source, console)?;
+    for ((file, notice), source) in files.iter().zip(notices).zip(sources) {
+        let reader = buffered_source(alloc, *file, notice, source, console)?;
         if readers.push(reader).is_err() {
             return Err(no_memory(console));
         }
     }
     Ok(readers)
+}
+
+/// The same, of one film.
+fn buffered_source<'a, O, E>(
+    alloc: Global,
+    file: &'a str,
+    notice: &'a String,
+    source: Source<'a, O>,
+    console: &mut Console<'_, E>,
+) -> Result<Reader<'a, O>, u8>
+where
+    O: Opens + Copy,
+    E: Outlet,
+{
+    let mut source = source;
+    if source.is_awaited() && console.is_terminal() {
+        source.announce(notice.as_str());
+        console.say(format_args!("{file}: waiting for what writes to it"));
+    }
+    buffered(alloc, file, source, console)
 }
 
 /// Says that a film, or the file of a recording, is given twice.

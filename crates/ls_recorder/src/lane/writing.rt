@@ -138,15 +138,46 @@ fn write_booked<W: Outlet, R: Wait, G: Gate>(
     let mut inbox = inbox;
     let mut collector = collector;
     let mut returns = returns;
+    write_each(
+        setting,
+        seat,
+        &mut inbox,
+        &mut collector,
+        &mut returns,
+        writer,
+    )
+}
+
+/// The same, over a box, a collector and places that are lent.
+fn write_each<W: Outlet, R: Wait, G: Gate>(
+    setting: &Setting<'_, R, G>,
+    seat: &mut WorkerSeat<Order>,
+    inbox: &mut Inbox,
+    collector: &mut Collector,
+    returns: &mut Returns,
+    writer: &mut W,
+) -> Result<(), Halt>
+    requires taken { HasTaken setting.now.bookings.now setting.now.window seat.old collector.old }
+    requires some { 1 ≤ setting.now.window }
+    requires none { jobs_taken seat.old ≡ [] }
+    requires new { collector.old ≡ new_collection collector.old.source setting.now.window }
+    requires returned { returns.old.returned ≡ 0 }
+    ensures seat { IsWorkerSeat setting.now.bookings.now seat.new }
+    ensures done { OnOk result (is_done seat.new ≡ true) }
+    ensures wrote { OnOk result (Appends (W.contents writer.old) (W.contents writer.new) (file (orders_taken seat.new))) }
+    ensures halts { IfErr result (HaltsWriting (orders_taken seat.new) (W.contents writer.old) (W.contents writer.new)) }
+    ensures failures { W.failed_writes writer.new ≡ count_after (halted_writer result) (W.failed_writes writer.old) }
+    ensures untouched { length (jobs_taken seat.new) ≡ 0 → writer.new ≡ writer.old }
+{
     let mut written = 0;
     for _ in setting.rt.forever() {
-        if !some_waits(setting, seat, &mut collector)? {
+        if !some_waits(setting, seat, collector)? {
             return Ok(());
         }
-        let piece = receive(setting.rt, &mut inbox)?;
-        book_until(setting, seat, &mut collector, piece.number())?;
-        accept(&mut collector, piece)?;
-        written = write_ready(setting, &mut collector, &mut returns, writer, written)?;
+        let piece = receive(setting.rt, inbox)?;
+        book_until(setting, seat, collector, piece.number())?;
+        accept(collector, piece)?;
+        written = write_ready(setting, collector, returns, writer, written)?;
     }
     unreachable!()
 }

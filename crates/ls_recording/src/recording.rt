@@ -1,19 +1,19 @@
 //! The command `record`: films are opened, their recordings made, and what came of each is said.
 mod ending;
 
-use crate::program::progress::tell_progress;
-use crate::program::report::write_report;
-use crate::program::watch::Watch;
+use crate::progress::tell_progress;
+use crate::report::write_report;
+use crate::watch::Watch;
 use ending::say_recorded;
-use ls_console::{Console, DONE, Reader, misused, no_memory};
+use ls_console::{Console, Reader, misused, no_memory};
 use ls_files::Opens;
 use ls_frame::{Counted, Feed, Outlet, Tuning};
 use ls_recorder::{Gate, OpenGate, RecordFault, Recording, Track, record};
 use ls_setup::{
-    Film, Names, Opened, Report, Task, Writer, given_twice, named_as_report, named_twice, names_of,
+    Film, Names, Opened, Task, Writer, given_twice, named_as_report, named_twice, names_of,
     open_films, tuning_of,
 };
-use std::alloc::Global;
+use std::alloc::{AllocError, Global};
 use std::io::Write;
 use std::rt::Files;
 use std::sync::Wait;
@@ -61,23 +61,40 @@ where
     W: Write,
     E: Outlet + Send,
 {
-    let alloc = rt.alloc();
     let Some(tuning) = tuning_of(task.preset) else {
         return misused(console, b"jlsrec: bad preset\n");
     };
+    match names_once(rt.alloc(), task, console) {
+        Ok(names) => record_named(rt, opener, task, tuning, &names, output, console),
+        Err(status) => status,
+    }
+}
+
+/// The names of what is made of the films, if these are no more than 16 and none is given twice; or says why not, and
+/// gives the status.
+fn names_once<E: Outlet>(
+    alloc: Global,
+    task: &Task<'_>,
+    console: &mut Console<'_, E>,
+) -> Result<Names, u8> {
     let files = task.files.as_slice();
     if files.len() > MOST_FILES {
-        return misused(console, b"jlsrec: at most 16 files\n");
+        return Err(misused(console, b"jlsrec: at most 16 files\n"));
     }
     let Ok(names) = names_of(alloc, task) else {
-        return no_memory(console);
+        return Err(no_memory(console));
     };
-    if let Some(file) = named_twice(files, &names) {
-        return given_twice(file, console);
+    match name_twice(files, &names, task.report) {
+        Some(name) => Err(given_twice(name, console)),
+        None => Ok(names),
     }
-    match named_as_report(files, &names, task.report) {
-        Some(report) => given_twice(report, console),
-        None => record_named(rt, opener, task, tuning, &names, output, console),
+}
+
+/// The first name that is given twice: of a film, or else of the report.
+fn name_twice<'a>(files: &[&'a str], names: &Names, report: Option<&'a str>) -> Option<&'a str> {
+    match named_twice(files, names) {
+        Some(file) => Some(file),
+        None => named_as_report(files, names, report),
     }
 }
 
@@ -102,83 +119,88 @@ where
         Ok(opened) => opened,
         Err(status) => return status,
     };
-    if task.progress || report.is_some() {
-        record_watched(rt, task, names, films, report, output, console)
+    let alloc = rt.alloc();
+    let watch = if task.progress || report.is_some() {
+        match Watch::new(rt, alloc, films.len()) {
+            Ok(watch) => Some(watch),
+            Err(AllocError) => return no_memory(console),
+        }
     } else {
-        let alloc = rt.alloc();
-        let recorded = record_through(rt, alloc, films, sizes_of(task), &OpenGate);
-        say_recorded(
-            alloc,
-            &task.files,
-            &names.indexes,
-            recorded,
-            &[false; MOST_FILES],
-            output,
-            console,
-        )
+        None
+    };
+    let recorded = record_opened(rt, films, task, watch.as_ref(), console);
+    let status = say_ended(
+        alloc,
+        task,
+        names,
+        watch.as_ref(),
+        recorded,
+        output,
+        console,
+    );
+    match (report, &watch) {
+        (Some(report), Some(watch)) => {
+            status.max(write_report(alloc, report, watch, &task.files, task.workers, console))
+        }
+        _ => status,
     }
 }
 
-/// Records films that are watched, says how far they are if that is asked for, says what came of each, and writes the
-/// report; answers the status.
-fn record_watched<'a, R, O, W, E>(
+/// Records films that are opened.
+fn record_opened<'a, R, O, E>(
     rt: &R,
-    task: &Task<'a>,
-    names: &Names,
     films: Vec<Film<'a, O>>,
-    report: Option<Report<'a, O>>,
-    output: &mut Counted<W>,
+    task: &Task<'a>,
+    watch: Option<&Watch<'_, R>>,
     console: &mut Console<'_, E>,
-) -> u8
+) -> Recorded<Reader<'a, O>, Writer<'a, O>>
 where
     R: AllocGlobal + Clock + Threads + Wait + Sync,
     O: Opens + Copy + Send,
     O::File: Send,
-    W: Write,
     E: Outlet + Send,
 {
-    let alloc = rt.alloc();
-    let Ok(watch) = Watch::new(rt, alloc, films.len()) else {
-        return no_memory(console);
-    };
-    let (files, sizes) = (task.files.as_slice(), sizes_of(task));
-    let recorded = record_seen(
-        rt,
-        alloc,
-        films,
-        sizes,
-        task.progress,
-        files,
-        &watch,
-        console,
-    );
+    record_seen(rt, rt.alloc(), films, task, watch, console)
+}
+
+/// Says what came of each film, unless that was told while it was watched; answers the status.
+fn say_ended<'a, R, O, W, E>(
+    alloc: Global,
+    task: &Task<'a>,
+    names: &Names,
+    watch: Option<&Watch<'_, R>>,
+    recorded: Recorded<Reader<'a, O>, Writer<'a, O>>,
+    output: &mut Counted<W>,
+    console: &mut Console<'_, E>,
+) -> u8
+where
+    R: Clock,
+    O: Opens + Copy,
+    W: Write,
+    E: Outlet,
+{
     let mut told = [false; MOST_FILES];
-    watch.told(&mut told);
-    let status = say_recorded(
+    if let Some(watch) = watch {
+        watch.told(&mut told);
+    }
+    say_recorded(
         alloc,
-        files,
+        &task.files,
         &names.indexes,
         recorded,
         &told,
         output,
         console,
-    );
-    let reported = match report {
-        Some(report) => write_report(alloc, report, &watch, files, task.workers, console),
-        None => DONE,
-    };
-    status.max(reported)
+    )
 }
 
-/// Records films that are watched, and says how far they are if that is asked for.
+/// Records films, watched if there is who watches them; and says how far they are if that is asked for.
 fn record_seen<Rt, R, W, E>(
     rt: &Rt,
     alloc: Global,
     films: Vec<(R, W, Tuning)>,
-    sizes: Sizes,
-    progress: bool,
-    files: &[&str],
-    watch: &Watch<'_, Rt>,
+    task: &Task<'_>,
+    watch: Option<&Watch<'_, Rt>>,
     console: &mut Console<'_, E>,
 ) -> Recorded<R, W>
 where
@@ -187,10 +209,13 @@ where
     W: Outlet + Send + Drop,
     E: Outlet + Send,
 {
-    if progress {
-        record_telling(rt, alloc, films, sizes, files, watch, console)
-    } else {
-        record_watching(rt, alloc, films, sizes, watch)
+    let sizes = sizes_of(task);
+    match watch {
+        None => record_through(rt, alloc, films, sizes, &OpenGate),
+        Some(watch) if task.progress => {
+            record_telling(rt, alloc, films, sizes, &task.files, watch, console)
+        }
+        Some(watch) => record_watching(rt, alloc, films, sizes, watch),
     }
 }
 

@@ -1,12 +1,15 @@
 //! What came of each film, said once its recording has ended and is on the disk.
-use crate::program::recording::{FilmTrack, Recorded};
-use ls_console::{Cause, Console, DONE, FAILED, Reader, explain, no_memory, write_text};
+use crate::recording::{FilmTrack, Recorded};
+use ls_archive::{Follower, IndexFault};
+use ls_console::{
+    Cause, Console, DONE, EndedIndex, FAILED, Reader, cause_of_input, explain, no_memory,
+    say_index_end, say_unsynced, write_text,
+};
 use ls_files::{Opens, Target};
 use ls_frame::{Counted, Failed, Outlet};
-use ls_reading::{EndedIndex, cause_of_input, say_index_end, say_unsynced};
-use ls_recorder::LaneFault;
+use ls_recorder::{LaneFault, Track};
 use ls_setup::Writer;
-use std::alloc::Global;
+use std::alloc::{AllocError, Global};
 use std::io::Write;
 
 /// Says what came of each film, or why nothing did; answers the status.
@@ -65,26 +68,44 @@ where
     W: Write,
     E: Outlet,
 {
+    let Ok(recordings) = end_tracks(alloc, files, indexes, tracks, told, console) else {
+        return no_memory(console);
+    };
+    let status = say_counts(alloc, files, &recordings, output, console);
+    release(recordings);
+    status
+}
+
+/// Syncs each recording, and says of each film whose recording stopped why it did, unless that was told.
+fn end_tracks<'a, O, E>(
+    alloc: Global,
+    files: &[&str],
+    indexes: &[String],
+    tracks: Vec<FilmTrack<'a, O>>,
+    told: &[bool],
+    console: &mut Console<'_, E>,
+) -> Result<Vec<Ended<'a, O>>, AllocError>
+where
+    O: Opens + Copy,
+    E: Outlet,
+{
     let mut recordings = Vec::new(alloc);
     for (file, track) in files.iter().zip(tracks) {
         let number = recordings.len();
-        let was_told = is_told(told, number);
         let index = indexes.get(number).map(String::as_str);
-        if recordings
-            .push(say_end(*file, index, track, was_told, console))
-            .is_err()
-        {
-            return no_memory(console);
-        }
+        recordings.push(say_end(*file, index, track, is_told(told, number), console))?;
     }
-    let status = say_counts(alloc, files, &recordings, output, console);
+    Ok(recordings)
+}
+
+/// Releases the files of recordings.
+fn release<O: Opens + Drop>(recordings: Vec<Ended<'_, O>>) {
     for recording in recordings {
         recording.target.release();
         if let Some(index) = recording.index {
             index.target.release();
         }
     }
-    status
 }
 
 /// Whether it was told why the recording of the film of this number stopped.
@@ -107,10 +128,15 @@ where
     O: Opens + Copy,
     E: Outlet,
 {
-    let (writer, follower, broken) = track.writer.into_parts();
+    let Track {
+        reader,
+        writer,
+        result,
+    } = track;
+    let (writer, follower, broken) = writer.into_parts();
     let written = writer.last_failure();
     let target = writer.into_inner();
-    let frames = match (track.result, target.sync()) {
+    let frames = match (result, target.sync()) {
         (Ok(frames), Ok(())) => Some(frames),
         (Ok(_), Err(fault)) => {
             say_unsynced(file, &target, Failed::from(fault), console);
@@ -120,20 +146,40 @@ where
             if !was_told {
                 console.say(format_args!("{file}: {fault}"));
             }
-            explain(file, cause_of(fault), &track.reader, written, console);
+            explain(file, cause_of(fault), &reader, written, console);
             None
         }
-    };
-    let index = match (index_file, follower) {
-        (Some(path), Some(follower)) => {
-            Some(say_index_end(path, follower.into_inner(), broken, console))
-        }
-        _ => None,
     };
     Ended {
         frames,
         target,
-        index,
+        index: say_index(index_file, follower, broken, console),
+    }
+}
+
+/// Brings the index of a recording onto the disk, if it has one, and says why it isn't whole, if it isn't.
+fn say_index<'a, O, E>(
+    path: Option<&str>,
+    follower: Option<Follower<Counted<Target<'a, O>>>>,
+    broken: Option<IndexFault>,
+    console: &mut Console<'_, E>,
+) -> Option<EndedIndex<'a, O>>
+where
+    O: Opens + Drop,
+    E: Outlet,
+{
+    let (Some(path), Some(follower)) = (path, follower) else {
+        return None;
+    };
+    let broken = broken.map(|fault| (fault, cause_of_index(fault)));
+    Some(say_index_end(path, follower.into_inner(), broken, console))
+}
+
+/// What it comes of that an index broke off.
+fn cause_of_index(fault: IndexFault) -> Cause {
+    match fault {
+        IndexFault::Output(_) => Cause::Writing,
+        _ => Cause::Other,
     }
 }
 

@@ -1,6 +1,6 @@
 //! The progress of a recording, said on standard error while it goes on: on a terminal as a line in its place,
 //! elsewhere as lines.
-use crate::program::watch::Watch;
+use crate::watch::Watch;
 use ls_console::Console;
 use ls_frame::Outlet;
 use ls_progress::{Pace, line_of};

@@ -2,7 +2,7 @@ use Rattle.std.proofs.Common.{◌≡◌, ◌*◌, ◌^◌, ◌≤◌, length}
 use Rattle.ls_queue.specs.View.Running.{jobs_taken}
 use Rattle.ls_recorder.specs.View.Lanes.{IsWriting}
 use Rattle.ls_recorder.specs.View.Halves.{orders_taken, HasTaken}
-use Rattle.ls_recorder.proofs.lane.writing.write_booked.Given as goal
+use Rattle.ls_recorder.proofs.lane.writing.write_each.Given as goal
 
 -- the orders so far were taken and booked, and their codestreams were written as far as the collector doesn't hold them
 abbrev pub invariant-loop : goal.invariant-loop

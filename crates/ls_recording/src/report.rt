@@ -1,5 +1,5 @@
 //! The report of a recording: a table of what came of each film, and how busy the workers were.
-use crate::program::watch::Watch;
+use crate::watch::Watch;
 use ls_console::{Console, DONE, FAILED};
 use ls_files::Opens;
 use ls_frame::{Counted, Failed, Outlet, write_bytes};
