@@ -5,12 +5,13 @@ use crate::progress::tell_progress;
 use crate::report::write_report;
 use crate::watch::Watch;
 use ending::say_recorded;
+use ls_archive::{Follower, Indexing};
 use ls_console::{Console, Reader, misused, no_memory};
-use ls_files::Opens;
+use ls_files::{Opens, Target};
 use ls_frame::{Counted, Feed, Outlet, Tuning};
-use ls_recorder::{Gate, OpenGate, RecordFault, Recording, Track, record};
+use ls_recorder::{Gate, OpenGate, RecordFault, Recording as Tracks, Track, record};
 use ls_setup::{
-    Film, Names, Opened, Task, Writer, given_twice, named_as_report, named_twice, names_of,
+    Film, Names, Opened, Recording, Task, given_twice, named_as_report, named_twice, names_of,
     open_films, tuning_of,
 };
 use std::alloc::{AllocError, Global};
@@ -40,11 +41,14 @@ fn sizes_of(task: &Task<'_>) -> Sizes {
     }
 }
 
+/// What a film's codestreams are written through: the file of its recording, and that of their index, if there is one.
+type Writer<'a, O> = Indexing<Counted<Target<'a, O>>, Counted<Target<'a, O>>>;
+
 /// What came of a film.
 type FilmTrack<'a, O> = Track<Reader<'a, O>, Writer<'a, O>>;
 
 /// What came of all films; or why nothing did.
-type Recorded<R, W> = Result<Recording<R, W>, (RecordFault, Vec<(R, W, Tuning)>)>;
+type Recorded<R, W> = Result<Tracks<R, W>, (RecordFault, Vec<(R, W, Tuning)>)>;
 
 /// Records films, says what came of each, and answers the status.
 pub fn record_films<R, O, W, E>(
@@ -115,7 +119,7 @@ where
     W: Write,
     E: Outlet + Send,
 {
-    let Opened { films, report } = match open_films(rt, opener, task, names, tuning, console) {
+    let Opened { films, report } = match open_films(rt, opener, task, names, console) {
         Ok(opened) => opened,
         Err(status) => return status,
     };
@@ -128,7 +132,10 @@ where
     } else {
         None
     };
-    let recorded = record_opened(rt, films, task, watch.as_ref(), console);
+    let recorded = match written_through(alloc, films, tuning) {
+        Ok(films) => record_opened(rt, films, task, watch.as_ref(), console),
+        Err(AllocError) => return no_memory(console),
+    };
     let status = say_ended(
         alloc,
         task,
@@ -146,10 +153,30 @@ where
     }
 }
 
+/// Films that are opened, each with what its codestreams are written through, and with the tuning of all.
+fn written_through<'a, O: Opens + Drop>(
+    alloc: Global,
+    films: Vec<Film<'a, O>>,
+    tuning: Tuning,
+) -> Result<Vec<(Reader<'a, O>, Writer<'a, O>, Tuning)>, AllocError> {
+    let mut all = Vec::new(alloc);
+    for (reader, recording) in films {
+        all.push((reader, writer_of(alloc, recording), tuning))?;
+    }
+    Ok(all)
+}
+
+/// What a film's codestreams are written through to the files of its recording.
+fn writer_of<'a, O: Opens + Drop>(alloc: Global, recording: Recording<'a, O>) -> Writer<'a, O> {
+    let Recording { target, index } = recording;
+    let follower = index.map(|target| Follower::new(alloc, Counted::new(target)));
+    Indexing::new(Counted::new(target), follower)
+}
+
 /// Records films that are opened.
 fn record_opened<'a, R, O, E>(
     rt: &R,
-    films: Vec<Film<'a, O>>,
+    films: Vec<(Reader<'a, O>, Writer<'a, O>, Tuning)>,
     task: &Task<'a>,
     watch: Option<&Watch<'_, R>>,
     console: &mut Console<'_, E>,

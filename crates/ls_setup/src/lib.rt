@@ -12,6 +12,6 @@ mod preset;
 mod task;
 
 pub use given::{Names, named_as_report, named_twice, names_of};
-pub use opening::{Film, Opened, Report, Writer, given_twice, open_films};
+pub use opening::{Film, Opened, Recording, Report, given_twice, open_films};
 pub use preset::tuning_of;
 pub use task::Task;

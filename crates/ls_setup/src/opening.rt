@@ -1,18 +1,21 @@
 //! Opening: the films to read, and the files for what is made of them.
 use crate::given::{Given, Names, has_index_at, is_met, look_at, written_twice};
 use crate::task::Task;
-use ls_archive::{Follower, Indexing};
 use ls_console::{Console, FAILED, Reader, USAGE, buffered, no_memory};
 use ls_files::{Opens, Place, Source, Target};
-use ls_frame::{Counted, Outlet, Tuning};
+use ls_frame::Outlet;
 use std::alloc::{AllocError, Global};
 use std::rt::Files;
 
-/// The file that a film's codestreams are written to, and that of their index, if there is one.
-pub type Writer<'a, O> = Indexing<Counted<Target<'a, O>>, Counted<Target<'a, O>>>;
+/// The file that a film's codestreams are to be written to, and that of their index, if there is to be one.
+#[derive(Drop)]
+pub struct Recording<'a, O: Opens> {
+    pub target: Target<'a, O>,
+    pub index: Option<Target<'a, O>>,
+}
 
-/// A film: what it is read by, what its codestreams are written to, and its tuning.
-pub type Film<'a, O> = (Reader<'a, O>, Writer<'a, O>, Tuning);
+/// A film: what it is read by, and its recording.
+pub type Film<'a, O> = (Reader<'a, O>, Recording<'a, O>);
 
 /// Where a report goes: its file, and how that is called.
 #[derive(Drop)]
@@ -35,7 +38,6 @@ pub fn open_films<'a, R, O, E>(
     opener: O,
     task: &Task<'a>,
     names: &'a Names,
-    tuning: Tuning,
     console: &mut Console<'_, E>,
 ) -> Result<Opened<'a, O>, u8>
 where
@@ -44,8 +46,8 @@ where
     E: Outlet,
 {
     let sources = open_sources(rt, opener, task.files.as_slice(), console)?;
-    let (report, writers) = make_files(rt, opener, task, names, &sources, console)?;
-    let films = films_of(rt.alloc(), task, names, sources, writers, tuning, console)?;
+    let (report, recordings) = make_files(rt, opener, task, names, &sources, console)?;
+    let films = films_of(rt.alloc(), task, names, sources, recordings, console)?;
     Ok(Opened { films, report })
 }
 
@@ -58,7 +60,7 @@ fn make_files<'a, R, O, E>(
     names: &'a Names,
     sources: &[Source<'a, O>],
     console: &mut Console<'_, E>,
-) -> Result<(Option<Report<'a, O>>, Vec<Writer<'a, O>>), u8>
+) -> Result<(Option<Report<'a, O>>, Vec<Recording<'a, O>>), u8>
 where
     R: Files + AllocGlobal,
     O: Opens<File = R::File> + Copy,
@@ -69,8 +71,8 @@ where
         Some(path) => Some(make_report(rt, opener, path, &given, task.replace, console)?),
         None => None,
     };
-    let writers = make_writers(rt, opener, &given, task.replace, console)?;
-    Ok((report, writers))
+    let recordings = make_recordings(rt, opener, &given, task.replace, console)?;
+    Ok((report, recordings))
 }
 
 /// What the films are and where their recordings are to be made, if none is given twice; or says so, and gives the status.
@@ -101,8 +103,7 @@ fn films_of<'a, O, E>(
     task: &Task<'a>,
     names: &'a Names,
     sources: Vec<Source<'a, O>>,
-    writers: Vec<Writer<'a, O>>,
-    tuning: Tuning,
+    recordings: Vec<Recording<'a, O>>,
     console: &mut Console<'_, E>,
 ) -> Result<Vec<Film<'a, O>>, u8>
 where
@@ -110,22 +111,21 @@ where
     E: Outlet,
 {
     let readers = buffered_sources(alloc, &task.files, sources, &names.notices, console)?;
-    match joined(alloc, readers, writers, tuning) {
+    match joined(alloc, readers, recordings) {
         Ok(films) => Ok(films),
         Err(AllocError) => Err(no_memory(console)),
     }
 }
 
-/// Each film's reader and writer together.
+/// Each film's reader and recording together.
 fn joined<'a, O: Opens + Drop>(
     alloc: Global,
     readers: Vec<Reader<'a, O>>,
-    writers: Vec<Writer<'a, O>>,
-    tuning: Tuning,
+    recordings: Vec<Recording<'a, O>>,
 ) -> Result<Vec<Film<'a, O>>, AllocError> {
     let mut films = Vec::new(alloc);
-    for (reader, writer) in readers.into_iter().zip(writers) {
-        films.push((reader, writer, tuning))?;
+    for (reader, recording) in readers.into_iter().zip(recordings) {
+        films.push((reader, recording))?;
     }
     Ok(films)
 }
@@ -183,37 +183,37 @@ where
 
 /// Makes the file of each recording, and that of its index if it is to have one; or says of the first that can't be made,
 /// and gives the status.
-fn make_writers<'a, R, O, E>(
+fn make_recordings<'a, R, O, E>(
     rt: &R,
     opener: O,
     given: &[Given<'a>],
     replace: bool,
     console: &mut Console<'_, E>,
-) -> Result<Vec<Writer<'a, O>>, u8>
+) -> Result<Vec<Recording<'a, O>>, u8>
 where
     R: Files + AllocGlobal,
     O: Opens<File = R::File> + Copy,
     E: Outlet,
 {
-    let mut writers = Vec::new(rt.alloc());
+    let mut recordings = Vec::new(rt.alloc());
     for film in given {
-        let writer = make_writer(rt, opener, film, given, replace, console)?;
-        if writers.push(writer).is_err() {
+        let recording = make_recording(rt, opener, film, given, replace, console)?;
+        if recordings.push(recording).is_err() {
             return Err(no_memory(console));
         }
     }
-    Ok(writers)
+    Ok(recordings)
 }
 
 /// The same, of one film among those that are given.
-fn make_writer<'a, R, O, E>(
+fn make_recording<'a, R, O, E>(
     rt: &R,
     opener: O,
     film: &Given<'a>,
     given: &[Given<'a>],
     replace: bool,
     console: &mut Console<'_, E>,
-) -> Result<Writer<'a, O>, u8>
+) -> Result<Recording<'a, O>, u8>
 where
     R: Files + AllocGlobal,
     O: Opens<File = R::File> + Copy,
@@ -224,8 +224,7 @@ where
         Some(place) => Some(make_target(rt, opener, place, given, replace, console)?),
         None => None,
     };
-    let follower = index.map(|target| Follower::new(rt.alloc(), Counted::new(target)));
-    Ok(Indexing::new(Counted::new(target), follower))
+    Ok(Recording { target, index })
 }
 
 /// Makes the file of a recording, of its index or of the report, and says how what stood there is called now, if that is told; or

@@ -61,9 +61,13 @@ pub fn decode_frame(alloc: Global, bytes: &[u8]) -> Result<Decoded, StreamFault>
         Ok(opening) => opening,
         Err(fault) => return Err(fault),
     };
-    let mut lines = DecoderLines::new(alloc, opening.width())?;
-    let regions = Regions::new(alloc, opening.presets())?;
-    let mut samples = vec![in alloc; 0u16; opening.sample_count()]?;
+    let (Ok(mut lines), Ok(regions), Ok(mut samples)) = (
+        DecoderLines::new(alloc, opening.width()),
+        Regions::new(alloc, opening.presets()),
+        vec![in alloc; 0u16; opening.sample_count()],
+    ) else {
+        return Err(StreamFault::NoMemory);
+    };
     let used = match opening.decode(&mut lines, &regions, &mut samples) {
         Ok(used) => used,
         Err(fault) => return Err(fault),

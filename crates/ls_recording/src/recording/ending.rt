@@ -1,5 +1,5 @@
 //! What came of each film, said once its recording has ended and is on the disk.
-use crate::recording::{FilmTrack, Recorded};
+use crate::recording::{FilmTrack, Recorded, Writer};
 use ls_archive::{Follower, IndexFault};
 use ls_console::{
     Cause, Console, DONE, EndedIndex, FAILED, Reader, cause_of_input, explain, no_memory,
@@ -8,7 +8,6 @@ use ls_console::{
 use ls_files::{Opens, Target};
 use ls_frame::{Counted, Failed, Outlet};
 use ls_recorder::{LaneFault, Track};
-use ls_setup::Writer;
 use std::alloc::{AllocError, Global};
 use std::io::Write;
 

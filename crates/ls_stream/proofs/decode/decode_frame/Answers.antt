@@ -21,7 +21,7 @@ returns-in-Err-decode-clause-complete c front rest f e spelled = absurd (c.in-Er
 frame_is : (c : goal.After-drop-lines-inside-4) → picture_of c.in-Ok.opening c.decode.new.samples ≡ c.frame_of.result
 frame_is c =
     sym (c.frame_of.ensures ∙ ap (λ samples. picture_of c.in-Ok.opening samples)
-    (written_back c.in_ok-samples.samples.len c.decode.new.samples c.in_ok-samples.samples.items (omega (arith, c.decode.auto.samples, c.deref_mut.ensures.len))))
+    (written_back c.in-Ok-Ok-Ok.samples.len c.decode.new.samples c.in-Ok-Ok-Ok.samples.items (omega (arith, c.decode.auto.samples, c.deref_mut.ensures.len))))
 
 pub returns-clause-ok : goal.returns-clause-ok
 returns-clause-ok c =
