@@ -15,7 +15,8 @@ kind = np.uint8 if maxval < 256 else np.dtype(">u2")
 shape = (height, width) if heading[1] == b"P5" else (height, width, 3)
 array = np.frombuffer(film, kind, int(np.prod(shape)), heading.end()).astype(np.uint16).reshape(shape)
 data = jlsrec.encode(array, maxval)
-out = np.empty_like(array)
+# Memory that is there, as library.c's.
+out = np.ones_like(array)
 begin = time.perf_counter()
 for _ in range(times):
     if what == "encode":

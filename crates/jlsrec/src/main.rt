@@ -1,8 +1,8 @@
 //! `jlsrec`: a lossless recorder of image sequences.
 //!
 //! `program` is the whole program over words, files and its two streams. The words of the command line are read in
-//! `ls_command`, and what they ask for is done in `ls_reading`; but for `record`, which is in `ls_recording`. What is said
-//! on standard error, and by what files are read, is in `ls_console`.
+//! `ls_command`, and what they ask for is done in `ls_reading`; but for `record`, which is in `ls_recording`. What is
+//! said on standard error, and by what files are read, is in `ls_console`.
 #![tactic(auto)]
 
 mod program;

@@ -1,5 +1,5 @@
 //! The whole program over its words, its files and its two streams.
-use ls_command::{Answer, Frames, Recording, Request, misuse, read_words};
+use ls_command::{Answer, Frames, Request, misuse, read_words};
 use ls_console::{Console, USAGE, finish, no_memory, write_text};
 use ls_files::Opens;
 use ls_film::Part;
@@ -9,7 +9,6 @@ use ls_reading::{
     verify_files,
 };
 use ls_recording::record_films;
-use ls_setup::Task;
 use std::io::Write;
 use std::rt::{Env, Files};
 use std::sync::Wait;
@@ -42,11 +41,11 @@ where
     finish(status, output, console)
 }
 
-/// The program over the words after its name: writes to `output` what goes to standard output, says on the console what goes to
-/// standard error, and answers the status.
+/// The program over the words after its name: writes to `output` what goes to standard output, says on the console what
+/// goes to standard error, and answers the status.
 ///
-/// `code` writes each codestream to `output` itself, and `play` each image, so that what was written is out. `list` and `replay` write by way of a
-/// buffer, which is flushed at the end.
+/// `code` writes each codestream to `output` itself, and `play` each image, so that what was written is out. `list` and
+/// `replay` write by way of a buffer, which is flushed at the end.
 pub fn run<R, O, W, E>(
     rt: &R,
     opener: O,
@@ -111,43 +110,13 @@ where
             recording,
             workers,
         } => verify_files(rt, film, recording, workers, console),
-        Request::Record(asked) => record_asked(rt, opener, asked, output, console),
+        Request::Record(asked) => record_films(rt, opener, asked, output, console),
         Request::Replay {
             sources,
             capacity,
             file,
         } => replay_file(rt, sources, capacity, file, output, console),
     }
-}
-
-/// Records the films that are asked for, and answers the status. How far they are is told on a terminal in any case.
-fn record_asked<R, O, W, E>(
-    rt: &R,
-    opener: O,
-    asked: Recording<'_>,
-    output: &mut Counted<W>,
-    console: &mut Console<'_, E>,
-) -> u8
-where
-    R: Files + AllocGlobal + Clock + Threads + Wait + Sync,
-    O: Opens<File = R::File> + Copy + Send,
-    R::File: Send,
-    W: Write,
-    E: Outlet + Send,
-{
-    let task = Task {
-        workers: usize::from(asked.workers),
-        queue: usize::from(asked.queue),
-        window: usize::from(asked.window),
-        preset: asked.preset,
-        into: asked.into,
-        replace: asked.replace,
-        progress: asked.progress || console.is_terminal(),
-        report: asked.report,
-        index: asked.index,
-        files: asked.files,
-    };
-    record_films(rt, opener, &task, output, console)
 }
 
 /// The part of a recording that has these frames.

@@ -1,7 +1,7 @@
 //! Checking a recording by its index.
 //!
-//! A line of the index says at which offset its codestream begins and how many bytes it has. So damage, also to markers, keeps no other
-//! codestream from being looked at.
+//! A line of the index says at which offset its codestream begins and how many bytes it has. So damage, also to
+//! markers, keeps no other codestream from being looked at.
 ghost use Rattle.std.specs.Prelude.{if◌then◌else◌, ◌≡◌, ◌≢◌, ◌⊎◌, ◌+◌, ◌*◌, ◌^◌, ◌<◌, ◌≤◌, ◌++◌, ◌∷◌, ◌↔◌, ℕ, List, [], Option, Some, IsTrue, decimal, IfOk, IfErr, IfSome, IfNone, OnOk, OnErr, codes, length, true, false};
 ghost use Rattle.ls_frame.specs.Picture.{Picture};
 ghost use Rattle.ls_frame.specs.View.Devices.{count_after, failed_read};
@@ -95,8 +95,9 @@ pub struct Checked {
 /// Exactly the findings on the lines before were told.
 #[derive(Clone, Copy, Debug, Drop, PartialEq, Eq, Error)]
 pub enum CheckFault {
-    /// After so many lines the index goes on with what isn't the next: it has another number, or another offset than the one at which the
-    /// codestream before it ends, or no size, or no LF within 1,024 bytes, or the index ends before its LF.
+    /// After so many lines the index goes on with what isn't the next: it has another number, or another offset than
+    /// the one at which the codestream before it ends, or no size, or no LF within 1,024 bytes, or the index ends
+    /// before its LF.
     #[error("line {0}: not of an index")]
     Line(u64),
     /// A read of the index failed.
@@ -124,16 +125,17 @@ impl From<AllocError> for CheckFault {
     }
 }
 
-/// Looks, for each line of an index, at the recording's bytes from the line's offset on, as many as it says or all that are left: they are
-/// good if the line is the one that `write_index` writes of them, with their SHA-256 or without, and they are a codestream of a frame.
-/// Tells of all that aren't, in order.
+/// Looks, for each line of an index, at the recording's bytes from the line's offset on, as many as it says or all that
+/// are left: they are good if the line is the one that `write_index` writes of them, with their SHA-256 or without, and
+/// they are a codestream of a frame. Tells of all that aren't, in order.
 ///
-/// So by an index with sums bytes of another SHA-256 are found. By one without sums they are if they have another size, other headers, or
-/// data that can't be decoded; a changed byte that leaves these as they are isn't seen.
+/// So by an index with sums bytes of another SHA-256 are found. By one without sums they are if they have another size,
+/// other headers, or data that can't be decoded; a changed byte that leaves these as they are isn't seen.
 ///
-/// A line is the beginning `number offset size ` and what follows it up to LF; each begins where the one before it ends. One codestream is
-/// in memory at a time. If the bytes of both readers are known (as in memory), the clauses say what was found in them; if those of the
-/// findings are, which were told. After a fault nothing is said of the place of either reader.
+/// A line is the beginning `number offset size ` and what follows it up to LF; each begins where the one before it
+/// ends. One codestream is in memory at a time. If the bytes of both readers are known (as in memory), the clauses say
+/// what was found in them; if those of the findings are, which were told. After a fault nothing is said of the place of
+/// either reader.
 pub fn check<I: Feed, R: Feed, F: Findings>(
     alloc: Global,
     index: &mut I,
@@ -201,7 +203,8 @@ struct IndexLine {
 /// The most bytes of a line.
 const MOST_LINE: usize = 1024;
 
-/// Takes the next line off an index; `None` at its end. It has to be that of the codestream of this number, which begins at this offset.
+/// Takes the next line off an index; `None` at its end. It has to be that of the codestream of this number, which
+/// begins at this offset.
 fn next_line<I: Feed>(
     alloc: Global,
     index: &mut I,
@@ -227,7 +230,8 @@ fn next_line<I: Feed>(
     }
 }
 
-/// Takes the bytes up to the next LF off a reader, or as many as a line may have, or all that are left; `None` at its end.
+/// Takes the bytes up to the next LF off a reader, or as many as a line may have, or all that are left; `None` at its
+/// end.
 fn take_line<I: Feed>(alloc: Global, reader: &mut I) -> Result<Option<Vec<u8>>, FeedFault>
     ensures gave { IfOk result (λ next. IfSome next (λ line. Gave (I.remaining reader.old) (I.remaining reader.new) (λ bytes. line.items ≡ bytes))) }
     ensures one { IfOk result (λ next. IfSome next (λ line. IsOneLine line.items)) }
@@ -248,8 +252,8 @@ fn take_line<I: Feed>(alloc: Global, reader: &mut I) -> Result<Option<Vec<u8>>, 
     Ok(Some(line))
 }
 
-/// How many bytes the line of the codestream of this number, which begins at this offset, says that it has; `None` if the text isn't
-/// such a line.
+/// How many bytes the line of the codestream of this number, which begins at this offset, says that it has; `None` if
+/// the text isn't such a line.
 fn size_in(alloc: Global, number: u64, offset: u64, text: &[u8]) -> Result<Option<u32>, AllocError>
     ensures some { IfOk result (λ found. IfSome found (λ size. (rest : List ℕ) × (text.now ≡ (beginning number offset size ++ rest) ++ codes "\n"))) }
     ensures none { IfOk result (λ found. IfNone found ((size : ℕ) (rest : List ℕ) → size ≤ most_bytes
@@ -313,7 +317,8 @@ fn has_more<R: Feed>(alloc: Global, reader: &mut R) -> Result<bool, CheckFault>
     Ok(!bytes.is_empty())
 }
 
-/// Looks at the bytes at the offset of a line's codestream, tells of what is wrong with them, and says how many are damaged: 1 or none.
+/// Looks at the bytes at the offset of a line's codestream, tells of what is wrong with them, and says how many are
+/// damaged: 1 or none.
 fn look_at<F: Findings>(
     alloc: Global,
     number: u64,
@@ -330,8 +335,8 @@ fn look_at<F: Findings>(
     tell_damage(number, offset, line.size, damage, findings)
 }
 
-/// Tells of what is wrong with the bytes at the offset of a codestream, which should be so many, if anything is; and says
-/// how many are damaged: 1 or none.
+/// Tells of what is wrong with the bytes at the offset of a codestream, which should be so many, if anything is; and
+/// says how many are damaged: 1 or none.
 fn tell_damage<F: Findings>(
     number: u64,
     offset: u64,

@@ -90,10 +90,10 @@ impl Progress {
 
 /// An index that is written while its recording is: it is told the recording's bytes as they go out.
 ///
-/// A line is written when the bytes since the last codestream, with those that it is told, are complete by their markers and
-/// headers as `write_index` asks; then it is the line that `write_index` writes, with its sum. After each call the bytes that are
-/// held back are no codestream of a frame. So a recording of codestreams of frames has its whole index if each ends where bytes
-/// that the follower is told end, as they do where each is written by itself.
+/// A line is written when the bytes since the last codestream, with those that it is told, are complete by their
+/// markers and headers as `write_index` asks; then it is the line that `write_index` writes, with its sum. After each
+/// call the bytes that are held back are no codestream of a frame. So a recording of codestreams of frames has its
+/// whole index if each ends where bytes that the follower is told end, as they do where each is written by itself.
 #[derive(Drop)]
 pub struct Follower<I> {
     alloc: Global,
@@ -117,9 +117,10 @@ impl<I: Outlet> Follower<I> {
 
     /// Takes the recording's next bytes; if a codestream ends with them, its line is written.
     ///
-    /// Fails with `Output` if a write fails, when exactly so many bytes of all lines had gone out; with `NoMemory` if an allocation
-    /// fails for the bytes or a line; with `TooMany` if the codestream is numbered 4,294,967,295. After the last two exactly the
-    /// lines of the codestreams before were written. After a fault it isn't to be called any more.
+    /// Fails with `Output` if a write fails, when exactly so many bytes of all lines had gone out; with `NoMemory` if
+    /// an allocation fails for the bytes or a line; with `TooMany` if the codestream is numbered 4,294,967,295. After
+    /// the last two exactly the lines of the codestreams before were written. After a fault it isn't to be called any
+    /// more.
     pub fn follow(&mut self, bytes: &[u8]) -> Result<(), IndexFault>
         ensures follows { OnOk result (FollowsOn bytes.now
             (I.contents (index_of self.old)) (I.contents (index_of self.new)) (followed self.old) (followed self.new)) }
@@ -158,9 +159,9 @@ impl<I: Outlet> Follower<I> {
 
 /// A recording's writer that writes an index of it too, if there is one to write.
 ///
-/// As a writer it is the recording's: what it takes and how it fails is what the recording's writer says. An index that breaks off
-/// leaves the recording as it is; `into_parts` says why it did. That the index follows all that was written through this writer,
-/// call by call, is tested; `Follower::follow` says it of one call.
+/// As a writer it is the recording's: what it takes and how it fails is what the recording's writer says. An index that
+/// breaks off leaves the recording as it is; `into_parts` says why it did. That the index follows all that was written
+/// through this writer, call by call, is tested; `Follower::follow` says it of one call.
 #[derive(Drop)]
 pub struct Indexing<W, I> {
     recording: W,
@@ -191,8 +192,8 @@ impl<W: Outlet, I: Outlet> Indexing<W, I> {
         (self.recording, self.index, self.fault)
     }
 
-    /// Tells the index of the recording's next bytes: it follows them, or breaks off with them. One that broke off before is left
-    /// as it is.
+    /// Tells the index of the recording's next bytes: it follows them, or breaks off with them. One that broke off
+    /// before is left as it is.
     fn tell(&mut self, bytes: &[u8])
         ensures recording { recording_of self.new ≡ recording_of self.old }
         ensures index { IsTold I.contents bytes.now (following self.old) (broken self.old) (following self.new) (broken self.new) }

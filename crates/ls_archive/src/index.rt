@@ -22,9 +22,9 @@ use std::alloc::{AllocError, Global};
 /// Writes the line of each codestream of a recording, and says how many there were.
 ///
 /// A codestream's markers and headers are looked at, and its data isn't decoded. Each line is written before the next
-/// codestream is read. With `sums` it ends with the SHA-256 of the codestream's bytes. If the bytes of reader and writer
-/// are known (as in memory), the clauses say which were read and written. After `Stream`, `Io` and `NoMemory` nothing is
-/// said of the reader's place.
+/// codestream is read. With `sums` it ends with the SHA-256 of the codestream's bytes. If the bytes of reader and
+/// writer are known (as in memory), the clauses say which were read and written. After `Stream`, `Io` and `NoMemory`
+/// nothing is said of the reader's place.
 pub fn write_index<R: Feed, W: Outlet>(
     alloc: Global,
     reader: &mut R,

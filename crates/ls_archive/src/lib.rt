@@ -3,10 +3,10 @@
 //! What it hands on: the index of a recording is a line for each codestream, found by markers and headers alone
 //! (`specs/Index.antt`); its making, where it stops, says which lines it wrote (`specs/View/Indexing.antt`). A film is
 //! compared with its recording frame by frame, whatever the form of the headers on both sides; the verdict says whether
-//! their frames are equal, or where they aren't (`specs/Verify.antt`, `specs/View/Verifying.antt`). A recording is checked
-//! by its index, line by line; what is damaged is told (`specs/View/Checking.antt`, `specs/View/Checks.antt`). Of a
-//! comparison several threads can decode the recording, and of a check by an index look at it; both say the same then
-//! (`specs/View/SideBySide.antt`, `specs/View/Batches.antt`). An index can also be written while its recording is
+//! their frames are equal, or where they aren't (`specs/Verify.antt`, `specs/View/Verifying.antt`). A recording is
+//! checked by its index, line by line; what is damaged is told (`specs/View/Checking.antt`, `specs/View/Checks.antt`).
+//! Of a comparison several threads can decode the recording, and of a check by an index look at it; both say the same
+//! then (`specs/View/SideBySide.antt`, `specs/View/Batches.antt`). An index can also be written while its recording is
 //! (`specs/View/Following.antt`).
 //!
 //! ```

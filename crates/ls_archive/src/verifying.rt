@@ -62,8 +62,8 @@ pub fn verify<F: Feed, R: Feed>(
 
 /// The same, where so many threads at most decode the recording's codestreams side by side (`ls_player`).
 ///
-/// The recording may be read further than the verdict tells, and a read of it may have failed after the frames that it is of. It
-/// requires at least one worker, and no more than 2^32.
+/// The recording may be read further than the verdict tells, and a read of it may have failed after the frames that it
+/// is of. It requires at least one worker, and no more than 2^32.
 pub fn verify_by<Rt: Threads + Sync, F: Feed, R: Feed>(
     rt: &Rt,
     alloc: Global,
@@ -92,8 +92,8 @@ pub fn verify_by<Rt: Threads + Sync, F: Feed, R: Feed>(
 
 /// Whether a recording in memory has the frames of a film in memory.
 ///
-/// The program compares by `verify`. This is the same over bytes in memory, where nothing is left unknown. If they are a
-/// film and a recording, the verdict is what their frames say; or memory was refused.
+/// The program compares by `verify`. This is the same over bytes in memory, where nothing is left unknown. If they are
+/// a film and a recording, the verdict is what their frames say; or memory was refused.
 pub fn verify_bytes(alloc: Global, film: &[u8], recording: &[u8]) -> Result<Verdict, VerifyFault>
     ensures finds { IfOk result (FindsIn film.now recording.now) }
     ensures stops { IfErr result (StopsIn film.now recording.now) }

@@ -94,8 +94,8 @@ const CHANGED: &[u8] = b"\xff\xd8\
 \xff\xf7\x00\x0b\x08\x00\x01\x00\x01\x01\x01\x11\x00\
 \xff\xda\x00\x08\x01\x01\x00\x00\x00\x00\x80\xff\xd9";
 
-/// What a case is, the index, the recording, what the check comes to: frames, damaged ones, and whether there are more bytes;
-/// and where the first finding is, and what.
+/// What a case is, the index, the recording, what the check comes to: frames, damaged ones, and whether there are more
+/// bytes; and where the first finding is, and what.
 type Case = (
     &'static str,
     &'static [u8],

@@ -10,8 +10,8 @@ const TWO_LINES: &[u8] = b"\
 0 0 28 gray 1 1 255 8 3 7 21 64 14c5eaab40e8fcaf165a37d64d027b1357eb15846597672e4e87ef4c04547aa1\n\
 1 28 28 gray 1 1 255 8 3 7 21 64 0efbec04d1400b04eceb24a245c12e080c3916e4fa2379af048299d12b0a0953\n";
 
-/// Writes a recording of two codestreams, each in pieces of at most so many bytes, and its index, and checks what of the
-/// index went out and why it broke off, if it did. The recording is whole in any case.
+/// Writes a recording of two codestreams, each in pieces of at most so many bytes, and its index, and checks what of
+/// the index went out and why it broke off, if it did. The recording is whole in any case.
 fn check_following(
     rt: &impl Abort,
     alloc: Global,

@@ -11,8 +11,8 @@ use std::time::{Duration, Instant};
 /// The most codestreams of a file.
 const MOST_FRAMES: u64 = 4_294_967_295;
 
-/// What decoding a file takes: how many frames and samples it has and a checksum of these, each counted once, and how long it
-/// took.
+/// What decoding a file takes: how many frames and samples it has and a checksum of these, each counted once, and how
+/// long it took.
 #[derive(Drop)]
 struct Decoding {
     frames: u64,

@@ -28,7 +28,8 @@ struct Total {
     sum: u64,
 }
 
-/// Passes so many jobs, a quarter by each source, through a queue of each capacity; prints what came of it, and the times.
+/// Passes so many jobs, a quarter by each source, through a queue of each capacity; prints what came of it, and the
+/// times.
 pub fn measure<R: Threads + Wait + Sync + Clock + Print + Eprint + AllocGlobal>(
     rt: &R,
     jobs: u32,

@@ -23,9 +23,9 @@
 //! }
 //! ```
 //!
-//! In reading order: `sink` (into memory of its own), `room` and `slice_room` (memory of the caller's), `room_sink` (into
-//! such memory, with no allocation), `packer` (what both sinks hold), `data`, `source`, `window` (what a source holds), `word_table`, `laws` (what follows from
-//! the definitions alone).
+//! In reading order: `sink` (into memory of its own), `room` and `slice_room` (memory of the caller's), `room_sink`
+//! (into such memory, with no allocation), `packer` (what both sinks hold), `data`, `source`, `window` (what a source
+//! holds), `word_table`, `laws` (what follows from the definitions alone).
 #![tactic(auto)]
 
 pub mod data;

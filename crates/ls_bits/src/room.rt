@@ -12,7 +12,8 @@ pub trait Room: Drop {
     /// How many bytes it can have in all.
     ghost capacity: { Self → ℕ };
 
-    /// What putting bytes changes in the first makes at most the second: the same memory, and its free places but for those taken.
+    /// What putting bytes changes in the first makes at most the second: the same memory, and its free places but for
+    /// those taken.
     ghost Grown: { Self → Self → Type 0 };
 
     /// How many bytes are in it.

@@ -67,8 +67,8 @@ impl<R: Room> RoomSink<R> {
     /// Appends the code word of `v`: LG(k, glimit) of T.87 A.5.3, of at most glimit bits. Allocates nothing and cannot
     /// fail.
     ///
-    /// `qbpp` is at most 16, `k` at most qbpp + 1, `glimit` from qbpp + 2 to 64, and `v` at most 2^qbpp. With n bits in all
-    /// after this word, the room is at least n / 7 + 1 bytes.
+    /// `qbpp` is at most 16, `k` at most qbpp + 1, `glimit` from qbpp + 2 to 64, and `v` at most 2^qbpp. With n bits in
+    /// all after this word, the room is at least n / 7 + 1 bytes.
     pub fn put_golomb(&mut self, k: u32, glimit: u32, qbpp: u32, v: u32)
         requires code { IsGolomb k glimit qbpp }
         requires value { v ≤ most_value qbpp }

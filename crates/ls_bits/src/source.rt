@@ -80,8 +80,8 @@ impl<'a> BitSource<'a> {
     /// Takes the code word in front, of the code LG(k, glimit) of T.87 A.5.3: its value, at most 2^qbpp.
     ///
     /// `qbpp` is at most 16, `k` at most qbpp + 1, and `glimit` from qbpp + 2 to 64. NotCanonical if the bits that are
-    /// left can't begin with a word of the code, whatever followed them: too many zeros are in front, or the escape word
-    /// of a small value, or a short word of a value over 2^qbpp. Else OutOfBits if no whole word is in front.
+    /// left can't begin with a word of the code, whatever followed them: too many zeros are in front, or the escape
+    /// word of a small value, or a short word of a value over 2^qbpp. Else OutOfBits if no whole word is in front.
     pub fn take_golomb(&mut self, k: u32, glimit: u32, qbpp: u32) -> Result<u32, CodeFault>
         requires { IsGolomb k glimit qbpp }
         ensures ok { IfOk result (λ v. TakesWord k glimit qbpp self.old v self.new) }
@@ -92,8 +92,8 @@ impl<'a> BitSource<'a> {
         self.read_golomb(k, glimit, qbpp)
     }
 
-    /// `take_golomb` of a code whose short words are in a table, which is faster where most words are. `table` is that of the same
-    /// `glimit` and `qbpp`. All else is as there.
+    /// `take_golomb` of a code whose short words are in a table, which is faster where most words are. `table` is that
+    /// of the same `glimit` and `qbpp`. All else is as there.
     pub fn take_golomb_by(
         &mut self,
         table: &WordTable,
@@ -142,7 +142,8 @@ impl<'a> BitSource<'a> {
         self.read_long_golomb(k, glimit, qbpp)
     }
 
-    /// As `read_golomb`, whatever is in front. The window goes there and back by value, so that it can be in registers here.
+    /// As `read_golomb`, whatever is in front. The window goes there and back by value, so that it can be in registers
+    /// here.
     #[inline(always)]
     fn read_long_golomb(&mut self, k: u32, glimit: u32, qbpp: u32) -> Result<u32, CodeFault>
         requires { IsGolomb k glimit qbpp }

@@ -68,8 +68,8 @@ impl<'a> Window<'a> {
         Ok(low_bits(self.word >> self.held, count))
     }
 
-    /// Takes the short code word in front (T.87 A.5.3) if it has fewer than `most` zeros and a value of at most `greatest`, and
-    /// is known to be whole: its value. Else takes nothing.
+    /// Takes the short code word in front (T.87 A.5.3) if it has fewer than `most` zeros and a value of at most
+    /// `greatest`, and is known to be whole: its value. Else takes nothing.
     #[inline(always)]
     pub fn take_short(&mut self, k: u32, most: u32, greatest: u32) -> Option<u32>
         requires { k ≤ 17 }
@@ -160,6 +160,7 @@ impl<'a> Window<'a> {
     }
 
     /// Takes bytes in if fewer than `wanted` bits are held, until these are or no bytes are left.
+    #[inline(always)]
     fn refill(&mut self, wanted: u32)
         requires { wanted ≤ ENOUGH }
         ensures bits { self.new.bits ≡ self.old.bits }

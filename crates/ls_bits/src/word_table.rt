@@ -10,16 +10,16 @@ use std::marker::Model;
 /// How many Golomb parameters the table has words for, from 0 on: with a larger one few words fit a byte.
 const PARAMETERS: u32 = 6;
 
-/// The words of the codes LG(k, glimit) that have at most eight bits, for k from 0 to 5, each at the bytes that begin with it. One
-/// table serves any number of scans with the same LIMIT and the same bits of an error.
+/// The words of the codes LG(k, glimit) that have at most eight bits, for k from 0 to 5, each at the bytes that begin
+/// with it. One table serves any number of scans with the same LIMIT and the same bits of an error.
 ///
 /// In contracts it is these two numbers.
 #[derive(Drop)]
 pub struct WordTable {
     glimit: u32,
     qbpp: u32,
-    /// For each k the entries of the 256 bytes: the length of the word that a byte begins with, times 256, and its value; 0 if
-    /// the byte begins with no such word.
+    /// For each k the entries of the 256 bytes: the length of the word that a byte begins with, times 256, and its
+    /// value; 0 if the byte begins with no such word.
     entries: [u16; 1536],
 }
 

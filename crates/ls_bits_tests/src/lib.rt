@@ -1,6 +1,7 @@
 //! The tests of `ls_bits`, through what it makes public.
 //!
-//! They stand in a crate of their own because a crate's tests are proved together with the whole crate, and those of `ls_bits` ask only for its statements.
+//! They stand in a crate of their own because a crate's tests are proved together with the whole crate, and those of
+//! `ls_bits` ask only for its statements.
 #![tactic(auto)]
 
 #[cfg(test)]

@@ -229,8 +229,8 @@ pub fn decode_bytes(
     }
 }
 
-/// Opens the codestream at the front of bytes, if so many samples of at most `most` can hold its frame's. Says its form, or the details of
-/// the first fault.
+/// Opens the codestream at the front of bytes, if so many samples of at most `most` can hold its frame's. Says its
+/// form, or the details of the first fault.
 fn open<'a>(
     bytes: &'a [u8],
     most: u16,

@@ -1,13 +1,13 @@
 //! The C library: coding and decoding in a caller's memory, over the calls of `ls_stream`.
 //!
-//! What it hands on are its exports; `library/include/jlsrec.h` declares them for C and says what each answers and leaves in memory.
-//! `specs/Calls.antt` says the same, call by call (`IsEncoding`, `IsDecoding`, `IsReading`, `IsExtent`), over the forms and rows of
-//! `specs/Forms.antt` and the statuses of `specs/Refusals.antt`. A slice is a pointer and then a count for C, and `alloc` is nothing:
-//! it stands for the malloc, realloc and free of the process.
+//! What it hands on are its exports; `library/include/jlsrec.h` declares them for C and says what each answers and
+//! leaves in memory. `specs/Calls.antt` says the same, call by call (`IsEncoding`, `IsDecoding`, `IsReading`,
+//! `IsExtent`), over the forms and rows of `specs/Forms.antt` and the statuses of `specs/Refusals.antt`. A slice is a
+//! pointer and then a count for C, and `alloc` is nothing: it stands for the malloc, realloc and free of the process.
 //!
-//! In reading order: `form` (what C passes and is passed), `refusal` (why a call refuses, and the statuses), `request` (what is to be
-//! encoded, looked at before memory is asked for), `coding` (encoding and decoding), `reading` (a form by itself), `extent` (how far
-//! the next codestream goes, and how long one may be), `text` (what is said of a status).
+//! In reading order: `form` (what C passes and is passed), `refusal` (why a call refuses, and the statuses), `request`
+//! (what is to be encoded, looked at before memory is asked for), `coding` (encoding and decoding), `reading` (a form
+//! by itself), `extent` (how far the next codestream goes, and how long one may be), `text` (what is said of a status).
 #![tactic(auto)]
 
 mod coding;
@@ -63,8 +63,8 @@ pub extern "C" fn jlsrec_encode_8(
     status_of(encode_bytes(alloc, form, samples, stride, bytes, written))
 }
 
-/// Decodes the codestream at the front of bytes into samples of 16 bits, and says its form, how many bytes it has, or the details of its
-/// fault.
+/// Decodes the codestream at the front of bytes into samples of 16 bits, and says its form, how many bytes it has, or
+/// the details of its fault.
 #[unsafe(no_mangle)]
 pub extern "C" fn jlsrec_decode_16(
     alloc: Global,
@@ -79,8 +79,8 @@ pub extern "C" fn jlsrec_decode_16(
     status_of(decode_words(alloc, bytes, samples, form, used, fault))
 }
 
-/// Decodes the codestream at the front of bytes into samples of 8 bits, and says its form, how many bytes it has, or the details of its
-/// fault.
+/// Decodes the codestream at the front of bytes into samples of 8 bits, and says its form, how many bytes it has, or
+/// the details of its fault.
 #[unsafe(no_mangle)]
 pub extern "C" fn jlsrec_decode_8(
     alloc: Global,

@@ -142,8 +142,8 @@ fn stream_preset_number(fault: PresetFault) -> u32
     }
 }
 
-/// The refusal of a status, with the details of its fault; `None` of 0, of numbers that no call answers, and of details that no fault
-/// has.
+/// The refusal of a status, with the details of its fault; `None` of 0, of numbers that no call answers, and of details
+/// that no fault has.
 pub fn refusal_of(status: u32, details: &JlsrecFault) -> Option<Refusal>
     ensures { IfSome result (λ refusal. (number_of refusal ≡ status) × IsNamed refusal details.now) }
 {

@@ -8,11 +8,11 @@ ghost use Rattle.ls_coding.specs.View.Sizes.{size_region};
 use crate::neighbours::Neighbours;
 use ls_frame::Presets;
 
-/// The context of a sample with these neighbours and its sign, as one number (A.3.3, A.3.4): -364 to 364, negative if SIGN
-/// is -1, and in size the context's number. It is 0 exactly if the neighbours call for run mode.
+/// The context of a sample with these neighbours and its sign, as one number (A.3.3, A.3.4): -364 to 364, negative if
+/// SIGN is -1, and in size the context's number. It is 0 exactly if the neighbours call for run mode.
 ///
-/// The number is 81 * Q1 + 9 * Q2 + Q3 of the regions; T.87 leaves the numbering open. `plan_regular_at` of `State` takes it.
-/// Requires neighbours of at most the presets' `maxval`. Allocates nothing and cannot fail.
+/// The number is 81 * Q1 + 9 * Q2 + Q3 of the regions; T.87 leaves the numbering open. `plan_regular_at` of `State`
+/// takes it. Requires neighbours of at most the presets' `maxval`. Allocates nothing and cannot fail.
 pub fn signed_context(presets: &Presets, neighbours: &Neighbours) -> i16
     requires { AreSamples presets.now.maxval neighbours.now }
     ensures value { result ≡ signed_context presets.now neighbours.now }
@@ -27,11 +27,11 @@ pub fn signed_context(presets: &Presets, neighbours: &Neighbours) -> i16
     context_number(q1, q2, q3)
 }
 
-/// The part of a sample's context that the line above decides: 81 * Q1 + 9 * Q2, -360 to 360, of the regions of the gradients
-/// D1 = Rd - Rb and D2 = Rb - Rc (A.3.1, A.3.3).
+/// The part of a sample's context that the line above decides: 81 * Q1 + 9 * Q2, -360 to 360, of the regions of the
+/// gradients D1 = Rd - Rb and D2 = Rb - Rc (A.3.1, A.3.3).
 ///
-/// It can be found a line at a time before the line's samples are known; `whole_context` adds the rest of `signed_context`.
-/// The samples may have any values. Allocates nothing and cannot fail.
+/// It can be found a line at a time before the line's samples are known; `whole_context` adds the rest of
+/// `signed_context`. The samples may have any values. Allocates nothing and cannot fail.
 pub fn half_context(presets: &Presets, b: u16, c: u16, d: u16) -> i16
     ensures value { result ≡ half_context presets.now b c d }
     ensures low { neg_ℤ (pos 360) ≤ℤ result }

@@ -177,7 +177,8 @@ impl Counters {
         Ok(sample)
     }
 
-    /// The word of the sample that interrupts a run, at the RUNindex that the run left. Its error is counted in its context.
+    /// The word of the sample that interrupts a run, at the RUNindex that the run left. Its error is counted in its
+    /// context.
     pub fn code_interruption(
         &mut self,
         run_index: u32,
@@ -243,8 +244,8 @@ impl Counters {
         }
     }
 
-    /// The sample whose EMErrval this is and that may interrupt a run of the value to its left; its error is counted in its
-    /// context. NotCanonical if there is none; nothing changes then.
+    /// The sample whose EMErrval this is and that may interrupt a run of the value to its left; its error is counted in
+    /// its context. NotCanonical if there is none; nothing changes then.
     pub fn accept_interruption(
         &mut self,
         neighbours: &Neighbours,

@@ -33,7 +33,8 @@ pub fn error_of(presets: Presets, negative: bool, prediction: u16, sample: u16) 
     reduced(presets.range(), signed(negative, difference))
 }
 
-/// The reduced error of a sample for a prediction that a context's C is still to correct, both as `mirror` has them (A.4.2 to A.4.5).
+/// The reduced error of a sample for a prediction that a context's C is still to correct, both as `mirror` has them
+/// (A.4.2 to A.4.5).
 pub fn mirrored_error(presets: Presets, bias: i32, prediction: u16, sample: u16) -> i32
     requires prediction { prediction ≤ presets.maxval }
     requires sample { sample ≤ presets.maxval }

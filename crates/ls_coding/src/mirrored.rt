@@ -9,8 +9,8 @@ use crate::error::median;
 use crate::neighbours::Neighbours;
 use ls_frame::Presets;
 
-/// A sample of regular mode and the prediction by the samples around it (A.4.1), both counted down from MAXVAL if SIGN is -1: the
-/// error of the one for the other is then the one whose sign A.4.3 has changed.
+/// A sample of regular mode and the prediction by the samples around it (A.4.1), both counted down from MAXVAL if SIGN
+/// is -1: the error of the one for the other is then the one whose sign A.4.3 has changed.
 #[derive(Clone, Copy, Debug, PartialEq, Eq)]
 pub struct Mirrored {
     /// The context's number, 0 to 364; 0 exactly if the samples around call for run mode.

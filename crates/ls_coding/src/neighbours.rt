@@ -26,10 +26,11 @@ pub enum Mode {
     Regular,
 }
 
-/// The mode that these neighbours call for (A.3.2): run mode exactly if the gradients D1, D2 and D3 are 0, so if all four
-/// are equal. They may have any values. Allocates nothing and cannot fail.
+/// The mode that these neighbours call for (A.3.2): run mode exactly if the gradients D1, D2 and D3 are 0, so if all
+/// four are equal. They may have any values. Allocates nothing and cannot fail.
 ///
-/// For callers that code sample by sample. The coder itself finds contexts ahead, whose number is 0 exactly in run mode.
+/// For callers that code sample by sample. The coder itself finds contexts ahead, whose number is 0 exactly in run
+/// mode.
 pub fn mode_of(neighbours: &Neighbours) -> Mode
     ensures { result ≡ (if is_run neighbours.now then Mode.Run else Mode.Regular) }
 {

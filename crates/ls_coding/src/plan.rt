@@ -8,8 +8,8 @@ use std::marker::Model;
 /// `State` make it.
 ///
 /// Read a word of LG(k, glimit) with the scan's qbpp, by `take_golomb` of `ls_bits`, whose requirements the two numbers
-/// meet; then hand the plan and the word's value to `accept_regular` or `accept_interruption`, of the same kind as the call
-/// that made it. A plan is good only for the state that made it, and only until that state changes.
+/// meet; then hand the plan and the word's value to `accept_regular` or `accept_interruption`, of the same kind as the
+/// call that made it. A plan is good only for the state that made it, and only until that state changes.
 #[derive(Drop)]
 pub struct Plan {
     pub(crate) neighbours: Neighbours,

@@ -10,8 +10,8 @@ use ls_frame::Presets;
 use std::alloc::{AllocError, Global};
 use std::marker::Model;
 
-/// The region of each difference of two samples, -MAXVAL to MAXVAL (A.3.3). One table serves any number of scans with the same
-/// parameters.
+/// The region of each difference of two samples, -MAXVAL to MAXVAL (A.3.3). One table serves any number of scans with
+/// the same parameters.
 ///
 /// In contracts it is these parameters.
 #[derive(Drop)]
@@ -57,11 +57,11 @@ impl Regions {
     }
 }
 
-/// The context of a sample and its sign as one number, as `signed_context` answers it, from its half: what `half_context`
-/// answers for these parameters and the sample's Rb, Rc and Rd.
+/// The context of a sample and its sign as one number, as `signed_context` answers it, from its half: what
+/// `half_context` answers for these parameters and the sample's Rb, Rc and Rd.
 ///
-/// Requires Ra and Rc of at most the parameters' `maxval`, and a half of -360 to 360, as `half_context` answers it. Allocates
-/// nothing and cannot fail.
+/// Requires Ra and Rc of at most the parameters' `maxval`, and a half of -360 to 360, as `half_context` answers it.
+/// Allocates nothing and cannot fail.
 pub fn whole_context(regions: &Regions, half: i16, a: u16, c: u16) -> i16
     requires half_low { neg_ℤ (pos 360) ≤ℤ half }
     requires half_high { half ≤ℤ pos 360 }

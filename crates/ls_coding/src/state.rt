@@ -27,9 +27,9 @@ use std::marker::Model;
 
 /// What one scan's samples are coded or read by: the counters of each context, and RUNindex (T.87 A.2.1).
 ///
-/// A state is for one scan, from its first sample to its last, and codes it or reads it. Each call is one event: a sample of
-/// regular mode, a run, or the sample that interrupts a run; `interrupted` says whether that last one comes next. Samples and
-/// neighbours are at most MAXVAL, the presets' `maxval`. No call allocates.
+/// A state is for one scan, from its first sample to its last, and codes it or reads it. Each call is one event: a
+/// sample of regular mode, a run, or the sample that interrupts a run; `interrupted` says whether that last one comes
+/// next. Samples and neighbours are at most MAXVAL, the presets' `maxval`. No call allocates.
 #[derive(Drop)]
 pub struct State {
     counters: Counters,
@@ -59,8 +59,8 @@ impl Model for State {
 }
 
 impl State {
-    /// The state at a scan's start (A.2.1): every context's counters as they begin, RUNindex 0, and no sample awaited that
-    /// interrupts a run. Any presets will do, since they are legal. Allocates nothing and cannot fail.
+    /// The state at a scan's start (A.2.1): every context's counters as they begin, RUNindex 0, and no sample awaited
+    /// that interrupts a run. Any presets will do, since they are legal. Allocates nothing and cannot fail.
     pub fn new(presets: &Presets) -> State
         ensures { result ≡ state_of presets.now [] }
     {
@@ -71,11 +71,11 @@ impl State {
         }
     }
 
-    /// Codes a sample of regular mode (A.3 to A.6): its word is LG(k, LIMIT) of its mapped error, MErrval, in at most LIMIT
-    /// bits, and its error is then counted in its context.
+    /// Codes a sample of regular mode (A.3 to A.6): its word is LG(k, LIMIT) of its mapped error, MErrval, in at most
+    /// LIMIT bits, and its error is then counted in its context.
     ///
-    /// Requires neighbours that call for regular mode (`mode_of`), these and the sample at most MAXVAL, and that `interrupted` is
-    /// false, which it is afterwards too. Cannot fail.
+    /// Requires neighbours that call for regular mode (`mode_of`), these and the sample at most MAXVAL, and that
+    /// `interrupted` is false, which it is afterwards too. Cannot fail.
     ///
     /// The plain form, of one sample by itself. The coder itself looks ahead and uses `code_regular_at`.
     pub fn code_regular(&mut self, neighbours: &Neighbours, sample: u16) -> Word
@@ -93,8 +93,8 @@ impl State {
         self.code_regular_at(mirrored)
     }
 
-    /// `code_regular` of a sample of which `mirror` was asked before, for example a line at a time, with this scan's presets. All else
-    /// is as there.
+    /// `code_regular` of a sample of which `mirror` was asked before, for example a line at a time, with this scan's
+    /// presets. All else is as there.
     pub fn code_regular_at(&mut self, mirrored: Mirrored) -> Word
         requires may { MayCodeMirrored self.old mirrored }
         ensures word { (neighbours : Neighbours) (sample : ℕ) → IsMirrored self.old.parameters neighbours sample mirrored
@@ -113,11 +113,13 @@ impl State {
         self.counters.code(mirrored)
     }
 
-    /// By which code the word of the next sample of regular mode is read, and what its value then stands for (A.3 to A.5).
+    /// By which code the word of the next sample of regular mode is read, and what its value then stands for (A.3 to
+    /// A.5).
     ///
     /// Requires what `code_regular` does of the neighbours and of `interrupted`. Changes nothing and cannot fail.
     ///
-    /// The plain form, of one sample by itself. The decoder itself finds the context in two parts and uses `plan_regular_at`.
+    /// The plain form, of one sample by itself. The decoder itself finds the context in two parts and uses
+    /// `plan_regular_at`.
     pub fn plan_regular(&self, neighbours: &Neighbours) -> Plan
         requires samples { AreSamples self.now.parameters.maxval neighbours.now }
         requires regular { is_run neighbours.now ≡ false }
@@ -132,8 +134,8 @@ impl State {
         self.plan_regular_at(context, neighbours)
     }
 
-    /// `plan_regular` of a sample whose context was found before: `context` is what `signed_context` answers for this scan's
-    /// presets and these neighbours, or `whole_context`. All else is as there.
+    /// `plan_regular` of a sample whose context was found before: `context` is what `signed_context` answers for this
+    /// scan's presets and these neighbours, or `whole_context`. All else is as there.
     pub fn plan_regular_at(&self, context: i16, neighbours: &Neighbours) -> Plan
         requires context { context ≡ signed_context self.now.parameters neighbours.now }
         requires samples { AreSamples self.now.parameters.maxval neighbours.now }
@@ -150,9 +152,9 @@ impl State {
 
     /// The one sample of regular mode whose word has this value, MErrval; the state is then as if it had been coded.
     ///
-    /// Requires the plan that `plan_regular` made of this state, which hasn't changed since; a value of at most 2^qbpp, as
-    /// `take_golomb` answers; and that `interrupted` is false. NotCanonical exactly if no sample of at most MAXVAL has the value:
-    /// its error isn't one that A.4.5 leaves. The state is then unchanged.
+    /// Requires the plan that `plan_regular` made of this state, which hasn't changed since; a value of at most 2^qbpp,
+    /// as `take_golomb` answers; and that `interrupted` is false. NotCanonical exactly if no sample of at most MAXVAL
+    /// has the value: its error isn't one that A.4.5 leaves. The state is then unchanged.
     pub fn accept_regular(&mut self, plan: Plan, value: u32) -> Result<u16, CodeFault>
         requires plan { plan ≡ regular_plan self.old plan.neighbours }
         requires samples { AreSamples self.old.parameters.maxval plan.neighbours }
@@ -174,12 +176,12 @@ impl State {
             .accept(plan.number, plan.negative, plan.prediction, plan.k, value)
     }
 
-    /// Codes a run of `count` samples that are equal to Ra (A.7.1): to the line's end (`eol`), or to a sample that interrupts
-    /// it, which then comes next (`interrupted` is true).
+    /// Codes a run of `count` samples that are equal to Ra (A.7.1): to the line's end (`eol`), or to a sample that
+    /// interrupts it, which then comes next (`interrupted` is true).
     ///
-    /// Requires at least one sample if it ends with the line (a run that is interrupted may have none), and that `interrupted`
-    /// is false. RUNindex rises by 1 for each bit 1 that stands for 2^J samples, to at most 31. The run's bits, with those
-    /// of the sample that interrupts it, are at most LIMIT for each of these samples. Cannot fail.
+    /// Requires at least one sample if it ends with the line (a run that is interrupted may have none), and that
+    /// `interrupted` is false. RUNindex rises by 1 for each bit 1 that stands for 2^J samples, to at most 31. The run's
+    /// bits, with those of the sample that interrupts it, are at most LIMIT for each of these samples. Cannot fail.
     pub fn code_run(&mut self, count: u32, eol: bool) -> RunWord
         requires may { MayCodeRun self.old (run_of count (not eol)) }
         ensures word { result ≡ run_word self.old.run_index (run_of count (not eol)) }
@@ -201,11 +203,12 @@ impl State {
         }
     }
 
-    /// Codes the sample that interrupts a run (A.7.2): its word, which comes after the run's bits, is LG(k, LIMIT - J - 1) of
-    /// EMErrval, in at most so many bits, with J at the RUNindex that the run left.
+    /// Codes the sample that interrupts a run (A.7.2): its word, which comes after the run's bits, is LG(k, LIMIT - J -
+    /// 1) of EMErrval, in at most so many bits, with J at the RUNindex that the run left.
     ///
-    /// Requires the neighbours of this very sample, these and the sample at most MAXVAL, the sample other than Ra, and that
-    /// `interrupted` is true. Afterwards RUNindex is 1 lower unless it was 0, and `interrupted` is false. Cannot fail.
+    /// Requires the neighbours of this very sample, these and the sample at most MAXVAL, the sample other than Ra, and
+    /// that `interrupted` is true. Afterwards RUNindex is 1 lower unless it was 0, and `interrupted` is false. Cannot
+    /// fail.
     pub fn code_interruption(&mut self, neighbours: &Neighbours, sample: u16) -> Word
         requires may { MayCodeInterruption self.old neighbours.now sample }
         ensures word { result ≡ interruption_word_in self.old neighbours.now sample }
@@ -226,11 +229,11 @@ impl State {
         word
     }
 
-    /// How many samples a bit 1 of a run stands for, with `left` samples left in the line (A.7.1.2): 2^J, or `left` if these
-    /// are fewer, which ends the run with the line.
+    /// How many samples a bit 1 of a run stands for, with `left` samples left in the line (A.7.1.2): 2^J, or `left` if
+    /// these are fewer, which ends the run with the line.
     ///
-    /// Requires at least one sample left, and that `interrupted` is false. RUNindex rises by 1, to at most 31, if the bit stands
-    /// for 2^J samples, and else stays. Cannot fail.
+    /// Requires at least one sample left, and that `interrupted` is false. RUNindex rises by 1, to at most 31, if the
+    /// bit stands for 2^J samples, and else stays. Cannot fail.
     pub fn accept_one(&mut self, left: u32) -> u32
         requires uninterrupted { self.old.interrupted ≡ false }
         requires some { 0 < left }
@@ -256,11 +259,11 @@ impl State {
         order(self.run_index)
     }
 
-    /// Takes the end of a run that a sample interrupts (A.7.1.2): the `rest` samples that the bits after its bit 0 say, with
-    /// `left` samples left in the line. The sample that interrupts it comes next (`interrupted` is true).
+    /// Takes the end of a run that a sample interrupts (A.7.1.2): the `rest` samples that the bits after its bit 0 say,
+    /// with `left` samples left in the line. The sample that interrupts it comes next (`interrupted` is true).
     ///
-    /// Requires `rest` below 2^J, so a number of `break_width` bits, and that `interrupted` is false. NotCanonical exactly if
-    /// `rest` is `left` or more, which leaves no sample to interrupt the run; the state is then unchanged.
+    /// Requires `rest` below 2^J, so a number of `break_width` bits, and that `interrupted` is false. NotCanonical
+    /// exactly if `rest` is `left` or more, which leaves no sample to interrupt the run; the state is then unchanged.
     pub fn accept_break(&mut self, rest: u32, left: u32) -> Result<(), CodeFault>
         requires uninterrupted { self.old.interrupted ≡ false }
         requires rest { rest < 2 ^ order self.old.run_index }
@@ -280,8 +283,8 @@ impl State {
 
     /// By which code the word of the sample that interrupts a run is read, and what its value then stands for (A.7.2).
     ///
-    /// Requires the neighbours of that sample, each at most MAXVAL, and that `interrupted` is true. Changes nothing and cannot
-    /// fail.
+    /// Requires the neighbours of that sample, each at most MAXVAL, and that `interrupted` is true. Changes nothing and
+    /// cannot fail.
     pub fn plan_interruption(&self, neighbours: &Neighbours) -> Plan
         requires samples { AreSamples self.now.parameters.maxval neighbours.now }
         requires interrupted { self.now.interrupted ≡ true }
@@ -294,12 +297,12 @@ impl State {
         self.counters.plan_interruption(self.run_index, neighbours)
     }
 
-    /// The one sample that interrupts a run and whose word has this value, EMErrval; the state is then as if it had been
-    /// coded: RUNindex is 1 lower unless it was 0, and `interrupted` is false.
+    /// The one sample that interrupts a run and whose word has this value, EMErrval; the state is then as if it had
+    /// been coded: RUNindex is 1 lower unless it was 0, and `interrupted` is false.
     ///
-    /// Requires the plan that `plan_interruption` made of this state, which hasn't changed since; a value of at most 2^qbpp,
-    /// as `take_golomb` answers; and that `interrupted` is true. NotCanonical exactly if no sample of at most MAXVAL, other than
-    /// Ra, has the value. The state is then unchanged.
+    /// Requires the plan that `plan_interruption` made of this state, which hasn't changed since; a value of at most
+    /// 2^qbpp, as `take_golomb` answers; and that `interrupted` is true. NotCanonical exactly if no sample of at most
+    /// MAXVAL, other than Ra, has the value. The state is then unchanged.
     pub fn accept_interruption(&mut self, plan: Plan, value: u32) -> Result<u16, CodeFault>
         requires plan { plan ≡ interruption_plan self.old plan.neighbours }
         requires samples { AreSamples self.old.parameters.maxval plan.neighbours }
@@ -332,8 +335,8 @@ impl State {
         &self.counters.presets
     }
 
-    /// RUNindex, 0 to 31 (A.2.1): 0 at a scan's start, one more after each bit 1 that stands for 2^J samples, one less after a run that a
-    /// sample interrupts.
+    /// RUNindex, 0 to 31 (A.2.1): 0 at a scan's start, one more after each bit 1 that stands for 2^J samples, one less
+    /// after a run that a sample interrupts.
     pub fn run_index(&self) -> u32
         ensures value { result ≡ self.now.run_index }
         ensures small { result ≤ 31 }
@@ -341,8 +344,8 @@ impl State {
         self.run_index
     }
 
-    /// Whether the sample that interrupts a run comes next: after `code_run` of a run that doesn't end with its line, and
-    /// after `accept_break`.
+    /// Whether the sample that interrupts a run comes next: after `code_run` of a run that doesn't end with its line,
+    /// and after `accept_break`.
     pub fn interrupted(&self) -> bool
         ensures { result ≡ self.now.interrupted }
     {

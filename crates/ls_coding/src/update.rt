@@ -35,8 +35,9 @@ pub fn update(
     correct_bias(b, c, *n);
 }
 
-/// Whether this is the Golomb parameter of N and A (A.5.1), as it mostly is if it was before an error was counted: N * 2^k reaches A,
-/// and half of that doesn't, by one comparison. (Of a parameter 0 this may deny it, where half reaches too.)
+/// Whether this is the Golomb parameter of N and A (A.5.1), as it mostly is if it was before an error was counted: N *
+/// 2^k reaches A, and half of that doesn't, by one comparison. (Of a parameter 0 this may deny it, where half reaches
+/// too.)
 fn is_parameter(k: u32, n: u32, a: u32) -> bool
     requires some { 0 < n }
     requires few { a < 2 ^ 31 }
@@ -95,7 +96,8 @@ fn correct_bias(b: &mut i32, c: &mut i32, n: u32)
     *c = corrected_bias(*c, low);
 }
 
-/// B with N added or taken off, whichever brings it nearer to 0, and then over -N and at most 0 (A.6.2). B isn't so before.
+/// B with N added or taken off, whichever brings it nearer to 0, and then over -N and at most 0 (A.6.2). B isn't so
+/// before.
 fn corrected_mean(b: i32, n: u32) -> i32
     requires low { neg_ℤ (pos 131072) ≤ℤ b }
     requires high { b ≤ℤ pos 131072 }

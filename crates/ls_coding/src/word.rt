@@ -9,7 +9,7 @@ pub struct Word {
     pub k: u32,
     /// The most bits that the word may have: LIMIT, and of a sample that interrupts a run LIMIT - J - 1.
     pub glimit: u32,
-    /// The mapped error, 0 to 2^qbpp: MErrval of a sample of regular mode (A.5.2), EMErrval of one that interrupts a run
-    /// (A.7.2).
+    /// The mapped error, 0 to 2^qbpp: MErrval of a sample of regular mode (A.5.2), EMErrval of one that interrupts a
+    /// run (A.7.2).
     pub value: u32,
 }

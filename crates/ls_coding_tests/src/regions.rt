@@ -3,8 +3,8 @@ use ls_frame::Presets;
 use std::alloc::{AllocError, Global};
 use std::process::Abort;
 
-/// The samples around one (a, b, c and d), and their context with its sign by the default parameters of 8 bits, whose thresholds
-/// are 3, 7 and 21.
+/// The samples around one (a, b, c and d), and their context with its sign by the default parameters of 8 bits, whose
+/// thresholds are 3, 7 and 21.
 const CONTEXTS: [([u16; 4], i16); 6] = [
     ([0, 0, 0, 0], 0),
     ([5, 0, 0, 0], -2),

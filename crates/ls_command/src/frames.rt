@@ -7,8 +7,8 @@ pub struct Frames {
     pub last: Option<u32>,
 }
 
-/// The frames of `A`, `A..`, `..B` or `A..B`, where A and B are numbers below 4,294,967,295 and A is no greater than B; `None` of
-/// another text.
+/// The frames of `A`, `A..`, `..B` or `A..B`, where A and B are numbers below 4,294,967,295 and A is no greater than B;
+/// `None` of another text.
 pub fn read_frames(text: &str) -> Option<Frames> {
     match text.split_once("..") {
         None => {

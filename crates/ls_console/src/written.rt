@@ -12,8 +12,8 @@ pub struct EndedIndex<'a, O: Opens> {
     pub target: Target<'a, O>,
 }
 
-/// Brings an index onto the disk, and says why it isn't whole, if it isn't: for a fault of this cause, or since the disk
-/// refuses it.
+/// Brings an index onto the disk, and says why it isn't whole, if it isn't: for a fault of this cause, or since the
+/// disk refuses it.
 pub fn say_index_end<'a, O, X, E>(
     path: &str,
     index: Counted<Target<'a, O>>,

@@ -1,5 +1,5 @@
-//! The files of films and recordings: opened late where opening may wait, known by what they are and not by their names, and never
-//! destroyed.
+//! The files of films and recordings: opened late where opening may wait, known by what they are and not by their
+//! names, and never destroyed.
 //!
 //! ```
 //! let opener = Opener::new(rt);
@@ -12,9 +12,10 @@
 //! }
 //! ```
 //!
-//! In reading order: `identity` (which file something is), `opener` (what opens files, in any thread), `source` (a file that is read), `target` (a file that is written, synced at the
-//! end), `place` (where a recording is to be made, and what becomes of what stands there), `likeness` (what the first bytes of a file seem to
-//! be). No contract says what a file holds; what is known of these calls is shown by the tests of the whole program.
+//! In reading order: `identity` (which file something is), `opener` (what opens files, in any thread), `source` (a file
+//! that is read), `target` (a file that is written, synced at the end), `place` (where a recording is to be made, and
+//! what becomes of what stands there), `likeness` (what the first bytes of a file seem to be). No contract says what a
+//! file holds; what is known of these calls is shown by the tests of the whole program.
 #![tactic(auto)]
 
 pub mod identity;

@@ -1,7 +1,7 @@
 //! What the first bytes of a file seem to be.
 
-/// What the first bytes of a file seem to be, and what makes a film or a recording of it; `None` if they are like nothing that is known here.
-/// Of 136 bytes all is known.
+/// What the first bytes of a file seem to be, and what makes a film or a recording of it; `None` if they are like
+/// nothing that is known here. Of 136 bytes all is known.
 pub fn likeness_of(front: &[u8]) -> Option<&'static str> {
     for (place, mark, likeness) in LIKENESSES {
         if has_at(front, place, mark) {

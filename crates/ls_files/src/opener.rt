@@ -4,8 +4,8 @@ use std::fs::{File, Files, OpenFile, OpenOptions};
 use std::io;
 use std::io::{Read, Write};
 
-/// Opens files, and says a line on standard error. A lane opens its pipe by it, in its own thread: what is asked of a whole file system can't be
-/// taken along into one.
+/// Opens files, and says a line on standard error. A lane opens its pipe by it, in its own thread: what is asked of a
+/// whole file system can't be taken along into one.
 pub trait Opens {
     type File: Read + Write + OpenFile + Drop;
 

@@ -65,8 +65,8 @@ impl<'a> Place<'a> {
             || (self.identity().is_some() && self.identity() == other.identity())
     }
 
-    /// Whether a recording would be written into this very file: into a pipe or a device in any case, into a regular file if what stands
-    /// there is to be replaced.
+    /// Whether a recording would be written into this very file: into a pipe or a device in any case, into a regular
+    /// file if what stands there is to be replaced.
     pub fn would_write_into(&self, file: Identity, replace: bool) -> bool {
         match self.standing {
             Standing::Pipe(identity) | Standing::Other(identity) => identity == file,
@@ -88,10 +88,11 @@ impl<'a> Place<'a> {
 
     /// Makes the recording's file.
     ///
-    /// Where nothing stands it is made new, and never if something came there since. A regular file without bytes is taken as it is,
-    /// unless it is a film that is read. Any other regular file, or a link, is first renamed to the first of `path`.1, `path`.2, .. that is
-    /// free; if it is to be replaced, the file, or what the link leads to, is emptied in place of that. A pipe or a device is written to
-    /// as it is. Where it fails, what was renamed stays under its new name.
+    /// Where nothing stands it is made new, and never if something came there since. A regular file without bytes is
+    /// taken as it is, unless it is a film that is read. Any other regular file, or a link, is first renamed to the
+    /// first of `path`.1, `path`.2, .. that is free; if it is to be replaced, the file, or what the link leads to, is
+    /// emptied in place of that. A pipe or a device is written to as it is. Where it fails, what was renamed stays
+    /// under its new name.
     pub fn make<R: Files, O: Opens<File = R::File> + Drop>(
         &self,
         rt: &R,
@@ -159,8 +160,8 @@ fn create_new<R: Files>(rt: &R, path: &str) -> io::Result<R::File> {
         .open(rt, path)
 }
 
-/// Renames what stands at a path to the first of `path`.1, `path`.2, .. that is free, and says which. The new name is taken first, by an
-/// empty file that nobody else can have made: so nothing that stands under it is ever replaced.
+/// Renames what stands at a path to the first of `path`.1, `path`.2, .. that is free, and says which. The new name is
+/// taken first, by an empty file that nobody else can have made: so nothing that stands under it is ever replaced.
 fn keep<R: Files>(rt: &R, alloc: Global, path: &str) -> io::Result<String> {
     for number in 1..u32::MAX {
         let name = format!(in alloc; "{path}.{number}")?;

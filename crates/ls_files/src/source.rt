@@ -15,8 +15,8 @@ pub const FRONT: usize = 136;
 /// EACCES, as the system says it where a file may not be read.
 const PERMISSION_DENIED: i32 = 13;
 
-/// A film or a recording to read. A named pipe is opened at the first read, which waits until something writes to it: so that wait is the
-/// reader's alone. Any other file is open.
+/// A film or a recording to read. A named pipe is opened at the first read, which waits until something writes to it:
+/// so that wait is the reader's alone. Any other file is open.
 #[derive(Drop)]
 pub struct Source<'a, O: Opens> {
     opener: O,
@@ -32,7 +32,8 @@ pub struct Source<'a, O: Opens> {
 }
 
 impl<'a, O: Opens + Drop> Source<'a, O> {
-    /// Opens a file, unless it is a named pipe. That a pipe is there is looked at, and that its permissions let this process read it.
+    /// Opens a file, unless it is a named pipe. That a pipe is there is looked at, and that its permissions let this
+    /// process read it.
     pub fn of<R: Files>(rt: &R, opener: O, path: &'a str) -> io::Result<Source<'a, O>> {
         let pipe = match fs::metadata(rt, path) {
             Ok(metadata) if metadata.file_type().is_fifo() => Some(metadata),
@@ -128,8 +129,8 @@ impl<'a, O: Opens> Read for Source<'a, O> {
     }
 }
 
-/// Whether the permissions of a file let this process read it, as far as they tell: not if it is sure that they don't. The process is the
-/// owner of its own folder under /proc.
+/// Whether the permissions of a file let this process read it, as far as they tell: not if it is sure that they don't.
+/// The process is the owner of its own folder under /proc.
 fn may_be_read<R: Files>(rt: &R, metadata: &Metadata) -> bool {
     let Ok(process) = fs::metadata(rt, "/proc/self") else {
         return true;

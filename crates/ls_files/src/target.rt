@@ -5,7 +5,8 @@ use std::fs::OpenFile;
 use std::io;
 use std::io::Write;
 
-/// A recording to write. A named pipe is opened at the first write, which waits until something reads from it. Any other file is open.
+/// A recording to write. A named pipe is opened at the first write, which waits until something reads from it. Any
+/// other file is open.
 #[derive(Drop)]
 pub struct Target<'a, O: Opens> {
     opener: O,
@@ -60,7 +61,8 @@ impl<'a, O: Opens> Target<'a, O> {
         self.written
     }
 
-    /// Brings what was written to a regular file onto the disk, and the name of a new file too if its folder can be synced.
+    /// Brings what was written to a regular file onto the disk, and the name of a new file too if its folder can be
+    /// synced.
     pub fn sync(&self) -> io::Result<()> {
         match &self.file {
             Some(file) if self.is_regular => {

@@ -1,5 +1,5 @@
-//! The engine that reads frames and writes a text of them, a chunk for each, and its steps. What the frames are read from, and what is
-//! written of them, are parameters.
+//! The engine that reads frames and writes a text of them, a chunk for each, and its steps. What the frames are read
+//! from, and what is written of them, are parameters.
 ghost use Rattle.std.specs.Prelude.{◌≡◌, ◌≢◌, ◌≤◌, false, IsTrue, ℕ, ◌+◌, ◌<◌, ◌^◌, Bool, IfOk, IfErr, OnOk, IfSome, IfNone, List, [], length, Option};
 ghost use Rattle.std.specs.Io.KnownBytes.{Appends};
 ghost use Rattle.ls_frame.specs.Picture.{Picture, IsFrame};

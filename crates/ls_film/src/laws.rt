@@ -14,8 +14,8 @@ use ls_frame::laws::default_parameters_are_legal;
 use ls_frame::{Counted, Feed};
 use std::alloc::Global;
 
-/// What is coded of a film into memory is played back as the film's frames, each as its canonical Netpbm image, whatever reads the film;
-/// or memory was refused. If the reader's bytes are known, it gave images of these frames.
+/// What is coded of a film into memory is played back as the film's frames, each as its canonical Netpbm image,
+/// whatever reads the film; or memory was refused. If the reader's bytes are known, it gave images of these frames.
 ///
 /// It answers how the coding ended, what the playing wrote, and how it ended.
 pub fn recordings_are_played_back<R: Feed>(

@@ -19,7 +19,8 @@ use ls_stream::{NextFault, StreamFault, next_stream};
 use std::alloc::Global;
 use thiserror::Error;
 
-/// A part of a recording: the frames from `first` to `last`, both of them in it, or to the end. They are numbered from 0.
+/// A part of a recording: the frames from `first` to `last`, both of them in it, or to the end. They are numbered from
+/// 0.
 #[derive(Clone, Copy, Debug, PartialEq, Eq)]
 pub struct Part {
     /// The number of its first frame.
@@ -31,22 +32,25 @@ pub struct Part {
 /// Why the playing of a part stopped.
 #[derive(Clone, Copy, Debug, Drop, PartialEq, Eq, Error)]
 pub enum PartFault {
-    /// As that of a whole recording, with frames numbered as in it. Nothing was written if it is of a codestream before the part.
+    /// As that of a whole recording, with frames numbered as in it. Nothing was written if it is of a codestream before
+    /// the part.
     #[error("{0}")]
     Play(PlayFault),
-    /// The recording has only so many frames, and not all that were asked for: no last one, or, where the part goes to the end, no first.
-    /// The images of those of the part that it has were written, and the reader is at its end.
+    /// The recording has only so many frames, and not all that were asked for: no last one, or, where the part goes to
+    /// the end, no first. The images of those of the part that it has were written, and the reader is at its end.
     #[error("only {0} frames")]
     TooFew(u64),
 }
 
 /// Writes the canonical Netpbm image of each frame of a part of a recording, and says how many there were.
 ///
-/// The codestreams before the part are passed over by their markers: a fault that only decoding would show isn't looked for in them. Each
-/// image is written before the next codestream is read, and none after the part is read. If the bytes of reader and writer are known (as in
-/// memory), the clauses say which were read and written. After `Stream`, `Io` and `NoMemory` nothing is said of the reader's place.
+/// The codestreams before the part are passed over by their markers: a fault that only decoding would show isn't looked
+/// for in them. Each image is written before the next codestream is read, and none after the part is read. If the bytes
+/// of reader and writer are known (as in memory), the clauses say which were read and written. After `Stream`, `Io` and
+/// `NoMemory` nothing is said of the reader's place.
 ///
-/// It requires a first frame below `MOST_FRAMES`, and a last one, if any, that is below it too and none before the first.
+/// It requires a first frame below `MOST_FRAMES`, and a last one, if any, that is below it too and none before the
+/// first.
 pub fn play_part<R: Feed, W: Outlet>(
     alloc: Global,
     part: Part,

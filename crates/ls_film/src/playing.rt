@@ -77,10 +77,12 @@ impl PlayFault {
     }
 }
 
-/// Writes the canonical Netpbm image of each frame of a recording, and says how many there were. Reader and writer come back.
+/// Writes the canonical Netpbm image of each frame of a recording, and says how many there were. Reader and writer come
+/// back.
 ///
-/// Each image is written before the next codestream is read. If the bytes of reader and writer are known (as in memory), the
-/// clauses say which were read and written. After `Stream`, `Io` and `NoMemory` nothing is said of the reader's place.
+/// Each image is written before the next codestream is read. If the bytes of reader and writer are known (as in
+/// memory), the clauses say which were read and written. After `Stream`, `Io` and `NoMemory` nothing is said of the
+/// reader's place.
 pub fn play<R: Feed, W: Outlet>(
     alloc: Global,
     mut reader: R,
@@ -103,9 +105,9 @@ pub fn play<R: Feed, W: Outlet>(
 
 /// What a recording in memory shows, as far as it was written, and how the playing ended.
 ///
-/// A fault says what `play` says of it. It is never `Io`, since memory is read, and `Output` says that memory was refused for what is
-/// written. If the recording is the codestreams of frames, whatever their parameters, these are shown and
-/// nothing else; or memory was refused.
+/// A fault says what `play` says of it. It is never `Io`, since memory is read, and `Output` says that memory was
+/// refused for what is written. If the recording is the codestreams of frames, whatever their parameters, these are
+/// shown and nothing else; or memory was refused.
 pub fn play_bytes(alloc: Global, recording: &[u8]) -> (Vec<u8>, Result<u64, PlayFault>)
     ensures completes { IfOk result.1 (IsShownOf recording.now result.0.items) }
     ensures stops { IfErr result.1 (λ fault. (left : Option (List ℕ)) × Stops (Some recording.now) left (Some []) (Some result.0.items) fault) }

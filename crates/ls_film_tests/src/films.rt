@@ -43,8 +43,8 @@ fn mark_of(engine: Engine) -> &'static [u8] {
 /// What the two engines write.
 type Texts = [&'static [u8]; 2];
 
-/// That an engine does this with a film in memory, and with one that comes by chunks of three bytes and goes to a writer that takes
-/// two.
+/// That an engine does this with a film in memory, and with one that comes by chunks of three bytes and goes to a
+/// writer that takes two.
 fn check_film(
     rt: &impl Abort,
     alloc: Global,

@@ -40,7 +40,8 @@ fn check_part(
 
 const TOO_FEW: Result<u64, PartFault> = Err(PartFault::TooFew(2));
 
-/// The first and the last frame of a part of two codestreams, what playing it answers, and which bytes of their images it writes.
+/// The first and the last frame of a part of two codestreams, what playing it answers, and which bytes of their images
+/// it writes.
 const PARTS: [(u64, Option<u64>, Result<u64, PartFault>, usize, usize); 9] = [
     (0, None, Ok(2), 0, 24),
     (0, Some(1), Ok(2), 0, 24),

@@ -1,5 +1,6 @@
 -- Samples within maxval.
-use Rattle.std.proofs.Common.{◌≡◌, ℕ, suc, ◌+◌, ◌≤◌, Bool, true, false, cond, not, List, [], ◌∷◌, length, None, Some, refl, arith, nat_lt, fold, max}
+use Rattle.std.proofs.Common.{◌≡◌, ◌==◌, ◌&&◌, ℕ, suc, zero, ◌+◌, ◌<◌, ◌≤◌, ◌∙◌, sym, ap, Bool, true, false, cond, not, List, [], ◌∷◌, length, None, Some, refl, arith, nat_lt, fold, max, drop, get_or}
+use lib.Pointwise.{pointwise}
 use Rattle.std.specs.List.{position, prefix_len, AllByRecursion}
 use Rattle.std.proofs.lemmas.Bool.{ltb-false, ltb-true, le-ltb}
 
@@ -41,3 +42,40 @@ not_found false i h = refl
 
 pub none_above_greatest : (m : ℕ) (xs : List ℕ) → fold max 0 xs ≤ m → position (λ s. nat_lt m s) xs ≡ None
 none_above_greatest m xs h = not_found _ _ (le-ltb _ _ (within_greatest m xs 0 h).1)
+
+joined_and : (s e p : Bool) → (s && (e && p)) ≡ ((s && e) && p)
+joined_and true e p = refl
+joined_and false e p = refl
+
+and_true : (s p : Bool) → p ≡ true → s && p ≡ s
+and_true true p h = h
+and_true false p h = refl
+
+from_a_pair_on : (xs ys : List ℕ) (i : ℕ) → i < length xs → i < length ys
+    → pointwise ◌==◌ (drop i xs) (drop i ys) ≡ ((get_or xs i 0 == get_or ys i 0) && pointwise ◌==◌ (drop (suc i) xs) (drop (suc i) ys))
+from_a_pair_on [] ys i h g = absurd (omega arith)
+from_a_pair_on (x ∷ xs) [] i h g = absurd (omega arith)
+from_a_pair_on (x ∷ xs) (y ∷ ys) zero h g = refl
+from_a_pair_on (x ∷ xs) (y ∷ ys) (suc i) h g = from_a_pair_on xs ys i (omega arith) (omega arith)
+
+after_all : (xs ys : List ℕ) (n : ℕ) → length xs ≤ n → length xs ≡ length ys → pointwise ◌==◌ (drop n xs) (drop n ys) ≡ true
+after_all [] [] zero h e = refl
+after_all [] [] (suc n) h e = refl
+after_all [] (y ∷ ys) n h e = absurd (omega arith)
+after_all (x ∷ xs) [] n h e = absurd (omega arith)
+after_all (x ∷ xs) (y ∷ ys) zero h e = absurd (omega arith)
+after_all (x ∷ xs) (y ∷ ys) (suc n) h e = after_all xs ys n (omega arith) (omega arith)
+
+-- one pair more is compared
+pub compared_on : (all s : Bool) (xs ys : List ℕ) (i : ℕ) → length xs ≡ length ys → i < length xs
+    → all ≡ (s && pointwise ◌==◌ (drop i xs) (drop i ys))
+    → all ≡ ((s && (get_or xs i 0 == get_or ys i 0)) && pointwise ◌==◌ (drop (i + 1) xs) (drop (i + 1) ys))
+compared_on all s xs ys i e h g =
+    let next : suc i ≡ i + 1 = omega arith in
+    g ∙ ap (λ rest. s && rest) (from_a_pair_on xs ys i h (omega arith)) ∙ joined_and s _ _
+    ∙ ap (λ n. (s && (get_or xs i 0 == get_or ys i 0)) && pointwise ◌==◌ (drop n xs) (drop n ys)) next
+
+-- no pair is left
+pub compared_all : (all s : Bool) (xs ys : List ℕ) (n : ℕ) → length xs ≡ length ys → length xs ≤ n
+    → all ≡ (s && pointwise ◌==◌ (drop n xs) (drop n ys)) → s ≡ all
+compared_all all s xs ys n e h g = sym (g ∙ and_true s _ (after_all xs ys n h e))

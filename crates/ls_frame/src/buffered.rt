@@ -13,11 +13,12 @@ use std::io::Read;
 /// The bytes of a chunk.
 const CHUNK: usize = 65_536;
 
-/// A reader that takes the bytes of another in chunks of 64 KiB and hands them out, for callers that read byte by byte. Its errors are
-/// those of the other.
+/// A reader that takes the bytes of another in chunks of 64 KiB and hands them out, for callers that read byte by byte.
+/// Its errors are those of the other.
 ///
-/// It takes a chunk only once the one before was handed out, and hands a call on where the caller has room for a whole one. So bytes
-/// that came before a failure go out before it shows, and what is left is what is left of the chunk, and then of the other reader.
+/// It takes a chunk only once the one before was handed out, and hands a call on where the caller has room for a whole
+/// one. So bytes that came before a failure go out before it shows, and what is left is what is left of the chunk, and
+/// then of the other reader.
 #[derive(Drop)]
 pub struct Buffered<R> {
     inner: R,
@@ -33,8 +34,8 @@ pub struct Buffered<R> {
 impl<R: Read> Buffered<R> {
     ghost use Rattle.ls_frame.specs.View.Chunks.{in_chunk, inner_reader, left_in};
 
-    /// A reader of the bytes of another, of which none is taken yet. If an allocation fails, the other is dropped. Later calls but
-    /// `put_back` allocate nothing.
+    /// A reader of the bytes of another, of which none is taken yet. If an allocation fails, the other is dropped.
+    /// Later calls but `put_back` allocate nothing.
     pub fn new(alloc: Global, inner: R) -> Result<Buffered<R>, AllocError>
     where
         R: Drop,
@@ -49,8 +50,8 @@ impl<R: Read> Buffered<R> {
         })
     }
 
-    /// Puts bytes before those that are left, as if they hadn't been handed out. If an allocation fails, nothing changes. Chunks are from
-    /// then on as large as all that is left, if that is over 64 KiB.
+    /// Puts bytes before those that are left, as if they hadn't been handed out. If an allocation fails, nothing
+    /// changes. Chunks are from then on as large as all that is left, if that is over 64 KiB.
     pub fn put_back(&mut self, alloc: Global, bytes: &[u8]) -> Result<(), AllocError>
         ensures back { OnOk result (left_in R.remaining self.new ≡ prepend_known bytes.now (left_in R.remaining self.old)) }
         ensures kept { OnErr result (left_in R.remaining self.new ≡ left_in R.remaining self.old) }
@@ -125,8 +126,8 @@ impl<R> Buffered<R> {
         count
     }
 
-    /// Appends the front of the chunk, up to and with the first `mark` that no byte below `limit` follows and `most` bytes at most, to
-    /// `bytes`. Answers the last of them; there is none only if the chunk was handed out.
+    /// Appends the front of the chunk, up to and with the first `mark` that no byte below `limit` follows and `most`
+    /// bytes at most, to `bytes`. Answers the last of them; there is none only if the chunk was handed out.
     fn append_past(
         &mut self,
         mark: u8,

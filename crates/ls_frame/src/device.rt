@@ -51,10 +51,11 @@ pub trait Feed: Read {
         ensures bytes { ReadConsumes (Self.remaining self.old) (Self.remaining self.new) result buf.new }
         ensures failures { failed_reads self.new ≡ count_after (is_err result) (failed_reads self.old) };
 
-    /// Reads some bytes and appends them to `bytes`: at most `most`, which is 1 or more, and none after the first `mark`. Answers the
-    /// last of them; `None` is the end of input.
+    /// Reads some bytes and appends them to `bytes`: at most `most`, which is 1 or more, and none after the first
+    /// `mark`. Answers the last of them; `None` is the end of input.
     ///
-    /// On a fault nothing is appended. `NoMemory` comes only if the reader had a byte; after it nothing is said of the reader's place.
+    /// On a fault nothing is appended. `NoMemory` comes only if the reader had a byte; after it nothing is said of the
+    /// reader's place.
     fn feed_until(
         &mut self,
         mark: u8,

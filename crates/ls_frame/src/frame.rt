@@ -3,7 +3,7 @@ ghost use Rattle.std.specs.Prelude.{◌≡◌, ◌<◌, ◌↔◌, IsTrue, None,
 ghost use Rattle.ls_frame.specs.Picture.{frame_fault, sample_count};
 ghost use Rattle.ls_frame.specs.View.Numbers.{numbers};
 
-use crate::samples::Samples;
+use crate::samples::{Samples, are_same};
 use std::marker::Model;
 use thiserror::Error;
 
@@ -213,8 +213,8 @@ impl<'a> Model for FrameView<'a> {
 impl<'a> FrameView<'a> {
     ghost use Rattle.ls_frame.specs.Picture.{Picture, IsFrame};
 
-    /// A frame of this kind, size and maxval over these samples. If they make none, the first fault in `FrameFault`'s order is
-    /// answered.
+    /// A frame of this kind, size and maxval over these samples. If they make none, the first fault in `FrameFault`'s
+    /// order is answered.
     pub fn new(
         kind: Kind,
         width: u16,
@@ -317,6 +317,6 @@ impl PartialEq for Frame {
             && self.width == other.width
             && self.height == other.height
             && self.maxval == other.maxval
-            && self.samples == other.samples
+            && are_same(&self.samples, &other.samples)
     }
 }

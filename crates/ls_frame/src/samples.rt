@@ -1,5 +1,6 @@
 //! Samples in memory of their maker's, of 8 or of 16 bits, and places for such.
-ghost use Rattle.std.specs.Prelude.{◌≡◌, ℕ, ◌+◌, ◌<◌, ◌≤◌, List, length, slice_index, take, drop, nat_lt, position, fold, max, set};
+ghost use Rattle.std.specs.Prelude.{◌≡◌, ◌==◌, ℕ, ◌+◌, ◌<◌, ◌≤◌, List, length, slice_index, take, drop, nat_lt, position, fold, max, set};
+ghost use lib.Pointwise.{pointwise};
 ghost use Rattle.ls_frame.specs.View.Numbers.{numbers};
 
 /// Samples one after the other, each a number of its size.
@@ -50,8 +51,8 @@ pub trait Place {
     /// The greatest number that a place holds.
     ghost most: { ℕ };
 
-    /// Puts a sample into the place of this number. Requires that there is such a place, and that it holds the sample: one of 8 bits
-    /// holds 255 at most.
+    /// Puts a sample into the place of this number. Requires that there is such a place, and that it holds the sample:
+    /// one of 8 bits holds 255 at most.
     fn put(places: &mut [Self], place: usize, sample: u16)
         requires inside { place < length (numbers places.old) }
         requires small { sample ≤ most }
@@ -130,6 +131,21 @@ fn greatest_word(words: &[u16]) -> u16
     words
         .iter()
         .fold(0, |greatest: u16, word| greatest.max(*word))
+}
+
+/// Whether samples are the same. It looks at each, several at once, and so finds sooner that all are than a search for
+/// the first that isn't.
+pub(crate) fn are_same(one: &[u16], other: &[u16]) -> bool
+    ensures { result ≡ pointwise ◌==◌ one.now other.now }
+{
+    if one.len() != other.len() {
+        return false;
+    }
+    let mut same = true;
+    for place in 0..one.len() {
+        same &= one[place] == other[place];
+    }
+    same
 }
 
 fn clear_bytes(places: &mut [u8])

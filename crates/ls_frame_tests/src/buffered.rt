@@ -61,8 +61,8 @@ fn failures_below_are_counted_with_ample_memory(rt: HostRuntime) {
     check(&rt, "the last failure", 0, &last, &Some(BROKEN));
 }
 
-/// Of five bytes three are taken at once; the second chunk fails twice, and the third time gives the others. A mark stands in a chunk, in
-/// none, and at the end of one.
+/// Of five bytes three are taken at once; the second chunk fails twice, and the third time gives the others. A mark
+/// stands in a chunk, in none, and at the end of one.
 const TAKES: [Take<'static>; 8] = [
     (b'x', 1, Ok(Some(b'a')), b"a", 0),
     (b'b', 9, Ok(Some(b'b')), b"ab", 0),
@@ -239,7 +239,8 @@ fn check_reads(rt: &impl Abort, reader: &mut impl Read, reads: &[(usize, &[u8])]
 /// Room for a whole chunk is handed on, once the chunk before was handed out.
 #[test]
 fn room_for_a_chunk_is_handed_on_with_ample_memory(rt: HostRuntime) {
-    // By the number of these reads that are done: the bytes handed out then, with the one before, which are all that were taken.
+    // By the number of these reads that are done: the bytes handed out then, with the one before, which are all that
+    // were taken.
     for (done, handed_out) in [(1, 3), (2, 6), (3, 7), (4, 7)] {
         let mut chunks = Chunks::new(b"abcdefg", 3, &[]);
         check_reads(

@@ -1,7 +1,7 @@
 //! The tests of `ls_frame`, through what it makes public.
 //!
-//! They stand in a crate of their own because a crate's tests are proved together with the whole crate: here they stand on what
-//! `ls_frame` states, and its code is proved once.
+//! They stand in a crate of their own because a crate's tests are proved together with the whole crate: here they stand
+//! on what `ls_frame` states, and its code is proved once.
 #![tactic(auto)]
 
 #[cfg(test)]

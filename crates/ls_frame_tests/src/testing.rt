@@ -57,8 +57,8 @@ pub fn frame_of(rt: &impl Abort, alloc: Global, parts: &Parts<'_>) -> Result<Fra
     }
 }
 
-/// A call of `feed_until` by its mark and how many bytes it may take, what it answers, the bytes taken by it and those before it, and how
-/// many reads failed by then.
+/// A call of `feed_until` by its mark and how many bytes it may take, what it answers, the bytes taken by it and those
+/// before it, and how many reads failed by then.
 pub type Take<'a> = (u8, usize, Result<Option<u8>, FeedFault>, &'a [u8], u64);
 
 /// That calls of `feed_until` take this, up to a call for which memory is refused; whether none was.

@@ -69,7 +69,8 @@ impl Slot {
     }
 }
 
-/// The orders of one source that were booked and weren't handed out, at most `window` of them, each with its piece or none.
+/// The orders of one source that were booked and weren't handed out, at most `window` of them, each with its piece or
+/// none.
 ///
 /// Orders are numbered from 0 as they are booked.
 #[derive(Drop)]
@@ -92,8 +93,8 @@ impl Model for Collector {
 }
 
 impl Collector {
-    /// A collector for a source, with nothing booked. The window is 1 to 64, else `Window` is answered; else it fails only if an
-    /// allocation fails.
+    /// A collector for a source, with nothing booked. The window is 1 to 64, else `Window` is answered; else it fails
+    /// only if an allocation fails.
     ///
     /// It takes all the memory that the collector will need.
     pub fn new(alloc: Global, source: u8, window: usize) -> Result<Collector, CollectorFault>
@@ -111,8 +112,9 @@ impl Collector {
         })
     }
 
-    /// Books an order, and answers its number: how many were booked before. The order comes back exactly if as many booked
-    /// orders as the window has weren't handed out; then nothing has changed. Fewer than 2^64 - 1 orders may have been booked.
+    /// Books an order, and answers its number: how many were booked before. The order comes back exactly if as many
+    /// booked orders as the window has weren't handed out; then nothing has changed. Fewer than 2^64 - 1 orders may
+    /// have been booked.
     pub fn book(&mut self, order: Order) -> Result<u64, Order>
         requires { booked self.old < 2 ^ 64 - 1 }
         ensures reply { result ≡ book_reply self.old order }
@@ -127,8 +129,8 @@ impl Collector {
         Ok(number)
     }
 
-    /// Accepts the piece of an order that was booked. A piece that doesn't fit comes back with the first `Misfit` that is so;
-    /// then nothing has changed.
+    /// Accepts the piece of an order that was booked. A piece that doesn't fit comes back with the first `Misfit` that
+    /// is so; then nothing has changed.
     pub fn accept(&mut self, piece: Coded) -> Result<(), (Coded, Misfit)>
         ensures { MatchResult result
             (λ _. (misfit_of self.old piece ≡ None) × (self.new ≡ after_accept self.old piece))
@@ -187,8 +189,8 @@ impl Collector {
         self.first + self.slots.len() as u64
     }
 
-    /// How many of the booked orders weren't handed out, at most as many as the window has: `book` gives an order back if that
-    /// many are.
+    /// How many of the booked orders weren't handed out, at most as many as the window has: `book` gives an order back
+    /// if that many are.
     pub fn waiting(&self) -> usize
         ensures value { result ≡ length self.now.slots }
         ensures lawful { IsCollection self.now }

@@ -1,7 +1,7 @@
 //! The tests of `ls_pieces`, through what it makes public.
 //!
-//! They stand in a crate of their own because a crate's tests are proved together with the whole crate. The orders that they are made with
-//! (`pixels`) serve the tests of `ls_recorder` too.
+//! They stand in a crate of their own because a crate's tests are proved together with the whole crate. The orders that
+//! they are made with (`pixels`) serve the tests of `ls_recorder` too.
 #![tactic(auto)]
 
 #[cfg(test)]

@@ -5,7 +5,8 @@ use ls_queue::Job;
 use std::alloc::Global;
 use std::sync::Arc;
 
-/// An order for a gray pixel of this sample up to 255, with the default thresholds and this RESET. `None` if memory is refused.
+/// An order for a gray pixel of this sample up to 255, with the default thresholds and this RESET. `None` if memory is
+/// refused.
 pub fn pixel_order(alloc: Global, sample: u16, reset: u16) -> Option<Order> {
     let mut samples = Vec::new(alloc);
     samples.push(sample).ok()?;

@@ -58,8 +58,8 @@ impl<T> Ahead<T> {
 
 /// What is made of the frame of a recording's next codestream; `None` exactly at the end.
 ///
-/// Where all that were taken are handed out, twice as many codestreams as workers are taken off the reader, and worked on by so many
-/// threads at most, of which the calling one is one. After a fault nothing is to be asked any more.
+/// Where all that were taken are handed out, twice as many codestreams as workers are taken off the reader, and worked
+/// on by so many threads at most, of which the calling one is one. After a fault nothing is to be asked any more.
 pub fn next_made<T: Send + Drop, M: Making<T>, Rt: Threads + Sync, R: Feed>(
     ahead: &mut Ahead<T>,
     rt: &Rt,
@@ -196,8 +196,8 @@ fn threads_for<T>(jobs: &[Job<T>], workers: usize) -> usize
     threads_worth(bytes, workers)
 }
 
-/// How many threads so many bytes of codestreams are worth that are to be decoded: no more than the workers, of which it
-/// requires one at least.
+/// How many threads so many bytes of codestreams are worth that are to be decoded: no more than the workers, of which
+/// it requires one at least.
 pub fn threads_worth(bytes: usize, workers: usize) -> usize
     requires { 0 < workers }
     ensures { (0 < result) × (result ≤ workers) }

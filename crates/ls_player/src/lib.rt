@@ -20,8 +20,8 @@
 //! }
 //! ```
 //!
-//! In reading order: `playing` (image by image), `ahead` (codestreams that are taken ahead of their turn), `job` (what is
-//! made of one).
+//! In reading order: `playing` (image by image), `ahead` (codestreams that are taken ahead of their turn), `job` (what
+//! is made of one).
 #![tactic(auto)]
 
 pub mod ahead;

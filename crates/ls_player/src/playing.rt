@@ -24,13 +24,13 @@ use ls_stream::laws::{
 use std::alloc::Global;
 use std::thread::Threads;
 
-/// Writes the canonical Netpbm image of each frame of a recording, made by so many threads at most, and says how many there
-/// were. Reader and writer come back.
+/// Writes the canonical Netpbm image of each frame of a recording, made by so many threads at most, and says how many
+/// there were. Reader and writer come back.
 ///
-/// Twice as many codestreams as workers are taken at once; their images are made side by side, and written in order before the
-/// next are taken. Where no thread can be made, the calling one makes them all. After a fault nothing is said of the reader's
-/// place, and a read may have failed that comes after the codestream at fault. What else is said of a fault is what
-/// `ls_film::play` says.
+/// Twice as many codestreams as workers are taken at once; their images are made side by side, and written in order
+/// before the next are taken. Where no thread can be made, the calling one makes them all. After a fault nothing is
+/// said of the reader's place, and a read may have failed that comes after the codestream at fault. What else is said
+/// of a fault is what `ls_film::play` says.
 ///
 /// It requires at least one worker, and no more than 2^32.
 pub fn play_by<Rt: Threads + Sync, R: Feed, W: Outlet>(
@@ -57,8 +57,8 @@ pub fn play_by<Rt: Threads + Sync, R: Feed, W: Outlet>(
     }
 }
 
-/// What a recording in memory shows, its frames decoded by so many threads at most, as far as it was written, and how the playing
-/// ended: what `ls_film::play_bytes` says, whatever the threads do.
+/// What a recording in memory shows, its frames decoded by so many threads at most, as far as it was written, and how
+/// the playing ended: what `ls_film::play_bytes` says, whatever the threads do.
 ///
 /// It requires at least one worker, and no more than 2^32.
 pub fn play_bytes_by<Rt: Threads + Sync>(

@@ -11,8 +11,8 @@ use std::thread::Threads;
 /// What playing answered, what it wrote, and how many of its reader's and its writer's calls failed.
 type Outcome<'a> = (Result<u64, PlayFault>, &'a [u8], u64, u64);
 
-/// That playing ended so. Where memory may be refused it may say so, if it wrote a front of the images; a read that fails may
-/// have been tried by then.
+/// That playing ended so. Where memory may be refused it may say so, if it wrote a front of the images; a read that
+/// fails may have been tried by then.
 fn check_outcome(rt: &impl Abort, got: Outcome<'_>, want: Outcome<'_>, ample: bool) {
     let refused = !ample
         && got.0 == Err(PlayFault::NoMemory)

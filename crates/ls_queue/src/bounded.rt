@@ -36,8 +36,8 @@ impl<T> Model for Core<T> {
 }
 
 impl<T: Drop> Core<T> {
-    /// A queue of 1 to 16 sources, each open, that holds no job and at most `capacity`, which is 1 to 256. Fails for the
-    /// first of `Sources` and `Capacity` that is so; else only if an allocation fails.
+    /// A queue of 1 to 16 sources, each open, that holds no job and at most `capacity`, which is 1 to 256. Fails for
+    /// the first of `Sources` and `Capacity` that is so; else only if an allocation fails.
     ///
     /// It takes all the memory that the queue will need.
     pub fn new(alloc: Global, sources: u8, capacity: usize) -> Result<Core<T>, QueueFault>
@@ -73,8 +73,9 @@ impl<T: Drop> Core<T> {
     }
 
     /// Puts an item of a source, which is below the number of sources. Answers `Closed` exactly after a close of the
-    /// source; else `Spent` exactly if its number would be 2^64 - 1; else `Full` exactly if `capacity` jobs are held; else
-    /// its number, which is the count of the source's items so far. Where the item comes back, nothing has changed.
+    /// source; else `Spent` exactly if its number would be 2^64 - 1; else `Full` exactly if `capacity` jobs are held;
+    /// else its number, which is the count of the source's items so far. Where the item comes back, nothing has
+    /// changed.
     pub fn put(&mut self, source: u8, item: T) -> Put<T>
         requires { source < length self.old.counts }
         ensures reply { result ≡ put_reply self.old source item }
@@ -102,8 +103,8 @@ impl<T: Drop> Core<T> {
         }
     }
 
-    /// Closes a source, which is below the number of sources. Answers how many of its items were taken in, and whether it
-    /// was closed before; then nothing has changed.
+    /// Closes a source, which is below the number of sources. Answers how many of its items were taken in, and whether
+    /// it was closed before; then nothing has changed.
     pub fn close(&mut self, source: u8) -> Close
         requires { source < length self.old.counts }
         ensures reply { result ≡ close_reply self.old source }
@@ -118,8 +119,8 @@ impl<T: Drop> Core<T> {
         Close::Now(count)
     }
 
-    /// Takes the job that was held longest. Where none is held, answers `Done` if each source is closed, else `Empty`, and
-    /// nothing has changed.
+    /// Takes the job that was held longest. Where none is held, answers `Done` if each source is closed, else `Empty`,
+    /// and nothing has changed.
     pub fn take(&mut self) -> Take<T>
         ensures reply { result ≡ take_reply self.old }
         ensures state { self.new ≡ after_take self.old }

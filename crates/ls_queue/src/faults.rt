@@ -59,8 +59,8 @@ pub(crate) fn range_fault(sources: u8, capacity: usize) -> Option<QueueFault>
     None
 }
 
-/// The fault of the numbers that a running queue is made with, the first of `Sources`, `Capacity` and `Workers`, if there is
-/// one.
+/// The fault of the numbers that a running queue is made with, the first of `Sources`, `Capacity` and `Workers`, if
+/// there is one.
 pub(crate) fn open_fault(sources: u8, workers: usize, capacity: usize) -> Option<QueueFault>
     ensures { result ≡ open_fault sources workers capacity }
 {

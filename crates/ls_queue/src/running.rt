@@ -105,9 +105,9 @@ pub enum Taken<T> {
     Done,
 }
 
-/// A queue of 1 to 16 sources and 1 to 16 workers, with room for `capacity` jobs, which is 1 to 256, or for one a worker, if
-/// that is more; a seat for each source, in order from source 0; a seat for each worker; and the closer. Fails for the first
-/// of `Sources`, `Capacity` and `Workers` that is so; else only if an allocation fails.
+/// A queue of 1 to 16 sources and 1 to 16 workers, with room for `capacity` jobs, which is 1 to 256, or for one a
+/// worker, if that is more; a seat for each source, in order from source 0; a seat for each worker; and the closer.
+/// Fails for the first of `Sources`, `Capacity` and `Workers` that is so; else only if an allocation fails.
 ///
 /// It takes all the memory that the queue will need.
 pub fn open<T: Drop, R: Wait>(
@@ -186,8 +186,8 @@ fn worker_seats<T: Drop>(
 }
 
 impl<T: Drop> Queue<T> {
-    /// Puts an item of the seat's source, and answers its number. Waits while there is no room. The item comes back exactly
-    /// if the source has used up its numbers: the next one would be 2^64 - 1. Then nothing has changed.
+    /// Puts an item of the seat's source, and answers its number. Waits while there is no room. The item comes back
+    /// exactly if the source has used up its numbers: the next one would be 2^64 - 1. Then nothing has changed.
     pub fn put<R: Wait>(&self, rt: &R, seat: &mut SourceSeat<T>, item: T) -> Result<u64, T>
         requires { IsSourceSeat self.now seat.old }
         ensures seat { IsSourceSeat self.now seat.new × (seat.new.source ≡ seat.old.source) }
@@ -265,8 +265,9 @@ impl<T: Drop> Queue<T> {
         unreachable!()
     }
 
-    /// Ends the queue: sends one end mark for each worker. `ended` is what `end` made of the seats. Answers `MissingSource`
-    /// exactly if the end of a source isn't among them; then nothing is sent. Waits while there is no room.
+    /// Ends the queue: sends one end mark for each worker. `ended` is what `end` made of the seats. Answers
+    /// `MissingSource` exactly if the end of a source isn't among them; then nothing is sent. Waits while there is no
+    /// room.
     pub fn finish<R: Wait>(
         &self,
         rt: &R,
@@ -387,9 +388,9 @@ fn send_mark<T: Drop, R: Wait>(
     unreachable!()
 }
 
-/// Settles a queue whose workers have all been answered Done: says how many items each source put, all of which were taken.
-/// Answers `MissingSeat` if there are fewer seats than workers; else `NotEmpty` if some seat wasn't answered Done; then all
-/// comes back.
+/// Settles a queue whose workers have all been answered Done: says how many items each source put, all of which were
+/// taken. Answers `MissingSeat` if there are fewer seats than workers; else `NotEmpty` if some seat wasn't answered
+/// Done; then all comes back.
 pub fn settle<T: Drop, R: Wait>(
     _rt: &R,
     queue: Queue<T>,

@@ -42,11 +42,12 @@ impl Step {
     }
 }
 
-/// The replies of a queue to these steps, one after the other: one a step, each the lawful one. So for each source the items
-/// that were taken, and after them those that are held, are the items that it sent.
+/// The replies of a queue to these steps, one after the other: one a step, each the lawful one. So for each source the
+/// items that were taken, and after them those that are held, are the items that it sent.
 ///
-/// Fails for the first of these that is so: `Sources` (not 1 to 16), `Capacity` (not 1 to 256), `NoSource` with the number
-/// of the first step, from 0, that names a source which the queue doesn't have; else only if an allocation fails.
+/// Fails for the first of these that is so: `Sources` (not 1 to 16), `Capacity` (not 1 to 256), `NoSource` with the
+/// number of the first step, from 0, that names a source which the queue doesn't have; else only if an allocation
+/// fails.
 pub fn replay(
     alloc: Global,
     sources: u8,

@@ -84,7 +84,8 @@ fn numbers_in_range_are_kept_with_ample_memory(rt: HostRuntime) {
     }
 }
 
-/// Each item of a queue of texts, as far as it can be made; those that a full or closed queue gives back come back whole.
+/// Each item of a queue of texts, as far as it can be made; those that a full or closed queue gives back come back
+/// whole.
 fn texts_come_back(alloc: Global) -> Result<bool, QueueFault> {
     let mut queue: Core<String> = Core::new(alloc, 1, 1)?;
     let first = String::from_str(alloc, "first")?;

@@ -56,8 +56,8 @@ impl Usage {
     }
 }
 
-/// Uses a queue with a thread for each seat, and checks what comes of it: each item is taken once, under its number, and the
-/// account counts it.
+/// Uses a queue with a thread for each seat, and checks what comes of it: each item is taken once, under its number,
+/// and the account counts it.
 pub fn use_queue<R: Threads + Wait + Abort + Sync>(rt: &R, alloc: Global, usage: Usage) {
     let Ok((queue, sources, workers, closer)) = open::<u64, R>(
         rt,

@@ -124,8 +124,8 @@ fn finish_too_early<R: Wait>(
     }
 }
 
-/// A queue of two sources is finished with no end, then with that of the second source alone, then with both: 1 if it is refused
-/// twice and then finished.
+/// A queue of two sources is finished with no end, then with that of the second source alone, then with both: 1 if it
+/// is refused twice and then finished.
 fn finished_at_last<R: Wait>(rt: &R, alloc: Global) -> Result<u64, QueueFault> {
     let (queue, mut sources, _workers, closer) = open::<u64, R>(rt, alloc, 2, 1, 1)?;
     let first = next_source(&queue, 0, &mut sources);
@@ -177,8 +177,8 @@ fn done<R: Wait + Abort>(rt: &R, queue: &Queue<u64>, mut seat: WorkerSeat<u64>) 
     seat
 }
 
-/// A queue of one source, which puts nothing, and two workers is settled with one seat, then with both, then once both are done:
-/// what the account counts at last.
+/// A queue of one source, which puts nothing, and two workers is settled with one seat, then with both, then once both
+/// are done: what the account counts at last.
 fn settled_at_last<R: Wait + Abort>(rt: &R, alloc: Global) -> Result<u64, QueueFault> {
     let (queue, mut sources, mut workers, closer) = open::<u64, R>(rt, alloc, 1, 2, 2)?;
     let source = next_source(&queue, 0, &mut sources);

@@ -52,8 +52,8 @@ fn index_to<R: Feed, L: Outlet>(
     write_index(alloc, recording, lines, sums)
 }
 
-/// Looks for what is damaged of a recording, by its index if one is named, and then with so many workers that decode; and
-/// writes a line of each by way of a buffer.
+/// Looks for what is damaged of a recording, by its index if one is named, and then with so many workers that decode;
+/// and writes a line of each by way of a buffer.
 pub fn check_recording<R, W, E>(
     rt: &R,
     file: &str,

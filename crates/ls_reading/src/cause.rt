@@ -85,7 +85,8 @@ impl Caused for VerifyFault {
     }
 }
 
-/// Says why an engine over a file stopped, if it did, and answers the status. `written` is the last failure of what it wrote to.
+/// Says why an engine over a file stopped, if it did, and answers the status. `written` is the last failure of what it
+/// wrote to.
 pub fn conclude<O, X, E>(
     file: &str,
     outcome: Result<u64, X>,

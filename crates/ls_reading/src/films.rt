@@ -35,8 +35,8 @@ where
     finish_lines(status, lines, console)
 }
 
-/// Lists a film that is lent, to lines that are lent. (Engines are called by functions of their own, over any reader and
-/// any writer: where those are known, it takes a quarter of a minute to prove what calls an engine.)
+/// Lists a film that is lent, to lines that are lent. (Engines are called by functions of their own, over any reader
+/// and any writer: where those are known, it takes a quarter of a minute to prove what calls an engine.)
 fn list_to<R: Feed, W: Outlet>(
     alloc: Global,
     film: &mut R,
@@ -107,8 +107,8 @@ where
     if ended.is_whole { status } else { FAILED }
 }
 
-/// Codes a film that is lent, to an output that is lent, and has a follower write the index: that comes back, with why the
-/// index broke off, if it did.
+/// Codes a film that is lent, to an output that is lent, and has a follower write the index: that comes back, with why
+/// the index broke off, if it did.
 fn code_followed<R: Feed, W: Outlet, I: Outlet + Drop>(
     alloc: Global,
     film: &mut R,

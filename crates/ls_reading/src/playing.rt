@@ -35,8 +35,8 @@ where
     conclude(file, result, &recording, output.last_failure(), console)
 }
 
-/// Plays a recording that is lent to a writer that is lent, by so many workers: by one, each image is out before the next
-/// codestream is read.
+/// Plays a recording that is lent to a writer that is lent, by so many workers: by one, each image is out before the
+/// next codestream is read.
 fn play_all<Rt: Threads + Sync, R: Feed, W: Outlet>(
     rt: &Rt,
     alloc: Global,

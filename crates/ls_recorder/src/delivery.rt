@@ -18,9 +18,9 @@ use ls_queue::Patience;
 use std::alloc::{AllocError, Global};
 use std::sync::Wait;
 
-/// An inbox for each of 1 to 16 sources, in order from source 0, and an outbox for each of 1 to 16 workers. The box of a source has
-/// room for as many answers as the window, which is 1 to 64. Fails for the first of `Sources`, `Workers` and `Window` that is
-/// so; else only if an allocation fails.
+/// An inbox for each of 1 to 16 sources, in order from source 0, and an outbox for each of 1 to 16 workers. The box of
+/// a source has room for as many answers as the window, which is 1 to 64. Fails for the first of `Sources`, `Workers`
+/// and `Window` that is so; else only if an allocation fails.
 ///
 /// It takes all the memory that the boxes will need.
 pub fn boxes<R: Wait>(

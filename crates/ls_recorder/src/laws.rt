@@ -4,7 +4,8 @@ ghost use Rattle.ls_recorder.specs.Sizes.{record_fault};
 
 use crate::faults::RecordFault;
 
-/// The least and the most that films can be recorded with, and the fault of each number beside them; of several faults, the first.
+/// The least and the most that films can be recorded with, and the fault of each number beside them; of several faults,
+/// the first.
 pub fn recordings_have_these_limits()
     ensures least { record_fault 1 1 1 1 ≡ None }
     ensures most { record_fault 16 16 256 64 ≡ None }

@@ -40,19 +40,21 @@ pub struct Recording<R, W> {
     pub account: Account,
 }
 
-/// Records 1 to 16 films side by side: of each the codestreams of its frames, joined. A film is what reads it, what its codestreams
-/// are written to, and a tuning of its coding parameters. 1 to 16 workers code the frames of all films; up to `capacity` frames, 1 to
-/// 256, wait for a worker, or one a worker if that is more; of each film up to `window` frames, 1 to 64, were read and aren't written.
+/// Records 1 to 16 films side by side: of each the codestreams of its frames, joined. A film is what reads it, what its
+/// codestreams are written to, and a tuning of its coding parameters. 1 to 16 workers code the frames of all films; up
+/// to `capacity` frames, 1 to 256, wait for a worker, or one a worker if that is more; of each film up to `window`
+/// frames, 1 to 64, were read and aren't written.
 ///
-/// Each film has a lane of its own, and no film's end or fault touches another (`lane::lane` says what each answers). A lane for which no
-/// thread can be made answers `NotStarted`, with nothing read or written, and the others go on. If the bytes of a film's reader and
-/// writer are known (as in memory), the clauses say which were read and written.
+/// Each film has a lane of its own, and no film's end or fault touches another (`lane::lane` says what each answers). A
+/// lane for which no thread can be made answers `NotStarted`, with nothing read or written, and the others go on. If
+/// the bytes of a film's reader and writer are known (as in memory), the clauses say which were read and written.
 ///
-/// Fails for the first of `Sources`, `Workers`, `Capacity` and `Window` that is so; else for `NoMemory` only if an allocation fails, and
-/// for `NotStarted` only if no thread can be made for a worker. Then the films come back, with nothing read or written.
+/// Fails for the first of `Sources`, `Workers`, `Capacity` and `Window` that is so; else for `NoMemory` only if an
+/// allocation fails, and for `NotStarted` only if no thread can be made for a worker. Then the films come back, with
+/// nothing read or written.
 ///
-/// The queue, the boxes and the room for what its threads answer are taken before it starts a thread; lanes and workers ask for memory as they
-/// go. It waits for its threads; nothing is proved of when they end.
+/// The queue, the boxes and the room for what its threads answer are taken before it starts a thread; lanes and workers
+/// ask for memory as they go. It waits for its threads; nothing is proved of when they end.
 pub fn record<Rt: Threads + Wait + Sync, R: Feed + Send + Drop, W: Outlet + Send + Drop, G: Gate>(
     rt: &Rt,
     alloc: Global,
@@ -86,8 +88,8 @@ pub fn record<Rt: Threads + Wait + Sync, R: Feed + Send + Drop, W: Outlet + Send
     }
 }
 
-/// What a recording takes before it starts a thread: its queue with the seats and boxes, a flag for each source, and room
-/// for what its threads answer.
+/// What a recording takes before it starts a thread: its queue with the seats and boxes, a flag for each source, and
+/// room for what its threads answer.
 #[derive(Drop)]
 struct Prepared<R: Feed + Drop, W: Outlet + Drop> {
     queue: Queue<Order>,
@@ -153,8 +155,8 @@ fn run_prepared<Rt: Threads + Wait + Sync, R: Feed + Send + Drop, W: Outlet + Se
     }
 }
 
-/// A queue with all its seats and as many places as the capacity or one a worker, and a box for each source, which holds as many answers as
-/// the window. Fails only if an allocation fails.
+/// A queue with all its seats and as many places as the capacity or one a worker, and a box for each source, which
+/// holds as many answers as the window. Fails only if an allocation fails.
 fn make_queue<Rt: Wait>(
     rt: &Rt,
     alloc: Global,

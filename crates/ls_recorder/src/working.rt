@@ -20,8 +20,8 @@ pub struct Worked {
     pub undelivered: u64,
 }
 
-/// Takes jobs until the queue is done, codes each, and answers it into the box of its source. It passes the gate before and after
-/// each coding. A job for whose coding memory is refused is answered with `Uncoded`.
+/// Takes jobs until the queue is done, codes each, and answers it into the box of its source. It passes the gate before
+/// and after each coding. A job for whose coding memory is refused is answered with `Uncoded`.
 ///
 /// Waits for jobs, and while there is no room for an answer.
 pub fn work<R: Wait, G: Gate>(

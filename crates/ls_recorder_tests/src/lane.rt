@@ -17,8 +17,8 @@ enum Sent {
     Uncoded(u64),
 }
 
-/// A lane that is alone: what it reads, with which tuning and window, what lies in its box, and what happens to its writer; and then
-/// what it answers, how many frames it put, and what it wrote.
+/// A lane that is alone: what it reads, with which tuning and window, what lies in its box, and what happens to its
+/// writer; and then what it answers, how many frames it put, and what it wrote.
 struct Case {
     film: &'static [u8],
     tuning: Tuning,

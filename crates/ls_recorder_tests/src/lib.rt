@@ -1,6 +1,7 @@
 //! The tests of `ls_recorder`, through what it makes public.
 //!
-//! They stand in a crate of their own because a crate's tests are proved together with the whole crate, and `ls_recorder` takes the longest.
+//! They stand in a crate of their own because a crate's tests are proved together with the whole crate, and
+//! `ls_recorder` takes the longest.
 #![tactic(auto)]
 
 #[cfg(test)]

@@ -22,8 +22,8 @@ P5\n1 1\n7\n\x08";
 /// A film in memory, what it is recorded to, and its tuning.
 type Film = (Counted<Pieces<'static>>, Counted<Sink>, Tuning);
 
-/// A film in memory, of which at most so many bytes are read and written a call. The read of this number fails, and the writer
-/// meets this.
+/// A film in memory, of which at most so many bytes are read and written a call. The read of this number fails, and the
+/// writer meets this.
 fn film_of(film: &'static [u8], most: usize, failing: Option<usize>, mishap: Mishap) -> Film {
     let reader = Counted::new(Pieces::new(film, most, failing));
     (reader, Counted::new(Sink::new(most, mishap)), DEFAULTS)
@@ -212,8 +212,8 @@ fn numbers_out_of_range_are_refused_with_ample_memory(rt: HostRuntime) {
     }
 }
 
-/// A gate that lets the first frame be coded only when the second was, and the second only when the first is begun: which
-/// nobody passes in time if jobs aren't in work side by side.
+/// A gate that lets the first frame be coded only when the second was, and the second only when the first is begun:
+/// which nobody passes in time if jobs aren't in work side by side.
 #[derive(Drop)]
 struct SideBySide {
     begun: AtomicBool,

@@ -49,7 +49,8 @@ pub const RUNS_CODED: &[u8] = b"\xff\xd8\
 /// How many workers there are, and the window.
 pub const MEANS: [(usize, usize); 6] = [(1, 1), (1, 8), (2, 1), (2, 8), (4, 1), (4, 8)];
 
-/// That a check of this name went right. It wasn't made if memory was refused before, which isn't right if there was ample.
+/// That a check of this name went right. It wasn't made if memory was refused before, which isn't right if there was
+/// ample.
 pub fn check(rt: &impl Abort, name: &str, right: Option<bool>, ample: bool) {
     assert_eq!(rt; right.unwrap_or(!ample), true, "{name}");
 }

@@ -108,7 +108,8 @@ fn jobs_are_coded_and_answered_with_ample_memory(rt: HostRuntime) {
     check(&rt, "two pixels", right, true);
 }
 
-/// Whether a worker codes two pixels whose lane is gone, and counts that both answers came back. `None` if memory is refused.
+/// Whether a worker codes two pixels whose lane is gone, and counts that both answers came back. `None` if memory is
+/// refused.
 fn two_pixels_come_back<R: Wait>(rt: &R, alloc: Global) -> Option<bool> {
     let (mut inboxes, mut outboxes) = boxes(rt, alloc, 1, 1, 2).ok()?;
     let inbox = inboxes.pop()?;

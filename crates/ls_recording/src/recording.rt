@@ -6,12 +6,13 @@ use crate::report::write_report;
 use crate::watch::Watch;
 use ending::say_recorded;
 use ls_archive::{Follower, Indexing};
+use ls_command::Recording as Asked;
 use ls_console::{Console, Reader, misused, no_memory};
 use ls_files::{Opens, Target};
 use ls_frame::{Counted, Feed, Outlet, Tuning};
 use ls_recorder::{Gate, OpenGate, RecordFault, Recording as Tracks, Track, record};
 use ls_setup::{
-    Film, Names, Opened, Recording, Task, given_twice, named_as_report, named_twice, names_of,
+    Film, Names, Opened, Recording, given_twice, named_as_report, named_twice, names_of,
     open_films, tuning_of,
 };
 use std::alloc::{AllocError, Global};
@@ -33,11 +34,11 @@ struct Sizes {
     window: usize,
 }
 
-fn sizes_of(task: &Task<'_>) -> Sizes {
+fn sizes_of(asked: &Asked<'_>) -> Sizes {
     Sizes {
-        workers: task.workers,
-        queue: task.queue,
-        window: task.window,
+        workers: usize::from(asked.workers),
+        queue: usize::from(asked.queue),
+        window: usize::from(asked.window),
     }
 }
 
@@ -50,11 +51,12 @@ type FilmTrack<'a, O> = Track<Reader<'a, O>, Writer<'a, O>>;
 /// What came of all films; or why nothing did.
 type Recorded<R, W> = Result<Tracks<R, W>, (RecordFault, Vec<(R, W, Tuning)>)>;
 
-/// Records films, says what came of each, and answers the status.
+/// Records the films that are asked for, says what came of each, and answers the status. How far they are is told on a
+/// terminal in any case.
 pub fn record_films<R, O, W, E>(
     rt: &R,
     opener: O,
-    task: &Task<'_>,
+    mut asked: Asked<'_>,
     output: &mut Counted<W>,
     console: &mut Console<'_, E>,
 ) -> u8
@@ -65,11 +67,30 @@ where
     W: Write,
     E: Outlet + Send,
 {
-    let Some(tuning) = tuning_of(task.preset) else {
+    asked.progress = asked.progress || console.is_terminal();
+    record_asked(rt, opener, &asked, output, console)
+}
+
+/// Records films, says what came of each, and answers the status.
+fn record_asked<R, O, W, E>(
+    rt: &R,
+    opener: O,
+    asked: &Asked<'_>,
+    output: &mut Counted<W>,
+    console: &mut Console<'_, E>,
+) -> u8
+where
+    R: Files + AllocGlobal + Clock + Threads + Wait + Sync,
+    O: Opens<File = R::File> + Copy + Send,
+    R::File: Send,
+    W: Write,
+    E: Outlet + Send,
+{
+    let Some(tuning) = tuning_of(asked.preset) else {
         return misused(console, b"jlsrec: bad preset\n");
     };
-    match names_once(rt.alloc(), task, console) {
-        Ok(names) => record_named(rt, opener, task, tuning, &names, output, console),
+    match names_once(rt.alloc(), asked, console) {
+        Ok(names) => record_named(rt, opener, asked, tuning, &names, output, console),
         Err(status) => status,
     }
 }
@@ -78,17 +99,17 @@ where
 /// gives the status.
 fn names_once<E: Outlet>(
     alloc: Global,
-    task: &Task<'_>,
+    asked: &Asked<'_>,
     console: &mut Console<'_, E>,
 ) -> Result<Names, u8> {
-    let files = task.files.as_slice();
+    let files = asked.files.as_slice();
     if files.len() > MOST_FILES {
         return Err(misused(console, b"jlsrec: at most 16 files\n"));
     }
-    let Ok(names) = names_of(alloc, task) else {
+    let Ok(names) = names_of(alloc, asked) else {
         return Err(no_memory(console));
     };
-    match name_twice(files, &names, task.report) {
+    match name_twice(files, &names, asked.report) {
         Some(name) => Err(given_twice(name, console)),
         None => Ok(names),
     }
@@ -106,7 +127,7 @@ fn name_twice<'a>(files: &[&'a str], names: &Names, report: Option<&'a str>) -> 
 fn record_named<'a, R, O, W, E>(
     rt: &R,
     opener: O,
-    task: &'a Task<'a>,
+    asked: &'a Asked<'a>,
     tuning: Tuning,
     names: &'a Names,
     output: &mut Counted<W>,
@@ -119,12 +140,12 @@ where
     W: Write,
     E: Outlet + Send,
 {
-    let Opened { films, report } = match open_films(rt, opener, task, names, console) {
+    let Opened { films, report } = match open_films(rt, opener, asked, names, console) {
         Ok(opened) => opened,
         Err(status) => return status,
     };
     let alloc = rt.alloc();
-    let watch = if task.progress || report.is_some() {
+    let watch = if asked.progress || report.is_some() {
         match Watch::new(rt, alloc, films.len()) {
             Ok(watch) => Some(watch),
             Err(AllocError) => return no_memory(console),
@@ -133,12 +154,12 @@ where
         None
     };
     let recorded = match written_through(alloc, films, tuning) {
-        Ok(films) => record_opened(rt, films, task, watch.as_ref(), console),
+        Ok(films) => record_opened(rt, films, asked, watch.as_ref(), console),
         Err(AllocError) => return no_memory(console),
     };
     let status = say_ended(
         alloc,
-        task,
+        asked,
         names,
         watch.as_ref(),
         recorded,
@@ -147,7 +168,8 @@ where
     );
     match (report, &watch) {
         (Some(report), Some(watch)) => {
-            status.max(write_report(alloc, report, watch, &task.files, task.workers, console))
+            let workers = usize::from(asked.workers);
+            status.max(write_report(alloc, report, watch, &asked.files, workers, console))
         }
         _ => status,
     }
@@ -177,7 +199,7 @@ fn writer_of<'a, O: Opens + Drop>(alloc: Global, recording: Recording<'a, O>) ->
 fn record_opened<'a, R, O, E>(
     rt: &R,
     films: Vec<(Reader<'a, O>, Writer<'a, O>, Tuning)>,
-    task: &Task<'a>,
+    asked: &Asked<'a>,
     watch: Option<&Watch<'_, R>>,
     console: &mut Console<'_, E>,
 ) -> Recorded<Reader<'a, O>, Writer<'a, O>>
@@ -187,13 +209,13 @@ where
     O::File: Send,
     E: Outlet + Send,
 {
-    record_seen(rt, rt.alloc(), films, task, watch, console)
+    record_seen(rt, rt.alloc(), films, asked, watch, console)
 }
 
 /// Says what came of each film, unless that was told while it was watched; answers the status.
 fn say_ended<'a, R, O, W, E>(
     alloc: Global,
-    task: &Task<'a>,
+    asked: &Asked<'a>,
     names: &Names,
     watch: Option<&Watch<'_, R>>,
     recorded: Recorded<Reader<'a, O>, Writer<'a, O>>,
@@ -212,7 +234,7 @@ where
     }
     say_recorded(
         alloc,
-        &task.files,
+        &asked.files,
         &names.indexes,
         recorded,
         &told,
@@ -226,7 +248,7 @@ fn record_seen<Rt, R, W, E>(
     rt: &Rt,
     alloc: Global,
     films: Vec<(R, W, Tuning)>,
-    task: &Task<'_>,
+    asked: &Asked<'_>,
     watch: Option<&Watch<'_, Rt>>,
     console: &mut Console<'_, E>,
 ) -> Recorded<R, W>
@@ -236,11 +258,11 @@ where
     W: Outlet + Send + Drop,
     E: Outlet + Send,
 {
-    let sizes = sizes_of(task);
+    let sizes = sizes_of(asked);
     match watch {
         None => record_through(rt, alloc, films, sizes, &OpenGate),
-        Some(watch) if task.progress => {
-            record_telling(rt, alloc, films, sizes, &task.files, watch, console)
+        Some(watch) if asked.progress => {
+            record_telling(rt, alloc, films, sizes, &asked.files, watch, console)
         }
         Some(watch) => record_watching(rt, alloc, films, sizes, watch),
     }

@@ -13,8 +13,8 @@ const ROOM: usize = 64;
 
 /// Writes a line for each reply.
 ///
-/// It allocates nothing. On a fault exactly the first `written` bytes of the lines went out, if that is a `usize`: lines of
-/// 2^64 bytes or more would be of more replies than any memory holds.
+/// It allocates nothing. On a fault exactly the first `written` bytes of the lines went out, if that is a `usize`:
+/// lines of 2^64 bytes or more would be of more replies than any memory holds.
 pub fn print_replies<W: Outlet>(writer: &mut W, replies: &[Reply]) -> Result<(), WriteFault>
     ensures ok { OnOk result (Appends (W.contents writer.old) (W.contents writer.new) (reply_lines replies.now)) }
     ensures fault { length (reply_lines replies.now) < 2 ^ 64 → IfErr result

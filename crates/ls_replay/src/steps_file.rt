@@ -82,8 +82,8 @@ pub fn read_text<R: Feed>(alloc: Global, reader: &mut R) -> Result<Vec<u8>, Text
     Err(TextFault::TooLong)
 }
 
-/// The steps of a steps file, one after the other; or the number of its first line, from 1, that has words and is no step.
-/// Else it fails only if an allocation fails.
+/// The steps of a steps file, one after the other; or the number of its first line, from 1, that has words and is no
+/// step. Else it fails only if an allocation fails.
 ///
 /// A line is a step, or has no words. Lines end with LF, which the last one may lack.
 pub fn read_steps(alloc: Global, text: &[u8]) -> Result<Vec<Step>, StepsFault>

@@ -29,18 +29,19 @@ pub struct PlayedBack {
     pub played: Result<u64, PlayFault>,
 }
 
-/// Records films side by side, each with its tuning, and plays back what was recorded of each, one after the other and each by so
-/// many players.
+/// Records films side by side, each with its tuning, and plays back what was recorded of each, one after the other and
+/// each by so many players.
 ///
-/// With any numbers of workers and players, any capacity and any window, and in whatever order the threads run: of each film that was
-/// recorded whole (`recorded` is `Ok`), the recording is the codestreams of all its frames, in order, with nothing between; if its
-/// tuning is all zeros, that is what `ls_film::code_film` writes of the film. Playing it shows exactly the film's frames, each as its
-/// canonical Netpbm image, unless memory is refused. Of a film whose lane stopped, the recording is what its fault says
-/// (`LaneFault`); but for `Output` it is whole codestreams, and playing it shows exactly their frames, unless memory is refused.
+/// With any numbers of workers and players, any capacity and any window, and in whatever order the threads run: of each
+/// film that was recorded whole (`recorded` is `Ok`), the recording is the codestreams of all its frames, in order,
+/// with nothing between; if its tuning is all zeros, that is what `ls_film::code_film` writes of the film. Playing it
+/// shows exactly the film's frames, each as its canonical Netpbm image, unless memory is refused. Of a film whose lane
+/// stopped, the recording is what its fault says (`LaneFault`); but for `Output` it is whole codestreams, and playing
+/// it shows exactly their frames, unless memory is refused.
 ///
-/// Fails for `NoMemory` only if an allocation fails; else for the first of `Sources`, `Workers`, `Capacity` and `Window` that is so;
-/// else for `NotStarted` only if no thread can be made for a worker. Then nothing comes back. Where none can be made for a player,
-/// the calling thread plays.
+/// Fails for `NoMemory` only if an allocation fails; else for the first of `Sources`, `Workers`, `Capacity` and
+/// `Window` that is so; else for `NotStarted` only if no thread can be made for a worker. Then nothing comes back.
+/// Where none can be made for a player, the calling thread plays.
 ///
 /// It requires at least one player, and no more than 2^32.
 pub fn record_and_play<Rt: Threads + Wait + Sync, G: Gate>(

@@ -48,8 +48,8 @@ pub enum SalvageFault {
     /// 4,294,967,295 bytes, the most of a codestream, show neither its end nor a fault. They can't be put back.
     #[error("no end within 4294967295 bytes")]
     NoEnd,
-    /// A frame numbered 4,294,967,295, the first past the most of a film; or, with the same text, a part after 2^62 bytes or a
-    /// gap of more.
+    /// A frame numbered 4,294,967,295, the first past the most of a film; or, with the same text, a part after 2^62
+    /// bytes or a gap of more.
     #[error("too many frames")]
     TooMuch,
 }

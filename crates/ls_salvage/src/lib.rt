@@ -2,9 +2,9 @@
 //!
 //! What it hands on: a recording's bytes are parts, each a frame's codestream or a gap (`specs/Salvage.antt`), and they
 //! are settled by the bytes (`specs/View/Salvaged.antt`); a gap goes up to the next place where a codestream may begin
-//! (`specs/Starts.antt`). A salvage writes the frames and tells of the gaps, or says which parts it got through (`specs/View/Runs.antt`).
-//! Wherever a whole codestream of a frame stands, it is shown, unless one that is shown holds its beginning; and with
-//! no damage a salvage shows what `ls_film::play` does (`laws`).
+//! (`specs/Starts.antt`). A salvage writes the frames and tells of the gaps, or says which parts it got through
+//! (`specs/View/Runs.antt`). Wherever a whole codestream of a frame stands, it is shown, unless one that is shown holds
+//! its beginning; and with no damage a salvage shows what `ls_film::play` does (`laws`).
 //!
 //! ```
 //! use ls_salvage::{Gap, SalvageFault, salvage_bytes};

@@ -20,8 +20,8 @@ use std::alloc::Global;
 /// told, and how the salvage ended.
 ///
 /// Each whole codestream of a frame is shown, unless one that is shown holds its beginning. A fault says what `salvage`
-/// says of it; it is never `Io`, since memory is read, and `Output` says that memory was refused for the images. If the recording is the codestreams of frames and nothing else, these are shown and there is no gap; or
-/// memory was refused.
+/// says of it; it is never `Io`, since memory is read, and `Output` says that memory was refused for the images. If the
+/// recording is the codestreams of frames and nothing else, these are shown and there is no gap; or memory was refused.
 pub fn salvage_bytes(
     alloc: Global,
     recording: &[u8],

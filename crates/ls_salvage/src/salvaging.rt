@@ -44,14 +44,14 @@ struct Progress {
 /// Writes the text of the frames of a recording, wherever a whole codestream of one stands, tells of the gaps between
 /// them, and says how many there were of each.
 ///
-/// After bytes that begin with no codestream it goes on at the next start after the first of them: SOI, and FF with
-/// a code that may follow it. With no damage it writes what `ls_film::play` does. A frame is written whole before the next
-/// part is read. If the bytes of reader and writer are known (as in memory), and what was told, the clauses say which
-/// they were. After a fault nothing is said of the reader's place.
+/// After bytes that begin with no codestream it goes on at the next start after the first of them: SOI, and FF with a
+/// code that may follow it. With no damage it writes what `ls_film::play` does. A frame is written whole before the
+/// next part is read. If the bytes of reader and writer are known (as in memory), and what was told, the clauses say
+/// which they were. After a fault nothing is said of the reader's place.
 ///
 /// It holds the bytes of one codestream, or as far as they are read of what should be one, and its frame. Of bytes at
-/// fault it holds two copies while they are put back: after a gap's first byte these are read again, from the next start
-/// on.
+/// fault it holds two copies while they are put back: after a gap's first byte these are read again, from the next
+/// start on.
 pub fn salvage<T: Text, G: Gaps, R: Feed, W: Outlet>(
     alloc: Global,
     reader: &mut Buffered<R>,

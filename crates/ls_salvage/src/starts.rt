@@ -53,8 +53,8 @@ enum Matched {
 
 /// Takes the bytes up to the next start off a reader, or all if there is none, and says how many they were.
 ///
-/// It keeps 64 KiB of them at most. `TooMuch` says that there were 2^62 bytes without a start; `Io` and `NoMemory`, that a
-/// read or an allocation failed. After a fault nothing is said of the reader's place.
+/// It keeps 64 KiB of them at most. `TooMuch` says that there were 2^62 bytes without a start; `Io` and `NoMemory`,
+/// that a read or an allocation failed. After a fault nothing is said of the reader's place.
 pub fn skip_to_start<R: Feed>(alloc: Global, reader: &mut Buffered<R>) -> Result<u64, ReadFault>
     ensures skipped { IfOk result (λ count. Tells (left_in R.remaining reader.old)
         → Tells (left_in R.remaining reader.new) × HasSkipped count (known (left_in R.remaining reader.old)) (known (left_in R.remaining reader.new))) }
@@ -150,7 +150,8 @@ fn after_ff(byte: u8) -> Option<Matched>
     Some(Matched::Nothing)
 }
 
-/// Whether this byte may stand after SOI and FF: the code of a marker that may, or FF, since the one before it may be a fill byte.
+/// Whether this byte may stand after SOI and FF: the code of a marker that may, or FF, since the one before it may be a
+/// fill byte.
 fn may_follow_soi(code: u8) -> bool
     ensures { result ≡ may_follow_soi code }
 {

@@ -236,7 +236,8 @@ fn what_is_whole_is_shown_with_ample_memory(rt: HostRuntime) {
     }
 }
 
-/// Whether the salvage of a recording shows images that begin with the first ones and end with the last, each of them for itself.
+/// Whether the salvage of a recording shows images that begin with the first ones and end with the last, each of them
+/// for itself.
 fn shows(alloc: Global, recording: &[u8], first: &[u8], last: &[u8]) -> bool {
     let (shown, _gaps, salvaged) = salvage_bytes(alloc, recording);
     salvaged.is_ok()
@@ -260,7 +261,8 @@ fn a_byte_changed_costs_no_other_frame_with_ample_memory(rt: HostRuntime) {
     let mut recording = joined(rt.alloc(), &[BLACK, WHITE, BLACK]).expect(&rt, "memory");
     let others = joined(rt.alloc(), &[WHITE_IMAGE, BLACK_IMAGE]).expect(&rt, "memory");
     for place in 0..56 {
-        // Damage in the first codestream costs the second and the third nothing; damage in the second, the first and the third.
+        // Damage in the first codestream costs the second and the third nothing; damage in the second, the first and
+        // the third.
         let (first, last) = if place < BLACK.len() {
             (NONE, others.as_slice())
         } else {

@@ -1,12 +1,13 @@
 //! The films that are given, by which names and which files, and whether one of them is given twice.
-use crate::task::Task;
+use ls_command::Recording as Asked;
 use ls_console::CLEARED;
 use ls_files::identity::last_part;
 use ls_files::{Identity, Opens, Place, Source, Spot};
 use std::alloc::{AllocError, Global};
 use std::rt::Files;
 
-/// The names of what is made for films, film by film, and what is said of each film on a terminal once its pipe is open.
+/// The names of what is made for films, film by film, and what is said of each film on a terminal once its pipe is
+/// open.
 #[derive(Drop)]
 pub struct Names {
     pub recordings: Vec<String>,
@@ -15,8 +16,8 @@ pub struct Names {
     pub notices: Vec<String>,
 }
 
-/// A film that is given: which file it is, where its name stands, and where its recording and the index of that are to be
-/// made.
+/// A film that is given: which file it is, where its name stands, and where its recording and the index of that are to
+/// be made.
 #[derive(Clone, Copy)]
 pub struct Given<'a> {
     pub file: &'a str,
@@ -27,11 +28,11 @@ pub struct Given<'a> {
 }
 
 /// The names of what is made for each film, and what is said of it.
-pub fn names_of(alloc: Global, task: &Task<'_>) -> Result<Names, AllocError> {
-    let files = task.files.as_slice();
-    let recordings = recording_names(alloc, files, task.into)?;
+pub fn names_of(alloc: Global, asked: &Asked<'_>) -> Result<Names, AllocError> {
+    let files = asked.files.as_slice();
+    let recordings = recording_names(alloc, files, asked.into)?;
     let mut indexes = Vec::new(alloc);
-    if task.index {
+    if asked.index {
         for recording in &recordings {
             indexes.push(format!(in alloc; "{recording}.index")?)?;
         }
@@ -117,8 +118,8 @@ where
     }
 }
 
-/// The first name that is given twice, or is the name of another film's recording or of an index, or has a recording of a
-/// name with another's.
+/// The first name that is given twice, or is the name of another film's recording or of an index, or has a recording of
+/// a name with another's.
 pub fn named_twice<'a>(files: &[&'a str], names: &Names) -> Option<&'a str> {
     let recordings = &names.recordings;
     for (place, (file, recording)) in files.iter().zip(recordings).enumerate() {
@@ -151,8 +152,8 @@ pub fn named_as_report<'a>(
     }
 }
 
-/// The first film whose recording or index would be one file with another's, or that is another's recording or an index, or
-/// that a recording or an index would be written into.
+/// The first film whose recording or index would be one file with another's, or that is another's recording or an
+/// index, or that a recording or an index would be written into.
 pub fn written_twice<'a>(given: &[Given<'a>], replace: bool) -> Option<&'a str> {
     for (place, film) in given.iter().enumerate() {
         for (other, one) in given.iter().enumerate() {
@@ -190,8 +191,8 @@ pub fn has_index_at(film: &Given<'_>, place: &Place<'_>) -> bool {
     }
 }
 
-/// Whether the index of `other` would be one file with this film's recording, is where the film stands, or would be written
-/// into the film.
+/// Whether the index of `other` would be one file with this film's recording, is where the film stands, or would be
+/// written into the film.
 fn meets_index(film: &Given<'_>, other: &Given<'_>, replace: bool) -> bool {
     match &other.index {
         Some(index) => is_met(film, index, replace),
@@ -199,8 +200,8 @@ fn meets_index(film: &Given<'_>, other: &Given<'_>, replace: bool) -> bool {
     }
 }
 
-/// Whether a report or an index would be one file with a film's recording, is where the film stands, or would be written
-/// into the film.
+/// Whether a report or an index would be one file with a film's recording, is where the film stands, or would be
+/// written into the film.
 pub fn is_met(film: &Given<'_>, place: &Place<'_>, replace: bool) -> bool {
     film.place.is_one_with(place)
         || (film.spot.is_some() && film.spot == place.spot())

@@ -1,6 +1,6 @@
 //! Opening: the films to read, and the files for what is made of them.
 use crate::given::{Given, Names, has_index_at, is_met, look_at, written_twice};
-use crate::task::Task;
+use ls_command::Recording as Asked;
 use ls_console::{Console, FAILED, Reader, USAGE, buffered, no_memory};
 use ls_files::{Opens, Place, Source, Target};
 use ls_frame::Outlet;
@@ -36,7 +36,7 @@ pub struct Opened<'a, O: Opens> {
 pub fn open_films<'a, R, O, E>(
     rt: &R,
     opener: O,
-    task: &Task<'a>,
+    asked: &Asked<'a>,
     names: &'a Names,
     console: &mut Console<'_, E>,
 ) -> Result<Opened<'a, O>, u8>
@@ -45,18 +45,18 @@ where
     O: Opens<File = R::File> + Copy,
     E: Outlet,
 {
-    let sources = open_sources(rt, opener, task.files.as_slice(), console)?;
-    let (report, recordings) = make_files(rt, opener, task, names, &sources, console)?;
-    let films = films_of(rt.alloc(), task, names, sources, recordings, console)?;
+    let sources = open_sources(rt, opener, asked.files.as_slice(), console)?;
+    let (report, recordings) = make_files(rt, opener, asked, names, &sources, console)?;
+    let films = films_of(rt.alloc(), asked, names, sources, recordings, console)?;
     Ok(Opened { films, report })
 }
 
-/// Makes the file for the report, if there is to be one, and those for the recordings, once none is given twice; or says
-/// why not, and gives the status.
+/// Makes the file for the report, if there is to be one, and those for the recordings, once none is given twice; or
+/// says why not, and gives the status.
 fn make_files<'a, R, O, E>(
     rt: &R,
     opener: O,
-    task: &Task<'a>,
+    asked: &Asked<'a>,
     names: &'a Names,
     sources: &[Source<'a, O>],
     console: &mut Console<'_, E>,
@@ -66,19 +66,20 @@ where
     O: Opens<File = R::File> + Copy,
     E: Outlet,
 {
-    let given = given_once(rt, task, names, sources, console)?;
-    let report = match task.report {
-        Some(path) => Some(make_report(rt, opener, path, &given, task.replace, console)?),
+    let given = given_once(rt, asked, names, sources, console)?;
+    let report = match asked.report {
+        Some(path) => Some(make_report(rt, opener, path, &given, asked.replace, console)?),
         None => None,
     };
-    let recordings = make_recordings(rt, opener, &given, task.replace, console)?;
+    let recordings = make_recordings(rt, opener, &given, asked.replace, console)?;
     Ok((report, recordings))
 }
 
-/// What the films are and where their recordings are to be made, if none is given twice; or says so, and gives the status.
+/// What the films are and where their recordings are to be made, if none is given twice; or says so, and gives the
+/// status.
 fn given_once<'a, R, O, E>(
     rt: &R,
-    task: &Task<'a>,
+    asked: &Asked<'a>,
     names: &'a Names,
     sources: &[Source<'a, O>],
     console: &mut Console<'_, E>,
@@ -88,10 +89,10 @@ where
     O: Opens,
     E: Outlet,
 {
-    let Ok(given) = look_at(rt, task.files.as_slice(), names, sources) else {
+    let Ok(given) = look_at(rt, asked.files.as_slice(), names, sources) else {
         return Err(no_memory(console));
     };
-    match written_twice(&given, task.replace) {
+    match written_twice(&given, asked.replace) {
         Some(file) => Err(given_twice(file, console)),
         None => Ok(given),
     }
@@ -100,7 +101,7 @@ where
 /// The films: each is read by way of a buffer. Or gives the status, if memory is refused.
 fn films_of<'a, O, E>(
     alloc: Global,
-    task: &Task<'a>,
+    asked: &Asked<'a>,
     names: &'a Names,
     sources: Vec<Source<'a, O>>,
     recordings: Vec<Recording<'a, O>>,
@@ -110,7 +111,7 @@ where
     O: Opens + Copy,
     E: Outlet,
 {
-    let readers = buffered_sources(alloc, &task.files, sources, &names.notices, console)?;
+    let readers = buffered_sources(alloc, &asked.files, sources, &names.notices, console)?;
     match joined(alloc, readers, recordings) {
         Ok(films) => Ok(films),
         Err(AllocError) => Err(no_memory(console)),
@@ -181,8 +182,8 @@ where
     Ok(Report { path, target })
 }
 
-/// Makes the file of each recording, and that of its index if it is to have one; or says of the first that can't be made,
-/// and gives the status.
+/// Makes the file of each recording, and that of its index if it is to have one; or says of the first that can't be
+/// made, and gives the status.
 fn make_recordings<'a, R, O, E>(
     rt: &R,
     opener: O,
@@ -227,8 +228,8 @@ where
     Ok(Recording { target, index })
 }
 
-/// Makes the file of a recording, of its index or of the report, and says how what stood there is called now, if that is told; or
-/// says why it can't be made, and gives the status.
+/// Makes the file of a recording, of its index or of the report, and says how what stood there is called now, if that
+/// is told; or says why it can't be made, and gives the status.
 fn make_target<'a, R, O, E>(
     rt: &R,
     opener: O,

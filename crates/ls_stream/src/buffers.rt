@@ -4,7 +4,8 @@ ghost use Rattle.std.specs.Prelude.{◌≡◌, IfOk};
 use std::alloc::{AllocError, Global};
 use std::marker::Model;
 
-/// Buffers for two lines of a plane, the one that is coded and the one above it. One value serves any number of frames up to its width.
+/// Buffers for two lines of a plane, the one that is coded and the one above it. One value serves any number of frames
+/// up to its width.
 ///
 /// In contracts it is its width, in samples.
 #[derive(Drop)]
@@ -45,8 +46,8 @@ impl Lines {
     }
 }
 
-/// A decoder's lines: the two of a plane, and of the samples of the line that is read the half contexts that the line above gives
-/// (T.87 A.3).
+/// A decoder's lines: the two of a plane, and of the samples of the line that is read the half contexts that the line
+/// above gives (T.87 A.3).
 ///
 /// In contracts it is its width, in samples.
 #[derive(Drop)]

@@ -38,15 +38,16 @@ pub struct Decoded {
 
 /// The frame of the codestream at the front of bytes; what stands after it isn't looked at.
 ///
-/// If any front of the bytes is a codestream of a frame (`specs/Grammar.antt`), this answers that frame and the front's length, or
-/// NoMemory. Any other fault comes only if no front is one; it is the first from the left (`specs/View/FirstFaults.antt`): of a
-/// marker or a segment; of a scan's data LeftoverBits if 16 bits or more follow those of a plane, BadCode at the first word, run or
-/// sample that no encoder writes for any plane, and if the bits run out before, Truncated if the input ends them, BadCode if a marker
-/// does. TooLarge stands for Truncated where there are more bytes than a codestream may have.
+/// If any front of the bytes is a codestream of a frame (`specs/Grammar.antt`), this answers that frame and the front's
+/// length, or NoMemory. Any other fault comes only if no front is one; it is the first from the left
+/// (`specs/View/FirstFaults.antt`): of a marker or a segment; of a scan's data LeftoverBits if 16 bits or more follow
+/// those of a plane, BadCode at the first word, run or sample that no encoder writes for any plane, and if the bits run
+/// out before, Truncated if the input ends them, BadCode if a marker does. TooLarge stands for Truncated where there
+/// are more bytes than a codestream may have.
 ///
-/// NoMemory comes only if an allocation fails, and only for bytes that begin with a complete legal opening: SOI, the frame header, the
-/// segments before the first scan and its header, with coding parameters that are legal. What is asked for is two lines and a row of
-/// half contexts, a table of 2 * MAXVAL + 1 bytes, and the samples.
+/// NoMemory comes only if an allocation fails, and only for bytes that begin with a complete legal opening: SOI, the
+/// frame header, the segments before the first scan and its header, with coding parameters that are legal. What is
+/// asked for is two lines and a row of half contexts, a table of 2 * MAXVAL + 1 bytes, and the samples.
 pub fn decode_frame(alloc: Global, bytes: &[u8]) -> Result<Decoded, StreamFault>
     ensures ok { IfOk result (λ decoded. (decoded.used ≤ length bytes.now) × Spells (take decoded.used bytes.now) decoded.frame) }
     ensures fault { IfErr result (λ fault. (fault ≡ StreamFault.NoMemory)
@@ -78,8 +79,9 @@ pub fn decode_frame(alloc: Global, bytes: &[u8]) -> Result<Decoded, StreamFault>
     })
 }
 
-/// What stands before the data of a codestream's first scan: SOI, the frame header, the coding parameters and the header of the first
-/// component's scan, with the miscellaneous segments between them (T.87 Annex C). It says the form of the frame.
+/// What stands before the data of a codestream's first scan: SOI, the frame header, the coding parameters and the
+/// header of the first component's scan, with the miscellaneous segments between them (T.87 Annex C). It says the form
+/// of the frame.
 #[derive(Drop)]
 pub struct Opening<'a> {
     header: FrameHeader,
@@ -105,8 +107,8 @@ impl<'a> Opening<'a> {
 
     /// The opening at the front of bytes. It looks at no sample, and allocates nothing.
     ///
-    /// If any front of the bytes is a codestream of a frame, its form is the frame's. Where this fails no front is one, and the fault
-    /// is the first from the left, as `decode_frame` says it.
+    /// If any front of the bytes is a codestream of a frame, its form is the frame's. Where this fails no front is one,
+    /// and the fault is the first from the left, as `decode_frame` says it.
     pub fn read(bytes: &'a [u8]) -> Result<Opening<'a>, StreamFault>
         ensures bytes { IfOk result (λ opening. opening.bytes ≡ bytes.now) }
         ensures begins { IfOk result (λ opening. BeginsWithOpening (take most_bytes bytes.now)) }
@@ -175,12 +177,12 @@ impl<'a> Opening<'a> {
         shape.width * shape.height * shape.components
     }
 
-    /// Decodes the frame into its samples, row by row from the top, pixel by pixel, component by component. Answers how many bytes the
-    /// codestream has. It allocates nothing.
+    /// Decodes the frame into its samples, row by row from the top, pixel by pixel, component by component. Answers how
+    /// many bytes the codestream has. It allocates nothing.
     ///
-    /// It requires as many places as the frame has samples, which hold numbers up to maxval and none over it (zeros, for one), lines at
-    /// least as wide as the frame, and the regions of the opening's parameters. On a fault, which is as `decode_frame` says it and never NoMemory,
-    /// nothing is said of the places.
+    /// It requires as many places as the frame has samples, which hold numbers up to maxval and none over it (zeros,
+    /// for one), lines at least as wide as the frame, and the regions of the opening's parameters. On a fault, which is
+    /// as `decode_frame` says it and never NoMemory, nothing is said of the places.
     pub fn decode<S: Place>(
         &self,
         lines: &mut DecoderLines,
@@ -211,8 +213,8 @@ impl<'a> Opening<'a> {
         }
     }
 
-    /// Reads on to EOI by markers and headers, and decodes no data. Answers how many bytes the codestream has, or the first fault of
-    /// its markers and headers, which is never NoMemory. It allocates nothing.
+    /// Reads on to EOI by markers and headers, and decodes no data. Answers how many bytes the codestream has, or the
+    /// first fault of its markers and headers, which is never NoMemory. It allocates nothing.
     pub fn skip(&self) -> Result<usize, StreamFault>
         ensures ok { IfOk result (λ used. (o : Outline) × (left : List ℕ) × (outline_of self.now.bytes ≡ Ok (o, left))
             × (used + length left ≡ length self.now.bytes) × IsOutlineFrom self.now o) }
@@ -273,7 +275,8 @@ fn decode_opened<S: Place>(
     }
 }
 
-/// Reads the scans of all components, of which the first one's header was read, into the samples; answers what is left after EOI.
+/// Reads the scans of all components, of which the first one's header was read, into the samples; answers what is left
+/// after EOI.
 fn decode_scans<'a, S: Place>(
     presets: &Presets,
     regions: &Regions,
@@ -329,8 +332,8 @@ fn after_data(bytes: &[u8]) -> &[u8]
     &bytes[data_of(bytes).len..]
 }
 
-/// Reads the data at the front of bytes, which is of a component's scan, into the component's places among the samples; answers what is
-/// left after it.
+/// Reads the data at the front of bytes, which is of a component's scan, into the component's places among the samples;
+/// answers what is left after it.
 fn decode_data<'a, S: Place>(
     presets: &Presets,
     regions: &Regions,
@@ -380,7 +383,8 @@ fn decode_data<'a, S: Place>(
     }
 }
 
-/// What is said of a fault of a component's scan, whose data ends so: where the input ends before the plane does it is truncated.
+/// What is said of a fault of a component's scan, whose data ends so: where the input ends before the plane does it is
+/// truncated.
 fn fault_in(component: u8, stop: Stop, fault: ScanFault) -> StreamFault
     ensures { result ≡ fault_in component stop fault }
 {

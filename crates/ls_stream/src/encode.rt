@@ -19,10 +19,11 @@ use ls_frame::{Frame, FrameView, Presets};
 use scan::put_scan;
 use std::alloc::{AllocError, Global};
 
-/// The codestream of a frame, coded with the default parameters of its maxval (T.87 C.2.4.1.1). It has fewer than 2^32 bytes.
+/// The codestream of a frame, coded with the default parameters of its maxval (T.87 C.2.4.1.1). It has fewer than 2^32
+/// bytes.
 ///
-/// Fails only if an allocation fails: it asks for `code_bound` bytes, which the vector comes back with as its capacity, and for two
-/// lines before it codes.
+/// Fails only if an allocation fails: it asks for `code_bound` bytes, which the vector comes back with as its capacity,
+/// and for two lines before it codes.
 pub fn encode_frame(alloc: Global, frame: &Frame) -> Result<Vec<u8>, AllocError>
     ensures bytes { let f = frame.now in IfOk result (λ bytes. bytes.items ≡ codestream f (default_parameters f.maxval)) }
     ensures short { IfOk result (λ bytes. length bytes.items < 2 ^ 32) }
@@ -31,11 +32,11 @@ pub fn encode_frame(alloc: Global, frame: &Frame) -> Result<Vec<u8>, AllocError>
     encode_with(alloc, frame, &Presets::default_of(frame.maxval()))
 }
 
-/// The codestream of a frame, coded with these parameters, whose maxval has to be the frame's. It has fewer than 2^32 bytes, and
-/// an LSE segment only where the parameters aren't the defaults of the greatest MAXVAL of the precision.
+/// The codestream of a frame, coded with these parameters, whose maxval has to be the frame's. It has fewer than 2^32
+/// bytes, and an LSE segment only where the parameters aren't the defaults of the greatest MAXVAL of the precision.
 ///
-/// Fails only if an allocation fails: it asks for `code_bound` bytes, which the vector comes back with as its capacity, and for two
-/// lines before it codes.
+/// Fails only if an allocation fails: it asks for `code_bound` bytes, which the vector comes back with as its capacity,
+/// and for two lines before it codes.
 pub fn encode_with(alloc: Global, frame: &Frame, presets: &Presets) -> Result<Vec<u8>, AllocError>
     requires maxval { presets.now.maxval ≡ frame.now.maxval }
     ensures bytes { IfOk result (λ bytes. bytes.items ≡ codestream frame.now presets.now) }
@@ -63,10 +64,11 @@ pub fn encode_view(
     Ok(bytes)
 }
 
-/// The codestream of a frame, written after the bytes that the vector has. The vector comes back with the capacity that it had.
+/// The codestream of a frame, written after the bytes that the vector has. The vector comes back with the capacity that
+/// it had.
 ///
-/// It requires parameters of the frame's maxval, lines at least as wide as the frame, and room in the vector for `code_bound`
-/// more bytes. It allocates nothing and cannot fail.
+/// It requires parameters of the frame's maxval, lines at least as wide as the frame, and room in the vector for
+/// `code_bound` more bytes. It allocates nothing and cannot fail.
 pub fn encode_within(frame: &Frame, presets: &Presets, lines: &mut Lines, bytes: Vec<u8>) -> Vec<u8>
     requires maxval { presets.now.maxval ≡ frame.now.maxval }
     requires width { frame.now.width ≤ lines.old }
@@ -82,8 +84,8 @@ pub fn encode_within(frame: &Frame, presets: &Presets, lines: &mut Lines, bytes:
 
 /// The codestream of a frame, at the front of a slice, and how many bytes it has. Those behind it are as they were.
 ///
-/// It requires parameters of the frame's maxval, lines at least as wide as the frame, and `view_bound` bytes in the slice. It
-/// allocates nothing and cannot fail.
+/// It requires parameters of the frame's maxval, lines at least as wide as the frame, and `view_bound` bytes in the
+/// slice. It allocates nothing and cannot fail.
 pub fn encode_into(
     frame: &FrameView,
     presets: &Presets,
@@ -120,8 +122,8 @@ fn put_codestream<R: Room>(frame: &FrameView, presets: &Presets, lines: &mut Lin
     put_marker(bytes, Marker::EndOfImage);
 }
 
-/// The most bytes that the codestream of a frame may have, fewer than 2^32: those of all headers and, for each component, LIMIT
-/// bits a sample, seven to a byte, and one byte more.
+/// The most bytes that the codestream of a frame may have, fewer than 2^32: those of all headers and, for each
+/// component, LIMIT bits a sample, seven to a byte, and one byte more.
 ///
 /// It requires parameters of the frame's maxval.
 pub fn code_bound(frame: &Frame, presets: &Presets) -> u64
@@ -145,8 +147,8 @@ pub fn view_bound(frame: &FrameView, presets: &Presets) -> u64
     headers_length(frame, presets) + count * scan_bound(frame, presets)
 }
 
-/// The bytes of a codestream that aren't data: SOI, the frame header, preset parameters where they are written, a scan header for
-/// each component, EOI.
+/// The bytes of a codestream that aren't data: SOI, the frame header, preset parameters where they are written, a scan
+/// header for each component, EOI.
 #[tactic(auto, unfolding(crate::specs::Layout::headers_length))]
 fn headers_length(frame: &FrameView, presets: &Presets) -> u64
     ensures value { result ≡ headers_length frame.now presets.now }

@@ -12,8 +12,8 @@ pub enum StreamFault {
     /// The first two bytes aren't 0xFF and 0xD8: there is no SOI (T.81 B.2.1).
     #[error("no SOI")]
     NotSoi,
-    /// No marker where one is due; a marker in a place that is another's; a segment whose length doesn't fit its contents, or a
-    /// number in it that T.87 doesn't allow (Annex C; T.81 B.1.1).
+    /// No marker where one is due; a marker in a place that is another's; a segment whose length doesn't fit its
+    /// contents, or a number in it that T.87 doesn't allow (Annex C; T.81 B.1.1).
     #[error("bad segment")]
     BadSegment,
     /// What this decoder doesn't read, though T.87 or T.81 has it.
@@ -25,14 +25,15 @@ pub enum StreamFault {
     /// More than 2^28 samples, or a byte needed after 4,294,967,295 of them.
     #[error("too large")]
     TooLarge,
-    /// The data of the component of this number, from 0, isn't what an encoder writes for any plane (T.87 Annex A), or ends at a
-    /// marker before its plane does.
+    /// The data of the component of this number, from 0, isn't what an encoder writes for any plane (T.87 Annex A), or
+    /// ends at a marker before its plane does.
     #[error("bad code in component {0}")]
     BadCode(u8),
     /// After the plane of the component of this number, from 0, its data has 16 bits or more.
     #[error("leftover bits in component {0}")]
     LeftoverBits(u8),
-    /// An allocation failed, after the bytes were found to begin with a complete legal opening, up to the header of the first scan.
+    /// An allocation failed, after the bytes were found to begin with a complete legal opening, up to the header of the
+    /// first scan.
     #[error("no memory")]
     NoMemory,
 }
@@ -40,7 +41,8 @@ pub enum StreamFault {
 /// What of T.87 and T.81 isn't supported.
 #[derive(Clone, Copy, Debug, Drop, PartialEq, Eq, Error)]
 pub enum What {
-    /// A marker, by its code, that is none of SOI in front, SOF55, LSE, SOS, EOI, APPn and COM (T.87 Table C.1; T.81 Table B.1).
+    /// A marker, by its code, that is none of SOI in front, SOF55, LSE, SOS, EOI, APPn and COM (T.87 Table C.1; T.81
+    /// Table B.1).
     #[error("marker {0:02x}")]
     Marker(u8),
     /// So many components, neither 1 nor 3 (Nf; T.87 C.2.2).

@@ -1,5 +1,5 @@
-//! Laws. Each is the contract of a function; but for the first two, they are over the definitions alone, and the functions have nothing
-//! to do.
+//! Laws. Each is the contract of a function; but for the first two, they are over the definitions alone, and the
+//! functions have nothing to do.
 ghost use Rattle.std.specs.Prelude.{◌≡◌, ◌-◌, ◌^◌, ◌<◌, ◌≤◌, ◌+◌, ◌++◌, ℕ, Bool, List, [], ◌∷◌, length, map, flat_map, IfOk, IfSome, IfNone, MatchResult};
 ghost use Rattle.std.specs.List.{range_with_len};
 ghost use Rattle.ls_frame.specs.Picture.{Picture, IsFrame};
@@ -49,8 +49,8 @@ pub struct DecodedTwice {
     pub all: Result<Decoded, StreamFault>,
 }
 
-/// Decoding the codestream that `next_stream` takes off bytes gives what decoding all of them gives: the same frame of as many bytes, or
-/// the same fault; or an allocation fails. `None` if there are no bytes.
+/// Decoding the codestream that `next_stream` takes off bytes gives what decoding all of them gives: the same frame of
+/// as many bytes, or the same fault; or an allocation fails. `None` if there are no bytes.
 pub fn what_is_taken_is_decoded_alike(
     alloc: Global,
     bytes: &[u8],
@@ -147,16 +147,16 @@ pub fn codestreams_spell_their_frames()
     parameters_are_legal_or_at_fault();
 }
 
-/// What is read of bytes at their front is a codestream of each frame that it says; a codestream is read so, whatever follows; and
-/// bytes that aren't read break the grammar with the fault that is answered.
+/// What is read of bytes at their front is a codestream of each frame that it says; a codestream is read so, whatever
+/// follows; and bytes that aren't read break the grammar with the fault that is answered.
 pub fn outlines_follow_the_grammar()
     ensures spell { BoundedOutlinesSpell }
     ensures are_read { SpellingsHaveBoundedOutlines }
     ensures faults { BoundedFaultsBreak }
 {}
 
-/// Bytes have one first fault, so the fault that decoding answers is settled by the bytes, unless an allocation fails. The codestream
-/// at their front has the same one.
+/// Bytes have one first fault, so the fault that decoding answers is settled by the bytes, unless an allocation fails.
+/// The codestream at their front has the same one.
 pub fn bytes_have_one_first_fault()
     ensures one { OneFirstFault }
     ensures next { NextHasTheFirstFault }
@@ -164,8 +164,8 @@ pub fn bytes_have_one_first_fault()
     parameters_are_legal_or_at_fault();
 }
 
-/// How far a codestream goes by its markers alone is how far the grammar has it go, wherever that reads it, and one front of bytes is
-/// the next codestream.
+/// How far a codestream goes by its markers alone is how far the grammar has it go, wherever that reads it, and one
+/// front of bytes is the next codestream.
 pub fn extents_follow_the_grammar()
     ensures spelled { SpellingsHaveExtents }
     ensures outlined { OutlinesHaveExtents }
@@ -173,8 +173,9 @@ pub fn extents_follow_the_grammar()
     ensures one { OneIsNext }
 {}
 
-/// Codestreams as other programs may write them: skipped segments before the frame header; two LSE segments, of which the last
-/// counts, with 0 for a default; 15 bits after those of the plane; fill bytes; another identifier and quantization table.
+/// Codestreams as other programs may write them: skipped segments before the frame header; two LSE segments, of which
+/// the last counts, with 0 for a default; 15 bits after those of the plane; fill bytes; another identifier and
+/// quantization table.
 pub fn others_spell_frames_too()
     ensures skipped { Spells (soi ++ comment_a ++ empty_app8 ++ lone_header 1 0 ++ lone_scan 1 128 ++ last_marker) lone_zero }
     ensures tables { Spells (soi ++ lone_reset 32 ++ lone_header 1 0 ++ lone_reset 0 ++ lone_scan 1 128 ++ last_marker) lone_zero }
@@ -183,8 +184,8 @@ pub fn others_spell_frames_too()
     ensures identifier { Spells (soi ++ lone_header 7 5 ++ lone_scan 7 128 ++ last_marker) lone_zero }
 {}
 
-/// What no codestream of the grammar has: 16 bits or more after those of a plane; an LSE segment after a scan; two components
-/// with one identifier; a skipped segment that is neither APPn nor COM, as DRI (DD).
+/// What no codestream of the grammar has: 16 bits or more after those of a plane; an LSE segment after a scan; two
+/// components with one identifier; a skipped segment that is neither APPn nor COM, as DRI (DD).
 pub fn these_say_no_frame()
     ensures more_bits { (p : Parameters) (plane : Plane) (bytes : List ℕ)
         → length (plane_bits p plane) + 16 ≤ length (unstuff bytes) → IsCoded p plane bytes → ⊥ }
@@ -194,8 +195,8 @@ pub fn these_say_no_frame()
         → Says (lone_grammar (skipped 0 (Marker.Other 221) contents ∷ []) 1 0 [] (lone_data (128 ∷ []) []) 0) p f → ⊥ }
 {}
 
-/// A plane's bits tell it apart: what begins with them begins with those of no other plane of its width and height, whatever
-/// follows.
+/// A plane's bits tell it apart: what begins with them begins with those of no other plane of its width and height,
+/// whatever follows.
 pub fn planes_are_told_apart()
     ensures { (p : Parameters) (plane other : Plane) (width height : ℕ) (bits rest others : List Bool) → IsLegal p → 1 ≤ width
         → IsSamplePlane p.maxval width height plane → IsSamplePlane p.maxval width height other

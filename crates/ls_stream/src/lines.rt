@@ -1,5 +1,5 @@
-//! Lines of a plane as a coder keeps them: each with one place more on the left and on the right, so that every sample has its
-//! neighbours (T.87 A.2.1) in its own line and in the line above.
+//! Lines of a plane as a coder keeps them: each with one place more on the left and on the right, so that every sample
+//! has its neighbours (T.87 A.2.1) in its own line and in the line above.
 ghost use Rattle.std.specs.Prelude.{◌≡◌, ◌+◌, ◌*◌, ◌<◌, ◌≤◌, ℕ, length, slice_index};
 ghost use Rattle.ls_frame.specs.View.Numbers.{numbers};
 ghost use Rattle.ls_stream.specs.View.LineBuffers.{neighbours_in};

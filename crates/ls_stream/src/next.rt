@@ -34,14 +34,14 @@ pub enum NextFault {
 
 /// Takes the bytes of the next codestream off a reader, and not a byte more; `None` exactly at the end of input.
 ///
-/// They end with EOI; or with the byte that shows that the markers break: no SOI, no marker where one is due, a marker that
-/// isn't supported, or a length below 2; or with the input. What the segments say isn't looked at. So decoding these bytes gives what
-/// decoding all that was left would, unless an allocation fails: if any front of it is a codestream of a frame, they are that front, and
-/// else their first fault is its own.
+/// They end with EOI; or with the byte that shows that the markers break: no SOI, no marker where one is due, a marker
+/// that isn't supported, or a length below 2; or with the input. What the segments say isn't looked at. So decoding
+/// these bytes gives what decoding all that was left would, unless an allocation fails: if any front of it is a
+/// codestream of a frame, they are that front, and else their first fault is its own.
 ///
-/// If the bytes are known (as in memory), the clauses say which were read. `TooLarge` comes after exactly 4,294,967,295 bytes that show
-/// neither an end nor a fault. `Io` comes only if a read failed, and `NoMemory` only if an allocation did, and never at the end of input;
-/// after these two nothing is said of the reader's place.
+/// If the bytes are known (as in memory), the clauses say which were read. `TooLarge` comes after exactly 4,294,967,295
+/// bytes that show neither an end nor a fault. `Io` comes only if a read failed, and `NoMemory` only if an allocation
+/// did, and never at the end of input; after these two nothing is said of the reader's place.
 pub fn next_stream<R: Feed>(alloc: Global, reader: &mut R) -> Result<Option<Vec<u8>>, NextFault>
     // The bytes are the next codestream's, and exactly they were read.
     ensures stream { IfOk result (λ next. IfSome next (λ bytes. Gave (R.remaining reader.old) (R.remaining reader.new)
@@ -92,7 +92,8 @@ fn read_stream<R: Feed>(alloc: Global, reader: &mut R) -> Result<Option<Vec<u8>>
 /// How many bytes there is room for after the first.
 const FIRST_ROOM: usize = 65_536;
 
-/// Takes bytes, `most` at most and none of 80 or more after an FF, and answers the last of them; `None` at the end of input.
+/// Takes bytes, `most` at most and none of 80 or more after an FF, and answers the last of them; `None` at the end of
+/// input.
 fn next_bytes<R: Feed>(
     reader: &mut R,
     most: usize,
@@ -118,7 +119,8 @@ fn next_bytes<R: Feed>(
     }
 }
 
-/// Makes room after the first byte. All codestreams grow alike from there on, so memory that one has freed fits the next.
+/// Makes room after the first byte. All codestreams grow alike from there on, so memory that one has freed fits the
+/// next.
 fn make_room(bytes: &mut Vec<u8>) -> Result<(), AllocError>
     ensures { bytes.new.items ≡ bytes.old.items }
 {

@@ -89,7 +89,8 @@ fn count_left<R: Feed>(reader: &mut R) -> usize {
     left
 }
 
-/// That so many of these bytes are taken off a buffered reader that is given so many at once, and that it has the others left.
+/// That so many of these bytes are taken off a buffered reader that is given so many at once, and that it has the
+/// others left.
 fn check_chunks(
     rt: &impl Abort,
     alloc: Global,

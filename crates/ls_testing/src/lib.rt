@@ -1,4 +1,5 @@
-//! What the tests of several crates share: films with what is written of them, and readers and writers whose calls can fail.
+//! What the tests of several crates share: films with what is written of them, and readers and writers whose calls can
+//! fail.
 //!
 //! The product doesn't use it, and nothing is promised of it.
 #![tactic(auto)]

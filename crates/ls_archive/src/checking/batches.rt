@@ -21,10 +21,10 @@ use std::thread::Threads;
 
 /// The same as `check`, where so many threads at most look at the codestreams side by side.
 ///
-/// Twice as many lines as workers are taken off the index at once, with the bytes that they speak of; what is wrong with
-/// these is told in order before the next are taken. Where no thread can be made, the calling one looks at all of them.
-/// What is told, what a check comes to and why it stops is what `check` says, whatever the threads do. If memory is
-/// refused, a read that comes after what it was refused for may have failed besides.
+/// Twice as many lines as workers are taken off the index at once, with the bytes that they speak of; what is wrong
+/// with these is told in order before the next are taken. Where no thread can be made, the calling one looks at all of
+/// them. What is told, what a check comes to and why it stops is what `check` says, whatever the threads do. If memory
+/// is refused, a read that comes after what it was refused for may have failed besides.
 ///
 /// It requires at least one worker, and no more than 2^32.
 pub fn check_by<Rt: Threads + Sync, I: Feed, R: Feed, F: Findings>(

@@ -1,4 +1,5 @@
-//! A thread for each film's lane: its start and its end. A lane for which none can be made gives its film back as it was.
+//! A thread for each film's lane: its start and its end. A lane for which none can be made gives its film back as it
+//! was.
 ghost use Rattle.std.specs.Prelude.{◌≡◌, ℕ, List, ◌<◌, ◌≤◌, [], length, vec_capacity};
 ghost use Rattle.ls_queue.specs.View.Running.{AreAllSources, sources_of};
 ghost use Rattle.ls_pieces.specs.Collecting.{most_window};

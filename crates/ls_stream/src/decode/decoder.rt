@@ -105,7 +105,8 @@ impl<'a> Decoder<'a> {
         whole_context(self.regions, half, neighbours.a, neighbours.c)
     }
 
-    /// Reads a sample of regular mode, whose context is known. The bits that are left begin with the word of no other sample; of none if this fails.
+    /// Reads a sample of regular mode, whose context is known. The bits that are left begin with the word of no other
+    /// sample; of none if this fails.
     pub fn decode_sample(&mut self, context: i16, neighbours: &Neighbours) -> Result<u16, CodeFault>
         requires context { context ≡ signed_context self.old.state.parameters neighbours.now }
         requires samples { AreSamples self.old.state.parameters.maxval neighbours.now }
@@ -131,8 +132,8 @@ impl<'a> Decoder<'a> {
         self.state.accept_regular(plan, value)
     }
 
-    /// Reads a run, with `left` samples left in the line (A.7.1). The bits that are left begin with those of no other run that ends in
-    /// the line; of none if this fails.
+    /// Reads a run, with `left` samples left in the line (A.7.1). The bits that are left begin with those of no other
+    /// run that ends in the line; of none if this fails.
     pub fn decode_run(&mut self, left: u32) -> Result<FoundRun, CodeFault>
         requires some { 0 < left }
         requires uninterrupted { self.old.state.interrupted ≡ false }
@@ -165,8 +166,8 @@ impl<'a> Decoder<'a> {
         })
     }
 
-    /// Reads the sample that interrupts a run (A.7.2). The bits that are left begin with the word of no other sample that may; of none
-    /// if this fails.
+    /// Reads the sample that interrupts a run (A.7.2). The bits that are left begin with the word of no other sample
+    /// that may; of none if this fails.
     pub fn decode_interruption(&mut self, neighbours: &Neighbours) -> Result<u16, CodeFault>
         requires samples { AreSamples self.old.state.parameters.maxval neighbours.now }
         requires interrupted { self.old.state.interrupted ≡ true }

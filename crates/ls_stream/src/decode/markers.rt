@@ -1,6 +1,6 @@
-//! What stands around the data of scans, at the front of bytes: headers and EOI, with the miscellaneous segments before them (T.87
-//! Annex C; T.81 B.2). Each function answers what it read and the bytes that are left, or the first fault from the left. They
-//! allocate nothing.
+//! What stands around the data of scans, at the front of bytes: headers and EOI, with the miscellaneous segments before
+//! them (T.87 Annex C; T.81 B.2). Each function answers what it read and the bytes that are left, or the first fault
+//! from the left. They allocate nothing.
 ghost use Rattle.std.specs.Prelude.{◌≡◌, ◌<◌, ◌≤◌, length, take, IfOk};
 ghost use Rattle.ls_frame.specs.Picture.{sample_count, most_samples};
 ghost use Rattle.ls_stream.specs.Grammar.{parameters_of, most_bytes};
@@ -39,8 +39,8 @@ pub fn first_bytes(bytes: &[u8]) -> &[u8]
     }
 }
 
-/// A fault of the first bytes, as many as a codestream may have: where there are more, a byte that is needed after them is one too
-/// many.
+/// A fault of the first bytes, as many as a codestream may have: where there are more, a byte that is needed after them
+/// is one too many.
 #[tactic(auto, using(crate::proofs::MostLemmas::past_other))]
 pub fn fault_of(bytes: &[u8], fault: StreamFault) -> StreamFault
     ensures { result ≡ fault_of bytes.now fault }
@@ -54,8 +54,8 @@ pub fn fault_of(bytes: &[u8], fault: StreamFault) -> StreamFault
     }
 }
 
-/// All before the data of the first scan: SOI, the frame header, the coding parameters, and the header of the first component's
-/// scan, with the miscellaneous segments between them.
+/// All before the data of the first scan: SOI, the frame header, the coding parameters, and the header of the first
+/// component's scan, with the miscellaneous segments between them.
 #[tactic(auto, unfolding(crate::specs::View::Reading::opening_at))]
 pub fn read_opening(bytes: &[u8]) -> Result<(FrameHeader, Presets, &[u8]), StreamFault>
     ensures value { Gives (λ x. (x.0, x.1, x.2.now)) result (opening_at bytes.now) }
@@ -72,8 +72,8 @@ pub fn read_opening(bytes: &[u8]) -> Result<(FrameHeader, Presets, &[u8]), Strea
     }
 }
 
-/// The header of the next scan, which must be of the component with this identifier, after miscellaneous segments of which none
-/// is LSE.
+/// The header of the next scan, which must be of the component with this identifier, after miscellaneous segments of
+/// which none is LSE.
 #[tactic(auto, unfolding(crate::specs::View::Reading::next_scan_at))]
 pub fn find_next_scan(id: u8, bytes: &[u8]) -> Result<&[u8], StreamFault>
     ensures { Gives (λ rest. rest.now) result (next_scan_at id bytes.now) }
@@ -129,7 +129,8 @@ fn find_frame_header(bytes: &[u8]) -> Result<(FrameHeader, PresetFields, &[u8]),
     Ok((header, written, rest))
 }
 
-/// The header of a scan of the component with this identifier, and the preset parameters that were written last before it.
+/// The header of a scan of the component with this identifier, and the preset parameters that were written last before
+/// it.
 #[tactic(auto, unfolding(crate::specs::View::Reading::scan_header_at))]
 fn find_scan_header(
     late: bool,
@@ -166,8 +167,8 @@ fn presets_of(precision: u8, written: PresetFields) -> Result<Presets, PresetFau
     }
 }
 
-/// The next marker that isn't of a miscellaneous segment, and the preset parameters that were written last before it: `written`
-/// where no segment before it has any. They may not come `late`: after the header of the first scan.
+/// The next marker that isn't of a miscellaneous segment, and the preset parameters that were written last before it:
+/// `written` where no segment before it has any. They may not come `late`: after the header of the first scan.
 #[tactic(auto, using(crate::proofs::AheadLemmas::ahead_lemmas))]
 fn find_marker(
     late: bool,

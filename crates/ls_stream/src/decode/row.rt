@@ -13,8 +13,8 @@ use ls_frame::Presets;
 /// For how many samples the line above is looked at ahead. Those after a long run would be looked at in vain.
 const BLOCK: usize = 64;
 
-/// Reads a row into its line, whose first place is filled; `above` is the line above it, and `half_contexts` is a buffer for the half
-/// contexts that it gives.
+/// Reads a row into its line, whose first place is filled; `above` is the line above it, and `half_contexts` is a
+/// buffer for the half contexts that it gives.
 pub fn decode_row(
     decoder: &mut Decoder,
     above: &[u16],
@@ -118,7 +118,8 @@ fn decode_span(
     decode_run_span(decoder, above, line, width, column)
 }
 
-/// Reads a run that begins at a column, with the sample that interrupts it if there is one, and answers the column after them.
+/// Reads a run that begins at a column, with the sample that interrupts it if there is one, and answers the column
+/// after them.
 fn decode_run_span(
     decoder: &mut Decoder,
     above: &[u16],

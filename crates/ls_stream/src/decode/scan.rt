@@ -80,7 +80,8 @@ pub fn decode_scan<S: Place>(
     Ok(())
 }
 
-/// Reads a component's plane, at a scan's start; `above`, `line` and `half_contexts` are buffers for what a row is read by.
+/// Reads a component's plane, at a scan's start; `above`, `line` and `half_contexts` are buffers for what a row is read
+/// by.
 fn decode_plane<S: Place>(
     decoder: &mut Decoder,
     above: &mut Vec<u16>,
@@ -174,7 +175,8 @@ fn decode_rows<S: Place>(
     Ok(())
 }
 
-/// Puts the samples of a row, which stand in a line after its first place, where they belong among those of all components.
+/// Puts the samples of a row, which stand in a line after its first place, where they belong among those of all
+/// components.
 fn store_row<S: Place>(samples: &mut [S], line: &[u16], row: usize, shape: Shape, component: usize)
     requires line { length line.now ≡ shape.width + 2 }
     requires fits { (k : ℕ) → slice_index line.now k ≤ S.most }

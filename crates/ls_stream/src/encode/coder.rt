@@ -42,7 +42,8 @@ impl<'a, R: Room> Model for Coder<'a, R> {
 }
 
 impl<'a, R: Room> Coder<'a, R> {
-    /// The start of a scan, with the state of a scan's start, after the bytes that a room has, into the places that it has.
+    /// The start of a scan, with the state of a scan's start, after the bytes that a room has, into the places that it
+    /// has.
     pub fn new(presets: &Presets, state: &'a mut State, bytes: R) -> Coder<'a, R>
         requires state { state.old ≡ state_of presets.now [] }
         ensures parameters { result.state.parameters ≡ presets.now }

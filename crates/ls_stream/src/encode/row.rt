@@ -60,7 +60,8 @@ pub fn code_row<R: Room>(coder: &mut Coder<R>, above: &[u16], line: &[u16], widt
     }
 }
 
-/// Codes the spans that begin at the columns from `start` up to `end`, which a block is of, and answers the column after them.
+/// Codes the spans that begin at the columns from `start` up to `end`, which a block is of, and answers the column
+/// after them.
 fn code_block<R: Room>(
     coder: &mut Coder<R>,
     above: &[u16],

@@ -49,7 +49,8 @@ impl Awaited {
         }
     }
 
-    /// What the byte after this one is; `None` where the codestream ends with this byte, or shows by it that its markers break.
+    /// What the byte after this one is; `None` where the codestream ends with this byte, or shows by it that its
+    /// markers break.
     #[tactic(auto, using(crate::proofs::PlaceLemmas::place_lemmas))]
     pub fn after(self, byte: u8) -> Option<Awaited>
         ensures goes_on { IfSome result (λ next. GoesOn self byte next) }

@@ -1,5 +1,5 @@
-//! Reading markers and the contents of marker segments (T.87 Annex C; T.81 B.1.1). Each function looks for faults in the order of the
-//! fields; a length that doesn't fit them comes as soon as it shows. They allocate nothing.
+//! Reading markers and the contents of marker segments (T.87 Annex C; T.81 B.1.1). Each function looks for faults in
+//! the order of the fields; a length that doesn't fit them comes as soon as it shows. They allocate nothing.
 ghost use Rattle.std.specs.Prelude.{◌≡◌, ◌+◌, ◌*◌, ◌<◌, ◌≤◌, length, IfOk};
 ghost use Rattle.ls_frame.specs.Picture.{components, sample_count, most_samples};
 ghost use Rattle.ls_stream.specs.Segments.{field_of};
@@ -133,8 +133,8 @@ pub fn read_presets(contents: &[u8]) -> Result<PresetFields, StreamFault>
     })
 }
 
-/// The contents of the header of a scan (SOS; T.87 C.2.3): of the component with this identifier alone, with no mapping table,
-/// NEAR 0, not interleaved, with no point transform.
+/// The contents of the header of a scan (SOS; T.87 C.2.3): of the component with this identifier alone, with no mapping
+/// table, NEAR 0, not interleaved, with no point transform.
 #[tactic(auto, unfolding(crate::specs::View::Reading::scan_header_of))]
 pub fn read_scan_header(contents: &[u8], id: u8) -> Result<(), StreamFault>
     ensures { Gives (λ done. tt) result (scan_header_of id contents.now) }

@@ -123,7 +123,8 @@ fn put_components<R: Room>(bytes: &mut R, count: u8)
     }
 }
 
-/// Whether a codestream has to write its parameters: they aren't the defaults of the greatest MAXVAL of their precision.
+/// Whether a codestream has to write its parameters: they aren't the defaults of the greatest MAXVAL of their
+/// precision.
 fn needs_presets(presets: &Presets) -> bool
     ensures { result ≡ needs_presets presets.now }
 {

@@ -145,8 +145,8 @@ pub const CODESTREAMS: [(Parts<'static>, &[u8], u64); 5] = [
     ),
 ];
 
-/// T1, T2, T3 and RESET of a tuning, and the bytes between the frame header and the scan header that it makes of a lone zero
-/// of maxval 255.
+/// T1, T2, T3 and RESET of a tuning, and the bytes between the frame header and the scan header that it makes of a lone
+/// zero of maxval 255.
 pub const TUNINGS: [([u16; 4], &[u8]); 4] = [
     ([3, 7, 21, 64], &[]),
     ([0, 0, 0, 0], &[]),
