@@ -5,7 +5,8 @@ pub mod GolombLaws
 pub mod GolombLemmas
 pub mod MaskLemmas
 pub mod PackingLemmas
+pub mod PlainLemmas
 pub mod ShortWords
+pub mod StuffedLemmas
 pub mod StuffingLemmas
 pub mod WindowLemmas
-pub mod WordTableLemmas

@@ -48,7 +48,7 @@ byte_in word held size value after_ff (byte ∷ bytes) some window few e v =
     let rest : take (suc (length bytes) - 1) bytes ≡ bytes = take_all (suc (length bytes) - 1) bytes (omega arith) in
     rw (e, v, rest) (one_in word held byte after_ff bytes window few)
 
-bits_of-four : (first second third fourth : ℕ) → first < 256 → second < 256 → third < 256 → fourth < 256
+pub bits_of-four : (first second third fourth : ℕ) → first < 256 → second < 256 → third < 256 → fourth < 256
     → bits_of 32 (((first * 256 + second) * 256 + third) * 256 + fourth) ≡ bits_of 8 first ++ (bits_of 8 second ++ (bits_of 8 third ++ bits_of 8 fourth))
 bits_of-four first second third fourth a b c d =
     let last : bits_of 32 (((first * 256 + second) * 256 + third) * 256 + fourth) ≡ bits_of 24 ((first * 256 + second) * 256 + third) ++ bits_of 8 fourth =

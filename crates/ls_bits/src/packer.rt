@@ -290,7 +290,7 @@ fn last_group(word: u64, held: u32, after_ff: bool) -> u8
 }
 
 /// Whether one of the eight bytes of `word` is FF: the eight ones of such a byte leave a one at its lowest bit.
-fn has_ff(word: u64) -> bool
+pub fn has_ff(word: u64) -> bool
     ensures { (result ≡ false) → HasNoFf word }
 {
     let pairs = word & (word >> 1);

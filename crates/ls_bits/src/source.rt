@@ -1,14 +1,12 @@
 //! A source of the bits of stuffed bytes.
-ghost use Rattle.std.specs.Prelude.{◌≡◌, ◌+◌, ◌-◌, ◌*◌, ◌^◌, ◌<◌, ◌≤◌, [], ◌++◌, ℕ, Bool, List, length, min, IfOk, IfErr, MatchResult, Ok, Err};
+ghost use Rattle.std.specs.Prelude.{◌≡◌, ◌+◌, ◌-◌, ◌*◌, ◌^◌, ◌<◌, ◌≤◌, [], ◌++◌, ℕ, Bool, List, length, min, IfOk, IfErr, IfSome, IfNone, ◌/◌, MatchResult, Ok, Err};
 ghost use Rattle.ls_bits.specs.Bits.{bits_of};
-ghost use Rattle.ls_bits.specs.Stuffing.{unstuff};
-ghost use Rattle.ls_bits.specs.Data.{IsData};
-ghost use Rattle.ls_bits.specs.Golomb.{IsGolomb, most_value, TakesWord, GolombFault};
+ghost use Rattle.ls_bits.specs.View.Plain.{bits_in};
+ghost use Rattle.ls_bits.specs.Golomb.{IsGolomb, most_value, short_word, TakesWord, GolombFault};
 
-use crate::window::{Window, joined};
-use crate::word_table::WordTable;
+use crate::plain::PlainBits;
+use crate::window::Window;
 use std::marker::Model;
-use std::mem;
 use thiserror::Error;
 
 /// Why bits can't be taken. After a fault nothing is promised of where the source stands.
@@ -24,11 +22,11 @@ pub enum CodeFault {
 
 /// The bits that are left of stuffed bytes.
 #[derive(Drop)]
-pub struct BitSource<'a> {
-    window: Window<'a>,
+pub struct BitSource<'s, 'a> {
+    window: Window<'s, 'a>,
 }
 
-impl<'a> Model for BitSource<'a> {
+impl<'s, 'a> Model for BitSource<'s, 'a> {
     ghost use Rattle.std.specs.Prelude.{Bool, List};
 
     ghost Value = { List Bool };
@@ -36,17 +34,13 @@ impl<'a> Model for BitSource<'a> {
     ghost view = { λ s. s.window.bits };
 }
 
-impl<'a> BitSource<'a> {
-    /// The bits of stuffed bytes (T.87 C.1): all of each byte, but for the top bit of one after FF.
-    ///
-    /// The bytes are data, as `data_of` cuts it: no FF is followed by a byte of 80 or more, and the last one isn't FF.
-    /// Allocates nothing.
-    pub fn new(bytes: &'a [u8]) -> BitSource<'a>
-        requires { IsData bytes.now }
-        ensures { result ≡ unstuff bytes.now }
+impl<'s, 'a> BitSource<'s, 'a> {
+    /// The bits that are left of these. Allocates nothing.
+    pub fn new(plain: &'s mut PlainBits<'a>) -> BitSource<'s, 'a>
+        ensures { result ≡ bits_in plain.old }
     {
         BitSource {
-            window: Window::new(bytes),
+            window: Window::new(plain),
         }
     }
 
@@ -92,42 +86,19 @@ impl<'a> BitSource<'a> {
         self.read_golomb(k, glimit, qbpp)
     }
 
-    /// `take_golomb` of a code whose short words are in a table, which is faster where most words are. `table` is that
-    /// of the same `glimit` and `qbpp`. All else is as there.
-    pub fn take_golomb_by(
-        &mut self,
-        table: &WordTable,
-        k: u32,
-        glimit: u32,
-        qbpp: u32,
-    ) -> Result<u32, CodeFault>
-        requires code { IsGolomb k glimit qbpp }
-        requires table { table.now ≡ record { glimit = glimit; qbpp = qbpp } }
-        ensures ok { IfOk result (λ v. TakesWord k glimit qbpp self.old v self.new) }
-        ensures fault { IfErr result (λ fault. GolombFault k glimit qbpp self.old fault) }
-        ensures word { (v : ℕ) (rest : List Bool) → TakesWord k glimit qbpp self.old v rest
-            → (result ≡ Ok v) × (self.new ≡ rest) }
-    {
-        self.read_golomb_by(table, k, glimit, qbpp)
-    }
-
+    /// Takes the short code word in front (T.87 A.5.3) if it has fewer than `most` zeros and 57 bits are left, or more: its
+    /// value. Else takes nothing, and may do so too if fewer bits are left.
+    ///
+    /// `k` is at most 17, and `most` at most 24.
     #[inline(always)]
-    fn read_golomb_by(
-        &mut self,
-        table: &WordTable,
-        k: u32,
-        glimit: u32,
-        qbpp: u32,
-    ) -> Result<u32, CodeFault>
-        requires code { IsGolomb k glimit qbpp }
-        requires table { table.now ≡ record { glimit = glimit; qbpp = qbpp } }
-        ensures ok { IfOk result (λ v. TakesWord k glimit qbpp self.old v self.new) }
-        ensures fault { IfErr result (λ fault. GolombFault k glimit qbpp self.old fault) }
+    pub fn take_few(&mut self, k: u32, most: u32) -> Option<u32>
+        requires k { k ≤ 17 }
+        requires most { most ≤ 24 }
+        ensures word { IfSome result (λ value. self.old ≡ short_word k value ++ self.new) }
+        ensures few { IfSome result (λ value. value / 2 ^ k < most) }
+        ensures none { IfNone result (self.new ≡ self.old) }
     {
-        if let Some(value) = self.window.take_listed(table, k) {
-            return Ok(value);
-        }
-        self.read_golomb(k, glimit, qbpp)
+        self.window.take_few(k, most)
     }
 
     #[inline(always)]
@@ -139,68 +110,7 @@ impl<'a> BitSource<'a> {
         if let Some(value) = self.window.take_short(k, glimit - qbpp - 1, most(qbpp)) {
             return Ok(value);
         }
-        self.read_long_golomb(k, glimit, qbpp)
-    }
-
-    /// As `read_golomb`, whatever is in front. The window goes there and back by value, so that it can be in registers
-    /// here.
-    #[inline(always)]
-    fn read_long_golomb(&mut self, k: u32, glimit: u32, qbpp: u32) -> Result<u32, CodeFault>
-        requires { IsGolomb k glimit qbpp }
-        ensures ok { IfOk result (λ v. TakesWord k glimit qbpp self.old v self.new) }
-        ensures fault { IfErr result (λ fault. GolombFault k glimit qbpp self.old fault) }
-    {
-        let window = mem::replace(&mut self.window, Window::new(&[]));
-        let read = read_apart(window, k, glimit, qbpp);
-        self.window = read.window;
-        read.value
-    }
-
-    /// As `read_golomb`, whatever is in front.
-    fn read_any_golomb(&mut self, k: u32, glimit: u32, qbpp: u32) -> Result<u32, CodeFault>
-        requires { IsGolomb k glimit qbpp }
-        ensures ok { IfOk result (λ v. TakesWord k glimit qbpp self.old v self.new) }
-        ensures fault { IfErr result (λ fault. GolombFault k glimit qbpp self.old fault) }
-    {
-        let escape = glimit - qbpp - 1;
-        let zeros = self.window.take_zeros(escape)?;
-        if zeros < escape {
-            let low = self.window.take(k)?;
-            let value = joined(zeros, low, k);
-            if value > most(qbpp) {
-                return Err(CodeFault::NotCanonical);
-            }
-            Ok(value)
-        } else {
-            let value = self.window.take(qbpp)? + 1;
-            if value >> k < escape {
-                return Err(CodeFault::NotCanonical);
-            }
-            Ok(value)
-        }
-    }
-}
-
-/// What was read out of a window, and the window afterwards.
-#[derive(Drop)]
-struct Read<'a> {
-    window: Window<'a>,
-    value: Result<u32, CodeFault>,
-}
-
-/// The code word in front of a window, whatever it is.
-#[cold]
-#[inline(never)]
-fn read_apart<'a>(window: Window<'a>, k: u32, glimit: u32, qbpp: u32) -> Read<'a>
-    requires { IsGolomb k glimit qbpp }
-    ensures ok { IfOk result.value (λ v. TakesWord k glimit qbpp window.entry.bits v result.window.bits) }
-    ensures fault { IfErr result.value (λ fault. GolombFault k glimit qbpp window.entry.bits fault) }
-{
-    let mut source = BitSource { window };
-    let value = source.read_any_golomb(k, glimit, qbpp);
-    Read {
-        window: source.window,
-        value,
+        self.window.take_long(k, glimit, qbpp)
     }
 }
 

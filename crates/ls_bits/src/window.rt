@@ -1,75 +1,93 @@
-//! What a source holds: a word of bits, and after them the bytes that aren't taken in yet.
-ghost use Rattle.std.specs.Prelude.{◌≡◌, ◌+◌, ◌-◌, ◌*◌, ◌/◌, ◌%◌, ◌^◌, ◌<◌, ◌≤◌, ◌⊎◌, [], ◌∷◌, ◌++◌, true, length, min, IfOk, IfErr, IfSome, IfNone};
-ghost use Rattle.ls_bits.specs.Bits.{bits_of, zeros as zero_bits, BeginsWith};
-ghost use Rattle.ls_bits.specs.Stuffing.{unstuff};
-ghost use Rattle.ls_bits.specs.Data.{IsData};
-ghost use Rattle.ls_bits.specs.Golomb.{short_word, escape_zeros, most_value};
-ghost use Rattle.ls_bits.specs.View.Taking.{ZerosFault, LeadingZeros};
+//! What a source reads: a place among bits that are un-stuffed ahead, and where these end.
+ghost use Rattle.std.specs.Prelude.{◌≡◌, ◌+◌, ◌-◌, ◌*◌, ◌/◌, ◌%◌, ◌^◌, ◌<◌, ◌≤◌, ◌⊎◌, [], ◌∷◌, ◌++◌, ℕ, true, length, take, drop, min, IfOk, IfErr, IfSome, IfNone};
+ghost use Rattle.ls_bits.specs.Bits.{bits_of, zeros as zero_bits};
+ghost use Rattle.ls_bits.specs.Golomb.{short_word, escape_zeros, most_value, IsGolomb, TakesWord, GolombFault};
+ghost use Rattle.ls_bits.specs.View.Plain.{bits_in};
 
-use crate::packer::byte_bits;
+use crate::plain::{PlainBits, SEEN};
 use crate::source::CodeFault;
-use crate::word_table::WordTable;
+use crate::stuffed::{joined, leading_zeros, low_bits};
 use std::marker::Model;
-
-/// The word is refilled if it holds fewer bits than this and more are wanted.
-const ENOUGH: u32 = 32;
-
-/// A short word with fewer zeros than this in front has at most 32 bits, so it is whole where `ENOUGH` bits are held.
-const SHORT: u32 = 15;
 
 /// The bits that are left of stuffed bytes.
 #[derive(Drop)]
-pub struct Window<'a> {
-    /// Its lowest `held` bits are next. Those above them mean nothing.
-    word: u64,
-    held: u32,
-    /// Whether the byte before `rest` is FF.
-    after_ff: bool,
-    /// The bytes that aren't in the word yet.
-    rest: &'a [u8],
+pub struct Window<'s, 'a> {
+    /// It stands elsewhere, so that the places can be in registers.
+    plain: &'s mut PlainBits<'a>,
+    /// The place of the next bit, and of the first that isn't un-stuffed yet.
+    place: usize,
+    end: usize,
 }
 
-impl<'a> Model for Window<'a> {
-    ghost use Rattle.ls_bits.specs.View.Packing.{BitsLeft, bits_left, IsWindow};
+impl<'s, 'a> Model for Window<'s, 'a> {
+    ghost use Rattle.std.specs.Prelude.{◌-◌};
+    ghost use Rattle.ls_bits.specs.View.Packing.{BitsLeft};
+    ghost use Rattle.ls_bits.specs.View.Plain.{bits_from, IsAhead};
 
     ghost Value = { BitsLeft };
 
-    ghost view = { λ w. record { bits = bits_left w.word w.held w.after_ff w.rest.now; held = w.held } };
+    ghost view = { λ w. record { bits = bits_from w.plain.now.ahead w.place w.end; held = w.end - w.place } };
 
-    ghost invariant = { λ w. IsWindow w.held w.after_ff w.rest.now };
+    ghost invariant = { λ w. IsAhead w.plain.now.ahead w.place w.end };
 }
 
-impl<'a> Window<'a> {
-    /// The bits of stuffed bytes.
-    pub fn new(bytes: &'a [u8]) -> Window<'a>
-        requires { IsData bytes.now }
-        ensures { result.bits ≡ unstuff bytes.now }
+impl<'s, 'a> Window<'s, 'a> {
+    /// The bits that are left of these.
+    pub fn new(plain: &'s mut PlainBits<'a>) -> Window<'s, 'a>
+        ensures { result.bits ≡ bits_in plain.old }
     {
-        Window {
-            word: 0,
-            held: 0,
-            after_ff: false,
-            rest: bytes,
-        }
+        let place = plain.place();
+        let end = plain.end();
+        Window { plain, place, end }
     }
 
     /// The next `count` bits, as a number. OutOfBits if fewer are left.
+    #[inline(always)]
     pub fn take(&mut self, count: u32) -> Result<u32, CodeFault>
         requires { count ≤ 32 }
         ensures ok { IfOk result (λ value. self.old.bits ≡ bits_of count value ++ self.new.bits) }
         ensures value { IfOk result (λ value. value < 2 ^ count) }
         ensures fault { IfErr result (λ fault. (fault ≡ CodeFault.OutOfBits) × (length self.old.bits < count)) }
     {
-        self.refill(count);
-        if self.held < count {
-            return Err(CodeFault::OutOfBits);
+        if self.held() < SEEN {
+            return self.take_apart(count);
         }
-        self.held -= count;
-        Ok(low_bits(self.word >> self.held, count))
+        let value = low_bits(self.front() >> 32 >> (32 - count), count);
+        self.skip(count);
+        Ok(value)
     }
 
-    /// Takes the short code word in front (T.87 A.5.3) if it has fewer than `most` zeros and a value of at most
-    /// `greatest`, and is known to be whole: its value. Else takes nothing.
+    /// The same, however many bits are un-stuffed.
+    #[inline(always)]
+    fn take_apart(&mut self, count: u32) -> Result<u32, CodeFault>
+        requires { count ≤ 32 }
+        ensures ok { IfOk result (λ value. self.old.bits ≡ bits_of count value ++ self.new.bits) }
+        ensures value { IfOk result (λ value. value < 2 ^ count) }
+        ensures fault { IfErr result (λ fault. (fault ≡ CodeFault.OutOfBits) × (length self.old.bits < count)) }
+    {
+        self.plain.go_to(self.place, self.end);
+        let value = self.plain.take(count);
+        self.place = self.plain.place();
+        self.end = self.plain.end();
+        value
+    }
+
+    /// Takes the code word in front (T.87 A.5.3), whatever it is.
+    #[inline(always)]
+    pub fn take_long(&mut self, k: u32, glimit: u32, qbpp: u32) -> Result<u32, CodeFault>
+        requires { IsGolomb k glimit qbpp }
+        ensures ok { IfOk result (λ v. TakesWord k glimit qbpp self.old.bits v self.new.bits) }
+        ensures fault { IfErr result (λ fault. GolombFault k glimit qbpp self.old.bits fault) }
+    {
+        self.plain.go_to(self.place, self.end);
+        let value = self.plain.take_any(k, glimit, qbpp);
+        self.place = self.plain.place();
+        self.end = self.plain.end();
+        value
+    }
+
+    /// Takes the short code word in front (T.87 A.5.3) if it has fewer than `most` zeros and a value of at most `greatest`, and
+    /// is known to be whole: its value. Else takes nothing.
     #[inline(always)]
     pub fn take_short(&mut self, k: u32, most: u32, greatest: u32) -> Option<u32>
         requires { k ≤ 17 }
@@ -78,154 +96,76 @@ impl<'a> Window<'a> {
         ensures small { IfSome result (λ value. value ≤ greatest) }
         ensures none { IfNone result (self.new.bits ≡ self.old.bits) }
     {
-        self.refill(ENOUGH);
-        if self.held < ENOUGH {
+        if self.held() < SEEN {
             return None;
         }
-        let zeros = leading_zeros(self.word, self.held);
-        if zeros >= most.min(SHORT) {
+        let front = self.front();
+        let zeros = leading_zeros(front, 64);
+        if zeros >= most.min(24) {
             return None;
         }
-        let left = self.held - (zeros + 1) - k;
-        let value = joined(zeros, low_bits(self.word >> left, k), k);
+        let left = 64 - (zeros + 1) - k;
+        let value = joined(zeros, low_bits(front >> left, k), k);
         if value > greatest {
             return None;
         }
-        self.held = left;
+        self.skip(zeros + 1 + k);
         Some(value)
     }
 
-    /// Takes the short code word in front if the table has it: its value. Else takes nothing.
+    /// Takes the short code word in front if it has fewer than `most` zeros, at most 24, and is known to be whole: its value.
+    /// Else takes nothing.
     #[inline(always)]
-    pub fn take_listed(&mut self, table: &WordTable, k: u32) -> Option<u32>
+    pub fn take_few(&mut self, k: u32, most: u32) -> Option<u32>
+        requires k { k ≤ 17 }
+        requires most { most ≤ 24 }
         ensures word { IfSome result (λ value. self.old.bits ≡ short_word k value ++ self.new.bits) }
-        ensures few { IfSome result (λ value. value / 2 ^ k < escape_zeros table.now.glimit table.now.qbpp) }
-        ensures small { IfSome result (λ value. value ≤ most_value table.now.qbpp) }
+        ensures few { IfSome result (λ value. value / 2 ^ k < most) }
         ensures none { IfNone result (self.new.bits ≡ self.old.bits) }
     {
-        self.refill(ENOUGH);
-        if self.held < ENOUGH {
+        if self.held() < SEEN {
             return None;
         }
-        let entry = table.entry(k, low_bits(self.word >> (self.held - 8), 8));
-        if entry == 0 {
+        let front = self.front();
+        let zeros = leading_zeros(front, 64);
+        if zeros >= most {
             return None;
         }
-        self.held -= entry / 256;
-        Some(entry % 256)
-    }
-
-    /// Takes zeros and the one after them: how many zeros. NotCanonical if more than `most` are in front, OutOfBits
-    /// if nothing but zeros is left, and no more than these.
-    pub fn take_zeros(&mut self, most: u32) -> Result<u32, CodeFault>
-        requires { most ≤ 64 }
-        ensures ok { IfOk result (λ zeros. self.old.bits ≡ zero_bits zeros ++ true ∷ self.new.bits) }
-        ensures most { IfOk result (λ zeros. zeros ≤ most) }
-        ensures fault { IfErr result (λ fault. ZerosFault most self.old.bits fault) }
-    {
-        let mut count = 0;
-        'words: loop {
-            self.refill(ENOUGH);
-            if self.held == 0 {
-                return Err(CodeFault::OutOfBits);
-            }
-            let zeros = leading_zeros(self.word, self.held);
-            if zeros < self.held {
-                self.held -= zeros + 1;
-                count += zeros;
-                if count > most {
-                    return Err(CodeFault::NotCanonical);
-                }
-                return Ok(count);
-            }
-            count += self.held;
-            self.held = 0;
-            if count > most {
-                return Err(CodeFault::NotCanonical);
-            }
-        }
+        let value = joined(zeros, low_bits(front >> (64 - (zeros + 1) - k), k), k);
+        self.skip(zeros + 1 + k);
+        Some(value)
     }
 
     /// How many bits are left; 2^64 - 1 if they are more.
     pub fn left(&self) -> u64
         ensures { result ≡ min (length self.now.bits) u64.MAX }
     {
-        let mut left = u64::from(self.held);
-        let mut after_ff = self.after_ff;
-        for byte in self.rest {
-            left = left.saturating_add(u64::from(byte_bits(after_ff)));
-            after_ff = *byte == 0xff;
-        }
-        left
+        self.plain.left_from(self.place, self.end)
     }
 
-    /// Takes bytes in if fewer than `wanted` bits are held, until these are or no bytes are left.
+    /// How many bits are un-stuffed.
     #[inline(always)]
-    fn refill(&mut self, wanted: u32)
-        requires { wanted ≤ ENOUGH }
-        ensures bits { self.new.bits ≡ self.old.bits }
-        ensures enough { (wanted ≤ self.new.held) ⊎ (length self.new.bits ≤ self.new.held) }
+    fn held(&self) -> usize
+        ensures value { result ≡ self.now.held }
+        ensures few { result ≤ 16384 }
     {
-        if self.held >= wanted {
-            return;
-        }
-        if !self.after_ff
-            && let [first, second, third, fourth, rest @ ..] = self.rest
-            && *first != 0xff
-            && *second != 0xff
-            && *third != 0xff
-            && *fourth != 0xff
-        {
-            let four = u32::from_be_bytes([*first, *second, *third, *fourth]);
-            self.word = (self.word << 32) | u64::from(four);
-            self.held += 32;
-            self.rest = rest;
-            return;
-        }
-        self.refill_by_bytes();
+        self.end - self.place
     }
 
-    /// As `refill`, byte by byte, until `ENOUGH` bits are held.
+    /// The bits in front, from the top of a number of 64 bits on. As many are right as are un-stuffed, but 57 at most.
     #[inline(always)]
-    fn refill_by_bytes(&mut self)
-        ensures bits { self.new.bits ≡ self.old.bits }
-        ensures enough { (ENOUGH ≤ self.new.held) ⊎ (length self.new.bits ≤ self.new.held) }
+    fn front(&self) -> u64
+        ensures { (n : ℕ) → n ≤ 57 → n ≤ self.now.held → take n (bits_of 64 result) ≡ take n self.now.bits }
     {
-        'bytes: while self.held < ENOUGH
-            && let [byte, rest @ ..] = self.rest
-        {
-            let size = byte_bits(self.after_ff);
-            self.word = (self.word << size) | u64::from(*byte);
-            self.held += size;
-            self.after_ff = *byte == 0xff;
-            self.rest = rest;
-        }
+        self.plain.from(self.place)
     }
-}
 
-/// The lowest `count` bits of `word`.
-pub fn low_bits(word: u64, count: u32) -> u32
-    requires { count ≤ 32 }
-    ensures { result ≡ word % 2 ^ count }
-{
-    (word & ((1 << count) - 1)) as u32
-}
-
-/// A number of `high` and the `count` bits of `low` after it.
-pub fn joined(high: u32, low: u32, count: u32) -> u32
-    requires high { high < 64 }
-    requires count { count ≤ 17 }
-    requires low { low < 2 ^ count }
-    ensures { result ≡ high * 2 ^ count + low }
-{
-    (high << count) | low
-}
-
-/// How many zeros are in front in the lowest `held` bits of `word`; no fewer than `held` if all of them are zeros.
-pub fn leading_zeros(word: u64, held: u32) -> u32
-    requires some { 0 < held }
-    requires few { held ≤ 64 }
-    ensures { LeadingZeros held word result }
-{
-    (word << (64 - held)).leading_zeros()
+    /// Leaves so many of the un-stuffed bits out.
+    #[inline(always)]
+    fn skip(&mut self, count: u32)
+        requires { count ≤ self.old.held }
+        ensures { self.new.bits ≡ drop count self.old.bits }
+    {
+        self.place += count as usize;
+    }
 }

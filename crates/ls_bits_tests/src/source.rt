@@ -1,12 +1,12 @@
-use crate::testing::{Code, WORDS, check_answer, check_left, source_of};
-use ls_bits::CodeFault;
+use crate::testing::{Code, WORDS, check_answer, check_few, check_left, plain_of};
+use ls_bits::{BitSource, CodeFault};
+use std::alloc::{AllocError, Global};
 
 #[test]
 fn words_are_taken(rt: HostRuntime) {
     for (k, glimit, qbpp, v, bytes) in WORDS {
         let code = Code::new(&rt, k, glimit, qbpp);
-        check_answer(&rt, code.take(&mut source_of(bytes)), Ok(v), bytes);
-        check_answer(&rt, code.take_by_table(&mut source_of(bytes)), Ok(v), bytes);
+        check_answer(&rt, code.take_first(bytes), Ok(v), bytes);
     }
 }
 
@@ -27,13 +27,7 @@ const NO_WORDS: [Row; 7] = [
 fn the_fault_is_named_if_no_word_is_taken(rt: HostRuntime) {
     for (k, glimit, qbpp, bytes, fault) in NO_WORDS {
         let code = Code::new(&rt, k, glimit, qbpp);
-        check_answer(&rt, code.take(&mut source_of(bytes)), Err(fault), bytes);
-        check_answer(
-            &rt,
-            code.take_by_table(&mut source_of(bytes)),
-            Err(fault),
-            bytes,
-        );
+        check_answer(&rt, code.take_first(bytes), Err(fault), bytes);
     }
 }
 
@@ -53,10 +47,11 @@ const SHORT: [Short; 7] = [
 #[test]
 fn a_short_word_leaves_what_follows_it(rt: HostRuntime) {
     for (k, glimit, qbpp, v, bytes, left) in SHORT {
-        let mut source = source_of(bytes);
+        let mut plain = plain_of(bytes);
+        let mut source = BitSource::new(&mut plain);
         check_answer(
             &rt,
-            Code::new(&rt, k, glimit, qbpp).take_by_table(&mut source),
+            Code::new(&rt, k, glimit, qbpp).take(&mut source),
             Ok(v),
             bytes,
         );
@@ -68,7 +63,8 @@ fn a_short_word_leaves_what_follows_it(rt: HostRuntime) {
 fn a_word_leaves_the_bits_after_it(rt: HostRuntime) {
     let code = Code::new(&rt, 2, 31, 8);
     let bytes = [0x0a];
-    let mut source = source_of(&bytes);
+    let mut plain = plain_of(&bytes);
+    let mut source = BitSource::new(&mut plain);
     check_answer(&rt, code.take(&mut source), Ok(17), &bytes);
     check_left(&rt, &source, 1);
     check_answer(
@@ -78,7 +74,8 @@ fn a_word_leaves_the_bits_after_it(rt: HostRuntime) {
         &bytes,
     );
     let bytes = [0x40, 0x00];
-    let mut source = source_of(&bytes);
+    let mut plain = plain_of(&bytes);
+    let mut source = BitSource::new(&mut plain);
     check_answer(
         &rt,
         Code::new(&rt, 8, 32, 8).take(&mut source),
@@ -94,14 +91,16 @@ const READS: [(u32, u32, u64); 4] = [(0, 0, 15), (8, 255, 7), (1, 1, 6), (1, 0, 
 #[test]
 fn the_stuffed_bit_is_no_bit(rt: HostRuntime) {
     let bytes = [0xff, 0x40];
-    let mut source = source_of(&bytes);
+    let mut plain = plain_of(&bytes);
+    let mut source = BitSource::new(&mut plain);
     check_left(&rt, &source, 15);
     for (count, value, left) in READS {
         check_answer(&rt, source.bits(count), Ok(value), &bytes);
         check_left(&rt, &source, left);
     }
     check_answer(&rt, source.bits(6), Err(CodeFault::OutOfBits), &bytes);
-    let mut source = source_of(&bytes);
+    let mut plain = plain_of(&bytes);
+    let mut source = BitSource::new(&mut plain);
     check_answer(&rt, source.bits(8), Ok(255), &bytes);
     check_answer(&rt, source.bit(), Ok(1), &bytes);
     check_answer(&rt, source.bit(), Ok(0), &bytes);
@@ -110,10 +109,53 @@ fn the_stuffed_bit_is_no_bit(rt: HostRuntime) {
 
 #[test]
 fn no_bytes_have_no_bit(rt: HostRuntime) {
-    let mut source = source_of(&[]);
+    let mut plain = plain_of(&[]);
+    let mut source = BitSource::new(&mut plain);
     check_left(&rt, &source, 0);
     check_answer(&rt, source.bits(0), Ok(0), &[]);
     check_answer(&rt, source.bit(), Err(CodeFault::OutOfBits), &[]);
+}
+
+/// k, how many zeros a word may have, bytes, what is taken, and how many bits are left then.
+type Few = (u32, u32, &'static [u8], Option<u32>, u64);
+
+const FEW: [Few; 5] = [
+    (2, 5, &[0x0a, 0, 0, 0, 0, 0, 0, 0], Some(17), 57),
+    (2, 4, &[0x0a, 0, 0, 0, 0, 0, 0, 0], None, 64),
+    (0, 24, &[0, 0, 1, 0, 0, 0, 0, 0], Some(23), 40),
+    (0, 23, &[0, 0, 1, 0, 0, 0, 0, 0], None, 64),
+    (2, 5, &[0x0a, 0, 0, 0, 0, 0, 0], None, 56),
+];
+
+#[test]
+fn a_word_of_few_zeros_is_taken_where_it_is_known_to_be_whole(rt: HostRuntime) {
+    for (k, most, bytes, value, left) in FEW {
+        check_few(&rt, k, most, bytes, value, left);
+    }
+}
+
+/// How many bits are un-stuffed at once is less than these have.
+#[test]
+fn bits_go_on_where_more_are_unstuffed(rt: HostRuntime) {
+    let Ok(bytes) = pairs_of_ff(rt.alloc()) else {
+        return;
+    };
+    let mut plain = plain_of(&bytes);
+    let mut source = BitSource::new(&mut plain);
+    for _ in 0..3000 {
+        check_answer(&rt, source.bits(15), Ok(32767), &[]);
+    }
+    check_left(&rt, &source, 0);
+}
+
+/// FF and 7F, so 15 ones, 3000 times.
+fn pairs_of_ff(alloc: Global) -> Result<Vec<u8>, AllocError> {
+    let mut bytes = Vec::new(alloc);
+    for _ in 0..3000 {
+        bytes.push(0xff)?;
+        bytes.push(0x7f)?;
+    }
+    Ok(bytes)
 }
 
 #[test]

@@ -4,7 +4,7 @@ ghost use Rattle.ls_bits.specs.Golomb.{IsGolomb};
 ghost use Rattle.ls_bits.specs.View.Room.{Fits};
 
 use ls_bits::laws::words_keep_their_limit;
-use ls_bits::{BitSink, BitSource, CodeFault, RoomSink, WordTable, data_of};
+use ls_bits::{BitSink, BitSource, CodeFault, PlainBits, RoomSink, data_of};
 use std::alloc::{AllocError, Global};
 use std::process::Abort;
 
@@ -72,8 +72,22 @@ pub fn check_answer(
 }
 
 /// That so many bits are left.
-pub fn check_left(rt: &impl Abort, source: &BitSource<'_>, want: u64) {
+pub fn check_left(rt: &impl Abort, source: &BitSource<'_, '_>, want: u64) {
     assert_eq!(rt; source.left(), want);
+}
+
+/// That a word of few zeros is taken so at the front of bytes, after their first bits were un-stuffed.
+pub fn check_few(rt: &impl Abort, k: u32, most: u32, bytes: &[u8], value: Option<u32>, left: u64) {
+    assert!(rt; k <= 17);
+    assert!(rt; most <= 24);
+    let mut plain = plain_of(bytes);
+    let mut source = BitSource::new(&mut plain);
+    let none = source.bits(0);
+    assert_eq!(rt;
+        (none, source.take_few(k, most), source.left()),
+        (Ok(0), value, left),
+        "of {bytes:?}"
+    );
 }
 
 /// A code of words: k, glimit, qbpp.
@@ -95,20 +109,20 @@ impl Code {
     }
 
     /// The value of the word in front.
-    pub fn take(self, source: &mut BitSource<'_>) -> Result<u32, CodeFault> {
+    pub fn take(self, source: &mut BitSource<'_, '_>) -> Result<u32, CodeFault> {
         source.take_golomb(self.k, self.glimit, self.qbpp)
     }
 
-    /// The same, by a table of short words.
-    pub fn take_by_table(self, source: &mut BitSource<'_>) -> Result<u32, CodeFault> {
-        let table = WordTable::new(self.glimit, self.qbpp);
-        source.take_golomb_by(&table, self.k, self.glimit, self.qbpp)
+    /// The value of the word at the front of bytes.
+    pub fn take_first(self, bytes: &[u8]) -> Result<u32, CodeFault> {
+        let mut plain = plain_of(bytes);
+        self.take(&mut BitSource::new(&mut plain))
     }
 }
 
 /// The bits of the data at the front of bytes.
-pub fn source_of<'a>(bytes: &'a [u8]) -> BitSource<'a> {
-    BitSource::new(&bytes[..data_of(bytes).len])
+pub fn plain_of<'a>(bytes: &'a [u8]) -> PlainBits<'a> {
+    PlainBits::new(&bytes[..data_of(bytes).len])
 }
 
 /// Puts bits. If an allocation fails, the same call is made once more.

@@ -15,4 +15,5 @@ pub mod RunLemmas
 pub mod SignedLemmas
 pub mod StateLemmas
 pub mod StatsLemmas
+pub mod SureLemmas
 pub mod WordLemmas

@@ -7,3 +7,4 @@ pub mod RegionTables
 pub mod SignedContexts
 pub mod Sizes
 pub mod States
+pub mod SureZeros

@@ -1,5 +1,5 @@
 //! The counters of every context, and one sample more (T.87 A.2.1, A.3 to A.7).
-ghost use Rattle.std.specs.Prelude.{◌≡◌, ◌<◌, ◌≤◌, ℕ, pos, true, false, slice_set, IfOk, IfErr, if◌then◌else◌};
+ghost use Rattle.std.specs.Prelude.{◌≡◌, ◌+◌, ◌<◌, ◌≤◌, ℕ, pos, true, false, slice_set, IfOk, IfErr, if◌then◌else◌};
 ghost use Rattle.ls_frame.specs.Parameters.{range_of, qbpp_of};
 ghost use Rattle.ls_bits.specs.Golomb.{IsGolomb, most_value};
 ghost use Rattle.ls_coding.specs.Samples.{AreSamples, Interrupts};
@@ -175,6 +175,37 @@ impl Counters {
         let sample = sample_of(self.presets, negative, prediction, error);
         self.add(number, error);
         Ok(sample)
+    }
+
+    /// The sample of regular mode whose mapped error this is for a prediction, where it is small enough that there is one.
+    pub fn accept_sure(
+        &mut self,
+        number: usize,
+        negative: bool,
+        prediction: u16,
+        k: u32,
+        value: u32,
+    ) -> u16
+        requires number { number < 365 }
+        requires prediction { prediction ≤ self.old.presets.maxval }
+        requires value { value + 1 < range_of self.old.presets.maxval }
+        requires sound { IsSound self.old }
+        ensures sample { let counters = regular_at self.old number in
+            let value_of : ℕ → ℕ = λ sample. mapped_error (is_inverted k counters.b counters.n) (error_of self.old.presets negative (pos prediction) sample) in
+            IsTheSample (λ one. one ≤ self.old.presets.maxval) value_of value result }
+        ensures contexts { let counters = regular_at self.old number in
+            all_regular self.new
+            ≡ slice_set (all_regular self.old) number
+            (stats_step self.old.presets.reset counters (error_of self.old.presets negative (pos prediction) result)) }
+        ensures ri_type_0 { interrupting_at self.new 0 ≡ interrupting_at self.old 0 }
+        ensures ri_type_1 { interrupting_at self.new 1 ≡ interrupting_at self.old 1 }
+        ensures sound { IsSound self.new }
+        ensures parameters { self.new.presets ≡ self.old.presets }
+    {
+        let reduced = unmapped_error(k, self.b[number], self.n[number], value);
+        let sample = sample_of(self.presets, negative, prediction, reduced);
+        self.add(number, reduced);
+        sample
     }
 
     /// The word of the sample that interrupts a run, at the RUNindex that the run left. Its error is counted in its

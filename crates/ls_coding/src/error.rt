@@ -295,6 +295,21 @@ fn modulo_range(number: i32, range: u32) -> u32
     if is_below(number, range) {
         return number as u32;
     }
+    nearer_by_range(number, range)
+}
+
+/// A number that is less than 0, or at least `range`, and less than twice that away from 0, modulo `range`.
+#[cold]
+#[inline(never)]
+fn nearer_by_range(number: i32, range: u32) -> u32
+    requires range { range ≤ 65536 }
+    requires low { neg_ℤ (pos range) ≤ℤ number }
+    requires high { number <ℤ (pos range +ℤ pos range) }
+    requires past { pos 0 ≤ℤ number → pos range ≤ℤ number }
+    ensures value { pos result ≡ (if int_lt number (pos 0) then number +ℤ pos range
+        else (if int_le (pos range) number then number -ℤ pos range else number)) }
+    ensures within { result < range }
+{
     let size = number.unsigned_abs();
     if number < 0 {
         range - size

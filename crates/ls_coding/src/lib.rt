@@ -51,6 +51,7 @@ pub mod plan;
 pub mod regions;
 mod run;
 pub mod state;
+pub mod sure_zeros;
 mod update;
 pub mod word;
 
@@ -61,4 +62,5 @@ pub use plan::Plan;
 pub use regions::{Regions, whole_context};
 pub use run::{RunWord, Tail};
 pub use state::State;
+pub use sure_zeros::SureZeros;
 pub use word::Word;

@@ -1,5 +1,5 @@
 //! What a scan is coded and read by, an event at a time (T.87 A.2.1 to A.7).
-ghost use Rattle.std.specs.Prelude.{◌≡◌, ◌+◌, ◌-◌, ◌*◌, ◌^◌, ◌<◌, ◌≤◌, ◌++◌, ◌∷◌, [], List, length, min, ℕ, true, false, not, IsTrue, IfOk, IfErr};
+ghost use Rattle.std.specs.Prelude.{◌≡◌, ◌+◌, ◌-◌, ◌*◌, ◌/◌, ◌^◌, ◌<◌, ◌≤◌, ◌++◌, ◌∷◌, [], List, length, min, ℕ, true, false, not, IsTrue, IfOk, IfErr};
 ghost use Rattle.ls_frame.specs.Parameters.{qbpp_of, limit_of};
 ghost use Rattle.ls_bits.specs.Golomb.{IsGolomb, most_value};
 ghost use Rattle.ls_coding.specs.Samples.{AreSamples, Interrupts};
@@ -9,6 +9,7 @@ ghost use Rattle.ls_coding.specs.Runs.{order, run_of, run_word, word_bits, tail_
 ghost use Rattle.ls_coding.specs.Interruptions.{ri_type_of, interruption_error};
 ghost use Rattle.ls_coding.specs.Events.{Event, run, golomb_bits};
 ghost use Rattle.ls_coding.specs.View.States.{Coding, state_of, context_in, regular_error_in, regular_word_in, interruption_word_in, regular_after, run_after, interruption_after, IsRegularEvent, IsInterruptionEvent};
+ghost use Rattle.ls_coding.specs.View.SureZeros.{sure_zeros};
 ghost use Rattle.ls_coding.specs.View.Plans.{regular_plan, interruption_plan, IsReadBy, IsTheSample, NoSample};
 ghost use Rattle.ls_coding.specs.View.Calls.{MayCodeRegular, MayCodeMirrored, MayCodeRun, MayCodeInterruption};
 ghost use Rattle.ls_coding.specs.View.Mirrors.{IsMirrored};
@@ -174,6 +175,22 @@ impl State {
     {
         self.counters
             .accept(plan.number, plan.negative, plan.prediction, plan.k, value)
+    }
+
+    /// `accept_regular` of a value that surely has a sample: `SureZeros` says how many zeros its word may have had in front.
+    #[inline(always)]
+    pub fn accept_sure(&mut self, plan: Plan, value: u32) -> u16
+        requires plan { plan ≡ regular_plan self.old plan.neighbours }
+        requires samples { AreSamples self.old.parameters.maxval plan.neighbours }
+        requires value { value / 2 ^ plan.k < sure_zeros self.old.parameters plan.k }
+        requires uninterrupted { self.old.interrupted ≡ false }
+        ensures sample { IsTheSample (λ one. one ≤ self.old.parameters.maxval)
+            (λ one. (regular_word_in self.old plan.neighbours one).value) value result }
+        ensures state { self.new ≡ regular_after self.old (context_in self.old plan.neighbours).number
+            (regular_error_in self.old plan.neighbours result) }
+    {
+        self.counters
+            .accept_sure(plan.number, plan.negative, plan.prediction, plan.k, value)
     }
 
     /// Codes a run of `count` samples that are equal to Ra (A.7.1): to the line's end (`eol`), or to a sample that

@@ -103,6 +103,29 @@ fn a_value_that_no_sample_of_regular_mode_has_is_refused(rt: HostRuntime) {
     }
 }
 
+#[test]
+fn a_value_of_few_zeros_is_accepted_as_any(rt: HostRuntime) {
+    let mut state = fresh();
+    check_sample(&rt, Ok(accept_sure(&rt, &mut state, (5, 0, 0, 0), 0)), Ok(5));
+}
+
+/// maxval, k, and how many zeros a word may have in front and be sure.
+const SURE: [(u16, u32, u32); 6] = [
+    (255, 0, 23),
+    (255, 4, 15),
+    (255, 8, 0),
+    (65535, 0, 24),
+    (65535, 12, 15),
+    (1, 0, 1),
+];
+
+#[test]
+fn words_of_so_few_zeros_are_sure(rt: HostRuntime) {
+    for (maxval, k, want) in SURE {
+        check_number(&rt, sure_zeros(&rt, maxval, k), want);
+    }
+}
+
 /// The value 17 is that of the run's own samples.
 #[test]
 fn a_value_of_no_sample_that_may_interrupt_the_run_is_refused(rt: HostRuntime) {

@@ -1,14 +1,16 @@
 -- The words that a decoder takes, and the samples that they are of.
-use Rattle.std.proofs.Common.{◌≡◌, ℕ, ◌≤◌, List, Bool, ◌++◌, refl, sym, ◌∙◌, ap, subst}
+use Rattle.std.proofs.Common.{◌≡◌, ℕ, ◌+◌, ◌/◌, ◌^◌, ◌<◌, arith, ◌≤◌, List, Bool, ◌++◌, refl, sym, ◌∙◌, ap, subst}
 use Rattle.ls_bits.specs.declared.source.CodeFault.{CodeFault}
 use Rattle.ls_bits.specs.declared.source.CodeFault.TheVariants.{OutOfBits, NotCanonical}
-use Rattle.ls_bits.specs.Golomb.{IsGolomb, code_word, most_value, TakesWord, GolombFault}
-use Rattle.ls_bits.specs.View.WordTables.{Codes}
-use Rattle.ls_bits.proofs.GolombLaws.{same_word, canonical}
-use Rattle.ls_frame.specs.Parameters.{qbpp_of, limit_of}
+use Rattle.ls_bits.specs.Golomb.{IsGolomb, short_word, code_word, escape_zeros, most_value, TakesWord, GolombFault}
+use Rattle.ls_bits.proofs.GolombLaws.{same_word, canonical, short_word-taken}
+use Rattle.ls_frame.specs.Parameters.{Parameters, range_of, qbpp_of, limit_of}
 use Rattle.ls_coding.specs.declared.word.Word.{Word}
 use Rattle.ls_coding.specs.declared.neighbours.Neighbours.{Neighbours}
 use Rattle.ls_coding.specs.View.States.{Coding}
+use Rattle.ls_coding.specs.View.SureZeros.{sure_zeros}
+use Rattle.ls_coding.proofs.SureLemmas.{small_by_zeros}
+use Rattle.ls_coding.proofs.WordLemmas.{qbpp_are}
 use Rattle.ls_coding.specs.View.Plans.{Planned, regular_plan_by, regular_plan, IsReadBy, IsTheSample, NoSample}
 
 no_word : (k glimit qbpp v : ℕ) (bits rest : List Bool) (fault : CodeFault) → IsGolomb k glimit qbpp → GolombFault k glimit qbpp bits fault
@@ -71,13 +73,25 @@ pub no_sample_taken : (plan : Planned) (word_of : ℕ → Word) (IsSample : ℕ 
 no_sample_taken plan word_of IsSample k glimit qbpp maxval x value bits new rest code took none here small e =
     none x here (taken_is plan word_of k glimit qbpp maxval x value bits new rest code took small e).0
 
--- ---- the table of the words of regular mode
+-- the bits begin with the word of the sample that has the value of the word that was taken
+pub sample_bits : (plan : Planned) (word_of : ℕ → Word) (IsSample : ℕ → Type 0) (k glimit qbpp maxval value found : ℕ) (bits new : List Bool)
+    → IsCode plan word_of k glimit qbpp maxval → TakesWord k glimit qbpp bits value new → IsTheSample IsSample (λ one. (word_of one).value) value found
+    → bits ≡ code_word (word_of found).k (word_of found).glimit (qbpp_of maxval) (word_of found).value ++ new
+sample_bits plan word_of IsSample k glimit qbpp maxval value found bits new code took is =
+    let word = given plan word_of k glimit qbpp maxval (λ a b c. TakesWord a b c bits value new) code took in
+    word.word ∙ ap (λ n. code_word n plan.glimit (qbpp_of maxval) value ++ new) (sym (code.read_by found).same_k)
+    ∙ ap (λ n. code_word (word_of found).k n (qbpp_of maxval) value ++ new) (sym (code.read_by found).same_limit)
+    ∙ ap (λ n. code_word (word_of found).k (word_of found).glimit (qbpp_of maxval) n ++ new) (sym is.has_value)
+
+-- a short word that is surely a sample's
+pub sure_takes : (p : Parameters) (k glimit value : ℕ) (bits rest : List Bool) → 0 < p.maxval → p.maxval ≤ 65535 → glimit ≡ limit_of p.maxval
+    → value / 2 ^ k < sure_zeros p k → bits ≡ short_word k value ++ rest → TakesWord k glimit (qbpp_of p.maxval) bits value rest
+sure_takes p k glimit value bits rest some most limit few e =
+    let small : value + 1 < range_of p.maxval = small_by_zeros p value k few in
+    let enough = (qbpp_are p.maxval some most).enough in
+    short_word-taken k glimit (qbpp_of p.maxval) value bits rest
+    (subst (λ n. value / 2 ^ k < escape_zeros n (qbpp_of p.maxval)) (sym limit) (omega (arith, few))) (omega (arith, small, enough)) e
 
 pub regular_limit : (s : Coding) (n : Neighbours) → (regular_plan s n).glimit ≡ limit_of s.parameters.maxval
 unfolding regular_plan_by
 regular_limit s n = refl
-
-pub same_codes : (words : Codes) (glimit qbpp limit real : ℕ) → words ≡ record { glimit = limit; qbpp = real } → glimit ≡ limit → qbpp ≡ real
-    → words ≡ record { glimit = glimit; qbpp = qbpp }
-same_codes words glimit qbpp limit real e g q =
-    subst (λ n. words ≡ record { glimit = n; qbpp = qbpp }) (sym g) (subst (λ n. words ≡ record { glimit = limit; qbpp = n }) (sym q) e)

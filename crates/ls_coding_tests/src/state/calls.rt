@@ -6,7 +6,7 @@ ghost use Rattle.ls_coding.specs.Samples.{AreSamples};
 ghost use Rattle.ls_coding.specs.Contexts.{is_run};
 
 use ls_bits::CodeFault;
-use ls_coding::{Mode, Neighbours, RunWord, State, Tail, Word, mode_of};
+use ls_coding::{Mode, Neighbours, RunWord, State, SureZeros, Tail, Word, mode_of};
 use ls_frame::Presets;
 use std::process::Abort;
 
@@ -108,6 +108,26 @@ pub fn accept_regular(
     check_number(rt, plan.glimit(), glimit);
     check_value(rt, state, value);
     state.accept_regular(plan, value)
+}
+
+/// How many zeros a word may have with this k, by the default parameters of a maxval.
+pub fn sure_zeros(rt: &impl Abort, maxval: u16, k: u32) -> u32 {
+    check(rt, maxval > 0);
+    check(rt, k < 18);
+    SureZeros::new(&Presets::default_of(maxval)).of(k)
+}
+
+/// Of a value that surely has a sample.
+pub fn accept_sure(rt: &impl Abort, state: &mut State, around: Around, value: u32) -> u16 {
+    let neighbours = neighbours_of(around);
+    check_samples(rt, state, &neighbours);
+    check_regular(rt, &neighbours);
+    check(rt, !state.interrupted());
+    let sure = SureZeros::new(state.presets());
+    let plan = state.plan_regular(&neighbours);
+    let k = plan.k();
+    check(rt, value >> k < sure.of(k));
+    state.accept_sure(plan, value)
 }
 
 pub fn code_run(rt: &impl Abort, state: &mut State, count: u32, eol: bool) -> RunWord {

@@ -1,8 +1,7 @@
 //! A scan that is being read: its bits, as the events of its rows (T.87 Annex A).
 ghost use Rattle.std.specs.Prelude.{◌≡◌, ◌<◌, ◌≤◌, ◌++◌, [], ℕ, Bool, List, true, false, length, min, IfOk, IfErr};
 ghost use Rattle.ls_frame.specs.Parameters.{qbpp_of, limit_of};
-ghost use Rattle.ls_bits.specs.Stuffing.{unstuff};
-ghost use Rattle.ls_bits.specs.Data.{IsData};
+ghost use Rattle.ls_bits.specs.View.Plain.{bits_in};
 ghost use Rattle.ls_coding.specs.Samples.{AreSamples, Interrupts};
 ghost use Rattle.ls_coding.specs.Contexts.{is_zero, is_run};
 ghost use Rattle.ls_coding.specs.View.SignedContexts.{signed_context, half_context};
@@ -13,27 +12,27 @@ ghost use Rattle.ls_coding.specs.View.States.{state_of, context_in, regular_erro
 ghost use Rattle.ls_stream.specs.View.BitFaults.{BreaksSample, BreaksInterruption, BreaksRun};
 ghost use Rattle.ls_stream.specs.View.Decoding.{EndsInLine};
 
-use ls_bits::{BitSource, CodeFault, WordTable};
-use ls_coding::{Neighbours, Regions, State, whole_context};
+use ls_bits::{BitSource, CodeFault, PlainBits};
+use ls_coding::{Neighbours, Regions, State, SureZeros, whole_context};
 use ls_frame::Presets;
 use std::marker::Model;
 
 /// The state of a scan's coding, and the source of its bits.
 #[derive(Drop)]
-pub struct Decoder<'a> {
+pub struct Decoder<'a, 'b> {
     presets: Presets,
     /// The bits of an error (qbpp).
     qbpp: u32,
     /// The regions of all gradients.
     regions: &'a Regions,
-    /// The short words of regular mode's codes.
-    words: &'a WordTable,
+    /// Which words of regular mode are surely those of samples.
+    sure: &'a SureZeros,
     /// It stands elsewhere, so that the rest of the decoder can be in registers.
     state: &'a mut State,
-    source: BitSource<'a>,
+    source: BitSource<'a, 'b>,
 }
 
-impl<'a> Model for Decoder<'a> {
+impl<'a, 'b> Model for Decoder<'a, 'b> {
     ghost use Rattle.std.specs.Prelude.{◌≡◌};
     ghost use Rattle.ls_frame.specs.Parameters.{qbpp_of, limit_of, IsLegal};
     ghost use Rattle.ls_stream.specs.View.Decoding.{Unread};
@@ -43,7 +42,7 @@ impl<'a> Model for Decoder<'a> {
     ghost view = { λ d. record { state = d.state.now; bits = d.source } };
 
     ghost invariant = { λ d. (d.state.now.parameters ≡ d.presets) × (d.qbpp ≡ qbpp_of d.presets.maxval) × IsLegal d.presets × (d.regions.now ≡ d.presets)
-        × (d.words.now ≡ record { glimit = limit_of d.presets.maxval; qbpp = qbpp_of d.presets.maxval }) };
+        × (d.sure.now ≡ d.presets) };
 }
 
 /// A run that was read: how many samples it has, and whether a sample interrupts it before the line's end.
@@ -53,31 +52,30 @@ pub struct FoundRun {
     pub interrupted: bool,
 }
 
-impl<'a> Decoder<'a> {
-    /// The start of a scan, of this data, with the state of a scan's start.
+impl<'a, 'b> Decoder<'a, 'b> {
+    /// The start of a scan, of these bits, with the state of a scan's start.
     pub fn new(
         presets: &Presets,
         regions: &'a Regions,
-        words: &'a WordTable,
+        sure: &'a SureZeros,
         state: &'a mut State,
-        bytes: &'a [u8],
-    ) -> Decoder<'a>
-        requires is_data { IsData bytes.now }
+        plain: &'a mut PlainBits<'b>,
+    ) -> Decoder<'a, 'b>
         requires regions { regions.now ≡ presets.now }
-        requires words { words.now ≡ record { glimit = limit_of presets.now.maxval; qbpp = qbpp_of presets.now.maxval } }
+        requires sure { sure.now ≡ presets.now }
         requires state { state.old ≡ state_of presets.now [] }
         ensures parameters { result.state.parameters ≡ presets.now }
         ensures state { result.state ≡ state_of presets.now [] }
-        ensures bits { result.bits ≡ unstuff bytes.now }
+        ensures bits { result.bits ≡ bits_in plain.old }
     {
         prove!(presets.maxval() > 0);
         Decoder {
             presets: *presets,
             qbpp: presets.qbpp(),
             regions,
-            words,
+            sure,
             state,
-            source: BitSource::new(bytes),
+            source: BitSource::new(plain),
         }
     }
 
@@ -126,9 +124,11 @@ impl<'a> Decoder<'a> {
         ensures fault { IfErr result (λ fault. BreaksSample self.old.state neighbours.now self.old.bits fault) }
     {
         let plan = self.state.plan_regular_at(context, neighbours);
-        let value = self
-            .source
-            .take_golomb_by(self.words, plan.k(), plan.glimit(), self.qbpp)?;
+        let k = plan.k();
+        if let Some(value) = self.source.take_few(k, self.sure.of(k)) {
+            return Ok(self.state.accept_sure(plan, value));
+        }
+        let value = self.source.take_golomb(k, plan.glimit(), self.qbpp)?;
         self.state.accept_regular(plan, value)
     }
 

@@ -14,8 +14,8 @@ use crate::decode::decoder::Decoder;
 use crate::decode::row::decode_row;
 use crate::lines::clear;
 use crate::shape::Shape;
-use ls_bits::{CodeFault, WordTable};
-use ls_coding::{Regions, State};
+use ls_bits::{CodeFault, PlainBits};
+use ls_coding::{Regions, State, SureZeros};
 use ls_frame::{Place, Presets};
 
 /// Why a scan's data isn't that of a plane.
@@ -60,8 +60,9 @@ pub fn decode_scan<S: Place>(
     ensures lines { lines.new ≡ lines.old }
 {
     let mut state = State::new(presets);
-    let words = WordTable::new(presets.limit(), presets.qbpp());
-    let mut decoder = Decoder::new(presets, regions, &words, &mut state, bytes);
+    let sure = SureZeros::new(presets);
+    let mut plain = PlainBits::new(bytes);
+    let mut decoder = Decoder::new(presets, regions, &sure, &mut state, &mut plain);
     let read = decode_plane(
         &mut decoder,
         &mut lines.lines.above,

@@ -10,5 +10,5 @@ returns-in-Some-clause-ok c =
 
 pub returns-clause-fault : goal.returns-clause-fault
 returns-clause-fault c =
-    subst (λ bits. IfErr c.read_long_golomb.result (λ fault. GolombFault c.args.k c.args.glimit c.args.qbpp bits fault)) (c.in_default.ensures.none ∙ c.self.view_is)
-    c.read_long_golomb.ensures.fault
+    subst (λ bits. IfErr c.take_long.result (λ fault. GolombFault c.args.k c.args.glimit c.args.qbpp bits fault)) (c.in_default.ensures.none ∙ c.self.view_is)
+    c.take_long.ensures.fault

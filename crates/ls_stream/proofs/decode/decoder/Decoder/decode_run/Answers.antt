@@ -48,7 +48,7 @@ ones-preserved c =
       qbpp = c.ones.invariant.qbpp;
       legal = c.ones.invariant.legal;
       regions = c.ones.invariant.regions;
-      words = c.ones.invariant.words;
+      sure = c.ones.invariant.sure;
       breaks = λ fault malformed. c.ones.invariant.breaks fault
           (run_later c.ones.self-inside.state.now.run_index c.accept_one.new.self.run_index (c.args.left - c.ones.count) (c.args.left - (c.ones.count + c.accept_one.result)) c.ones.self-inside.source c.bit.new.self fault
           (bit_is_one _ _ _ c.in_ok-bit.ensures.ok c.if-branch-eq1.true) (next_index c.ones.self-inside.state.now c.accept_one.new.self c.accept_one.result c.accept_one.ensures.state whole)

@@ -15,7 +15,7 @@ invariant-ones l = record {
   qbpp : l.self-inside.qbpp ≡ qbpp_of l.self-inside.presets.maxval;
   legal : IsLegal l.self-inside.presets;
   regions : l.self-inside.regions.now ≡ l.self-inside.presets;
-  words : l.self-inside.words.now ≡ record { glimit = limit_of l.self-inside.presets.maxval; qbpp = qbpp_of l.self-inside.presets.maxval };
+  sure : l.self-inside.sure.now ≡ l.self-inside.presets;
   breaks : (fault : CodeFault) → BreaksRun l.self-inside.state.now.run_index (l.left - l.count) l.self-inside.source fault → BreaksRun l.fn.self.state.run_index l.left l.fn.self.bits fault;
   in_run : IsInRun l.left l.count l.fn.self.state.run_index l.self-inside.state.now.run_index l.fn.self.bits l.self-inside.source;
   states : (count : ℕ) (interrupted : Bool) → run_after l.self-inside.state.now (run_of count interrupted) ≡ run_after l.fn.self.state (run_of (l.count + count) interrupted);

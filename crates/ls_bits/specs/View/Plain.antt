@@ -1,0 +1,45 @@
+-- How a source holds bits: whole bytes that are un-stuffed ahead, in which its place and their end are counted in bits,
+-- and after them those that are still stuffed.
+use Rattle.std.specs.Prelude.{◌≡◌, ℕ, ◌-◌, ◌%◌, ◌≤◌, ◌⊎◌, Bool, List, [], ◌∷◌, ◌++◌, length, take, drop, slice_set, ◌+◌, ◌/◌, ◌^◌}
+use Rattle.ls_bits.specs.Bits.{bits_of}
+
+-- the bits of bytes, eight of each
+abbrev pub plain_bits : List ℕ → List Bool
+plain_bits [] = []
+plain_bits (byte ∷ bytes) = bits_of 8 byte ++ plain_bits bytes
+
+-- what bits that are un-stuffed ahead are seen as
+pub record Ahead : Type 0 where
+  -- the un-stuffed bytes
+  pub bytes : List ℕ
+  -- the bits that are still stuffed
+  pub bits : List Bool
+
+-- the bits from a place on, of which those up to the end are un-stuffed
+abbrev pub bits_from : Ahead → ℕ → ℕ → List Bool
+bits_from ahead place end = take (end - place) (drop place (plain_bits ahead.bytes)) ++ ahead.bits
+
+-- the un-stuffed bits that are left end in a whole byte, unless they are the last; at each place eight bytes stand
+pub record IsAhead (ahead : Ahead) (place end : ℕ) : Type 0 where
+  pub order : place ≤ end
+  pub within : end ≤ 16384
+  pub whole : (end % 8 ≡ 0) ⊎ (ahead.bits ≡ [])
+  pub room : length ahead.bytes ≡ 2056
+
+-- what un-stuffed bits are seen as, with the place of the next one and where they end
+pub record Placed : Type 0 where
+  pub ahead : Ahead
+  pub place : ℕ
+  pub end : ℕ
+
+-- the bits that are left
+abbrev pub bits_in : Placed → List Bool
+bits_in placed = bits_from placed.ahead placed.place placed.end
+
+abbrev pub IsPlaced : Placed → Type 0
+IsPlaced placed = IsAhead placed.ahead placed.place placed.end
+
+-- bytes with a number below 2 ^ 32 in four of them
+abbrev pub with_number : List ℕ → ℕ → ℕ → List ℕ
+with_number bytes at n =
+    slice_set (slice_set (slice_set (slice_set bytes at (n / 2 ^ 24 % 256)) (at + 1) (n / 2 ^ 16 % 256)) (at + 2) (n / 2 ^ 8 % 256)) (at + 3) (n % 256)
