@@ -1,16 +1,18 @@
 -- Un-stuffed bytes as bits, and bits in front of a place.
-use Rattle.std.proofs.Common.{◌≡◌, ℕ, zero, suc, ◌+◌, ◌-◌, ◌*◌, ◌/◌, ◌%◌, ◌^◌, ◌<◌, ◌≤◌, ◌⊎◌, inl, inr, ⊎_elim, Bool, true, false, List, [], ◌∷◌, ◌++◌, length, take, drop, set, get_or, refl, sym, ◌∙◌, ap, subst, arith, append_assoc, length-append, take-append-drop, length-set, length-drop, Fits, w8, ◌≢◌}
+use Rattle.std.proofs.Common.{◌≡◌, ℕ, zero, suc, ◌+◌, ◌-◌, ◌*◌, ◌/◌, ◌%◌, ◌^◌, ◌<◌, ◌≤◌, ◌⊎◌, inl, inr, ⊎_elim, Bool, true, false, List, [], ◌∷◌, ◌++◌, length, take, drop, set, get_or, refl, sym, ◌∙◌, ap, arith, append_assoc, length-append, take-append-drop, length-set, length-drop, ◌≢◌}
 use Rattle.std.proofs.lemmas.List.{take_all, take_at, drop_at, take-append-le, drop-append-le, take-take, drop-take, drop-drop, drop_more, drop_all, get_or-set_same, get_or-set_other, get_or-take, get_or-drop, ext_get_or, length-take-le, append-nil, replicate-append-replicate}
 use lib.Seq.{take-append-add}
-use Rattle.std.proofs.lemmas.Nat.{mod_below, pow_pos, shr-shr}
+use Rattle.std.proofs.lemmas.Nat.{pow_pos, pow-add, shr-shr}
 use Rattle.std.proofs.lemmas.Bool.{cases_lt, cases_eq}
 use Rattle.ls_bits.specs.Bits.{bits_of, zeros as zero_bits}
 use Rattle.ls_bits.specs.Golomb.{short_word}
 use Rattle.ls_bits.specs.View.Taking.{LeadingZeros, found, none}
-use Rattle.ls_bits.specs.View.Plain.{plain_bits, Ahead, Placed, bits_from, bits_in, IsAhead, with_number}
+use Rattle.ls_bits.specs.View.Plain.{plain_bits, Ahead, Placed, bits_from, bits_in, IsAhead, with_bytes}
 use Rattle.ls_bits.proofs.BitLemmas.{bits_of-cat, bits_of-split, bits_of-mod, length-bits_of, length-zeros, shifted_left}
 use Rattle.ls_bits.proofs.ShortWords.{short-taken}
 use Rattle.ls_bits.proofs.WindowLemmas.{bits_of-four}
+use Rattle.std.specs.Int.{byte_at, bytes_high_first, to_be_bytes, w32, w64}
+use Rattle.std.proofs.Math.Nat.{pow-succ'}
 
 -- ---- bytes as bits
 
@@ -198,99 +200,109 @@ at_front bytes moved place end order within long same =
     ∙ ap (λ bits. take n (drop q bits)) (sym (drop-plain from bytes))
     ∙ ap (take n) (drop-drop q (8 * from) (plain_bits bytes) ∙ ap (λ k. drop k (plain_bits bytes)) parts)
 
--- ---- four bytes more
+-- ---- the bytes of a number more
 
-set_in : (front list : List ℕ) (n k a : ℕ) → length front ≡ n → set (front ++ list) (n + k) a ≡ front ++ set list k a
-set_in [] list n k a e = let at : n + k ≡ k = omega (arith, e) in ap (λ i. set list i a) at
-set_in (x ∷ front) list zero k a e = absurd (omega (arith, e))
-set_in (x ∷ front) list (suc n) k a e =
-    let at : suc n + k ≡ suc (n + k) = omega arith in
-    ap (λ i. set (x ∷ (front ++ list)) i a) at ∙ ap (λ rest. x ∷ rest) (set_in front list n k a (omega (arith, e)))
+pow-bytes : (k : ℕ) → 256 ^ k ≡ 2 ^ (8 * k)
+pow-bytes zero = refl
+pow-bytes (suc k) =
+    let parts : 8 * suc k ≡ 8 + 8 * k = omega arith in
+    pow-succ' 256 k ∙ ap (λ n. 256 * n) (pow-bytes k) ∙ sym (ap (λ n. 2 ^ n) parts ∙ pow-add 2 8 (8 * k))
 
-abbrev pub with_four : List ℕ → ℕ → ℕ → ℕ → ℕ → ℕ → List ℕ
-with_four bytes at a b c d = set (set (set (set bytes at a) (at + 1) b) (at + 2) c) (at + 3) d
+bits_of-byte : (k n : ℕ) → bits_of 8 (byte_at k n) ≡ bits_of 8 (n / 2 ^ (8 * k))
+bits_of-byte zero n =
+    let whole : n / 1 ≡ n = omega arith in
+    bits_of-mod 8 8 n (omega arith) ∙ ap (bits_of 8) (sym whole)
+bits_of-byte (suc k) n =
+    bits_of-mod 8 8 (n / 256 ^ suc k) (omega arith) ∙ ap (λ m. bits_of 8 (n / m)) (pow-bytes (suc k))
 
-four_set : (bytes : List ℕ) (at a b c d : ℕ) → at + 4 ≤ length bytes
-    → with_four bytes at a b c d ≡ take at bytes ++ (a ∷ b ∷ c ∷ d ∷ drop (at + 4) bytes)
-four_set bytes at a b c d h =
-    let front : List ℕ = take at bytes in
-    let long : length front ≡ at = length-take-le at bytes (omega arith) in
-    let rest : List ℕ = drop (at + 4) bytes in
-    let begin : at + 0 ≡ at = omega arith in
-    let whole : bytes ≡ front ++ (get_or bytes at 0 ∷ get_or bytes (at + 1) 0 ∷ get_or bytes (at + 2) 0 ∷ get_or bytes (at + 3) 0 ∷ rest) =
-    sym (take-append-drop at bytes) ∙ ap (λ list. front ++ list) (four_at bytes at h) in
-    let first : set bytes at a ≡ front ++ (a ∷ get_or bytes (at + 1) 0 ∷ get_or bytes (at + 2) 0 ∷ get_or bytes (at + 3) 0 ∷ rest) =
-    ap (λ list. set list at a) whole ∙ sym (ap (λ i. set (front ++ (get_or bytes at 0 ∷ get_or bytes (at + 1) 0 ∷ get_or bytes (at + 2) 0 ∷ get_or bytes (at + 3) 0 ∷ rest)) i a) begin)
-    ∙ set_in front (get_or bytes at 0 ∷ get_or bytes (at + 1) 0 ∷ get_or bytes (at + 2) 0 ∷ get_or bytes (at + 3) 0 ∷ rest) at 0 a long in
-    let second : set (set bytes at a) (at + 1) b ≡ front ++ (a ∷ b ∷ get_or bytes (at + 2) 0 ∷ get_or bytes (at + 3) 0 ∷ rest) =
-    ap (λ list. set list (at + 1) b) first ∙ set_in front (a ∷ get_or bytes (at + 1) 0 ∷ get_or bytes (at + 2) 0 ∷ get_or bytes (at + 3) 0 ∷ rest) at 1 b long in
-    let third : set (set (set bytes at a) (at + 1) b) (at + 2) c ≡ front ++ (a ∷ b ∷ c ∷ get_or bytes (at + 3) 0 ∷ rest) =
-    ap (λ list. set list (at + 2) c) second ∙ set_in front (a ∷ b ∷ get_or bytes (at + 2) 0 ∷ get_or bytes (at + 3) 0 ∷ rest) at 2 c long in
-    ap (λ list. set list (at + 3) d) third ∙ set_in front (a ∷ b ∷ c ∷ get_or bytes (at + 3) 0 ∷ rest) at 3 d long
+pub plain-number : (k n : ℕ) → plain_bits (bytes_high_first k n) ≡ bits_of (8 * k) n
+plain-number zero n = refl
+plain-number (suc k) n =
+    let parts : 8 * suc k ≡ 8 + 8 * k = omega arith in
+    ap (λ bits. bits_of 8 (byte_at k n) ++ bits) (plain-number k n) ∙ ap (λ bits. bits ++ bits_of (8 * k) n) (bits_of-byte k n)
+    ∙ sym (ap (λ m. bits_of m n) parts ∙ bits_of-split 8 (8 * k) n)
 
-pub four_more : (bytes : List ℕ) (place end count a b c d value : ℕ) → a < 256 → b < 256 → c < 256 → d < 256
-    → value ≡ ((a * 256 + b) * 256 + c) * 256 + d → end % 8 ≡ 0 → end / 8 + 4 ≤ length bytes → place ≤ end → count ≤ 32
-    → take (end + count - place) (drop place (plain_bits (with_four bytes (end / 8) a b c d)))
-    ≡ take (end - place) (drop place (plain_bits bytes)) ++ take count (bits_of 32 value)
-four_more bytes place end count a b c d value la lb lc ld is whole within order few =
+length-with_bytes : (bytes : List ℕ) (at : ℕ) (new : List ℕ) → at + length new ≤ length bytes → length (with_bytes bytes at new) ≡ length bytes
+length-with_bytes bytes at new h =
+    let rest : List ℕ = drop (at + length new) bytes in
+    length-append (take at bytes) (new ++ rest)
+    ∙ omega (arith, h, length-append new rest, length-take-le at bytes (omega (arith, h)), length-drop (at + length new) bytes)
+
+pub bytes_more : (bytes : List ℕ) (place end count : ℕ) (new : List ℕ) → end % 8 ≡ 0 → end / 8 + length new ≤ length bytes → place ≤ end → count ≤ 8 * length new
+    → take (end + count - place) (drop place (plain_bits (with_bytes bytes (end / 8) new)))
+    ≡ take (end - place) (drop place (plain_bits bytes)) ++ take count (plain_bits new)
+bytes_more bytes place end count new whole within order few =
     let at : ℕ = end / 8 in
     let front : List Bool = plain_bits (take at bytes) in
-    let rest : List Bool = plain_bits (drop (at + 4) bytes) in
-    let long : length front ≡ end = length-plain (take at bytes) ∙ omega (arith, length-take-le at bytes (omega arith), whole) in
-    let new : plain_bits (with_four bytes at a b c d) ≡ front ++ (bits_of 32 value ++ rest) =
-    ap plain_bits (four_set bytes at a b c d within) ∙ plain-append (take at bytes) (a ∷ b ∷ c ∷ d ∷ drop (at + 4) bytes)
-    ∙ ap (λ bits. front ++ bits) (plain-four a b c d value (drop (at + 4) bytes) la lb lc ld is) in
-    let old : plain_bits bytes ≡ front ++ plain_bits (drop at bytes) = ap plain_bits (sym (take-append-drop at bytes)) ∙ plain-append (take at bytes) (drop at bytes) in
+    let rest : List Bool = plain_bits (drop (at + length new) bytes) in
+    let long : length front ≡ end = length-plain (take at bytes) ∙ omega (arith, length-take-le at bytes (omega (arith, within)), whole) in
+    let after : plain_bits (with_bytes bytes at new) ≡ front ++ (plain_bits new ++ rest) =
+    plain-append (take at bytes) (new ++ drop (at + length new) bytes) ∙ ap (λ bits. front ++ bits) (plain-append new (drop (at + length new) bytes)) in
+    let before : plain_bits bytes ≡ front ++ plain_bits (drop at bytes) = ap plain_bits (sym (take-append-drop at bytes)) ∙ plain-append (take at bytes) (drop at bytes) in
     let left : length (drop place front) ≡ end - place = length-drop place front ∙ ap (λ l. l - place) long in
     let sum : end + count - place ≡ length (drop place front) + count = omega (arith, left) in
     let old_bits : take (end - place) (drop place (plain_bits bytes)) ≡ drop place front =
-    ap (λ bits. take (end - place) (drop place bits)) old
+    ap (λ bits. take (end - place) (drop place bits)) before
     ∙ ap (take (end - place)) (drop-append-le place front (plain_bits (drop at bytes)) (omega (arith, long)))
     ∙ take_at (drop place front) (plain_bits (drop at bytes)) (end - place) left in
-    ap (λ bits. take (end + count - place) (drop place bits)) new
-    ∙ ap (take (end + count - place)) (drop-append-le place front (bits_of 32 value ++ rest) (omega (arith, long)))
-    ∙ ap (λ n. take n (drop place front ++ (bits_of 32 value ++ rest))) sum
-    ∙ take-append-add (drop place front) (bits_of 32 value ++ rest) count
-    ∙ ap (λ bits. drop place front ++ bits) (take-append-le count (bits_of 32 value) rest (omega (arith, length-bits_of 32 value)))
-    ∙ sym (ap (λ bits. bits ++ take count (bits_of 32 value)) old_bits)
+    ap (λ bits. take (end + count - place) (drop place bits)) after
+    ∙ ap (take (end + count - place)) (drop-append-le place front (plain_bits new ++ rest) (omega (arith, long)))
+    ∙ ap (λ n. take n (drop place front ++ (plain_bits new ++ rest))) sum
+    ∙ take-append-add (drop place front) (plain_bits new ++ rest) count
+    ∙ ap (λ bits. drop place front ++ bits) (take-append-le count (plain_bits new) rest (omega (arith, few, length-plain new)))
+    ∙ sym (ap (λ bits. bits ++ take count (plain_bits new)) old_bits)
 
 abbrev pub ahead_of : List ℕ → List Bool → Ahead
 ahead_of bytes bits = record { bytes = bytes; bits = bits }
 
 -- bits are only taken behind whole bytes
-pub still_whole : (end count value : ℕ) (old new : List Bool) → old ≡ take count (bits_of 32 value) ++ new → count ≤ 32 → (count ≡ 0 → ⊥)
+still_whole : (end count : ℕ) (front old new : List Bool) → old ≡ take count front ++ new → count ≤ length front → (count ≡ 0 → ⊥)
     → (end % 8 ≡ 0) ⊎ (old ≡ []) → end % 8 ≡ 0
-still_whole end count value old new e few some (inl whole) = whole
-still_whole end count value old new e few some (inr nothing_left) =
-    let size : length (take count (bits_of 32 value)) ≡ count = length-take-le count (bits_of 32 value) (omega (arith, length-bits_of 32 value)) in
-    let all : length old ≡ length (take count (bits_of 32 value)) + length new = ap length e ∙ length-append (take count (bits_of 32 value)) new in
+still_whole end count front old new e few some (inl whole) = whole
+still_whole end count front old new e few some (inr nothing_left) =
+    let size : length (take count front) ≡ count = length-take-le count front few in
+    let all : length old ≡ length (take count front) + length new = ap length e ∙ length-append (take count front) new in
     let nothing : count ≡ 0 = omega (arith, size, all, ap length nothing_left) in
     absurd (some nothing)
 
-pub ahead_with_four : (bytes : List ℕ) (place end count a b c d value : ℕ) (old new : List Bool) → IsAhead (ahead_of bytes old) place end
-    → end + 32 ≤ 16384 → (count ≡ 0 → ⊥) → old ≡ take count (bits_of 32 value) ++ new → count ≤ 32 → (count ≡ 32) ⊎ (new ≡ [])
-    → IsAhead (ahead_of (with_four bytes (end / 8) a b c d) new) place (end + count)
-ahead_with_four bytes place end count a b c d value old new are more some e few all =
-    let whole : end % 8 ≡ 0 = still_whole end count value old new e few some are.whole in
+-- what is seen of bytes that were added is what is seen before
+pub record IsLonger (bytes longer : List ℕ) (place end later : ℕ) (old new : List Bool) : Type 0 where
+  pub ahead : IsAhead (ahead_of longer new) place later
+  pub bits : bits_from (ahead_of longer new) place later ≡ bits_from (ahead_of bytes old) place end
+
+longer_by : (bytes : List ℕ) (place end count : ℕ) (more : List ℕ) (old new : List Bool) → IsAhead (ahead_of bytes old) place end
+    → end + 8 * length more ≤ 16384 → (count ≡ 0 → ⊥) → old ≡ take count (plain_bits more) ++ new → count ≤ 8 * length more
+    → (count ≡ 8 * length more) ⊎ (new ≡ []) → IsLonger bytes (with_bytes bytes (end / 8) more) place end (end + count) old new
+longer_by bytes place end count more old new are room some e few all =
+    let whole : end % 8 ≡ 0 = still_whole end count (plain_bits more) old new e (omega (arith, few, length-plain more)) some are.whole in
+    let within : end / 8 + length more ≤ length bytes = omega (arith, are.room, room) in
+    let seen : List Bool = take (end - place) (drop place (plain_bits bytes)) in
     record {
-      order = omega (arith, are.order);
-      within = omega (arith);
-      whole = ⊎_elim (λ full. let same : (end + count) % 8 ≡ 0 = omega (arith, full, whole) in inl same) inr all;
-      room = length-set (set (set (set bytes (end / 8) a) (end / 8 + 1) b) (end / 8 + 2) c) (end / 8 + 3) d
-          ∙ length-set (set (set bytes (end / 8) a) (end / 8 + 1) b) (end / 8 + 2) c ∙ length-set (set bytes (end / 8) a) (end / 8 + 1) b
-          ∙ length-set bytes (end / 8) a ∙ are.room;
+      ahead = record {
+        order = omega (arith, are.order);
+        within = omega (arith, room, few);
+        whole = ⊎_elim (λ full. let same : (end + count) % 8 ≡ 0 = omega (arith, full, whole) in inl same) inr all;
+        room = length-with_bytes bytes (end / 8) more within ∙ are.room;
+      };
+      bits = ap (λ bits. bits ++ new) (bytes_more bytes place end count more whole within are.order few)
+          ∙ append_assoc seen (take count (plain_bits more)) new
+          ∙ ap (λ bits. seen ++ bits) (sym e);
     }
 
-pub bits_with_four : (bytes : List ℕ) (place end count a b c d value : ℕ) (old new : List Bool) → IsAhead (ahead_of bytes old) place end
-    → a < 256 → b < 256 → c < 256 → d < 256 → value ≡ ((a * 256 + b) * 256 + c) * 256 + d
-    → end + 32 ≤ 16384 → (count ≡ 0 → ⊥) → old ≡ take count (bits_of 32 value) ++ new → count ≤ 32
-    → bits_from (ahead_of (with_four bytes (end / 8) a b c d) new) place (end + count) ≡ bits_from (ahead_of bytes old) place end
-bits_with_four bytes place end count a b c d value old new are la lb lc ld is more some e few =
-    let whole : end % 8 ≡ 0 = still_whole end count value old new e few some are.whole in
-    let seen : List Bool = take (end - place) (drop place (plain_bits bytes)) in
-    ap (λ bits. bits ++ new) (four_more bytes place end count a b c d value la lb lc ld is whole (omega (arith, are.room)) are.order few)
-    ∙ append_assoc seen (take count (bits_of 32 value)) new
-    ∙ ap (λ bits. seen ++ bits) (sym e)
+pub longer_by_four : (bytes : List ℕ) (place end count number : ℕ) (old new : List Bool) → IsAhead (ahead_of bytes old) place end
+    → end + 32 ≤ 16384 → (count ≡ 0 → ⊥) → old ≡ take count (bits_of 32 number) ++ new → count ≤ 32 → (count ≡ 32) ⊎ (new ≡ [])
+    → IsLonger bytes (with_bytes bytes (end / 8) (to_be_bytes w32 number)) place end (end + count) old new
+longer_by_four bytes place end count number old new are room some e few all =
+    longer_by bytes place end count (to_be_bytes w32 number) old new are room some
+    (e ∙ ap (λ bits. take count bits ++ new) (sym (plain-number 4 number))) few all
+
+pub longer_by_eight : (bytes : List ℕ) (place end number : ℕ) (old new : List Bool) → IsAhead (ahead_of bytes old) place end
+    → end + 64 ≤ 16384 → old ≡ bits_of 64 number ++ new
+    → IsLonger bytes (with_bytes bytes (end / 8) (to_be_bytes w64 number)) place end (end + 64) old new
+longer_by_eight bytes place end number old new are room e =
+    longer_by bytes place end 64 (to_be_bytes w64 number) old new are room (λ none. absurd (omega arith))
+    (e ∙ ap (λ bits. bits ++ new) (sym (take_all 64 (bits_of 64 number) (omega (arith, length-bits_of 64 number))) ∙ ap (take 64) (sym (plain-number 8 number))))
+    (omega arith) (inl refl)
 
 -- ---- a window's bits
 
@@ -404,43 +416,3 @@ zeros_begun front lead seen bits leading enough few same =
 pub gone_to : (p : Placed) (ahead : Ahead) (place end : ℕ) → p.ahead ≡ ahead → p.place ≡ place → p.end ≡ end → bits_in p ≡ bits_from ahead place end
 gone_to p ahead place end a b e =
     ap (λ x. bits_from x p.place p.end) a ∙ ap (λ x. bits_from ahead x p.end) b ∙ ap (λ x. bits_from ahead place x) e
-
--- ---- a number more, and eight bytes more
-
-pub ahead_with_number : (bytes : List ℕ) (place end count number : ℕ) (old new : List Bool) → IsAhead (ahead_of bytes old) place end
-    → end + 32 ≤ 16384 → (count ≡ 0 → ⊥) → old ≡ take count (bits_of 32 number) ++ new → count ≤ 32 → (count ≡ 32) ⊎ (new ≡ [])
-    → IsAhead (ahead_of (with_number bytes (end / 8) number) new) place (end + count)
-ahead_with_number bytes place end count number old new are more some e few all =
-    ahead_with_four bytes place end count (number / 2 ^ 24 % 256) (number / 2 ^ 16 % 256) (number / 2 ^ 8 % 256) (number % 256) number old new are more some e few all
-
-pub bits_with_number : (bytes : List ℕ) (place end count number : ℕ) (old new : List Bool) → IsAhead (ahead_of bytes old) place end
-    → number < 2 ^ 32 → end + 32 ≤ 16384 → (count ≡ 0 → ⊥) → old ≡ take count (bits_of 32 number) ++ new → count ≤ 32
-    → bits_from (ahead_of (with_number bytes (end / 8) number) new) place (end + count) ≡ bits_from (ahead_of bytes old) place end
-bits_with_number bytes place end count number old new are small more some e few =
-    bits_with_four bytes place end count (number / 2 ^ 24 % 256) (number / 2 ^ 16 % 256) (number / 2 ^ 8 % 256) (number % 256) number old new are
-    (omega arith) (omega arith) (omega arith) (omega arith) (omega (arith, small)) more some e few
-
-pub record HasEight (bytes : List ℕ) (place end high low : ℕ) (old new : List Bool) : Type 0 where
-  pub ahead : IsAhead (ahead_of (with_number (with_number bytes (end / 8) high) (end / 8 + 4) low) new) place (end + 64)
-  pub bits : bits_from (ahead_of (with_number (with_number bytes (end / 8) high) (end / 8 + 4) low) new) place (end + 64) ≡ bits_from (ahead_of bytes old) place end
-
-pub has_eight : (bytes : List ℕ) (place end word high low : ℕ) (old new : List Bool) → IsAhead (ahead_of bytes old) place end
-    → end + 64 ≤ 16384 → old ≡ bits_of 64 word ++ new → word ≡ high * 2 ^ 32 + low → high < 2 ^ 32 → low < 2 ^ 32
-    → HasEight bytes place end high low old new
-has_eight bytes place end word high low old new are room e is small_high small_low =
-    let middle : List Bool = bits_of 32 low ++ new in
-    let both : bits_of 64 word ≡ bits_of 32 high ++ bits_of 32 low = ap (bits_of 64) is ∙ bits_of-cat 32 32 high low small_low in
-    let first : old ≡ take 32 (bits_of 32 high) ++ middle = e ∙ ap (λ bits. bits ++ new) both ∙ append_assoc (bits_of 32 high) (bits_of 32 low) new in
-    let once = ahead_with_number bytes place end 32 high old middle are (omega arith) (λ x. absurd (omega arith)) first (omega arith) (inl refl) in
-    let at : (end + 32) / 8 ≡ end / 8 + 4 = omega arith in
-    let last : end + 32 + 32 ≡ end + 64 = omega arith in
-    let bytes_once : List ℕ = with_number bytes (end / 8) high in
-    let twice = ahead_with_number bytes_once place (end + 32) 32 low middle new once (omega arith) (λ x. absurd (omega arith)) refl (omega arith) (inl refl) in
-    let bits_once = bits_with_number bytes place end 32 high old middle are small_high (omega arith) (λ x. absurd (omega arith)) first (omega arith) in
-    let bits_twice = bits_with_number bytes_once place (end + 32) 32 low middle new once small_low (omega arith) (λ x. absurd (omega arith)) refl (omega arith) in
-    record {
-      ahead = subst (λ n. IsAhead (ahead_of (with_number bytes_once n low) new) place (end + 64)) at
-          (subst (λ n. IsAhead (ahead_of (with_number bytes_once ((end + 32) / 8) low) new) place n) last twice);
-      bits = subst (λ n. bits_from (ahead_of (with_number bytes_once n low) new) place (end + 64) ≡ bits_from (ahead_of bytes old) place end) at
-          (subst (λ n. bits_from (ahead_of (with_number bytes_once ((end + 32) / 8) low) new) place n ≡ bits_from (ahead_of bytes old) place end) last (bits_twice ∙ bits_once));
-    }

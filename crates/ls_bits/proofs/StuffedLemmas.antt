@@ -9,9 +9,9 @@ use Rattle.std.proofs.Math.Pow.{pow_mono}
 use Rattle.ls_bits.specs.Bits.{bits_of, AreBytes}
 use Rattle.ls_bits.specs.Stuffing.{bits_after, unstuff_from}
 use Rattle.ls_bits.specs.View.Packing.{BitsLeft, byte_bits, bits_left, KeepsStuffing, HasNoFf, IsWindow}
-use Rattle.ls_bits.proofs.BitLemmas.{bits_of-cat, bits_of-split, bits_of-mod, length-bits_of, shifted_in, shifted_left}
+use Rattle.ls_bits.proofs.BitLemmas.{bits_of-cat, bits_of-split, bits_of-mod, length-bits_of, shifted_in}
 use Rattle.ls_bits.proofs.StuffingLemmas.{bits_after-other}
-use Rattle.ls_bits.proofs.WindowLemmas.{TakenIn, bits_of-four, bits_left-take, length-held}
+use Rattle.ls_bits.proofs.WindowLemmas.{bits_of-four, bits_left-take, length-held}
 
 pub none_of : {A : Type 0} (xs : List A) → length xs ≤ 0 → xs ≡ []
 none_of [] h = refl

@@ -4,7 +4,9 @@ ghost use Rattle.ls_bits.specs.Bits.{bits_of, zeros as zero_bits};
 ghost use Rattle.ls_bits.specs.Stuffing.{unstuff};
 ghost use Rattle.ls_bits.specs.Data.{IsData};
 ghost use Rattle.ls_bits.specs.Golomb.{IsGolomb, TakesWord, GolombFault};
-ghost use Rattle.ls_bits.specs.View.Plain.{plain_bits, bits_from, bits_in, IsAhead, with_number};
+ghost use Rattle.ls_bits.specs.View.Plain.{plain_bits, bits_from, bits_in, IsAhead, with_bytes};
+ghost use Rattle.std.specs.Int.{to_be_bytes};
+ghost use mir.Syntax.{w32, w64};
 ghost use Rattle.ls_bits.specs.View.Taking.{ZerosFault};
 
 use crate::source::{CodeFault, most};
@@ -236,8 +238,7 @@ impl<'a> PlainBits<'a> {
         'words: while self.end + 64 <= MOST {
             let at = self.end / 8;
             if let Some(bits) = self.stuffed.take_eight() {
-                put_four(&mut self.bytes, at, (bits >> 32) as u32);
-                put_four(&mut self.bytes, at + 4, low_bits(bits, 32));
+                put_eight(&mut self.bytes, at, bits);
                 self.end += 64;
             } else {
                 let taken = self.stuffed.take();
@@ -283,15 +284,20 @@ fn move_to_front(bytes: &mut [u8], from: usize, end: usize)
     }
 }
 
+/// Puts a number into eight bytes.
+#[inline(always)]
+fn put_eight(bytes: &mut [u8], at: usize, number: u64)
+    requires { at + 8 ≤ length bytes.old }
+    ensures { bytes.new ≡ with_bytes bytes.old at (to_be_bytes w64 number) }
+{
+    bytes[at..at + 8].copy_from_slice(&number.to_be_bytes());
+}
+
 /// Puts a number into four bytes.
 #[inline(always)]
 fn put_four(bytes: &mut [u8], at: usize, number: u32)
     requires { at + 4 ≤ length bytes.old }
-    ensures { bytes.new ≡ with_number bytes.old at number }
+    ensures { bytes.new ≡ with_bytes bytes.old at (to_be_bytes w32 number) }
 {
-    let [first, second, third, fourth] = number.to_be_bytes();
-    bytes[at] = first;
-    bytes[at + 1] = second;
-    bytes[at + 2] = third;
-    bytes[at + 3] = fourth;
+    bytes[at..at + 4].copy_from_slice(&number.to_be_bytes());
 }

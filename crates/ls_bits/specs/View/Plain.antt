@@ -1,6 +1,6 @@
 -- How a source holds bits: whole bytes that are un-stuffed ahead, in which its place and their end are counted in bits,
 -- and after them those that are still stuffed.
-use Rattle.std.specs.Prelude.{◌≡◌, ℕ, ◌-◌, ◌%◌, ◌≤◌, ◌⊎◌, Bool, List, [], ◌∷◌, ◌++◌, length, take, drop, slice_set, ◌+◌, ◌/◌, ◌^◌}
+use Rattle.std.specs.Prelude.{◌≡◌, ℕ, ◌-◌, ◌%◌, ◌≤◌, ◌⊎◌, Bool, List, [], ◌∷◌, ◌++◌, length, take, drop, ◌+◌}
 use Rattle.ls_bits.specs.Bits.{bits_of}
 
 -- the bits of bytes, eight of each
@@ -39,7 +39,6 @@ bits_in placed = bits_from placed.ahead placed.place placed.end
 abbrev pub IsPlaced : Placed → Type 0
 IsPlaced placed = IsAhead placed.ahead placed.place placed.end
 
--- bytes with a number below 2 ^ 32 in four of them
-abbrev pub with_number : List ℕ → ℕ → ℕ → List ℕ
-with_number bytes at n =
-    slice_set (slice_set (slice_set (slice_set bytes at (n / 2 ^ 24 % 256)) (at + 1) (n / 2 ^ 16 % 256)) (at + 2) (n / 2 ^ 8 % 256)) (at + 3) (n % 256)
+-- bytes with others in place of those from a place on
+abbrev pub with_bytes : List ℕ → ℕ → List ℕ → List ℕ
+with_bytes bytes at new = take at bytes ++ (new ++ drop (at + length new) bytes)

@@ -1,4 +1,4 @@
-use Rattle.std.proofs.Common.{◌≡◌, ◌+◌, ◌*◌, ◌/◌, ◌<◌, ◌^◌, ℕ, List, get_or, Fits, w8, arith, refl}
+use Rattle.std.proofs.Common.{◌+◌, ◌*◌, ◌/◌, ℕ, List, get_or, Fits, w8, arith, refl}
 use Rattle.ls_bits.proofs.PlainLemmas.{from_place}
 use Rattle.ls_bits.proofs.plain.front_of.Goals as goal
 

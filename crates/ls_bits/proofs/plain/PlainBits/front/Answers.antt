@@ -1,4 +1,4 @@
-use Rattle.std.proofs.Common.{◌≡◌, ◌≤◌, ℕ, ap, subst, take, drop}
+use Rattle.std.proofs.Common.{◌≡◌, ℕ, ap, subst, take, drop}
 use Rattle.ls_bits.specs.Bits.{bits_of}
 use Rattle.ls_bits.specs.View.Plain.{Placed, IsPlaced, plain_bits}
 use Rattle.ls_bits.proofs.PlainLemmas.{front_seen}

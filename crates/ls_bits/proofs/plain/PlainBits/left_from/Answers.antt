@@ -1,5 +1,5 @@
 use Rattle.std.proofs.Common.{ap, length, arith}
-use Rattle.ls_bits.specs.View.Plain.{Placed, bits_from}
+use Rattle.ls_bits.specs.View.Plain.{Placed}
 use Rattle.ls_bits.proofs.PlainLemmas.{length-from}
 use Rattle.ls_bits.proofs.plain.PlainBits.left_from.Goals as goal
 

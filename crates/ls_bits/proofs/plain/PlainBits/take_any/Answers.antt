@@ -1,7 +1,6 @@
-use Rattle.std.proofs.Common.{ℕ, sym, subst, ◌∙◌, arith}
+use Rattle.std.proofs.Common.{ℕ, sym, subst, arith}
 use Rattle.std.proofs.lemmas.Result.{err_from_is_err_and}
-use Rattle.ls_bits.specs.Golomb.{escape_zeros, TakesWord}
-use Rattle.ls_bits.specs.View.Taking.{ZerosFault}
+use Rattle.ls_bits.specs.Golomb.{TakesWord}
 use Rattle.ls_bits.specs.View.Plain.{bits_in}
 use Rattle.ls_bits.proofs.GolombLaws.{TooFew, too_few, zeros_fault, short_taken, short_too_large, escape_taken, escape_needless}
 use Rattle.ls_bits.proofs.plain.PlainBits.take_any.Goals as goal

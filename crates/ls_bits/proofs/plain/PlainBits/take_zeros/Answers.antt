@@ -1,4 +1,4 @@
-use Rattle.std.proofs.Common.{◌≡◌, ◌+◌, ◌∷◌, ◌++◌, ◌∙◌, true, ap, sym, length, length-append, arith}
+use Rattle.std.proofs.Common.{◌+◌, ◌∷◌, ◌++◌, ◌∙◌, true, ap, sym, length, length-append, arith}
 use Rattle.ls_bits.specs.Bits.{zeros as zero_bits}
 use Rattle.ls_bits.specs.View.Plain.{bits_in}
 use Rattle.ls_bits.proofs.BitLemmas.{length-zeros}

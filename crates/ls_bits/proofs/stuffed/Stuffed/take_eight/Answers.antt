@@ -1,4 +1,4 @@
-use Rattle.std.proofs.Common.{◌≡◌, ◌∙◌, ap, sym, arith}
+use Rattle.std.proofs.Common.{◌∙◌, ap, sym, arith}
 use Rattle.ls_bits.specs.View.Packing.{BitsLeft}
 use Rattle.ls_bits.proofs.StuffedLemmas.{eight_in}
 use Rattle.ls_bits.proofs.stuffed.Stuffed.take_eight.Goals as goal
