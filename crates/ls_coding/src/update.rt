@@ -68,22 +68,11 @@ fn count_error(a: &mut u32, b: &mut i32, n: &mut u32, reset: u32)
     ensures n { n.new ≡ (if n.old == reset then n.old / 2 + 1 else n.old + 1) }
 {
     if *n == reset {
-        halve_sums(a, b, n);
+        *a >>= 1;
+        *b >>= 1;
+        *n >>= 1;
     }
     *n += 1;
-}
-
-/// Halves the sums of a context.
-#[cold]
-#[inline(never)]
-fn halve_sums(a: &mut u32, b: &mut i32, n: &mut u32)
-    ensures a { a.new ≡ a.old / 2 }
-    ensures b { b.new ≡ halved b.old }
-    ensures n { n.new ≡ n.old / 2 }
-{
-    *a >>= 1;
-    *b >>= 1;
-    *n >>= 1;
 }
 
 /// Lets C follow the mean error, which B then stands for again (A.6.2).
@@ -102,25 +91,6 @@ fn correct_bias(b: &mut i32, c: &mut i32, n: u32)
     if is_below(-*b, n) {
         return;
     }
-    move_bias(b, c, n);
-}
-
-/// The same, where B isn't over -N and at most 0.
-#[cold]
-#[inline(never)]
-fn move_bias(b: &mut i32, c: &mut i32, n: u32)
-    requires some { 0 < n }
-    requires n { n ≤ 65536 }
-    requires low { neg_ℤ (pos 131072) ≤ℤ b.old }
-    requires high { b.old ≤ℤ pos 131072 }
-    requires far { int_le b.old (neg_ℤ (pos n)) ≡ false → pos 0 <ℤ b.old }
-    requires bias_low { neg_ℤ (pos 128) ≤ℤ c.old }
-    requires bias_high { c.old ≤ℤ pos 127 }
-    ensures b { b.new ≡ (bias_corrected (stats 0 b.old c.old n)).b }
-    ensures c { c.new ≡ (bias_corrected (stats 0 b.old c.old n)).c }
-    ensures low { neg_ℤ (pos 128) ≤ℤ c.new }
-    ensures high { c.new ≤ℤ pos 127 }
-{
     let low = *b < 0;
     *b = corrected_mean(*b, n);
     *c = corrected_bias(*c, low);
