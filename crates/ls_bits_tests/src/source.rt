@@ -73,6 +73,10 @@ fn a_word_leaves_the_bits_after_it(rt: HostRuntime) {
         Err(CodeFault::OutOfBits),
         &bytes,
     );
+}
+
+#[test]
+fn an_escape_word_leaves_the_bits_after_it(rt: HostRuntime) {
     let bytes = [0x40, 0x00];
     let mut plain = plain_of(&bytes);
     let mut source = BitSource::new(&mut plain);
@@ -99,6 +103,11 @@ fn the_stuffed_bit_is_no_bit(rt: HostRuntime) {
         check_left(&rt, &source, left);
     }
     check_answer(&rt, source.bits(6), Err(CodeFault::OutOfBits), &bytes);
+}
+
+#[test]
+fn bits_are_taken_one_by_one(rt: HostRuntime) {
+    let bytes = [0xff, 0x40];
     let mut plain = plain_of(&bytes);
     let mut source = BitSource::new(&mut plain);
     check_answer(&rt, source.bits(8), Ok(255), &bytes);
