@@ -1,5 +1,4 @@
-use Rattle.std.proofs.Common.{◌≡◌, ℤ, pos, ap, sym, subst, ◌∙◌, arith}
-use Rattle.std.proofs.lemmas.Bool.{false≢true}
+use Rattle.std.proofs.Common.{◌≡◌, pos, ap, sym, subst, ◌∙◌, arith}
 use mir.Syntax.{w32}
 use mir.Val.{to_z, of_z}
 use Rattle.ls_frame.specs.Parameters.{range_of}

@@ -1,5 +1,5 @@
-use Rattle.std.proofs.Common.{◌≡◌, ◌≤◌, ◌<◌, ◌/◌, ◌^◌, ℕ, pos, sym, ap, subst, refl, ◌∙◌, arith}
-use Rattle.ls_frame.specs.Parameters.{Parameters, qbpp_of}
+use Rattle.std.proofs.Common.{◌≡◌, ◌≤◌, ◌<◌, ◌/◌, ◌^◌, ℕ, pos, sym, ap, subst, refl, ◌∙◌}
+use Rattle.ls_frame.specs.Parameters.{Parameters}
 use Rattle.ls_coding.specs.View.SureZeros.{sure_zeros}
 use Rattle.ls_coding.proofs.SureLemmas.{small_by_zeros}
 use Rattle.ls_coding.specs.Errors.{mapped_error, is_inverted, error_of}
@@ -8,10 +8,8 @@ use Rattle.ls_coding.specs.View.Fields.{stats_at, counts_at}
 use Rattle.ls_coding.specs.View.Plans.{Planned, regular_plan, IsTheSample}
 use Rattle.ls_coding.specs.contracts.state.State as state
 use Rattle.ls_coding.specs.contracts.plan.Plan as plan
-use Rattle.ls_coding.proofs.EventLemmas.{state_after_regular, word_of_regular}
-use Rattle.ls_coding.proofs.RegularLemmas.{context_small, number_same, prediction_small, value_same, stepped_same, ok_map, err_map, sample_by, no_sample_by}
+use Rattle.ls_coding.proofs.RegularLemmas.{context_small, number_same, prediction_small, value_same, stepped_same, sample_by}
 use Rattle.ls_coding.proofs.StateLemmas.{alike_parameters, alike}
-use Rattle.ls_coding.proofs.WordLemmas.{value_small}
 use Rattle.ls_coding.proofs.state.State.accept_sure.Goals as goal
 
 made_by : (c : goal.After-plan) → plan.the_view c.plan.inside ≡ regular_plan (state.the_view c.self.inside) c.args.plan.neighbours
