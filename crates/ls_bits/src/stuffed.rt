@@ -35,7 +35,7 @@ impl<'a> Model for Stuffed<'a> {
 
 /// Bits in front: how many, at most 32, and these, from the top of a number of 32 on, with zeros after them.
 #[derive(Clone, Copy)]
-pub struct Taken {
+pub struct FrontBits {
     pub count: u32,
     pub bits: u32,
 }
@@ -90,7 +90,7 @@ impl<'a> Stuffed<'a> {
     }
 
     /// Takes the next 32 bits, or all that are left if these are fewer.
-    pub fn take(&mut self) -> Taken
+    pub fn take(&mut self) -> FrontBits
         ensures bits { self.old.bits ≡ take result.count (bits_of 32 result.bits) ++ self.new.bits }
         ensures most { result.count ≤ 32 }
         ensures all { (result.count ≡ 32) ⊎ (self.new.bits ≡ []) }
@@ -100,12 +100,12 @@ impl<'a> Stuffed<'a> {
         if self.held >= 32 {
             self.held -= 32;
             let bits = low_bits(self.word >> self.held, 32);
-            return Taken { count: 32, bits };
+            return FrontBits { count: 32, bits };
         }
         let count = self.held;
         let bits = (low_bits(self.word, count) as u64) << (32 - count);
         self.held = 0;
-        Taken {
+        FrontBits {
             count,
             bits: bits as u32,
         }

@@ -106,7 +106,11 @@ fn a_value_that_no_sample_of_regular_mode_has_is_refused(rt: HostRuntime) {
 #[test]
 fn a_value_of_few_zeros_is_accepted_as_any(rt: HostRuntime) {
     let mut state = fresh();
-    check_sample(&rt, Ok(accept_sure(&rt, &mut state, (5, 0, 0, 0), 0)), Ok(5));
+    check_sample(
+        &rt,
+        Ok(accept_sure(&rt, &mut state, (5, 0, 0, 0), 0)),
+        Ok(5),
+    );
 }
 
 /// maxval, k, and how many zeros a word may have in front and be sure.
