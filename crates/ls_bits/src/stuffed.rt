@@ -183,6 +183,18 @@ pub fn joined(high: u32, low: u32, count: u32) -> u32
     (high << count) | low
 }
 
+/// The value of the short word in front of `word`, which has so many zeros in front, and `k` bits after the 1.
+pub fn short_value(word: u64, zeros: u32, k: u32) -> u32
+    requires zeros { LeadingZeros 64 word zeros }
+    requires few { zeros < 24 }
+    requires k { k ≤ 17 }
+    ensures { result ≡ zeros * 2 ^ k + word / 2 ^ (63 - zeros - k) % 2 ^ k }
+{
+    // the 1 and what is after it
+    let last = (word >> (63 - zeros - k)) as u32;
+    (zeros << k) + last - (1 << k)
+}
+
 /// How many zeros are in front in the lowest `held` bits of `word`; no fewer than `held` if all of them are zeros.
 pub fn leading_zeros(word: u64, held: u32) -> u32
     requires some { 0 < held }

@@ -6,7 +6,7 @@ ghost use Rattle.ls_bits.specs.View.Plain.{bits_in};
 
 use crate::plain::{PlainBits, SEEN};
 use crate::source::CodeFault;
-use crate::stuffed::{joined, leading_zeros, low_bits};
+use crate::stuffed::{joined, leading_zeros, low_bits, short_value};
 use std::marker::Model;
 
 /// The bits that are left of stuffed bytes.
@@ -131,7 +131,7 @@ impl<'s, 'a> Window<'s, 'a> {
         if zeros >= most {
             return None;
         }
-        let value = joined(zeros, low_bits(front >> (64 - (zeros + 1) - k), k), k);
+        let value = short_value(front, zeros, k);
         self.skip(zeros + 1 + k);
         Some(value)
     }
