@@ -61,18 +61,10 @@ aligned n width s word more h =
     ∙ drop_at (bits_of s (word / 2 ^ keep)) (bits_of keep word ++ more) s (length-bits_of s (word / 2 ^ keep)) in
     left ∙ sym (ap (take n) right ∙ take-append-le n (bits_of keep word) more long)
 
-plain-four : (a b c d value : ℕ) (rest : List ℕ) → a < 256 → b < 256 → c < 256 → d < 256
+plain-four : (a b c d value : ℕ) (rest : List ℕ) → b < 256 → c < 256 → d < 256
     → value ≡ ((a * 256 + b) * 256 + c) * 256 + d
     → plain_bits (a ∷ b ∷ c ∷ d ∷ rest) ≡ bits_of 32 value ++ plain_bits rest
-plain-four a b c d value rest la lb lc ld e =
-    let more : List Bool = plain_bits rest in
-    let bits : bits_of 32 value ≡ bits_of 8 a ++ (bits_of 8 b ++ (bits_of 8 c ++ bits_of 8 d)) = ap (bits_of 32) e ∙ bits_of-four a b c d la lb lc ld in
-    let shape : (bits_of 8 a ++ (bits_of 8 b ++ (bits_of 8 c ++ bits_of 8 d))) ++ more
-    ≡ bits_of 8 a ++ (bits_of 8 b ++ (bits_of 8 c ++ (bits_of 8 d ++ more))) =
-    append_assoc (bits_of 8 a) (bits_of 8 b ++ (bits_of 8 c ++ bits_of 8 d)) more
-    ∙ ap (λ tail. bits_of 8 a ++ tail) (append_assoc (bits_of 8 b) (bits_of 8 c ++ bits_of 8 d) more
-    ∙ ap (λ tail. bits_of 8 b ++ tail) (append_assoc (bits_of 8 c) (bits_of 8 d) more)) in
-    sym (ap (λ front. front ++ more) bits ∙ shape)
+plain-four a b c d value rest lb lc ld e = sym (bits_of-four a b c d value (plain_bits rest) lb lc ld e)
 
 four_at : (bytes : List ℕ) (at : ℕ) → at + 4 ≤ length bytes
     → drop at bytes ≡ get_or bytes at 0 ∷ get_or bytes (at + 1) 0 ∷ get_or bytes (at + 2) 0 ∷ get_or bytes (at + 3) 0 ∷ drop (at + 4) bytes
@@ -93,7 +85,7 @@ word_at bytes at value each h e =
     let b : get_or bytes (at + 1) 0 < 256 = each (at + 1) in
     let c : get_or bytes (at + 2) 0 < 256 = each (at + 2) in
     let d : get_or bytes (at + 3) 0 < 256 = each (at + 3) in
-    (ap plain_bits (four_at bytes at h) ∙ plain-four _ _ _ _ value (drop (at + 4) bytes) a b c d e, omega arith)
+    (ap plain_bits (four_at bytes at h) ∙ plain-four _ _ _ _ value (drop (at + 4) bytes) b c d e, omega arith)
 
 eight_at : (bytes : List ℕ) (at high low word : ℕ) → ((i : ℕ) → get_or bytes i 0 < 256) → at + 8 ≤ length bytes
     → high ≡ ((get_or bytes at 0 * 256 + get_or bytes (at + 1) 0) * 256 + get_or bytes (at + 2) 0) * 256 + get_or bytes (at + 3) 0

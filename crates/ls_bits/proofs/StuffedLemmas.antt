@@ -91,15 +91,9 @@ four_plain a b c d value rest keeps na nb nc nd e =
     let lc : c < 256 = keeps_c.0 in
     let ld : d < 256 = keeps_d.0 in
     let more : List Bool = unstuff_from 8 rest in
-    let bits : bits_of 32 value ≡ bits_of 8 a ++ (bits_of 8 b ++ (bits_of 8 c ++ bits_of 8 d)) = ap (bits_of 32) e ∙ bits_of-four a b c d la lb lc ld in
-    let shape : (bits_of 8 a ++ (bits_of 8 b ++ (bits_of 8 c ++ bits_of 8 d))) ++ more
-    ≡ bits_of 8 a ++ (bits_of 8 b ++ (bits_of 8 c ++ (bits_of 8 d ++ more))) =
-    append_assoc (bits_of 8 a) (bits_of 8 b ++ (bits_of 8 c ++ bits_of 8 d)) more
-    ∙ ap (λ tail. bits_of 8 a ++ tail) (append_assoc (bits_of 8 b) (bits_of 8 c ++ bits_of 8 d) more
-    ∙ ap (λ tail. bits_of 8 b ++ tail) (append_assoc (bits_of 8 c) (bits_of 8 d) more)) in
     let sizes : unstuff_from 8 (a ∷ b ∷ c ∷ d ∷ rest) ≡ bits_of 8 a ++ (bits_of 8 b ++ (bits_of 8 c ++ (bits_of 8 d ++ more))) =
     rw (size_a, size_b, size_c, size_d) refl in
-    (sizes ∙ sym (ap (λ front. front ++ more) bits ∙ shape), omega arith, keeps_rest)
+    (sizes ∙ sym (bits_of-four a b c d value more lb lc ld e), omega arith, keeps_rest)
 
 eight_plain : (a b c d e f g h word : ℕ) (rest : List ℕ) → KeepsStuffing 8 (a ∷ b ∷ c ∷ d ∷ e ∷ f ∷ g ∷ h ∷ rest) → HasNoFf word
     → a < 256 → b < 256 → c < 256 → d < 256 → e < 256 → f < 256 → g < 256 → h < 256

@@ -48,17 +48,19 @@ byte_in word held size value after_ff (byte ∷ bytes) some window few e v =
     let rest : take (suc (length bytes) - 1) bytes ≡ bytes = take_all (suc (length bytes) - 1) bytes (omega arith) in
     rw (e, v, rest) (one_in word held byte after_ff bytes window few)
 
-pub bits_of-four : (first second third fourth : ℕ) → first < 256 → second < 256 → third < 256 → fourth < 256
-    → bits_of 32 (((first * 256 + second) * 256 + third) * 256 + fourth) ≡ bits_of 8 first ++ (bits_of 8 second ++ (bits_of 8 third ++ bits_of 8 fourth))
-bits_of-four first second third fourth a b c d =
-    let last : bits_of 32 (((first * 256 + second) * 256 + third) * 256 + fourth) ≡ bits_of 24 ((first * 256 + second) * 256 + third) ++ bits_of 8 fourth =
-    bits_of-cat 24 8 ((first * 256 + second) * 256 + third) fourth d in
-    let next : bits_of 24 ((first * 256 + second) * 256 + third) ≡ bits_of 16 (first * 256 + second) ++ bits_of 8 third = bits_of-cat 16 8 (first * 256 + second) third c in
-    let front : bits_of 16 (first * 256 + second) ≡ bits_of 8 first ++ bits_of 8 second = bits_of-cat 8 8 first second b in
-    last
-    ∙ ap (λ bits. bits ++ bits_of 8 fourth) (next ∙ ap (λ bits. bits ++ bits_of 8 third) front)
-    ∙ append_assoc (bits_of 8 first ++ bits_of 8 second) (bits_of 8 third) (bits_of 8 fourth)
-    ∙ append_assoc (bits_of 8 first) (bits_of 8 second) (bits_of 8 third ++ bits_of 8 fourth)
+-- a number's lowest byte, with more bits after it
+last_byte : (high a b : ℕ) (more : List Bool) → b < 256 → bits_of (high + 8) (a * 256 + b) ++ more ≡ bits_of high a ++ (bits_of 8 b ++ more)
+last_byte high a b more small = ap (λ bits. bits ++ more) (bits_of-cat high 8 a b small) ∙ append_assoc (bits_of high a) (bits_of 8 b) more
+
+-- the bits of four bytes that are a number, with more bits after them
+pub bits_of-four : (first second third fourth value : ℕ) (more : List Bool) → second < 256 → third < 256 → fourth < 256
+    → value ≡ ((first * 256 + second) * 256 + third) * 256 + fourth
+    → bits_of 32 value ++ more ≡ bits_of 8 first ++ (bits_of 8 second ++ (bits_of 8 third ++ (bits_of 8 fourth ++ more)))
+bits_of-four first second third fourth value more b c d e =
+    ap (λ n. bits_of 32 n ++ more) e
+    ∙ last_byte 24 ((first * 256 + second) * 256 + third) fourth more d
+    ∙ last_byte 16 (first * 256 + second) third (bits_of 8 fourth ++ more) c
+    ∙ last_byte 8 first second (bits_of 8 third ++ (bits_of 8 fourth ++ more)) b
 
 -- four bytes of which none is FF, after another such
 four_taken_in : (word held first second third fourth value : ℕ) (rest : List ℕ) → IsWindow held false (first ∷ second ∷ third ∷ fourth ∷ rest)
@@ -80,20 +82,13 @@ four_taken_in word held first second third fourth value rest window a b c d few 
     let small_d : fourth < 256 = keeps_d.0 in
     let small : value < 2 ^ 32 = omega arith in
     let more : List Bool = unstuff_from 8 rest in
-    let bits : bits_of 32 value ≡ bits_of 8 first ++ (bits_of 8 second ++ (bits_of 8 third ++ bits_of 8 fourth)) =
-    ap (bits_of 32) e ∙ bits_of-four first second third fourth small_a small_b small_c small_d in
-    let shape : (bits_of 8 first ++ (bits_of 8 second ++ (bits_of 8 third ++ bits_of 8 fourth))) ++ more
-    ≡ bits_of 8 first ++ (bits_of 8 second ++ (bits_of 8 third ++ (bits_of 8 fourth ++ more))) =
-    append_assoc (bits_of 8 first) (bits_of 8 second ++ (bits_of 8 third ++ bits_of 8 fourth)) more
-    ∙ ap (λ tail. bits_of 8 first ++ tail) (append_assoc (bits_of 8 second) (bits_of 8 third ++ bits_of 8 fourth) more
-    ∙ ap (λ tail. bits_of 8 second ++ tail) (append_assoc (bits_of 8 third) (bits_of 8 fourth) more)) in
     let sizes : unstuff_from 8 (first ∷ second ∷ third ∷ fourth ∷ rest) ≡ bits_of 8 first ++ (bits_of 8 second ++ (bits_of 8 third ++ (bits_of 8 fourth ++ more))) =
     rw (size_a, size_b, size_c, size_d) refl in
     record {
       window = record { few = omega arith; keeps = keeps_rest };
       left = ap (λ front. front ++ more) (shifted_in held 32 word value (omega arith) small)
           ∙ append_assoc (bits_of held word) (bits_of 32 value) more
-          ∙ ap (λ tail. bits_of held word ++ tail) (ap (λ front. front ++ more) bits ∙ shape ∙ sym sizes);
+          ∙ ap (λ tail. bits_of held word ++ tail) (bits_of-four first second third fourth value more small_b small_c small_d e ∙ sym sizes);
     }
 
 pub four_in : (word held value : ℕ) (bytes : List ℕ) → 4 ≤ length bytes → IsWindow held false bytes

@@ -86,10 +86,10 @@ impl<'s, 'a> BitSource<'s, 'a> {
         self.read_golomb(k, glimit, qbpp)
     }
 
-    /// Takes the short code word in front (T.87 A.5.3) if it has fewer than `most` zeros and 57 bits are left, or more: its
-    /// value. Else takes nothing, and may do so too if fewer bits are left.
+    /// Takes the short code word in front (T.87 A.5.3) if it has fewer than `most` zeros and at least 57 bits are
+    /// un-stuffed already: its value. Else takes nothing, whatever is in front.
     ///
-    /// `k` is at most 17, and `most` at most 24.
+    /// None so says nothing of the bits; `take_golomb` goes on from there. `k` is at most 17, and `most` at most 24.
     #[inline(always)]
     pub fn take_few(&mut self, k: u32, most: u32) -> Option<u32>
         requires k { k ≤ 17 }
