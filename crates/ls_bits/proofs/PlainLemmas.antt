@@ -7,7 +7,7 @@ use Rattle.std.proofs.lemmas.Bool.{cases_lt, cases_eq}
 use Rattle.ls_bits.specs.Bits.{bits_of, zeros as zero_bits}
 use Rattle.ls_bits.specs.Golomb.{short_word}
 use Rattle.ls_bits.specs.View.Taking.{LeadingZeros, found, none}
-use Rattle.ls_bits.specs.View.Plain.{plain_bits, Ahead, Placed, bits_from, bits_in, IsAhead, with_bytes}
+use Rattle.ls_bits.specs.View.Plain.{plain_bits, Ahead, bits_from, IsAhead, with_bytes}
 use Rattle.ls_bits.proofs.BitLemmas.{bits_of-cat, bits_of-split, bits_of-mod, length-bits_of, length-zeros, shifted_left}
 use Rattle.ls_bits.proofs.ShortWords.{short-taken}
 use Rattle.ls_bits.proofs.WindowLemmas.{bits_of-four}
@@ -404,7 +404,3 @@ zeros_begun front lead seen bits leading enough few same =
     let size : length (zero_bits seen) ≡ seen = length-zeros seen in
     begun seen (bits_of 64 front) bits (zero_bits seen) begins.0 same begins.1 (omega (arith, size))
     ∙ ap (λ n. zero_bits seen ++ drop n bits) size
-
-pub gone_to : (p : Placed) (ahead : Ahead) (place end : ℕ) → p.ahead ≡ ahead → p.place ≡ place → p.end ≡ end → bits_in p ≡ bits_from ahead place end
-gone_to p ahead place end a b e =
-    ap (λ x. bits_from x p.place p.end) a ∙ ap (λ x. bits_from ahead x p.end) b ∙ ap (λ x. bits_from ahead place x) e

@@ -6,7 +6,7 @@
 //! `specs/View` says how the code's values are seen as these.
 //!
 //! ```
-//! use ls_bits::{BitSink, BitSource, CodeFault, PlainBits, data_of};
+//! use ls_bits::{BitSink, BitSource, CodeFault, data_of};
 //! use std::alloc::{AllocError, Global};
 //!
 //! /// The bytes of a code word: that of 17 for k 2 and values of 8 bits, in at most 31 bits.
@@ -18,34 +18,30 @@
 //!
 //! /// The value of such a word at the front of bytes.
 //! fn read_word(bytes: &[u8]) -> Result<u32, CodeFault> {
-//!     let mut plain = PlainBits::new(&bytes[..data_of(bytes).len]);
-//!     let mut source = BitSource::new(&mut plain);
+//!     let mut source = BitSource::new(&bytes[..data_of(bytes).len]);
 //!     source.take_golomb(2, 31, 8)
 //! }
 //! ```
 //!
 //! In reading order: `sink` (into memory of its own), `room` and `slice_room` (memory of the caller's), `room_sink`
-//! (into such memory, with no allocation), `packer` (what both sinks hold), `data`, `source`, `window` (what a source
-//! holds), `plain` (the bits that it reads), `stuffed` (where these come from), `laws` (what follows from the definitions
-//! alone).
+//! (into such memory, with no allocation), `packer` (what both sinks hold), `data`, `source`, `plain` (the bytes of the
+//! bits that it has un-stuffed), `stuffed` (where these come from), `laws` (what follows from the definitions alone).
 #![tactic(auto)]
 
 pub mod data;
 pub mod laws;
 mod packer;
-pub mod plain;
+mod plain;
 pub mod room;
 pub mod room_sink;
 pub mod sink;
 pub mod slice_room;
 pub mod source;
 mod stuffed;
-mod window;
 
 pub use data::{Data, Stop, data_of};
-pub use plain::PlainBits;
 pub use room::{Room, take_room};
 pub use room_sink::RoomSink;
 pub use sink::BitSink;
 pub use slice_room::SliceRoom;
-pub use source::{BitSource, CodeFault};
+pub use source::{BitPlace, BitSource, CodeFault};

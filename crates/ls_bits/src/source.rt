@@ -1,13 +1,22 @@
-//! A source of the bits of stuffed bytes.
-ghost use Rattle.std.specs.Prelude.{◌≡◌, ◌+◌, ◌-◌, ◌*◌, ◌^◌, ◌<◌, ◌≤◌, [], ◌++◌, ℕ, Bool, List, length, min, IfOk, IfErr, IfSome, IfNone, ◌/◌, MatchResult, Ok, Err};
-ghost use Rattle.ls_bits.specs.Bits.{bits_of};
-ghost use Rattle.ls_bits.specs.View.Plain.{bits_in};
+//! A source of the bits of stuffed bytes, of which some KiB are un-stuffed ahead of where they are read.
+ghost use Rattle.std.specs.Prelude.{◌≡◌, ◌+◌, ◌-◌, ◌*◌, ◌/◌, ◌^◌, ◌<◌, ◌≤◌, ◌⊎◌, [], ◌∷◌, ◌++◌, ℕ, Bool, List, true, length, take, drop, min, IfOk, IfErr, IfSome, IfNone, MatchResult, Ok, Err};
+ghost use Rattle.ls_bits.specs.Bits.{bits_of, zeros as zero_bits, BeginsWith};
+ghost use Rattle.ls_bits.specs.Stuffing.{unstuff};
+ghost use Rattle.ls_bits.specs.Data.{IsData};
 ghost use Rattle.ls_bits.specs.Golomb.{IsGolomb, most_value, short_word, TakesWord, GolombFault};
+ghost use Rattle.ls_bits.specs.View.Plain.{bits_in, bits_at, IsAt};
+ghost use Rattle.ls_bits.specs.View.Taking.{ZerosFault};
 
-use crate::plain::PlainBits;
-use crate::window::Window;
+use crate::plain::{front_of, move_to_front, put_eight, put_four};
+use crate::stuffed::{Stuffed, joined, leading_zeros, low_bits, short_value};
 use std::marker::Model;
 use thiserror::Error;
+
+/// The most bits that are un-stuffed ahead: after each place up to there eight bytes stand.
+const MOST: usize = 16384;
+
+/// So many bits in front are seen at once.
+const SEEN: usize = 57;
 
 /// Why bits can't be taken. After a fault nothing is promised of where the source stands.
 #[derive(Clone, Copy, Debug, Drop, PartialEq, Eq, Error)]
@@ -20,55 +29,87 @@ pub enum CodeFault {
     NotCanonical,
 }
 
+/// A place among the bits that a source has un-stuffed.
+#[derive(Clone, Copy)]
+pub struct BitPlace {
+    /// How many bits are before it.
+    place: usize,
+    /// Where the un-stuffed bits end.
+    end: usize,
+}
+
 /// The bits that are left of stuffed bytes.
 #[derive(Drop)]
-pub struct BitSource<'s, 'a> {
-    window: Window<'s, 'a>,
+pub struct BitSource<'a> {
+    bytes: [u8; 2056],
+    /// The place of the next bit in the bytes, and of the first that isn't un-stuffed yet.
+    place: usize,
+    end: usize,
+    stuffed: Stuffed<'a>,
 }
 
-impl<'s, 'a> Model for BitSource<'s, 'a> {
-    ghost use Rattle.std.specs.Prelude.{Bool, List};
+impl<'a> Model for BitSource<'a> {
+    ghost use Rattle.ls_bits.specs.View.Plain.{Placed, IsAhead};
 
-    ghost Value = { List Bool };
+    ghost Value = { Placed };
 
-    ghost view = { λ s. s.window.bits };
+    ghost view = { λ s. record {
+      ahead = record { bytes = s.bytes; bits = s.stuffed.bits };
+      place = s.place;
+      end = s.end;
+    } };
+
+    ghost invariant = { λ s. IsAhead (record { bytes = s.bytes; bits = s.stuffed.bits }) s.place s.end };
 }
 
-impl<'s, 'a> BitSource<'s, 'a> {
-    /// The bits that are left of these. Allocates nothing.
-    pub fn new(plain: &'s mut PlainBits<'a>) -> BitSource<'s, 'a>
-        ensures { result ≡ bits_in plain.old }
+impl<'a> BitSource<'a> {
+    /// The bits of stuffed bytes (T.87 C.1): all of each byte, but for the top bit of one after FF.
+    ///
+    /// The bytes are data, as `data_of` cuts it: no FF is followed by a byte of 80 or more, and the last one isn't FF.
+    /// Allocates nothing.
+    pub fn new(bytes: &'a [u8]) -> BitSource<'a>
+        requires { IsData bytes.now }
+        ensures { bits_in result ≡ unstuff bytes.now }
     {
         BitSource {
-            window: Window::new(plain),
+            bytes: [0; 2056],
+            place: 0,
+            end: 0,
+            stuffed: Stuffed::new(bytes),
         }
     }
 
     /// Takes the next bit, 0 or 1. OutOfBits exactly if none is left.
     pub fn bit(&mut self) -> Result<u32, CodeFault>
-        ensures ok { IfOk result (λ value. self.old ≡ bits_of 1 value ++ self.new) }
+        ensures ok { IfOk result (λ value. bits_in self.old ≡ bits_of 1 value ++ bits_in self.new) }
         ensures value { IfOk result (λ value. value < 2) }
-        ensures fault { IfErr result (λ fault. (fault ≡ CodeFault.OutOfBits) × (self.old ≡ [])) }
+        ensures fault { IfErr result (λ fault. (fault ≡ CodeFault.OutOfBits) × (bits_in self.old ≡ [])) }
     {
-        self.window.take(1)
+        self.bits(1)
     }
 
     /// Takes the next `count` bits, at most 32: the number that they are, the most significant first. OutOfBits exactly
     /// if fewer are left.
     pub fn bits(&mut self, count: u32) -> Result<u32, CodeFault>
         requires { count ≤ 32 }
-        ensures ok { IfOk result (λ value. self.old ≡ bits_of count value ++ self.new) }
+        ensures ok { IfOk result (λ value. bits_in self.old ≡ bits_of count value ++ bits_in self.new) }
         ensures value { IfOk result (λ value. value < 2 ^ count) }
-        ensures fault { IfErr result (λ fault. (fault ≡ CodeFault.OutOfBits) × (length self.old < count)) }
+        ensures fault { IfErr result (λ fault. (fault ≡ CodeFault.OutOfBits) × (length (bits_in self.old) < count)) }
     {
-        self.window.take(count)
+        self.refill();
+        if self.held() < count as usize {
+            return Err(CodeFault::OutOfBits);
+        }
+        let value = low_bits(self.front() >> 32 >> (32 - count), count);
+        self.skip(count);
+        Ok(value)
     }
 
     /// How many bits are left, stuffed ones not counted; 2^64 - 1 if they are more. Goes over all bytes that are left.
     pub fn left(&self) -> u64
-        ensures { result ≡ min (length self.now) u64.MAX }
+        ensures { result ≡ min (length (bits_in self.now)) u64.MAX }
     {
-        self.window.left()
+        (self.held() as u64).saturating_add(self.stuffed.left())
     }
 
     /// Takes the code word in front, of the code LG(k, glimit) of T.87 A.5.3: its value, at most 2^qbpp.
@@ -78,44 +119,240 @@ impl<'s, 'a> BitSource<'s, 'a> {
     /// word of a small value, or a short word of a value over 2^qbpp. Else OutOfBits if no whole word is in front.
     pub fn take_golomb(&mut self, k: u32, glimit: u32, qbpp: u32) -> Result<u32, CodeFault>
         requires { IsGolomb k glimit qbpp }
-        ensures ok { IfOk result (λ v. TakesWord k glimit qbpp self.old v self.new) }
-        ensures fault { IfErr result (λ fault. GolombFault k glimit qbpp self.old fault) }
-        ensures word { (v : ℕ) (rest : List Bool) → TakesWord k glimit qbpp self.old v rest
-            → (result ≡ Ok v) × (self.new ≡ rest) }
+        ensures ok { IfOk result (λ v. TakesWord k glimit qbpp (bits_in self.old) v (bits_in self.new)) }
+        ensures fault { IfErr result (λ fault. GolombFault k glimit qbpp (bits_in self.old) fault) }
+        ensures word { (v : ℕ) (rest : List Bool) → TakesWord k glimit qbpp (bits_in self.old) v rest
+            → (result ≡ Ok v) × (bits_in self.new ≡ rest) }
     {
         self.read_golomb(k, glimit, qbpp)
     }
 
-    /// Takes the short code word in front (T.87 A.5.3) if it has fewer than `most` zeros and at least 57 bits are
-    /// un-stuffed already: its value. Else takes nothing, whatever is in front.
-    ///
-    /// None so says nothing of the bits; `take_golomb` goes on from there. `k` is at most 17, and `most` at most 24.
+    /// The place of the next bit.
     #[inline(always)]
-    pub fn take_few(&mut self, k: u32, most: u32) -> Option<u32>
+    pub fn place(&self) -> BitPlace
+        ensures at { IsAt self.now result }
+        ensures bits { bits_at self.now result ≡ bits_in self.now }
+    {
+        BitPlace {
+            place: self.place,
+            end: self.end,
+        }
+    }
+
+    /// Goes on at a place, which is one of its own since bits were un-stuffed last.
+    #[inline(always)]
+    pub fn go_to(&mut self, at: BitPlace)
+        requires { IsAt self.old at }
+        ensures { bits_in self.new ≡ bits_at self.old at }
+    {
+        self.place = at.place;
+        self.end = at.end;
+    }
+
+    /// The short code word at a place (T.87 A.5.3) if it has fewer than `most` zeros: its value, and the place after it.
+    /// None also if fewer than 57 bits are un-stuffed from there on. So many words can be read from place to place, and
+    /// where that gives none, `go_to` and `take_golomb` read any.
+    ///
+    /// `k` is at most 17, and `most` at most 24.
+    #[inline(always)]
+    pub fn few_at(&self, at: BitPlace, k: u32, most: u32) -> Option<(u32, BitPlace)>
+        requires at { IsAt self.now at }
         requires k { k ≤ 17 }
         requires most { most ≤ 24 }
-        ensures word { IfSome result (λ value. self.old ≡ short_word k value ++ self.new) }
-        ensures few { IfSome result (λ value. value / 2 ^ k < most) }
-        ensures none { IfNone result (self.new ≡ self.old) }
+        ensures word { IfSome result (λ found. bits_at self.now at ≡ short_word k found.0 ++ bits_at self.now found.1) }
+        ensures few { IfSome result (λ found. found.0 / 2 ^ k < most) }
+        ensures after { IfSome result (λ found. IsAt self.now found.1) }
+        ensures none { IfNone result ((at.end < at.place + 57) ⊎ BeginsWith (zero_bits most) (bits_at self.now at)) }
     {
-        self.window.take_few(k, most)
+        if at.end - at.place < SEEN {
+            return None;
+        }
+        let front = front_of(&self.bytes, at.place);
+        let zeros = leading_zeros(front, 64);
+        if zeros >= most {
+            return None;
+        }
+        let value = short_value(front, zeros, k);
+        let after = BitPlace {
+            place: at.place + (zeros + 1 + k) as usize,
+            end: at.end,
+        };
+        Some((value, after))
     }
 
     #[inline(always)]
     fn read_golomb(&mut self, k: u32, glimit: u32, qbpp: u32) -> Result<u32, CodeFault>
         requires { IsGolomb k glimit qbpp }
-        ensures ok { IfOk result (λ v. TakesWord k glimit qbpp self.old v self.new) }
-        ensures fault { IfErr result (λ fault. GolombFault k glimit qbpp self.old fault) }
+        ensures ok { IfOk result (λ v. TakesWord k glimit qbpp (bits_in self.old) v (bits_in self.new)) }
+        ensures fault { IfErr result (λ fault. GolombFault k glimit qbpp (bits_in self.old) fault) }
     {
-        if let Some(value) = self.window.take_short(k, glimit - qbpp - 1, most(qbpp)) {
+        if let Some(value) = self.take_short(k, glimit - qbpp - 1, most(qbpp)) {
             return Ok(value);
         }
-        self.window.take_long(k, glimit, qbpp)
+        self.take_any(k, glimit, qbpp)
+    }
+
+    /// Takes the short code word in front (T.87 A.5.3) if it has fewer than `most` zeros and a value of at most
+    /// `greatest`, and 57 bits are un-stuffed: its value. Else takes nothing.
+    #[inline(always)]
+    fn take_short(&mut self, k: u32, most: u32, greatest: u32) -> Option<u32>
+        requires { k ≤ 17 }
+        ensures word { IfSome result (λ value. bits_in self.old ≡ short_word k value ++ bits_in self.new) }
+        ensures few { IfSome result (λ value. value / 2 ^ k < most) }
+        ensures small { IfSome result (λ value. value ≤ greatest) }
+        ensures none { IfNone result (bits_in self.new ≡ bits_in self.old) }
+    {
+        let at = self.place();
+        let (value, after) = self.few_at(at, k, most.min(24))?;
+        if value > greatest {
+            return None;
+        }
+        self.go_to(after);
+        Some(value)
+    }
+
+    /// Takes the code word in front (T.87 A.5.3), whatever it is.
+    #[cold]
+    #[inline(never)]
+    fn take_any(&mut self, k: u32, glimit: u32, qbpp: u32) -> Result<u32, CodeFault>
+        requires { IsGolomb k glimit qbpp }
+        ensures ok { IfOk result (λ v. TakesWord k glimit qbpp (bits_in self.old) v (bits_in self.new)) }
+        ensures fault { IfErr result (λ fault. GolombFault k glimit qbpp (bits_in self.old) fault) }
+    {
+        let escape = glimit - qbpp - 1;
+        let zeros = self.take_zeros(escape)?;
+        if zeros < escape {
+            let low = self.bits(k)?;
+            let value = joined(zeros, low, k);
+            if value > most(qbpp) {
+                return Err(CodeFault::NotCanonical);
+            }
+            Ok(value)
+        } else {
+            let value = self.bits(qbpp)? + 1;
+            if value >> k < escape {
+                return Err(CodeFault::NotCanonical);
+            }
+            Ok(value)
+        }
+    }
+
+    /// Takes zeros and the one after them: how many zeros. NotCanonical if more than `most` are in front, OutOfBits
+    /// if nothing but zeros is left, and no more than these.
+    fn take_zeros(&mut self, most: u32) -> Result<u32, CodeFault>
+        requires { most ≤ 64 }
+        ensures ok { IfOk result (λ zeros. bits_in self.old ≡ zero_bits zeros ++ true ∷ bits_in self.new) }
+        ensures most { IfOk result (λ zeros. zeros ≤ most) }
+        ensures fault { IfErr result (λ fault. ZerosFault most (bits_in self.old) fault) }
+    {
+        let mut count = 0;
+        'words: loop {
+            self.refill();
+            let seen = self.held().min(SEEN) as u32;
+            if seen == 0 {
+                return Err(CodeFault::OutOfBits);
+            }
+            let zeros = leading_zeros(self.front(), 64);
+            if zeros < seen {
+                self.skip(zeros + 1);
+                count += zeros;
+                if count > most {
+                    return Err(CodeFault::NotCanonical);
+                }
+                return Ok(count);
+            }
+            self.skip(seen);
+            count += seen;
+            if count > most {
+                return Err(CodeFault::NotCanonical);
+            }
+        }
+    }
+
+    /// How many bits are un-stuffed.
+    #[inline(always)]
+    fn held(&self) -> usize
+        ensures value { result ≡ self.now.end - self.now.place }
+        ensures few { result ≤ 16384 }
+    {
+        self.end - self.place
+    }
+
+    /// The bits in front, from the top of a number of 64 bits on. As many are right as are un-stuffed, but 57 at most.
+    #[inline(always)]
+    fn front(&self) -> u64
+        ensures { (n : ℕ) → n ≤ 57 → n ≤ self.now.end - self.now.place → take n (bits_of 64 result) ≡ take n (bits_in self.now) }
+    {
+        front_of(&self.bytes, self.place)
+    }
+
+    /// Leaves so many of the un-stuffed bits out.
+    #[inline(always)]
+    fn skip(&mut self, count: u32)
+        requires { count ≤ self.old.end - self.old.place }
+        ensures { bits_in self.new ≡ drop count (bits_in self.old) }
+    {
+        self.place += count as usize;
+    }
+
+    /// Un-stuffs more bits, if fewer than 57 are.
+    #[inline(always)]
+    fn refill(&mut self)
+        ensures bits { bits_in self.new ≡ bits_in self.old }
+        ensures enough { (57 ≤ self.new.end - self.new.place) ⊎ (length (bits_in self.new) ≤ self.new.end - self.new.place) }
+    {
+        if self.held() < SEEN {
+            self.refill_apart();
+        }
+    }
+
+    /// Un-stuffs more bits.
+    #[cold]
+    #[inline(never)]
+    fn refill_apart(&mut self)
+        ensures bits { bits_in self.new ≡ bits_in self.old }
+        ensures enough { (57 ≤ self.new.end - self.new.place) ⊎ (length (bits_in self.new) ≤ self.new.end - self.new.place) }
+    {
+        self.bring_to_front();
+        self.fill();
+    }
+
+    /// Moves the bytes in which the un-stuffed bits stand to the front.
+    fn bring_to_front(&mut self)
+        ensures bits { bits_in self.new ≡ bits_in self.old }
+        ensures front { self.new.place < 8 }
+    {
+        let from = self.place / 8;
+        move_to_front(&mut self.bytes, from, (self.end + 7) / 8);
+        self.place -= 8 * from;
+        self.end -= 8 * from;
+    }
+
+    /// Un-stuffs bits, until there is no room for 32 more, or none are left.
+    fn fill(&mut self)
+        requires { self.old.place < 8 }
+        ensures bits { bits_in self.new ≡ bits_in self.old }
+        ensures enough { (57 ≤ self.new.end - self.new.place) ⊎ (self.new.ahead.bits ≡ []) }
+    {
+        'words: while self.end + 64 <= MOST {
+            let at = self.end / 8;
+            if let Some(bits) = self.stuffed.take_eight() {
+                put_eight(&mut self.bytes, at, bits);
+                self.end += 64;
+            } else {
+                let taken = self.stuffed.take();
+                if taken.count == 0 {
+                    return;
+                }
+                put_four(&mut self.bytes, at, taken.bits);
+                self.end += taken.count as usize;
+            }
+        }
     }
 }
 
 /// The greatest value that has a code word.
-pub(crate) fn most(qbpp: u32) -> u32
+fn most(qbpp: u32) -> u32
     requires { qbpp ≤ 16 }
     ensures { result ≡ most_value qbpp }
 {

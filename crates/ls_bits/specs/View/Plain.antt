@@ -1,6 +1,7 @@
 -- How a source holds bits: whole bytes that are un-stuffed ahead, in which its place and their end are counted in bits,
 -- and after them those that are still stuffed.
 use Rattle.std.specs.Prelude.{◌≡◌, ℕ, ◌-◌, ◌%◌, ◌≤◌, ◌⊎◌, Bool, List, [], ◌∷◌, ◌++◌, length, take, drop, ◌+◌}
+use Rattle.ls_bits.specs.declared.source.BitPlace.{BitPlace}
 use Rattle.ls_bits.specs.Bits.{bits_of}
 
 -- the bits of bytes, eight of each
@@ -36,8 +37,13 @@ pub record Placed : Type 0 where
 abbrev pub bits_in : Placed → List Bool
 bits_in placed = bits_from placed.ahead placed.place placed.end
 
-abbrev pub IsPlaced : Placed → Type 0
-IsPlaced placed = IsAhead placed.ahead placed.place placed.end
+-- the bits from one of its places on
+abbrev pub bits_at : Placed → BitPlace → List Bool
+bits_at placed at = bits_from placed.ahead at.place at.end
+
+-- one of its places
+abbrev pub IsAt : Placed → BitPlace → Type 0
+IsAt placed at = IsAhead placed.ahead at.place at.end
 
 -- bytes with others in place of those from a place on
 abbrev pub with_bytes : List ℕ → ℕ → List ℕ → List ℕ

@@ -1,7 +1,7 @@
 use Rattle.std.proofs.Common.{◌≡◌, ◌-◌, ◌<◌}
 use Rattle.ls_bits.specs.View.Plain.{bits_from, bits_in, IsAhead}
 use Rattle.ls_bits.proofs.PlainLemmas.{ahead_of}
-use Rattle.ls_bits.proofs.plain.PlainBits.fill.Given as goal
+use Rattle.ls_bits.proofs.source.BitSource.fill.Given as goal
 
 abbrev pub invariant-words : goal.invariant-words
 invariant-words l =

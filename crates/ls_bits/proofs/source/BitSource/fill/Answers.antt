@@ -1,6 +1,6 @@
 use Rattle.std.proofs.Common.{◌+◌, ◌∙◌, sym, subst, arith}
 use Rattle.ls_bits.proofs.PlainLemmas.{IsLonger, longer_by_four, longer_by_eight}
-use Rattle.ls_bits.proofs.plain.PlainBits.fill.Goals as goal
+use Rattle.ls_bits.proofs.source.BitSource.fill.Goals as goal
 
 pub words-preserved-in-Some : goal.words-preserved-in-Some
 words-preserved-in-Some c =

@@ -1,7 +1,7 @@
 use Rattle.std.proofs.Common.{◌≤◌, ◌-◌, ◌∙◌, ap, sym, subst, drop}
 use Rattle.ls_bits.specs.View.Plain.{Placed, bits_in}
 use Rattle.ls_bits.proofs.PlainLemmas.{ahead_of, skipped}
-use Rattle.ls_bits.proofs.plain.PlainBits.skip.Goals as goal
+use Rattle.ls_bits.proofs.source.BitSource.skip.Goals as goal
 
 pub returns : goal.returns
 returns c =

@@ -3,7 +3,7 @@ use Rattle.std.proofs.lemmas.Result.{err_from_is_err_and}
 use Rattle.ls_bits.specs.Golomb.{TakesWord}
 use Rattle.ls_bits.specs.View.Plain.{bits_in}
 use Rattle.ls_bits.proofs.GolombLaws.{TooFew, too_few, zeros_fault, short_taken, short_too_large, escape_taken, escape_needless}
-use Rattle.ls_bits.proofs.plain.PlainBits.take_any.Goals as goal
+use Rattle.ls_bits.proofs.source.BitSource.take_any.Goals as goal
 
 pub returns-in_err-zeros-clause-fault : goal.returns-in_err-zeros-clause-fault
 returns-in_err-zeros-clause-fault c =
@@ -42,7 +42,7 @@ pub returns-else-value-most-clause-ok : goal.returns-else-value-most-clause-ok
 returns-else-value-most-clause-ok c =
     let word = short_taken c.args.k c.args.glimit c.args.qbpp c.in_ok-zeros.zeros c.in_ok-low.low (bits_in c.args.self.now) _ _ c.if-zeros-escape.true
     (c.in_ok-zeros.ensures.ok) c.in_ok-low.ensures.ok c.in_ok-low.ensures.value (omega (arith, c.if-value-most.false, c.most.ensures, c.joined-value.ensures)) in
-    subst (λ (value : ℕ). TakesWord c.args.k c.args.glimit c.args.qbpp (bits_in c.args.self.now) value (bits_in c.take.new.self))
+    subst (λ (value : ℕ). TakesWord c.args.k c.args.glimit c.args.qbpp (bits_in c.args.self.now) value (bits_in c.bits.new.self))
     (sym c.joined-value.ensures) word
 
 pub returns-then-value-k-clause-fault : goal.returns-then-value-k-clause-fault

@@ -2,7 +2,7 @@ use Rattle.std.proofs.Common.{◌++◌, ◌∙◌, ap, sym, arith}
 use Rattle.ls_bits.specs.Bits.{bits_of}
 use Rattle.ls_bits.specs.View.Plain.{bits_in}
 use Rattle.ls_bits.proofs.PlainLemmas.{number_begun}
-use Rattle.ls_bits.proofs.plain.PlainBits.take.Goals as goal
+use Rattle.ls_bits.proofs.source.BitSource.bits.Goals as goal
 
 pub returns-clause-ok : goal.returns-clause-ok
 returns-clause-ok c =

@@ -4,7 +4,7 @@ use Rattle.ls_bits.specs.View.Plain.{bits_in}
 use Rattle.ls_bits.proofs.BitLemmas.{length-zeros}
 use Rattle.ls_bits.proofs.PlainLemmas.{one_begun, zeros_begun}
 use Rattle.ls_bits.proofs.WindowLemmas.{zeros-more, zeros-begin}
-use Rattle.ls_bits.proofs.plain.PlainBits.take_zeros.Goals as goal
+use Rattle.ls_bits.proofs.source.BitSource.take_zeros.Goals as goal
 
 pub returns-then-count-most-clause-fault : goal.returns-then-count-most-clause-fault
 returns-then-count-most-clause-fault c =

@@ -1,7 +1,7 @@
 use Rattle.std.proofs.Common.{◌++◌, ◌∙◌, ap, arith}
 use Rattle.ls_bits.specs.View.Plain.{Placed, bits_in}
 use Rattle.ls_bits.proofs.PlainLemmas.{at_front}
-use Rattle.ls_bits.proofs.plain.PlainBits.bring_to_front.Goals as goal
+use Rattle.ls_bits.proofs.source.BitSource.bring_to_front.Goals as goal
 
 pub returns-clause-bits : goal.returns-clause-bits
 returns-clause-bits c =
