@@ -130,8 +130,8 @@ impl<'a> BitSource<'a> {
     /// The place of the next bit.
     #[inline(always)]
     pub fn place(&self) -> BitPlace
-        ensures at { IsAt self.now result }
-        ensures bits { bits_at self.now result ≡ bits_in self.now }
+        ensures at { IsAt self.now.ahead result }
+        ensures bits { bits_at self.now.ahead result ≡ bits_in self.now }
     {
         BitPlace {
             place: self.place,
@@ -142,8 +142,8 @@ impl<'a> BitSource<'a> {
     /// Goes on at a place, which is one of its own since bits were un-stuffed last.
     #[inline(always)]
     pub fn go_to(&mut self, at: BitPlace)
-        requires { IsAt self.old at }
-        ensures { bits_in self.new ≡ bits_at self.old at }
+        requires { IsAt self.old.ahead at }
+        ensures { bits_in self.new ≡ bits_at self.old.ahead at }
     {
         self.place = at.place;
         self.end = at.end;
@@ -156,13 +156,13 @@ impl<'a> BitSource<'a> {
     /// `k` is at most 17, and `most` at most 24.
     #[inline(always)]
     pub fn few_at(&self, at: BitPlace, k: u32, most: u32) -> Option<(u32, BitPlace)>
-        requires at { IsAt self.now at }
+        requires at { IsAt self.now.ahead at }
         requires k { k ≤ 17 }
         requires most { most ≤ 24 }
-        ensures word { IfSome result (λ found. bits_at self.now at ≡ short_word k found.0 ++ bits_at self.now found.1) }
+        ensures word { IfSome result (λ found. bits_at self.now.ahead at ≡ short_word k found.0 ++ bits_at self.now.ahead found.1) }
         ensures few { IfSome result (λ found. found.0 / 2 ^ k < most) }
-        ensures after { IfSome result (λ found. IsAt self.now found.1) }
-        ensures none { IfNone result ((at.end < at.place + 57) ⊎ BeginsWith (zero_bits most) (bits_at self.now at)) }
+        ensures after { IfSome result (λ found. IsAt self.now.ahead found.1) }
+        ensures none { IfNone result ((at.end < at.place + 57) ⊎ BeginsWith (zero_bits most) (bits_at self.now.ahead at)) }
     {
         if at.end - at.place < SEEN {
             return None;

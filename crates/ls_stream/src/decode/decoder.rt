@@ -1,7 +1,7 @@
 //! A scan that is being read: its bits, as the events of its rows (T.87 Annex A).
 ghost use Rattle.std.specs.Prelude.{◌≡◌, ◌<◌, ◌≤◌, ◌++◌, [], ℕ, Bool, List, true, false, length, min, IfOk, IfErr};
 ghost use Rattle.ls_frame.specs.Parameters.{qbpp_of, limit_of};
-ghost use Rattle.ls_bits.specs.View.Plain.{bits_in};
+ghost use Rattle.ls_bits.specs.View.Plain.{bits_in, bits_at, IsAt};
 ghost use Rattle.ls_coding.specs.Samples.{AreSamples, Interrupts};
 ghost use Rattle.ls_coding.specs.Contexts.{is_zero, is_run};
 ghost use Rattle.ls_coding.specs.View.SignedContexts.{signed_context, half_context};
@@ -12,7 +12,7 @@ ghost use Rattle.ls_coding.specs.View.States.{state_of, context_in, regular_erro
 ghost use Rattle.ls_stream.specs.View.BitFaults.{BreaksSample, BreaksInterruption, BreaksRun};
 ghost use Rattle.ls_stream.specs.View.Decoding.{EndsInLine};
 
-use ls_bits::{BitSource, CodeFault, PlainBits};
+use ls_bits::{BitPlace, BitSource, CodeFault};
 use ls_coding::{Neighbours, Regions, State, SureZeros, whole_context};
 use ls_frame::Presets;
 use std::marker::Model;
@@ -27,19 +27,20 @@ pub struct Decoder<'a, 'b> {
     regions: &'a Regions,
     /// Which words of regular mode are surely those of samples.
     sure: &'a SureZeros,
-    /// It stands elsewhere, so that the rest of the decoder can be in registers.
+    /// They stand elsewhere, so that the rest of the decoder can be in registers.
     state: &'a mut State,
-    source: BitSource<'a, 'b>,
+    source: &'a mut BitSource<'b>,
 }
 
 impl<'a, 'b> Model for Decoder<'a, 'b> {
     ghost use Rattle.std.specs.Prelude.{◌≡◌};
     ghost use Rattle.ls_frame.specs.Parameters.{qbpp_of, limit_of, IsLegal};
+    ghost use Rattle.ls_bits.specs.View.Plain.{bits_in};
     ghost use Rattle.ls_stream.specs.View.Decoding.{Unread};
 
     ghost Value = { Unread };
 
-    ghost view = { λ d. record { state = d.state.now; bits = d.source } };
+    ghost view = { λ d. record { state = d.state.now; bits = bits_in d.source.now; ahead = d.source.now.ahead } };
 
     ghost invariant = { λ d. (d.state.now.parameters ≡ d.presets) × (d.qbpp ≡ qbpp_of d.presets.maxval) × IsLegal d.presets × (d.regions.now ≡ d.presets)
         × (d.sure.now ≡ d.presets) };
@@ -59,14 +60,14 @@ impl<'a, 'b> Decoder<'a, 'b> {
         regions: &'a Regions,
         sure: &'a SureZeros,
         state: &'a mut State,
-        plain: &'a mut PlainBits<'b>,
+        source: &'a mut BitSource<'b>,
     ) -> Decoder<'a, 'b>
         requires regions { regions.now ≡ presets.now }
         requires sure { sure.now ≡ presets.now }
         requires state { state.old ≡ state_of presets.now [] }
         ensures parameters { result.state.parameters ≡ presets.now }
         ensures state { result.state ≡ state_of presets.now [] }
-        ensures bits { result.bits ≡ bits_in plain.old }
+        ensures bits { result.bits ≡ bits_in source.old }
     {
         prove!(presets.maxval() > 0);
         Decoder {
@@ -75,7 +76,7 @@ impl<'a, 'b> Decoder<'a, 'b> {
             regions,
             sure,
             state,
-            source: BitSource::new(plain),
+            source,
         }
     }
 
@@ -93,6 +94,25 @@ impl<'a, 'b> Decoder<'a, 'b> {
         self.source.left()
     }
 
+    /// The place of the next bit.
+    #[inline(always)]
+    pub fn place(&self) -> BitPlace
+        ensures at { IsAt self.now.ahead result }
+        ensures bits { bits_at self.now.ahead result ≡ self.now.bits }
+    {
+        self.source.place()
+    }
+
+    /// Goes on at a place that was reached by `decode_sample`.
+    #[inline(always)]
+    pub fn go_to(&mut self, at: BitPlace)
+        requires { IsAt self.old.ahead at }
+        ensures bits { self.new.bits ≡ bits_at self.old.ahead at }
+        ensures state { self.new.state ≡ self.old.state }
+    {
+        self.source.go_to(at);
+    }
+
     /// The context of a sample, of which `half` is the part that the line above decides.
     pub fn context_of(&self, half: i16, neighbours: &Neighbours) -> i16
         requires half { half ≡ half_context self.now.state.parameters neighbours.now.b neighbours.now.c neighbours.now.d }
@@ -103,32 +123,44 @@ impl<'a, 'b> Decoder<'a, 'b> {
         whole_context(self.regions, half, neighbours.a, neighbours.c)
     }
 
-    /// Reads a sample of regular mode, whose context is known. The bits that are left begin with the word of no other
-    /// sample; of none if this fails.
-    pub fn decode_sample(&mut self, context: i16, neighbours: &Neighbours) -> Result<u16, CodeFault>
+    /// Reads a sample of regular mode, whose context is known, from a place on, and goes to the place after it; where the
+    /// decoder itself stands says nothing then. The bits from there on begin with the word of no other sample; of none if
+    /// this fails.
+    #[inline(always)]
+    pub fn decode_sample(
+        &mut self,
+        at: &mut BitPlace,
+        context: i16,
+        neighbours: &Neighbours,
+    ) -> Result<u16, CodeFault>
+        requires at { IsAt self.old.ahead at.old }
         requires context { context ≡ signed_context self.old.state.parameters neighbours.now }
         requires samples { AreSamples self.old.state.parameters.maxval neighbours.now }
         requires regular { is_run neighbours.now ≡ false }
         requires uninterrupted { self.old.state.interrupted ≡ false }
+        ensures at { IfOk result (λ _. IsAt self.new.ahead at.new) }
         ensures within { IfOk result (λ sample. sample ≤ self.old.state.parameters.maxval) }
-        ensures bits { IfOk result (λ sample. self.old.bits
-            ≡ golomb_bits self.old.state.parameters (regular_word_in self.old.state neighbours.now sample) ++ self.new.bits) }
+        ensures bits { IfOk result (λ sample. bits_at self.old.ahead at.old
+            ≡ golomb_bits self.old.state.parameters (regular_word_in self.old.state neighbours.now sample) ++ bits_at self.new.ahead at.new) }
         ensures state { IfOk result (λ sample. self.new.state ≡ regular_after self.old.state
             (context_in self.old.state neighbours.now).number (regular_error_in self.old.state neighbours.now sample)) }
         ensures only { IfOk result (λ sample. (other : ℕ) (rest : List Bool) → other ≤ self.old.state.parameters.maxval
-            → self.old.bits ≡ golomb_bits self.old.state.parameters (regular_word_in self.old.state neighbours.now other) ++ rest
-            → (other ≡ sample) × (rest ≡ self.new.bits)) }
+            → bits_at self.old.ahead at.old ≡ golomb_bits self.old.state.parameters (regular_word_in self.old.state neighbours.now other) ++ rest
+            → (other ≡ sample) × (rest ≡ bits_at self.new.ahead at.new)) }
         ensures none { IfErr result (λ fault. (other : ℕ) (rest : List Bool) → other ≤ self.old.state.parameters.maxval
-            → self.old.bits ≡ golomb_bits self.old.state.parameters (regular_word_in self.old.state neighbours.now other) ++ rest
+            → bits_at self.old.ahead at.old ≡ golomb_bits self.old.state.parameters (regular_word_in self.old.state neighbours.now other) ++ rest
             → ⊥) }
-        ensures fault { IfErr result (λ fault. BreaksSample self.old.state neighbours.now self.old.bits fault) }
+        ensures fault { IfErr result (λ fault. BreaksSample self.old.state neighbours.now (bits_at self.old.ahead at.old) fault) }
     {
         let plan = self.state.plan_regular_at(context, neighbours);
         let k = plan.k();
-        if let Some(value) = self.source.take_few(k, self.sure.of(k)) {
+        if let Some((value, after)) = self.source.few_at(*at, k, self.sure.of(k)) {
+            *at = after;
             return Ok(self.state.accept_sure(plan, value));
         }
+        self.source.go_to(*at);
         let value = self.source.take_golomb(k, plan.glimit(), self.qbpp)?;
+        *at = self.source.place();
         self.state.accept_regular(plan, value)
     }
 

@@ -1,12 +1,13 @@
 //! A row of a plane, from left to right, out of its bits (T.87 Annex A).
 ghost use Rattle.std.specs.Prelude.{◌≡◌, ◌+◌, ◌<◌, ◌≤◌, true, false, length, slice_index, IfOk, IfErr};
+ghost use Rattle.ls_bits.specs.View.Plain.{bits_at, IsAt};
 ghost use Rattle.ls_coding.specs.Contexts.{is_run};
 ghost use Rattle.ls_stream.specs.View.LineBuffers.{neighbours_in, ArePadded};
 ghost use Rattle.ls_stream.specs.View.Decoding.{place, ReadsOn, ReadsNoFurther, AreRepeated, AreHalfContexts, half_context_in};
 
 use crate::decode::decoder::Decoder;
 use crate::lines::neighbours_in;
-use ls_bits::CodeFault;
+use ls_bits::{BitPlace, CodeFault};
 use ls_coding::half_context;
 use ls_frame::Presets;
 
@@ -83,39 +84,53 @@ fn decode_block(
         (place start line.old decoder.old.state decoder.old.bits) (place next line.new decoder.new.state decoder.new.bits)) }
     ensures stops { IfErr result (λ fault. ReadsNoFurther width above.now (place start line.old decoder.old.state decoder.old.bits) fault) }
 {
+    // Held here, and so in registers, from sample to sample.
+    let mut at = decoder.place();
     let mut column = start;
     'spans: while column < end {
-        column = decode_span(decoder, half_contexts[column], above, line, width, column)?;
+        let half = half_contexts[column];
+        column = decode_span(decoder, &mut at, half, above, line, width, column)?;
     }
+    decoder.go_to(at);
     Ok(column)
 }
 
-/// Reads the span that begins at a column, and answers the column after it; `half` is the column's half context.
+/// Reads the span that begins at a column, from a place on, goes to the place after it, and answers the column after it;
+/// `half` is the column's half context.
+#[inline(always)]
 fn decode_span(
     decoder: &mut Decoder,
+    at: &mut BitPlace,
     half: i16,
     above: &[u16],
     line: &mut [u16],
     width: usize,
     column: usize,
 ) -> Result<usize, CodeFault>
+    requires at { IsAt decoder.old.ahead at.old }
     requires half { half ≡ half_context_in decoder.old.state.parameters above.now column }
     requires lines { ArePadded decoder.old.state.parameters.maxval width above.now line.old }
     requires inside { column < width }
     requires narrow { width ≤ 65535 }
     requires uninterrupted { decoder.old.state.interrupted ≡ false }
+    ensures at { IfOk result (λ _. IsAt decoder.new.ahead at.new) }
     ensures next { IfOk result (λ next. (column < next) × (next ≤ width)) }
     ensures on { IfOk result (λ next. ReadsOn width above.now
-        (place column line.old decoder.old.state decoder.old.bits) (place next line.new decoder.new.state decoder.new.bits)) }
-    ensures stops { IfErr result (λ fault. ReadsNoFurther width above.now (place column line.old decoder.old.state decoder.old.bits) fault) }
+        (place column line.old decoder.old.state (bits_at decoder.old.ahead at.old))
+        (place next line.new decoder.new.state (bits_at decoder.new.ahead at.new))) }
+    ensures stops { IfErr result (λ fault. ReadsNoFurther width above.now
+        (place column line.old decoder.old.state (bits_at decoder.old.ahead at.old)) fault) }
 {
     let neighbours = neighbours_in(above, line, column);
     let context = decoder.context_of(half, &neighbours);
     if context != 0 {
-        line[column + 1] = decoder.decode_sample(context, &neighbours)?;
+        line[column + 1] = decoder.decode_sample(at, context, &neighbours)?;
         return Ok(column + 1);
     }
-    decode_run_span(decoder, above, line, width, column)
+    decoder.go_to(*at);
+    let next = decode_run_span(decoder, above, line, width, column)?;
+    *at = decoder.place();
+    Ok(next)
 }
 
 /// Reads a run that begins at a column, with the sample that interrupts it if there is one, and answers the column

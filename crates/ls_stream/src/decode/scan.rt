@@ -14,7 +14,7 @@ use crate::decode::decoder::Decoder;
 use crate::decode::row::decode_row;
 use crate::lines::clear;
 use crate::shape::Shape;
-use ls_bits::{CodeFault, PlainBits};
+use ls_bits::{BitSource, CodeFault};
 use ls_coding::{Regions, State, SureZeros};
 use ls_frame::{Place, Presets};
 
@@ -61,8 +61,8 @@ pub fn decode_scan<S: Place>(
 {
     let mut state = State::new(presets);
     let sure = SureZeros::new(presets);
-    let mut plain = PlainBits::new(bytes);
-    let mut decoder = Decoder::new(presets, regions, &sure, &mut state, &mut plain);
+    let mut source = BitSource::new(bytes);
+    let mut decoder = Decoder::new(presets, regions, &sure, &mut state, &mut source);
     let read = decode_plane(
         &mut decoder,
         &mut lines.lines.above,

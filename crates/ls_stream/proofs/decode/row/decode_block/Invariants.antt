@@ -1,4 +1,5 @@
 use Rattle.std.proofs.Common.{◌≡◌, ◌-◌, ◌≤◌}
+use Rattle.ls_bits.specs.View.Plain.{bits_at, IsAt}
 use Rattle.ls_stream.specs.View.Decoding.{place, ReadsOn}
 use Rattle.ls_stream.proofs.decode.row.decode_block.Given as goal
 
@@ -6,7 +7,8 @@ abbrev pub invariant-spans : goal.invariant-spans
 invariant-spans l = record {
   low : l.start ≤ l.column;
   high : l.column ≤ l.width;
-  on : ReadsOn l.width l.above (place l.start l.fn.line l.fn.decoder.state l.fn.decoder.bits) (place l.column l.line l.decoder.state l.decoder.bits);
+  on : ReadsOn l.width l.above (place l.start l.fn.line l.fn.decoder.state l.fn.decoder.bits) (place l.column l.line l.decoder.state (bits_at l.decoder.ahead l.at));
+  at : IsAt l.decoder.ahead l.at;
   parameters : l.decoder.state.parameters ≡ l.fn.decoder.state.parameters;
 }
 
