@@ -20,6 +20,6 @@ returns-then-left-ge16-clause-fault g c =
           (subst (λ (q : Parameters). (k : ℕ) → get_or new k 0 ≤ q.maxval) coder c.in_default.ensures.small);
       more = c.decode_plane-read.new.decoder.bits;
       many = omega (arith, c.left.ensures, c.if-left-ge16.true);
-      whole = sym (c.new-decoder.ensures.bits ∙ c.new-plain.ensures)
+      whole = sym (c.new-decoder.ensures.bits ∙ c.new-source.ensures)
           ∙ subst (λ (q : Parameters). c.new-decoder.result.bits ≡ plane_bits q (component_plane width count component new) ++ c.decode_plane-read.new.decoder.bits) coder c.in_default.ensures.plane;
     }

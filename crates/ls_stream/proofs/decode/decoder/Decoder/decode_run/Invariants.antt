@@ -1,5 +1,5 @@
 use Rattle.std.proofs.Common.{◌≡◌, ◌<◌, ℕ, Bool, false, ◌+◌, ◌-◌}
-use Rattle.ls_frame.specs.Parameters.{qbpp_of, limit_of, IsLegal}
+use Rattle.ls_frame.specs.Parameters.{qbpp_of, IsLegal}
 use Rattle.ls_coding.specs.Runs.{run_of}
 use Rattle.ls_coding.specs.View.States.{run_after}
 use Rattle.ls_bits.specs.declared.source.CodeFault.{CodeFault}

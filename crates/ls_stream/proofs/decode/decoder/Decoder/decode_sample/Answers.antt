@@ -1,6 +1,6 @@
 use Rattle.std.proofs.Common.{◌≡◌, ℕ, refl, ◌/◌, ◌^◌, ◌<◌, ◌≤◌, ◌++◌, List, Bool, sym, ◌∙◌, ap, subst}
 use Rattle.std.specs.Prelude.{IfOk, IfErr}
-use Rattle.ls_frame.specs.Parameters.{Parameters, qbpp_of, limit_of}
+use Rattle.ls_frame.specs.Parameters.{Parameters, qbpp_of}
 use Rattle.ls_coding.specs.declared.neighbours.Neighbours.{Neighbours}
 use Rattle.ls_bits.specs.Golomb.{TakesWord, GolombFault}
 use Rattle.ls_bits.specs.View.Plain.{bits_in, bits_at}
