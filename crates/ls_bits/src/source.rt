@@ -34,8 +34,6 @@ pub enum CodeFault {
 pub struct BitPlace {
     /// How many bits are before it.
     place: usize,
-    /// Where the un-stuffed bits end.
-    end: usize,
 }
 
 /// The bits that are left of stuffed bytes.
@@ -130,23 +128,19 @@ impl<'a> BitSource<'a> {
     /// The place of the next bit.
     #[inline(always)]
     pub fn place(&self) -> BitPlace
-        ensures at { IsAt self.now.ahead result }
-        ensures bits { bits_at self.now.ahead result ≡ bits_in self.now }
+        ensures at { IsAt self.now result }
+        ensures bits { bits_at self.now result ≡ bits_in self.now }
     {
-        BitPlace {
-            place: self.place,
-            end: self.end,
-        }
+        BitPlace { place: self.place }
     }
 
     /// Goes on at a place, which is one of its own since bits were un-stuffed last.
     #[inline(always)]
     pub fn go_to(&mut self, at: BitPlace)
-        requires { IsAt self.old.ahead at }
-        ensures { bits_in self.new ≡ bits_at self.old.ahead at }
+        requires { IsAt self.old at }
+        ensures { bits_in self.new ≡ bits_at self.old at }
     {
         self.place = at.place;
-        self.end = at.end;
     }
 
     /// The short code word at a place (T.87 A.5.3) if it has fewer than `most` zeros: its value, and the place after it.
@@ -156,15 +150,15 @@ impl<'a> BitSource<'a> {
     /// `k` is at most 17, and `most` at most 24.
     #[inline(always)]
     pub fn few_at(&self, at: BitPlace, k: u32, most: u32) -> Option<(u32, BitPlace)>
-        requires at { IsAt self.now.ahead at }
+        requires at { IsAt self.now at }
         requires k { k ≤ 17 }
         requires most { most ≤ 24 }
-        ensures word { IfSome result (λ found. bits_at self.now.ahead at ≡ short_word k found.0 ++ bits_at self.now.ahead found.1) }
+        ensures word { IfSome result (λ found. bits_at self.now at ≡ short_word k found.0 ++ bits_at self.now found.1) }
         ensures few { IfSome result (λ found. found.0 / 2 ^ k < most) }
-        ensures after { IfSome result (λ found. IsAt self.now.ahead found.1) }
-        ensures none { IfNone result ((at.end < at.place + 57) ⊎ BeginsWith (zero_bits most) (bits_at self.now.ahead at)) }
+        ensures after { IfSome result (λ found. IsAt self.now found.1) }
+        ensures none { IfNone result ((self.now.end < at.place + 57) ⊎ BeginsWith (zero_bits most) (bits_at self.now at)) }
     {
-        if at.end - at.place < SEEN {
+        if self.end < at.place + SEEN {
             return None;
         }
         let front = front_of(&self.bytes, at.place);
@@ -175,7 +169,6 @@ impl<'a> BitSource<'a> {
         let value = short_value(front, zeros, k);
         let after = BitPlace {
             place: at.place + (zeros + 1 + k) as usize,
-            end: at.end,
         };
         Some((value, after))
     }

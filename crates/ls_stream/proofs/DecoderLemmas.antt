@@ -95,3 +95,7 @@ sure_takes p k glimit value bits rest some most limit few e =
 pub regular_limit : (s : Coding) (n : Neighbours) → (regular_plan s n).glimit ≡ limit_of s.parameters.maxval
 unfolding regular_plan_by
 regular_limit s n = refl
+
+pub limit_is : (s : Coding) (n : Neighbours) (p : Parameters) (limit : ℕ) (plan : Planned) → limit ≡ limit_of p.maxval → s.parameters ≡ p → plan ≡ regular_plan s n → limit ≡ plan.glimit
+limit_is s n p limit plan is same plan_is =
+    is ∙ ap (λ (q : Parameters). limit_of q.maxval) (sym same) ∙ sym (regular_limit s n) ∙ sym (ap (λ (x : Planned). x.glimit) plan_is)

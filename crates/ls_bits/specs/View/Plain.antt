@@ -37,13 +37,13 @@ pub record Placed : Type 0 where
 abbrev pub bits_in : Placed → List Bool
 bits_in placed = bits_from placed.ahead placed.place placed.end
 
--- the bits from a place among them on
-abbrev pub bits_at : Ahead → BitPlace → List Bool
-bits_at ahead at = bits_from ahead at.place at.end
+-- the bits from one of its places on
+abbrev pub bits_at : Placed → BitPlace → List Bool
+bits_at placed at = bits_from placed.ahead at.place placed.end
 
--- a place among them
-abbrev pub IsAt : Ahead → BitPlace → Type 0
-IsAt ahead at = IsAhead ahead at.place at.end
+-- one of its places
+abbrev pub IsAt : Placed → BitPlace → Type 0
+IsAt placed at = IsAhead placed.ahead at.place placed.end
 
 -- bytes with others in place of those from a place on
 abbrev pub with_bytes : List ℕ → ℕ → List ℕ → List ℕ

@@ -5,7 +5,7 @@ use Rattle.ls_coding.specs.View.SignedContexts.{half_context}
 use Rattle.ls_coding.specs.View.States.{Coding}
 use Rattle.ls_frame.specs.Picture.{Picture}
 use Rattle.ls_stream.specs.declared.segments.read.FrameHeader.{FrameHeader}
-use Rattle.ls_bits.specs.View.Plain.{Ahead}
+use Rattle.ls_bits.specs.View.Plain.{Placed}
 use Rattle.ls_bits.specs.declared.data.Stop.{Stop}
 use Rattle.ls_bits.specs.declared.data.Stop.TheVariants.{Marker, End}
 use Rattle.ls_bits.specs.declared.source.CodeFault.{CodeFault}
@@ -153,11 +153,11 @@ abbrev pub fault_in : ℕ → Stop → ScanFault → StreamFault
 fault_in component stop (Code fault) = code_fault component stop fault
 fault_in component stop LeftoverBits = stream.LeftoverBits component
 
--- a scan that is being read: the state of its coding, the bits that are left, and those that can be read from place to place
+-- a scan that is being read: the state of its coding, the bits that are left, and their source
 pub record Unread : Type 0 where
   pub state : Coding
   pub bits : List Bool
-  pub ahead : Ahead
+  pub source : Placed
 
 -- ---- in a frame
 

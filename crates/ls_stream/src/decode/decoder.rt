@@ -40,7 +40,7 @@ impl<'a, 'b> Model for Decoder<'a, 'b> {
 
     ghost Value = { Unread };
 
-    ghost view = { λ d. record { state = d.state.now; bits = bits_in d.source.now; ahead = d.source.now.ahead } };
+    ghost view = { λ d. record { state = d.state.now; bits = bits_in d.source.now; source = d.source.now } };
 
     ghost invariant = { λ d. (d.state.now.parameters ≡ d.presets) × (d.qbpp ≡ qbpp_of d.presets.maxval) × IsLegal d.presets × (d.regions.now ≡ d.presets)
         × (d.sure.now ≡ d.presets) };
@@ -97,8 +97,8 @@ impl<'a, 'b> Decoder<'a, 'b> {
     /// The place of the next bit.
     #[inline(always)]
     pub fn place(&self) -> BitPlace
-        ensures at { IsAt self.now.ahead result }
-        ensures bits { bits_at self.now.ahead result ≡ self.now.bits }
+        ensures at { IsAt self.now.source result }
+        ensures bits { bits_at self.now.source result ≡ self.now.bits }
     {
         self.source.place()
     }
@@ -106,8 +106,8 @@ impl<'a, 'b> Decoder<'a, 'b> {
     /// Goes on at a place that was reached by `decode_sample`.
     #[inline(always)]
     pub fn go_to(&mut self, at: BitPlace)
-        requires { IsAt self.old.ahead at }
-        ensures bits { self.new.bits ≡ bits_at self.old.ahead at }
+        requires { IsAt self.old.source at }
+        ensures bits { self.new.bits ≡ bits_at self.old.source at }
         ensures state { self.new.state ≡ self.old.state }
     {
         self.source.go_to(at);
@@ -133,24 +133,24 @@ impl<'a, 'b> Decoder<'a, 'b> {
         context: i16,
         neighbours: &Neighbours,
     ) -> Result<u16, CodeFault>
-        requires at { IsAt self.old.ahead at.old }
+        requires at { IsAt self.old.source at.old }
         requires context { context ≡ signed_context self.old.state.parameters neighbours.now }
         requires samples { AreSamples self.old.state.parameters.maxval neighbours.now }
         requires regular { is_run neighbours.now ≡ false }
         requires uninterrupted { self.old.state.interrupted ≡ false }
-        ensures at { IfOk result (λ _. IsAt self.new.ahead at.new) }
+        ensures at { IfOk result (λ _. IsAt self.new.source at.new) }
         ensures within { IfOk result (λ sample. sample ≤ self.old.state.parameters.maxval) }
-        ensures bits { IfOk result (λ sample. bits_at self.old.ahead at.old
-            ≡ golomb_bits self.old.state.parameters (regular_word_in self.old.state neighbours.now sample) ++ bits_at self.new.ahead at.new) }
+        ensures bits { IfOk result (λ sample. bits_at self.old.source at.old
+            ≡ golomb_bits self.old.state.parameters (regular_word_in self.old.state neighbours.now sample) ++ bits_at self.new.source at.new) }
         ensures state { IfOk result (λ sample. self.new.state ≡ regular_after self.old.state
             (context_in self.old.state neighbours.now).number (regular_error_in self.old.state neighbours.now sample)) }
         ensures only { IfOk result (λ sample. (other : ℕ) (rest : List Bool) → other ≤ self.old.state.parameters.maxval
-            → bits_at self.old.ahead at.old ≡ golomb_bits self.old.state.parameters (regular_word_in self.old.state neighbours.now other) ++ rest
-            → (other ≡ sample) × (rest ≡ bits_at self.new.ahead at.new)) }
+            → bits_at self.old.source at.old ≡ golomb_bits self.old.state.parameters (regular_word_in self.old.state neighbours.now other) ++ rest
+            → (other ≡ sample) × (rest ≡ bits_at self.new.source at.new)) }
         ensures none { IfErr result (λ fault. (other : ℕ) (rest : List Bool) → other ≤ self.old.state.parameters.maxval
-            → bits_at self.old.ahead at.old ≡ golomb_bits self.old.state.parameters (regular_word_in self.old.state neighbours.now other) ++ rest
+            → bits_at self.old.source at.old ≡ golomb_bits self.old.state.parameters (regular_word_in self.old.state neighbours.now other) ++ rest
             → ⊥) }
-        ensures fault { IfErr result (λ fault. BreaksSample self.old.state neighbours.now (bits_at self.old.ahead at.old) fault) }
+        ensures fault { IfErr result (λ fault. BreaksSample self.old.state neighbours.now (bits_at self.old.source at.old) fault) }
     {
         let plan = self.state.plan_regular_at(context, neighbours);
         let k = plan.k();
@@ -159,7 +159,7 @@ impl<'a, 'b> Decoder<'a, 'b> {
             return Ok(self.state.accept_sure(plan, value));
         }
         self.source.go_to(*at);
-        let value = self.source.take_golomb(k, plan.glimit(), self.qbpp)?;
+        let value = self.source.take_golomb(k, self.presets.limit(), self.qbpp)?;
         *at = self.source.place();
         self.state.accept_regular(plan, value)
     }

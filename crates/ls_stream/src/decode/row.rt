@@ -107,19 +107,19 @@ fn decode_span(
     width: usize,
     column: usize,
 ) -> Result<usize, CodeFault>
-    requires at { IsAt decoder.old.ahead at.old }
+    requires at { IsAt decoder.old.source at.old }
     requires half { half ≡ half_context_in decoder.old.state.parameters above.now column }
     requires lines { ArePadded decoder.old.state.parameters.maxval width above.now line.old }
     requires inside { column < width }
     requires narrow { width ≤ 65535 }
     requires uninterrupted { decoder.old.state.interrupted ≡ false }
-    ensures at { IfOk result (λ _. IsAt decoder.new.ahead at.new) }
+    ensures at { IfOk result (λ _. IsAt decoder.new.source at.new) }
     ensures next { IfOk result (λ next. (column < next) × (next ≤ width)) }
     ensures on { IfOk result (λ next. ReadsOn width above.now
-        (place column line.old decoder.old.state (bits_at decoder.old.ahead at.old))
-        (place next line.new decoder.new.state (bits_at decoder.new.ahead at.new))) }
+        (place column line.old decoder.old.state (bits_at decoder.old.source at.old))
+        (place next line.new decoder.new.state (bits_at decoder.new.source at.new))) }
     ensures stops { IfErr result (λ fault. ReadsNoFurther width above.now
-        (place column line.old decoder.old.state (bits_at decoder.old.ahead at.old)) fault) }
+        (place column line.old decoder.old.state (bits_at decoder.old.source at.old)) fault) }
 {
     let neighbours = neighbours_in(above, line, column);
     let context = decoder.context_of(half, &neighbours);

@@ -1,4 +1,4 @@
-use Rattle.std.proofs.Common.{◌≡◌, ℕ, ◌+◌, ◌-◌, ◌/◌, ◌%◌, ◌^◌, ◌++◌, ◌∙◌, List, Bool, ap, sym, inr, take, drop, arith}
+use Rattle.std.proofs.Common.{◌≤◌, ◌≡◌, ℕ, ◌+◌, ◌-◌, ◌/◌, ◌%◌, ◌^◌, ◌++◌, ◌∙◌, List, Bool, ap, sym, inr, take, drop, arith}
 use Rattle.ls_bits.specs.Bits.{bits_of}
 use Rattle.ls_bits.specs.Golomb.{short_word}
 use Rattle.ls_bits.specs.View.Plain.{Ahead, Placed, plain_bits, bits_from}
@@ -9,11 +9,12 @@ pub returns-clause-word : goal.returns-clause-word
 returns-clause-word c =
     let ahead : Ahead = c.args.self.now.ahead in
     let place : ℕ = c.args.at.place in
-    let end : ℕ = c.args.at.end in
+    let end : ℕ = c.args.self.now.end in
     let k : ℕ = c.args.k in
     let zeros : ℕ = c.leading_zeros-zeros.result in
     let front : ℕ = c.front_of-front.result in
     let count : ℕ = zeros + 1 + k in
+    let enough : place + 57 ≤ end = omega (arith, ap (λ (p : Placed). p.end) c.self.view_is) in
     let same : take 57 (bits_of 64 front) ≡ take 57 (drop place (plain_bits ahead.bytes)) =
     c.front_of-front.ensures ∙ ap (λ (p : Placed). take 57 (drop place (plain_bits p.ahead.bytes))) c.self.view_is in
     let left : 63 - zeros - k ≡ 64 - (zeros + 1) - k = omega arith in
@@ -26,10 +27,11 @@ pub returns-then-zeros-most-clause-none : goal.returns-then-zeros-most-clause-no
 returns-then-zeros-most-clause-none c =
     let ahead : Ahead = c.args.self.now.ahead in
     let place : ℕ = c.args.at.place in
-    let end : ℕ = c.args.at.end in
+    let end : ℕ = c.args.self.now.end in
     let most : ℕ = c.args.most in
     let front : ℕ = c.front_of-front.result in
     let bits : List Bool = bits_from ahead place end in
+    let enough : place + 57 ≤ end = omega (arith, ap (λ (p : Placed). p.end) c.self.view_is) in
     let same : take 57 (bits_of 64 front) ≡ take 57 (drop place (plain_bits ahead.bytes)) =
     c.front_of-front.ensures ∙ ap (λ (p : Placed). take 57 (drop place (plain_bits p.ahead.bytes))) c.self.view_is in
     inr (

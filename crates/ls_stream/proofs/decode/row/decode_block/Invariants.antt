@@ -7,8 +7,8 @@ abbrev pub invariant-spans : goal.invariant-spans
 invariant-spans l = record {
   low : l.start ≤ l.column;
   high : l.column ≤ l.width;
-  on : ReadsOn l.width l.above (place l.start l.fn.line l.fn.decoder.state l.fn.decoder.bits) (place l.column l.line l.decoder.state (bits_at l.decoder.ahead l.at));
-  at : IsAt l.decoder.ahead l.at;
+  on : ReadsOn l.width l.above (place l.start l.fn.line l.fn.decoder.state l.fn.decoder.bits) (place l.column l.line l.decoder.state (bits_at l.decoder.source l.at));
+  at : IsAt l.decoder.source l.at;
   parameters : l.decoder.state.parameters ≡ l.fn.decoder.state.parameters;
 }
 

@@ -19,9 +19,9 @@ returns-in_err-line-clause-stops c =
     let regular : is_run n ≡ false = regular_by n c.context_of-context.result c.context_of-context.ensures.run c.if-context-ne0.true in
     let fault = err_from_is_err_and c.from_residual.result c.from_residual.ensures.1 in
     rw (fault.1, fault.2) (record {
-      none = no_sample maxval c.args.width c.args.column c.args.above.now c.args.line.now c.args.decoder.now.state (bits_at c.args.decoder.now.ahead c.args.at.now) n
+      none = no_sample maxval c.args.width c.args.column c.args.above.now c.args.line.now c.args.decoder.now.state (bits_at c.args.decoder.now.source c.args.at.now) n
           c.requires.inside c.neighbours_in-neighbours.ensures regular c.in_err-line.ensures.none;
-      breaks = sample_malformed maxval c.args.width c.args.column c.args.above.now c.args.line.now c.args.decoder.now.state (bits_at c.args.decoder.now.ahead c.args.at.now) n _
+      breaks = sample_malformed maxval c.args.width c.args.column c.args.above.now c.args.line.now c.args.decoder.now.state (bits_at c.args.decoder.now.source c.args.at.now) n _
           c.requires.inside c.neighbours_in-neighbours.ensures regular c.requires.lines.line_small c.in_err-line.ensures.fault;
     })
 
@@ -39,9 +39,9 @@ returns-then-context-ne0-clause-on c =
     let there : get_or (set line (column + 1) x) (column + 1) 0 ≡ x = get_or-set_same line (column + 1) x 0 inside in
     let parameters = ap (λ (t : Coding). t.parameters) c.in_ok-line.ensures.state in
     record {
-      same = sample_read maxval c.args.width column x c.args.above.now line _ s _ (bits_at c.args.decoder.now.ahead c.args.at.now) _ n
+      same = sample_read maxval c.args.width column x c.args.above.now line _ s _ (bits_at c.args.decoder.now.source c.args.at.now) _ n
           c.requires.inside c.neighbours_in-neighbours.ensures regular c.in_ok-line.ensures.bits c.in_ok-line.ensures.state c.in_ok-line.ensures.only longer there;
-      later = sample_later maxval c.args.width column x c.args.above.now line _ s _ (bits_at c.args.decoder.now.ahead c.args.at.now) _ n
+      later = sample_later maxval c.args.width column x c.args.above.now line _ s _ (bits_at c.args.decoder.now.source c.args.at.now) _ n
           c.requires.inside c.neighbours_in-neighbours.ensures regular c.in_ok-line.ensures.bits c.in_ok-line.ensures.state longer there;
       lines = subst (λ (p : Parameters). ArePadded p.maxval c.args.width c.args.above.now (set line (column + 1) x)) (sym parameters) (record {
         above_length = c.requires.lines.above_length;
