@@ -1,6 +1,6 @@
 //! Lines of a plane as a coder keeps them: each with one place more on the left and on the right, so that every sample
 //! has its neighbours (T.87 A.2.1) in its own line and in the line above.
-ghost use Rattle.std.specs.Prelude.{◌≡◌, ◌+◌, ◌*◌, ◌<◌, ◌≤◌, ℕ, length, slice_index};
+ghost use Rattle.std.specs.Prelude.{◌≡◌, ◌+◌, ◌*◌, ◌<◌, ◌≤◌, ℕ, List, length, slice_index};
 ghost use Rattle.ls_frame.specs.View.Numbers.{numbers};
 ghost use Rattle.ls_stream.specs.View.LineBuffers.{neighbours_in};
 
@@ -13,8 +13,17 @@ pub fn neighbours_in(above: &[u16], line: &[u16], column: usize) -> Neighbours
     requires line { column < length line.now }
     ensures { result ≡ neighbours_in above.now line.now column }
 {
+    neighbours_of(line[column], above, column)
+}
+
+/// The same, by the sample to the left.
+#[inline(always)]
+pub fn neighbours_of(left: u16, above: &[u16], column: usize) -> Neighbours
+    requires { column + 2 < length above.now }
+    ensures { (line : List ℕ) → left ≡ slice_index line column → result ≡ neighbours_in above.now line column }
+{
     Neighbours {
-        a: line[column],
+        a: left,
         b: above[column + 1],
         c: above[column],
         d: above[column + 2],

@@ -6,13 +6,22 @@ ghost use Rattle.ls_stream.specs.View.LineBuffers.{neighbours_in, ArePadded};
 ghost use Rattle.ls_stream.specs.View.Decoding.{place, ReadsOn, ReadsNoFurther, AreRepeated, AreHalfContexts, half_context_in};
 
 use crate::decode::decoder::Decoder;
-use crate::lines::neighbours_in;
+use crate::lines::{neighbours_in, neighbours_of};
 use ls_bits::{BitPlace, CodeFault};
 use ls_coding::half_context;
 use ls_frame::Presets;
 
 /// For how many samples the line above is looked at ahead. Those after a long run would be looked at in vain.
 const BLOCK: usize = 64;
+
+/// How far a row is read: up to which column, the sample to the left of it, and the place of the next bit. These are in
+/// registers from sample to sample.
+#[derive(Clone, Copy)]
+struct Reached {
+    column: usize,
+    left: u16,
+    bits: BitPlace,
+}
 
 /// Reads a row into its line, whose first place is filled; `above` is the line above it, and `half_contexts` is a
 /// buffer for the half contexts that it gives.
@@ -84,53 +93,66 @@ fn decode_block(
         (place start line.old decoder.old.state decoder.old.bits) (place next line.new decoder.new.state decoder.new.bits)) }
     ensures stops { IfErr result (λ fault. ReadsNoFurther width above.now (place start line.old decoder.old.state decoder.old.bits) fault) }
 {
-    // Held here, and so in registers, from sample to sample.
-    let mut at = decoder.place();
-    let mut column = start;
-    'spans: while column < end {
-        let half = half_contexts[column];
-        column = decode_span(decoder, &mut at, half, above, line, width, column)?;
+    let mut reached = Reached {
+        column: start,
+        left: line[start],
+        bits: decoder.place(),
+    };
+    'spans: while reached.column < end {
+        let half = half_contexts[reached.column];
+        reached = decode_span(decoder, reached, half, above, line, width)?;
     }
-    decoder.go_to(at);
-    Ok(column)
+    decoder.go_to(reached.bits);
+    Ok(reached.column)
 }
 
-/// Reads the span that begins at a column, from a place on, goes to the place after it, and answers the column after it;
-/// `half` is the column's half context.
+/// Reads the span that begins where the row is read up to, and says how far it is read then; `half` is the column's half
+/// context. Where the decoder itself stands before and after says nothing.
 #[inline(always)]
 fn decode_span(
     decoder: &mut Decoder,
-    at: &mut BitPlace,
+    reached: Reached,
     half: i16,
     above: &[u16],
     line: &mut [u16],
     width: usize,
-    column: usize,
-) -> Result<usize, CodeFault>
-    requires at { IsAt decoder.old.source at.old }
-    requires half { half ≡ half_context_in decoder.old.state.parameters above.now column }
+) -> Result<Reached, CodeFault>
+    requires bits { IsAt decoder.old.source reached.bits }
+    requires left { reached.left ≡ slice_index line.old reached.column }
+    requires half { half ≡ half_context_in decoder.old.state.parameters above.now reached.column }
     requires lines { ArePadded decoder.old.state.parameters.maxval width above.now line.old }
-    requires inside { column < width }
+    requires inside { reached.column < width }
     requires narrow { width ≤ 65535 }
     requires uninterrupted { decoder.old.state.interrupted ≡ false }
-    ensures at { IfOk result (λ _. IsAt decoder.new.source at.new) }
-    ensures next { IfOk result (λ next. (column < next) × (next ≤ width)) }
+    ensures bits { IfOk result (λ next. IsAt decoder.new.source next.bits) }
+    ensures left { IfOk result (λ next. next.left ≡ slice_index line.new next.column) }
+    ensures next { IfOk result (λ next. (reached.column < next.column) × (next.column ≤ width)) }
     ensures on { IfOk result (λ next. ReadsOn width above.now
-        (place column line.old decoder.old.state (bits_at decoder.old.source at.old))
-        (place next line.new decoder.new.state (bits_at decoder.new.source at.new))) }
+        (place reached.column line.old decoder.old.state (bits_at decoder.old.source reached.bits))
+        (place next.column line.new decoder.new.state (bits_at decoder.new.source next.bits))) }
     ensures stops { IfErr result (λ fault. ReadsNoFurther width above.now
-        (place column line.old decoder.old.state (bits_at decoder.old.source at.old)) fault) }
+        (place reached.column line.old decoder.old.state (bits_at decoder.old.source reached.bits)) fault) }
 {
-    let neighbours = neighbours_in(above, line, column);
+    let column = reached.column;
+    let mut bits = reached.bits;
+    let neighbours = neighbours_of(reached.left, above, column);
     let context = decoder.context_of(half, &neighbours);
     if context != 0 {
-        line[column + 1] = decoder.decode_sample(at, context, &neighbours)?;
-        return Ok(column + 1);
+        let sample = decoder.decode_sample(&mut bits, context, &neighbours)?;
+        line[column + 1] = sample;
+        return Ok(Reached {
+            column: column + 1,
+            left: sample,
+            bits,
+        });
     }
-    decoder.go_to(*at);
+    decoder.go_to(bits);
     let next = decode_run_span(decoder, above, line, width, column)?;
-    *at = decoder.place();
-    Ok(next)
+    Ok(Reached {
+        column: next,
+        left: line[next],
+        bits: decoder.place(),
+    })
 }
 
 /// Reads a run that begins at a column, with the sample that interrupts it if there is one, and answers the column
