@@ -5,7 +5,7 @@ use crate::events::{Event, table};
 use crate::tell;
 use anyhow::{Result, bail};
 use ls_bits::laws::words_keep_their_limit;
-use ls_bits::{BitSink, BitSource, CodeFault, PlainBits, RoomSink, data_of};
+use ls_bits::{BitSink, BitSource, CodeFault, RoomSink, data_of};
 use std::alloc::{AllocError, Global};
 use std::rt::Clock;
 use std::time::{Duration, Instant};
@@ -118,8 +118,7 @@ fn put_into_room(events: &[Event], mut bytes: Vec<u8>) -> Result<Vec<u8>, AllocE
 fn comes_back(events: &[Event], bytes: &[u8]) -> Result<bool, CodeFault>
     requires { IsData bytes.now }
 {
-    let mut plain = PlainBits::new(bytes);
-    let mut source = BitSource::new(&mut plain);
+    let mut source = BitSource::new(bytes);
     for event in events {
         if source.take_golomb(u32::from(event.k), LIMIT, QBPP)? != u32::from(event.value) {
             return Ok(false);

@@ -1,5 +1,5 @@
 use crate::testing::{check_answer, check_bytes};
-use ls_bits::{BitSink, BitSource, CodeFault, PlainBits, data_of};
+use ls_bits::{BitSink, BitSource, CodeFault, data_of};
 use std::alloc::{AllocError, Global};
 
 /// The bytes of a code word: that of 17 for k 2 and values of 8 bits, in at most 31 bits.
@@ -11,8 +11,7 @@ fn write_word(alloc: Global) -> Result<Vec<u8>, AllocError> {
 
 /// The value of such a word at the front of bytes.
 fn read_word(bytes: &[u8]) -> Result<u32, CodeFault> {
-    let mut plain = PlainBits::new(&bytes[..data_of(bytes).len]);
-    let mut source = BitSource::new(&mut plain);
+    let mut source = BitSource::new(&bytes[..data_of(bytes).len]);
     source.take_golomb(2, 31, 8)
 }
 

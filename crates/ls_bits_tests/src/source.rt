@@ -1,5 +1,5 @@
-use crate::testing::{Code, WORDS, check_answer, check_few, check_left, plain_of};
-use ls_bits::{BitSource, CodeFault};
+use crate::testing::{Code, WORDS, check_answer, check_few, check_left, source_of};
+use ls_bits::CodeFault;
 use std::alloc::{AllocError, Global};
 
 #[test]
@@ -47,8 +47,7 @@ const SHORT: [Short; 7] = [
 #[test]
 fn a_short_word_leaves_what_follows_it(rt: HostRuntime) {
     for (k, glimit, qbpp, v, bytes, left) in SHORT {
-        let mut plain = plain_of(bytes);
-        let mut source = BitSource::new(&mut plain);
+        let mut source = source_of(bytes);
         check_answer(
             &rt,
             Code::new(&rt, k, glimit, qbpp).take(&mut source),
@@ -63,8 +62,7 @@ fn a_short_word_leaves_what_follows_it(rt: HostRuntime) {
 fn a_word_leaves_the_bits_after_it(rt: HostRuntime) {
     let code = Code::new(&rt, 2, 31, 8);
     let bytes = [0x0a];
-    let mut plain = plain_of(&bytes);
-    let mut source = BitSource::new(&mut plain);
+    let mut source = source_of(&bytes);
     check_answer(&rt, code.take(&mut source), Ok(17), &bytes);
     check_left(&rt, &source, 1);
     check_answer(
@@ -78,8 +76,7 @@ fn a_word_leaves_the_bits_after_it(rt: HostRuntime) {
 #[test]
 fn an_escape_word_leaves_the_bits_after_it(rt: HostRuntime) {
     let bytes = [0x40, 0x00];
-    let mut plain = plain_of(&bytes);
-    let mut source = BitSource::new(&mut plain);
+    let mut source = source_of(&bytes);
     check_answer(
         &rt,
         Code::new(&rt, 8, 32, 8).take(&mut source),
@@ -95,8 +92,7 @@ const READS: [(u32, u32, u64); 4] = [(0, 0, 15), (8, 255, 7), (1, 1, 6), (1, 0, 
 #[test]
 fn the_stuffed_bit_is_no_bit(rt: HostRuntime) {
     let bytes = [0xff, 0x40];
-    let mut plain = plain_of(&bytes);
-    let mut source = BitSource::new(&mut plain);
+    let mut source = source_of(&bytes);
     check_left(&rt, &source, 15);
     for (count, value, left) in READS {
         check_answer(&rt, source.bits(count), Ok(value), &bytes);
@@ -108,8 +104,7 @@ fn the_stuffed_bit_is_no_bit(rt: HostRuntime) {
 #[test]
 fn bits_are_taken_one_by_one(rt: HostRuntime) {
     let bytes = [0xff, 0x40];
-    let mut plain = plain_of(&bytes);
-    let mut source = BitSource::new(&mut plain);
+    let mut source = source_of(&bytes);
     check_answer(&rt, source.bits(8), Ok(255), &bytes);
     check_answer(&rt, source.bit(), Ok(1), &bytes);
     check_answer(&rt, source.bit(), Ok(0), &bytes);
@@ -118,8 +113,7 @@ fn bits_are_taken_one_by_one(rt: HostRuntime) {
 
 #[test]
 fn no_bytes_have_no_bit(rt: HostRuntime) {
-    let mut plain = plain_of(&[]);
-    let mut source = BitSource::new(&mut plain);
+    let mut source = source_of(&[]);
     check_left(&rt, &source, 0);
     check_answer(&rt, source.bits(0), Ok(0), &[]);
     check_answer(&rt, source.bit(), Err(CodeFault::OutOfBits), &[]);
@@ -149,8 +143,7 @@ fn bits_go_on_where_more_are_unstuffed(rt: HostRuntime) {
     let Ok(bytes) = pairs_of_ff(rt.alloc()) else {
         return;
     };
-    let mut plain = plain_of(&bytes);
-    let mut source = BitSource::new(&mut plain);
+    let mut source = source_of(&bytes);
     for _ in 0..3000 {
         check_answer(&rt, source.bits(15), Ok(32767), &[]);
     }

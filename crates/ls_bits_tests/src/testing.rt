@@ -4,7 +4,7 @@ ghost use Rattle.ls_bits.specs.Golomb.{IsGolomb};
 ghost use Rattle.ls_bits.specs.View.Room.{Fits};
 
 use ls_bits::laws::words_keep_their_limit;
-use ls_bits::{BitSink, BitSource, CodeFault, PlainBits, RoomSink, data_of};
+use ls_bits::{BitSink, BitSource, CodeFault, RoomSink, data_of};
 use std::alloc::{AllocError, Global};
 use std::process::Abort;
 
@@ -72,22 +72,25 @@ pub fn check_answer(
 }
 
 /// That so many bits are left.
-pub fn check_left(rt: &impl Abort, source: &BitSource<'_, '_>, want: u64) {
+pub fn check_left(rt: &impl Abort, source: &BitSource<'_>, want: u64) {
     assert_eq!(rt; source.left(), want);
 }
 
-/// That a word of few zeros is taken so at the front of bytes, after their first bits were un-stuffed.
+/// That a word of few zeros is found so at the front of bytes, after their first bits were un-stuffed, and that so many
+/// bits are left after it, or where none is found from the front on.
 pub fn check_few(rt: &impl Abort, k: u32, most: u32, bytes: &[u8], value: Option<u32>, left: u64) {
     assert!(rt; k <= 17);
     assert!(rt; most <= 24);
-    let mut plain = plain_of(bytes);
-    let mut source = BitSource::new(&mut plain);
+    let mut source = source_of(bytes);
     let none = source.bits(0);
-    assert_eq!(rt;
-        (none, source.take_few(k, most), source.left()),
-        (Ok(0), value, left),
-        "of {bytes:?}"
-    );
+    let found = match source.few_at(source.place(), k, most) {
+        Some((found, after)) => {
+            source.go_to(after);
+            Some(found)
+        }
+        None => None,
+    };
+    assert_eq!(rt; (none, found, source.left()), (Ok(0), value, left), "of {bytes:?}");
 }
 
 /// A code of words: k, glimit, qbpp.
@@ -109,20 +112,19 @@ impl Code {
     }
 
     /// The value of the word in front.
-    pub fn take(self, source: &mut BitSource<'_, '_>) -> Result<u32, CodeFault> {
+    pub fn take(self, source: &mut BitSource<'_>) -> Result<u32, CodeFault> {
         source.take_golomb(self.k, self.glimit, self.qbpp)
     }
 
     /// The value of the word at the front of bytes.
     pub fn take_first(self, bytes: &[u8]) -> Result<u32, CodeFault> {
-        let mut plain = plain_of(bytes);
-        self.take(&mut BitSource::new(&mut plain))
+        self.take(&mut source_of(bytes))
     }
 }
 
 /// The bits of the data at the front of bytes.
-pub fn plain_of<'a>(bytes: &'a [u8]) -> PlainBits<'a> {
-    PlainBits::new(&bytes[..data_of(bytes).len])
+pub fn source_of<'a>(bytes: &'a [u8]) -> BitSource<'a> {
+    BitSource::new(&bytes[..data_of(bytes).len])
 }
 
 /// Puts bits. If an allocation fails, the same call is made once more.
