@@ -138,10 +138,13 @@ pub fn misuse(alloc: Global, message: &str) -> Answer {
 
 /// The same, by `clap`'s errors.
 fn parse<'a>(alloc: Global, words: &'a [String]) -> Result<(Request<'a>, bool), Error> {
-    match command(alloc)?.try_get_matches_from(words) {
-        Ok(matches) => request_of_matches(alloc, &matches),
-        Err(error) => Err(error),
-    }
+    let matches = match_words(alloc, words)?;
+    request_of_matches(alloc, &matches)
+}
+
+/// The words as `clap` matches them.
+fn match_words<'a>(alloc: Global, words: &'a [String]) -> Result<ArgMatches<'a>, Error> {
+    command(alloc)?.try_get_matches_from(words)
 }
 
 /// The same, of the words as `clap` has matched them.
