@@ -136,18 +136,18 @@ pub fn misuse(alloc: Global, message: &str) -> Answer {
     answer_of(alloc, &usage_fault(alloc, message))
 }
 
-/// The same, by `clap`'s errors.
+/// What the words ask for; what is wrong with them is an error of `clap`.
 fn parse<'a>(alloc: Global, words: &'a [String]) -> Result<(Request<'a>, bool), Error> {
     let matches = match_words(alloc, words)?;
     request_of_matches(alloc, &matches)
 }
 
-/// The words as `clap` matches them.
+/// The words as `clap` matches them to its commands and options.
 fn match_words<'a>(alloc: Global, words: &'a [String]) -> Result<ArgMatches<'a>, Error> {
     command(alloc)?.try_get_matches_from(words)
 }
 
-/// The same, of the words as `clap` has matched them.
+/// What matched words ask for.
 fn request_of_matches<'a>(
     alloc: Global,
     matches: &ArgMatches<'a>,
@@ -291,7 +291,7 @@ fn replay_request<'a>(words: &ArgMatches<'a>) -> Option<Request<'a>> {
     })
 }
 
-/// A usage fault that `clap` doesn't find by itself; that memory was refused, if there is none for it.
+/// A usage fault that `clap` doesn't find by itself; an error of kind `OutOfMemory` if an allocation fails.
 fn usage_fault(alloc: Global, message: &str) -> Error {
     let made = match command(alloc) {
         Ok(mut program) => program.error(ErrorKind::InvalidValue, message),
