@@ -27,8 +27,8 @@ use clap::{ArgMatches, Error};
 use commands::command;
 pub use frames::Frames;
 use frames::read_frames;
-use std::alloc::{AllocError, Global};
-use texts::{BEGINNING, CHECKERS_WANTED, FRAMES_WANTED, PLAYERS_WANTED};
+use std::alloc::Global;
+use texts::{BEGINNING, CHECKERS_WANTED, COMMAND_WANTED, FRAMES_WANTED, PLAYERS_WANTED};
 
 /// What the words ask for.
 #[derive(Drop)]
@@ -133,21 +133,32 @@ fn beginning(alloc: Global) -> Answer {
 
 /// The answer to words that can't be read at all, for the reason `message`.
 pub fn misuse(alloc: Global, message: &str) -> Answer {
-    match usage_fault(alloc, message) {
-        Ok(error) => answer_of(alloc, &error),
-        Err(AllocError) => Answer::NoMemory,
-    }
+    answer_of(alloc, &usage_fault(alloc, message))
 }
 
-/// The same, by `clap`'s errors.
+/// What the words ask for; what is wrong with them is an error of `clap`.
 fn parse<'a>(alloc: Global, words: &'a [String]) -> Result<(Request<'a>, bool), Error> {
-    let matches = command(alloc)?.try_get_matches_from(words)?;
-    if let Some((name, words)) = matches.subcommand() {
-        if let Some(request) = request_of(alloc, name, words)? {
-            return Ok((request, words.get_flag("reasons")));
-        }
+    let matches = match_words(alloc, words)?;
+    request_of_matches(alloc, &matches)
+}
+
+/// The words as `clap` matches them to its commands and options.
+fn match_words<'a>(alloc: Global, words: &'a [String]) -> Result<ArgMatches<'a>, Error> {
+    command(alloc)?.try_get_matches_from(words)
+}
+
+/// What matched words ask for.
+fn request_of_matches<'a>(
+    alloc: Global,
+    matches: &ArgMatches<'a>,
+) -> Result<(Request<'a>, bool), Error> {
+    let Some((name, words)) = matches.subcommand() else {
+        return Err(usage_fault(alloc, COMMAND_WANTED));
+    };
+    match request_of(alloc, name, words)? {
+        Some(request) => Ok((request, words.get_flag("reasons"))),
+        None => Err(usage_fault(alloc, COMMAND_WANTED)),
     }
-    Err(usage_fault(alloc, "a command is wanted")?)
 }
 
 /// What is answered where `clap` has an error.
@@ -175,7 +186,7 @@ fn request_of<'a>(
         "index" => Ok(index_request(words)),
         "check" => check_request(alloc, words),
         "verify" => Ok(verify_request(words)),
-        "record" => Ok(record_request(alloc, words)?),
+        "record" => record_request(alloc, words),
         "replay" => Ok(replay_request(words)),
         _ => Ok(None),
     }
@@ -194,17 +205,17 @@ fn play_request<'a>(alloc: Global, words: &ArgMatches<'a>) -> Result<Option<Requ
     let salvage = words.get_flag("salvage");
     let frames = match words.get_str("frames") {
         Some(_) if salvage => {
-            return Err(usage_fault(alloc, "--frames and --salvage don't go together")?);
+            return Err(usage_fault(alloc, "--frames and --salvage don't go together"));
         }
         Some(text) => match read_frames(text) {
             Some(frames) => Some(frames),
-            None => return Err(usage_fault(alloc, FRAMES_WANTED)?),
+            None => return Err(usage_fault(alloc, FRAMES_WANTED)),
         },
         None => None,
     };
     let workers = words.get_one("workers").unwrap_or(1);
     if workers > 1 && (frames.is_some() || salvage) {
-        return Err(usage_fault(alloc, PLAYERS_WANTED)?);
+        return Err(usage_fault(alloc, PLAYERS_WANTED));
     }
     Ok(
         words.get_str("FILE").map(|file| Request::Play {
@@ -229,7 +240,7 @@ fn check_request<'a>(alloc: Global, words: &ArgMatches<'a>) -> Result<Option<Req
     let index = words.get_str("index");
     let workers = words.get_one("workers").unwrap_or(1);
     if workers > 1 && index.is_none() {
-        return Err(usage_fault(alloc, CHECKERS_WANTED)?);
+        return Err(usage_fault(alloc, CHECKERS_WANTED));
     }
     Ok(
         words.get_str("FILE").map(|file| Request::Check {
@@ -250,10 +261,7 @@ fn verify_request<'a>(words: &ArgMatches<'a>) -> Option<Request<'a>> {
 }
 
 /// What the words of `record` ask for, which `clap` has looked at.
-fn record_request<'a>(
-    alloc: Global,
-    words: &ArgMatches<'a>,
-) -> Result<Option<Request<'a>>, AllocError> {
+fn record_request<'a>(alloc: Global, words: &ArgMatches<'a>) -> Result<Option<Request<'a>>, Error> {
     let files = words.get_strs("FILE").unwrap_or(&[]).to_vec(alloc)?;
     Ok(recording_of(words, files))
 }
@@ -283,7 +291,14 @@ fn replay_request<'a>(words: &ArgMatches<'a>) -> Option<Request<'a>> {
     })
 }
 
-/// A usage fault that `clap` doesn't find by itself.
-fn usage_fault(alloc: Global, message: &str) -> Result<Error, AllocError> {
-    command(alloc)?.error(ErrorKind::InvalidValue, message)
+/// A usage fault that `clap` doesn't find by itself; an error of kind `OutOfMemory` if an allocation fails.
+fn usage_fault(alloc: Global, message: &str) -> Error {
+    let made = match command(alloc) {
+        Ok(mut program) => program.error(ErrorKind::InvalidValue, message),
+        Err(refused) => Err(refused),
+    };
+    match made {
+        Ok(error) => error,
+        Err(refused) => Error::from(refused),
+    }
 }

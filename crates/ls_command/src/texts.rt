@@ -13,6 +13,8 @@ A film is binary Netpbm images (PGM or PPM, 1 to 16 bits a sample), one after th
 All commands: jlsrec --help. The options of one: jlsrec record --help.
 ";
 
+pub const COMMAND_WANTED: &str = "a command is wanted";
+
 pub const LIST_HELP: &str = "\
 Writes a line for each frame of FILE, a film, to standard output. (Of a recording `index` does that.)
 

@@ -61,8 +61,8 @@ pub fn replay(
     if let Some(fault) = replay_fault(sources, capacity, steps) {
         return Err(fault);
     }
-    let queue = Core::new(alloc, sources, capacity)?;
-    let replies = replies_of(alloc, queue, steps)?;
+    let mut queue = Core::new(alloc, sources, capacity)?;
+    let replies = replies_of(alloc, &mut queue, steps)?;
     Ok(replies)
 }
 
@@ -85,13 +85,17 @@ fn first_unknown(sources: u8, steps: &[Step]) -> Option<usize>
 }
 
 /// The replies of this queue to these steps, which name sources that it has.
-fn replies_of(alloc: Global, mut queue: Core<u64>, steps: &[Step]) -> Result<Vec<Reply>, AllocError>
-    requires known { All (λ step. IsTrue (is_known (length queue.counts) step)) steps.now }
-    ensures { IfOk result (λ replies. replies.items ≡ replies_of queue steps.now) }
+fn replies_of(
+    alloc: Global,
+    queue: &mut Core<u64>,
+    steps: &[Step],
+) -> Result<Vec<Reply>, AllocError>
+    requires known { All (λ step. IsTrue (is_known (length queue.old.counts) step)) steps.now }
+    ensures { IfOk result (λ replies. replies.items ≡ replies_of queue.old steps.now) }
 {
     let mut replies = Vec::with_capacity(alloc, steps.len())?;
     for step in steps {
-        let reply = reply_of(&mut queue, *step);
+        let reply = reply_of(queue, *step);
         replies.push(reply)?;
     }
     Ok(replies)
