@@ -16,7 +16,7 @@ fn buffered<R: Read + Drop>(rt: &impl Abort, alloc: Global, inner: R) -> Buffere
 type Step = (usize, Result<usize, Failed>, &'static [u8], u64);
 
 /// Of five bytes three are taken at once; the second chunk fails twice, and the third time gives the others.
-const STEPS: [Step; 9] = [
+const STEPS: &[Step] = &[
     (1, Ok(1), b"a", 0),
     (0, Ok(0), b"", 0),
     (2, Ok(2), b"bc", 0),
@@ -39,31 +39,34 @@ fn check_feed(rt: &impl Abort, reader: &mut impl Feed, at: usize, step: &Step) {
     let (room, want, bytes, failures) = *step;
     let mut buf = [0u8; 4];
     let got = reader.feed(buf.get_mut(..room).unwrap_or(&mut []));
-    let got = (got, reader.failures());
-    check(rt, "a feed, and failures", at, &got, &(want, failures));
-    let got = buf.get(..bytes.len()).unwrap_or(&[]);
-    check_items(rt, "its bytes", at, got, bytes);
+    let got = (
+        got,
+        buf.get(..bytes.len()).unwrap_or(&[]),
+        reader.failures(),
+    );
+    let want = (want, bytes, failures);
+    check(rt, "a feed, its bytes, and failures", at, &got, &want);
 }
 
 #[test]
 fn bytes_go_out_before_a_failure_shows_with_ample_memory(rt: HostRuntime) {
     let chunks = Chunks::new(b"abcde", 3, &[1, 2]);
     let mut reader = Counted::new(buffered(&rt, rt.alloc(), chunks));
-    check_feeds(&rt, &mut reader, &STEPS);
+    check_feeds(&rt, &mut reader, STEPS);
 }
 
 #[test]
 fn failures_below_are_counted_with_ample_memory(rt: HostRuntime) {
     let counted = Counted::new(Chunks::new(b"abcde", 3, &[1, 2]));
     let mut reader = buffered(&rt, rt.alloc(), counted);
-    check_feeds(&rt, &mut reader, &STEPS);
+    check_feeds(&rt, &mut reader, STEPS);
     let last = reader.get_ref().last_failure();
     check(&rt, "the last failure", 0, &last, &Some(BROKEN));
 }
 
 /// Of five bytes three are taken at once; the second chunk fails twice, and the third time gives the others. A mark
 /// stands in a chunk, in none, and at the end of one.
-const TAKES: [Take<'static>; 8] = [
+const TAKES: &[Take<'static>] = &[
     (b'x', 1, Ok(Some(b'a')), b"a", 0),
     (b'b', 9, Ok(Some(b'b')), b"ab", 0),
     (b'd', 9, Ok(Some(b'c')), b"abc", 0),
@@ -75,7 +78,7 @@ const TAKES: [Take<'static>; 8] = [
 ];
 
 /// Of six bytes three are taken at once. A mark stands at the front of a chunk, and in neither part of one.
-const MARKED: [Take<'static>; 6] = [
+const MARKED: &[Take<'static>] = &[
     (b'd', 2, Ok(Some(b'b')), b"ab", 0),
     (b'd', 9, Ok(Some(b'c')), b"abc", 0),
     (b'd', 9, Ok(Some(b'd')), b"abcd", 0),
@@ -84,20 +87,23 @@ const MARKED: [Take<'static>; 6] = [
     (b'd', 2, Ok(None), b"abcdef", 0),
 ];
 
-#[test]
-fn bytes_are_taken_up_to_a_mark_or_memory_is_refused(rt: HostRuntime) {
+/// That these are taken, up to a call for which memory is refused; whether none was.
+fn are_taken(rt: &impl Abort, alloc: Global) -> bool {
     let counted = Counted::new(Chunks::new(b"abcde", 3, &[1, 2]));
-    if let Ok(mut reader) = Buffered::new(rt.alloc(), counted) {
-        check_takes(&rt, rt.alloc(), &mut reader, &TAKES);
+    match Buffered::new(alloc, counted) {
+        Ok(mut reader) => check_takes(rt, alloc, &mut reader, TAKES),
+        Err(_) => false,
     }
 }
 
 #[test]
+fn bytes_are_taken_up_to_a_mark_or_memory_is_refused(rt: HostRuntime) {
+    are_taken(&rt, rt.alloc());
+}
+
+#[test]
 fn bytes_are_taken_up_to_a_mark_with_ample_memory(rt: HostRuntime) {
-    let counted = Counted::new(Chunks::new(b"abcde", 3, &[1, 2]));
-    let mut reader = buffered(&rt, rt.alloc(), counted);
-    let all = check_takes(&rt, rt.alloc(), &mut reader, &TAKES);
-    check_so(&rt, "memory", 0, all);
+    check_so(&rt, "memory", 0, are_taken(&rt, rt.alloc()));
 }
 
 /// The same of a reader that is lent.
@@ -105,7 +111,7 @@ fn bytes_are_taken_up_to_a_mark_with_ample_memory(rt: HostRuntime) {
 fn a_lent_reader_takes_as_much_with_ample_memory(rt: HostRuntime) {
     let counted = Counted::new(Chunks::new(b"abcdef", 3, &[]));
     let mut reader = buffered(&rt, rt.alloc(), counted);
-    let all = check_takes(&rt, rt.alloc(), &mut &mut reader, &MARKED);
+    let all = check_takes(&rt, rt.alloc(), &mut &mut reader, MARKED);
     check_so(&rt, "memory", 1, all);
 }
 
@@ -118,23 +124,27 @@ fn numbered() -> [u8; 3 * CHUNK] {
     bytes
 }
 
-/// That a call with room for so many gives the first of these bytes; how many.
-fn check_read(rt: &impl Abort, reader: &mut impl Read, rest: &[u8], room: usize) -> usize {
+/// That a call with room for so many gives the first of these bytes; those after them.
+fn check_read<'a>(
+    rt: &impl Abort,
+    reader: &mut impl Read,
+    bytes: &'a [u8],
+    room: usize,
+) -> &'a [u8] {
     let mut buf = [0u8; 1000];
     let Ok(count) = reader.read(buf.get_mut(..room).unwrap_or(&mut [])) else {
         panic!(rt; "a read failed");
     };
-    let want = rest.get(..count).unwrap_or(&[]);
+    let (want, rest) = bytes.split_at(count.min(bytes.len()));
     check_items(rt, "bytes", room, buf.get(..count).unwrap_or(&[]), want);
-    count
+    rest
 }
 
 /// That a reader gives all of these bytes and no more, by calls with room for so many.
 fn check_all(rt: &impl Abort, reader: &mut impl Read, bytes: &[u8], room: usize) {
     let mut rest = bytes;
     for _ in 0..bytes.len() {
-        let count = check_read(rt, reader, rest, room);
-        rest = rest.get(count..).unwrap_or(&[]);
+        rest = check_read(rt, reader, rest, room);
     }
     check(rt, "bytes left", room, &rest.len(), &0);
 }
@@ -183,77 +193,76 @@ fn check_marks(rt: &impl Abort, alloc: Global, want: &[u8], limit: u8, calls: us
     check_items(rt, "bytes", want.len(), &bytes, want);
 }
 
+/// That reads with this room give these bytes.
+fn check_reads(rt: &impl Abort, reader: &mut impl Read, reads: &[(usize, &[u8])]) {
+    let mut buf = [0u8; CHUNK];
+    for (at, (room, bytes)) in reads.iter().enumerate() {
+        let count = reader.read(buf.get_mut(..*room).unwrap_or(&mut [])).ok();
+        let got = (count, buf.get(..bytes.len()).unwrap_or(&[]));
+        check(rt, "a read", at, &got, &(Some(bytes.len()), *bytes));
+    }
+}
+
+/// That these reads give their bytes; and how many bytes were taken from the chunks then, and the farthest that there
+/// was room for.
+fn check_asked(
+    rt: &impl Abort,
+    alloc: Global,
+    chunks: Chunks<'_>,
+    reads: &[(usize, &[u8])],
+    asked: (usize, usize),
+) {
+    let mut chunks = chunks;
+    check_reads(rt, &mut buffered(rt, alloc, &mut chunks), reads);
+    let got = (chunks.given, chunks.furthest);
+    check(rt, "bytes taken, and room", reads.len(), &got, &asked);
+}
+
+const BYTE_BY_BYTE: [(usize, &[u8]); 5] = [(1, b"a"), (1, b"b"), (1, b"c"), (1, b"d"), (1, b"e")];
+
 /// A chunk is asked for whole, and none before its bytes are wanted.
 #[test]
 fn chunks_are_asked_for_when_they_are_wanted_with_ample_memory(rt: HostRuntime) {
-    // By the number of reads: the bytes taken then, and the farthest that there was room for.
-    let taken = [
-        (0, 0),
-        (4, CHUNK),
-        (4, CHUNK),
-        (4, CHUNK),
-        (4, CHUNK),
-        (5, CHUNK + 4),
-    ];
-    for (reads, (given, furthest)) in taken.iter().enumerate() {
-        let mut chunks = Chunks::new(b"abcde", 4, &[]);
-        check_bytes(&rt, &mut buffered(&rt, rt.alloc(), &mut chunks), reads);
-        let got = (chunks.given, chunks.furthest);
-        check(
-            &rt,
-            "bytes taken, and room",
-            reads,
-            &got,
-            &(*given, *furthest),
-        );
+    // By the number of reads.
+    for (reads, asked) in [
+        (0, (0, 0)),
+        (1, (4, CHUNK)),
+        (2, (4, CHUNK)),
+        (3, (4, CHUNK)),
+        (4, (4, CHUNK)),
+        (5, (5, CHUNK + 4)),
+    ] {
+        let chunks = Chunks::new(b"abcde", 4, &[]);
+        check_asked(&rt, rt.alloc(), chunks, &BYTE_BY_BYTE[..reads], asked);
     }
 }
 
-/// That so many reads of a byte give one each.
-fn check_bytes(rt: &impl Abort, reader: &mut impl Read, reads: usize) {
-    let mut buf = [0u8; 1];
-    for at in 0..reads {
-        check(rt, "a read", at, &reader.read(&mut buf).ok(), &Some(1));
-    }
-}
-
-/// Reads with room for a whole chunk, after that of a byte: how many bytes each gives, and which.
-const READS: [(usize, &[u8]); 4] = [(2, b"bc"), (3, b"def"), (1, b"g"), (0, b"")];
-
-/// That a reader gives a byte, and then this by reads with room for a whole chunk.
-fn check_reads(rt: &impl Abort, reader: &mut impl Read, reads: &[(usize, &[u8])]) {
-    let mut room = [0u8; CHUNK];
-    check_bytes(rt, reader, 1);
-    for (at, (count, bytes)) in reads.iter().enumerate() {
-        check(
-            rt,
-            "a read",
-            at,
-            &reader.read(&mut room).ok(),
-            &Some(*count),
-        );
-        check_items(rt, "bytes", at, room.get(..*count).unwrap_or(&[]), bytes);
-    }
-}
+/// Reads with room for a whole chunk, after that of a byte.
+const BY_CHUNKS: [(usize, &[u8]); 5] = [
+    (1, b"a"),
+    (CHUNK, b"bc"),
+    (CHUNK, b"def"),
+    (CHUNK, b"g"),
+    (CHUNK, b""),
+];
 
 /// Room for a whole chunk is handed on, once the chunk before was handed out.
 #[test]
 fn room_for_a_chunk_is_handed_on_with_ample_memory(rt: HostRuntime) {
-    // By the number of these reads that are done: the bytes handed out then, with the one before, which are all that
-    // were taken.
-    for (done, handed_out) in [(1, 3), (2, 6), (3, 7), (4, 7)] {
-        let mut chunks = Chunks::new(b"abcdefg", 3, &[]);
-        check_reads(
-            &rt,
-            &mut buffered(&rt, rt.alloc(), &mut chunks),
-            &READS[..done],
-        );
-        check(&rt, "bytes taken", done, &chunks.given, &handed_out);
+    // By the number of reads; the bytes taken are those handed out.
+    for (reads, asked) in [
+        (2, (3, CHUNK)),
+        (3, (6, CHUNK + 3)),
+        (4, (7, CHUNK + 6)),
+        (5, (7, CHUNK + 7)),
+    ] {
+        let chunks = Chunks::new(b"abcdefg", 3, &[]);
+        check_asked(&rt, rt.alloc(), chunks, &BY_CHUNKS[..reads], asked);
     }
 }
 
 /// How many of the six bytes `abcdef` are taken, what is put back then, and what is left after that.
-const PUT_BACK: [(usize, &[u8], &[u8]); 6] = [
+const PUT_BACK: &[(usize, &[u8], &[u8])] = &[
     (0, b"", b"abcdef"),
     (0, b"xy", b"xyabcdef"),
     (2, b"ab", b"abcdef"),
@@ -264,18 +273,28 @@ const PUT_BACK: [(usize, &[u8], &[u8]); 6] = [
 
 /// That this is left after bytes were taken and others put back.
 fn check_put_back(rt: &impl Abort, alloc: Global, case: &(usize, &[u8], &[u8])) {
-    let (taken, back, want) = *case;
     let mut reader = buffered(rt, alloc, Chunks::new(b"abcdef", 4, &[]));
-    for at in 0..taken {
-        check_read(rt, &mut reader, b"abcdef".get(at..).unwrap_or(&[]), 1);
+    check_left(rt, alloc, &mut reader, case);
+}
+
+fn check_left(
+    rt: &impl Abort,
+    alloc: Global,
+    reader: &mut Buffered<Chunks<'_>>,
+    case: &(usize, &[u8], &[u8]),
+) {
+    let (taken, back, want) = *case;
+    let mut rest = b"abcdef".as_slice();
+    for _ in 0..taken {
+        rest = check_read(rt, reader, rest, 1);
     }
     check_so(rt, "memory", taken, reader.put_back(alloc, back).is_ok());
-    check_all(rt, &mut reader, want, 4);
+    check_all(rt, reader, want, 4);
 }
 
 #[test]
 fn bytes_are_put_back_with_ample_memory(rt: HostRuntime) {
-    for case in &PUT_BACK {
+    for case in PUT_BACK {
         check_put_back(&rt, rt.alloc(), case);
     }
 }

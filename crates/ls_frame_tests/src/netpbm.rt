@@ -4,8 +4,6 @@ mod long;
 use crate::testing::{Chunks, Parts, check, check_items, check_so};
 use ls_frame::{Counted, Feed, Frame, Kind, NetpbmFault, first_frame, next_frame};
 use std::alloc::{AllocError, Global};
-use std::io;
-use std::io::Read;
 use std::process::Abort;
 
 /// If memory may be refused, running out of it is an answer too.
@@ -15,32 +13,70 @@ enum Memory {
     Refusable,
 }
 
+/// An image that was read, the end of the input, or a fault.
+type Image = Result<Option<Frame>, NetpbmFault>;
+
+/// What is read of bytes in memory, and the bytes after it.
+fn read_whole(alloc: Global, bytes: &[u8]) -> (Image, &[u8]) {
+    let mut rest = bytes;
+    let image = next_frame(alloc, &mut rest);
+    (image, rest)
+}
+
+/// What is read from chunks, and how many reads failed.
+#[derive(Drop)]
+struct Reading<'a> {
+    image: Image,
+    failures: u64,
+    chunks: Chunks<'a>,
+}
+
+fn read_chunks(alloc: Global, chunks: Chunks<'_>) -> Reading<'_> {
+    let mut reader = Counted::new(chunks);
+    let image = next_frame(alloc, &mut reader);
+    Reading {
+        image,
+        failures: Feed::failures(&reader),
+        chunks: reader.into_inner(),
+    }
+}
+
+/// The fault of reading from chunks, and how many reads failed.
+fn fault_of(alloc: Global, chunks: Chunks<'_>) -> (Option<NetpbmFault>, u64) {
+    let reading = read_chunks(alloc, chunks);
+    (reading.image.err(), reading.failures)
+}
+
 /// The parts of what was read.
-fn seen(got: &Result<Option<Frame>, NetpbmFault>) -> Result<Option<Parts<'_>>, NetpbmFault> {
-    match got {
+fn seen(image: &Image) -> Result<Option<Parts<'_>>, NetpbmFault> {
+    match image {
         Ok(None) => Ok(None),
         Ok(Some(f)) => Ok(Some((f.kind(), f.width(), f.height(), f.maxval(), f.samples()))),
         Err(fault) => Err(*fault),
     }
 }
 
+/// Whether memory was refused where it may be.
+fn lacks_memory(memory: Memory, image: &Image) -> bool {
+    memory == Memory::Refusable && *image == Err(NetpbmFault::NoMemory)
+}
+
 /// That the wanted image or fault was read. Says whether memory was refused instead.
 fn is_refused(
     rt: &impl Abort,
     memory: Memory,
-    got: &Result<Option<Frame>, NetpbmFault>,
+    image: &Image,
     want: Result<Parts<'_>, NetpbmFault>,
     case: &str,
 ) -> bool {
-    let got = seen(got);
-    if memory == Memory::Refusable && got == Err(NetpbmFault::NoMemory) {
+    if lacks_memory(memory, image) {
         return true;
     }
-    check(rt, case, 0, &got, &want.map(Some));
+    check(rt, case, 0, &seen(image), &want.map(Some));
     false
 }
 
-const BAD_HEADERS: [(&str, &[u8], NetpbmFault); 15] = [
+const BAD_HEADERS: &[(&str, &[u8], NetpbmFault)] = &[
     ("another letter", b"X", NetpbmFault::BadMagic),
     ("another digit", b"P4 1 1\n", NetpbmFault::BadMagic),
     ("a lone letter", b"P", NetpbmFault::Truncated),
@@ -98,46 +134,41 @@ const BAD_HEADERS: [(&str, &[u8], NetpbmFault); 15] = [
     ),
 ];
 
-/// That a header has this fault, at once and byte by byte.
-fn check_bad_header(rt: &impl Abort, alloc: Global, case: &str, bytes: &[u8], want: NetpbmFault) {
-    let mut rest = bytes;
-    let got = next_frame(alloc, &mut rest).err();
-    check(rt, case, 0, &got, &Some(want));
-    let mut reader = Counted::new(Chunks::new(bytes, 1, &[]));
-    let got = next_frame(alloc, &mut reader).err();
-    let failures = Feed::failures(&reader);
-    check(rt, case, 1, &(got, failures), &(Some(want), 0));
+/// That a header has its fault, at once and byte by byte.
+fn check_bad_header(rt: &impl Abort, alloc: Global, header: &(&str, &[u8], NetpbmFault)) {
+    let (case, bytes, want) = *header;
+    let (image, _) = read_whole(alloc, bytes);
+    check(rt, case, 0, &image.err(), &Some(want));
+    let got = fault_of(alloc, Chunks::new(bytes, 1, &[]));
+    check(rt, case, 1, &got, &(Some(want), 0));
 }
 
 #[test]
 fn bad_headers_are_named_without_memory(rt: HostRuntime) {
-    for (case, bytes, want) in &BAD_HEADERS {
-        check_bad_header(&rt, rt.alloc(), case, bytes, *want);
+    for header in BAD_HEADERS {
+        check_bad_header(&rt, rt.alloc(), header);
     }
 }
 
 /// That the input was at its end.
-fn check_end(rt: &impl Abort, got: &Result<Option<Frame>, NetpbmFault>) {
-    check(rt, "the end", 0, &seen(got), &Ok(None));
+fn check_end(rt: &impl Abort, image: &Image) {
+    check(rt, "the end", 0, &seen(image), &Ok(None));
 }
 
 #[test]
 fn no_bytes_are_no_image(rt: HostRuntime) {
-    let mut rest = b"".as_slice();
-    check_end(&rt, &next_frame(rt.alloc(), &mut rest));
-    let mut reader = Counted::new(Chunks::new(b"", 1, &[]));
-    check_end(&rt, &next_frame(rt.alloc(), &mut reader));
-    check(&rt, "failures", 0, &Feed::failures(&reader), &0);
-    check(
-        &rt,
-        "the farthest byte",
-        0,
-        &reader.into_inner().furthest,
-        &1,
-    );
+    let (image, _) = read_whole(rt.alloc(), b"");
+    check_end(&rt, &image);
+    let reading = read_chunks(rt.alloc(), Chunks::new(b"", 1, &[]));
+    check_end(&rt, &reading.image);
+    check(&rt, "failures", 0, &reading.failures, &0);
+    check(&rt, "the farthest byte", 0, &reading.chunks.furthest, &1);
 }
 
-const IMAGES: [(&str, &[u8], Result<Parts<'static>, NetpbmFault>); 20] = [
+/// What bytes are, the bytes, and what is read of them.
+type Case<'a> = (&'a str, &'a [u8], Result<Parts<'a>, NetpbmFault>);
+
+const IMAGES: &[Case<'static>] = &[
     (
         "a comment in the gap",
         b"P5 #c\n1 1\n255\n\x00",
@@ -246,22 +277,31 @@ const IMAGES: [(&str, &[u8], Result<Parts<'static>, NetpbmFault>); 20] = [
 
 /// That each image is read as it is, whole and in chunks.
 fn check_images(rt: &impl Abort, alloc: Global, memory: Memory) {
-    for (case, bytes, want) in IMAGES {
-        let mut rest = bytes;
-        let got = next_frame(alloc, &mut rest);
-        if !is_refused(rt, memory, &got, want, case) && want.is_ok() {
-            check_so(rt, case, 0, rest.is_empty());
-        }
+    for case in IMAGES {
+        check_whole(rt, alloc, memory, case);
         for most in [1, 2, 3, 7] {
-            let mut reader = Counted::new(Chunks::new(bytes, most, &[]));
-            let got = next_frame(alloc, &mut reader);
-            let is_refused = is_refused(rt, memory, &got, want, case);
-            check(rt, case, most, &Feed::failures(&reader), &0);
-            if !is_refused && want.is_ok() {
-                let furthest = reader.into_inner().furthest;
-                check(rt, case, most, &furthest, &bytes.len());
-            }
+            check_in_chunks(rt, alloc, memory, case, most);
         }
+    }
+}
+
+/// That an image is read of bytes in memory, all of them.
+fn check_whole(rt: &impl Abort, alloc: Global, memory: Memory, case: &Case<'_>) {
+    let (name, bytes, want) = *case;
+    let (image, rest) = read_whole(alloc, bytes);
+    if !is_refused(rt, memory, &image, want, name) && want.is_ok() {
+        check_so(rt, name, 0, rest.is_empty());
+    }
+}
+
+/// That an image is read from chunks of at most so many bytes, and no byte after it asked for.
+fn check_in_chunks(rt: &impl Abort, alloc: Global, memory: Memory, case: &Case<'_>, most: usize) {
+    let (name, bytes, want) = *case;
+    let reading = read_chunks(alloc, Chunks::new(bytes, most, &[]));
+    let furthest = reading.chunks.furthest;
+    check(rt, name, most, &reading.failures, &0);
+    if !is_refused(rt, memory, &reading.image, want, name) && want.is_ok() {
+        check(rt, name, most, &furthest, &bytes.len());
     }
 }
 
@@ -279,18 +319,29 @@ fn images_are_read_as_they_are_or_memory_is_refused(rt: HostRuntime) {
 fn each_beginning_of_an_image_is_truncated(rt: HostRuntime) {
     let image = b"P5 2 1 255\n\x00\x01";
     for end in 1..image.len() {
-        let bytes = &image[..end];
-        let mut rest = bytes;
-        let got = next_frame(rt.alloc(), &mut rest).err();
-        // Memory is asked for after the header.
-        if end < 11 || got != Some(NetpbmFault::NoMemory) {
-            check(&rt, "an end", end, &got, &Some(NetpbmFault::Truncated));
-        }
+        check_beginning(&rt, rt.alloc(), &image[..end]);
     }
 }
 
-/// A header of so many blanks after the magic, and then these bytes.
-const LONG_HEADERS: [(&str, u64, &[u8], Result<Parts<'static>, NetpbmFault>); 4] = [
+fn check_beginning(rt: &impl Abort, alloc: Global, bytes: &[u8]) {
+    let (image, _) = read_whole(alloc, bytes);
+    let got = image.err();
+    // Memory is asked for after the header.
+    if bytes.len() < 11 || got != Some(NetpbmFault::NoMemory) {
+        check(
+            rt,
+            "an end",
+            bytes.len(),
+            &got,
+            &Some(NetpbmFault::Truncated),
+        );
+    }
+}
+
+/// A header of so many blanks after the magic, and then some bytes.
+type LongHeader<'a> = (&'a str, usize, &'a [u8], Result<Parts<'a>, NetpbmFault>);
+
+const LONG_HEADERS: &[LongHeader<'static>] = &[
     (
         "65535 bytes and then the end",
         65533,
@@ -317,29 +368,29 @@ const LONG_HEADERS: [(&str, u64, &[u8], Result<Parts<'static>, NetpbmFault>); 4]
     ),
 ];
 
-/// That a header of so many blanks, and then these bytes, is read so.
-fn check_long_header(
-    rt: &impl Abort,
-    alloc: Global,
-    case: &str,
-    blanks: u64,
-    tail: &[u8],
-    want: Result<Parts<'_>, NetpbmFault>,
-) {
-    let front = b"P5".as_slice().chain(io::repeat(b' ').take(blanks));
-    let mut reader = Counted::new(front.chain(tail));
+fn check_long_header(rt: &impl Abort, alloc: Global, header: &LongHeader<'_>) {
+    let (case, blanks, tail, want) = *header;
+    let mut bytes = [b' '; 65_538];
+    bytes[..2].copy_from_slice(b"P5");
+    let start = blanks.saturating_add(2);
+    let end = start.saturating_add(tail.len());
+    let Some(place) = bytes.get_mut(start..end) else {
+        panic!(rt; "no room for {case}");
+    };
+    place.copy_from_slice(tail);
+    let reading = read_chunks(alloc, Chunks::new(&bytes[..end], end, &[]));
     // A bad header takes no memory.
     let memory = match want {
         Ok(_) => Memory::Refusable,
         Err(_) => Memory::Ample,
     };
-    is_refused(rt, memory, &next_frame(alloc, &mut reader), want, case);
+    is_refused(rt, memory, &reading.image, want, case);
 }
 
 #[test]
 fn a_header_has_65536_bytes_at_most(rt: HostRuntime) {
-    for (case, blanks, tail, want) in &LONG_HEADERS {
-        check_long_header(&rt, rt.alloc(), case, *blanks, tail, *want);
+    for header in LONG_HEADERS {
+        check_long_header(&rt, rt.alloc(), header);
     }
 }
 
@@ -350,38 +401,46 @@ const SECOND: Parts<'static> = (Kind::Color, 1, 1, 255, &[1, 2, 3]);
 
 const BOTH: &[u8] = b"P5 3 1 255\n\x07\x08\x09P6 1 1 255\n\x01\x02\x03";
 
+/// The bytes of the second alone.
+const LAST: &[u8] = b"P6 1 1 255\n\x01\x02\x03";
+
+/// That this is read of bytes in memory and these are left, or memory is refused.
+fn check_taken(rt: &impl Abort, alloc: Global, bytes: &[u8], want: Option<Parts<'_>>, left: &[u8]) {
+    let (image, rest) = read_whole(alloc, bytes);
+    if !lacks_memory(Memory::Refusable, &image) {
+        check(rt, "an image", bytes.len(), &seen(&image), &Ok(want));
+        check_items(rt, "the rest", bytes.len(), rest, left);
+    }
+}
+
 #[test]
 fn not_a_byte_after_an_image_is_taken(rt: HostRuntime) {
-    let mut rest = BOTH;
-    let got = next_frame(rt.alloc(), &mut rest);
-    if is_refused(&rt, Memory::Refusable, &got, Ok(FIRST), "the first image") {
-        return;
-    }
-    check_items(&rt, "the rest", 0, rest, b"P6 1 1 255\n\x01\x02\x03");
-    let got = next_frame(rt.alloc(), &mut rest);
-    if is_refused(&rt, Memory::Refusable, &got, Ok(SECOND), "the second image") {
-        return;
-    }
-    check_so(&rt, "the end", 0, rest.is_empty());
-    check_end(&rt, &next_frame(rt.alloc(), &mut rest));
+    check_taken(&rt, rt.alloc(), BOTH, Some(FIRST), LAST);
+    check_taken(&rt, rt.alloc(), LAST, Some(SECOND), b"");
+    check_taken(&rt, rt.alloc(), b"", None, b"");
 }
 
 /// Reads the first of the images from chunks of at most so many bytes.
 fn check_first_of_chunks(rt: &impl Abort, alloc: Global, most: usize) {
-    let mut reader = Counted::new(Chunks::new(BOTH, most, &[]));
-    let got = next_frame(alloc, &mut reader);
-    let chunks = reader.into_inner();
-    if is_refused(rt, Memory::Refusable, &got, Ok(FIRST), "the chunks") {
+    let reading = read_chunks(alloc, Chunks::new(BOTH, most, &[]));
+    let (given, furthest) = (reading.chunks.given, reading.chunks.furthest);
+    let singly = reading.chunks.singly;
+    if is_refused(
+        rt,
+        Memory::Refusable,
+        &reading.image,
+        Ok(FIRST),
+        "the chunks",
+    ) {
         // The room for the raster is made before its first byte is asked for.
-        check(rt, "bytes of a header", most, &chunks.given, &11);
+        check(rt, "bytes of a header", most, &given, &11);
     } else {
-        check(rt, "bytes one by one", most, &chunks.singly, &Some(11));
-        let asked = (chunks.given, chunks.furthest);
+        check(rt, "bytes one by one", most, &singly, &Some(11));
         check(
             rt,
             "bytes of an image, and the farthest",
             most,
-            &asked,
+            &(given, furthest),
             &(14, 14),
         );
     }
@@ -406,47 +465,58 @@ const TEXTS: [(NetpbmFault, &str); 9] = [
     (NetpbmFault::NoMemory, "no memory"),
 ];
 
+/// That a fault is written so, or memory is refused.
+fn check_text(rt: &impl Abort, alloc: Global, fault: NetpbmFault, want: &str) {
+    if let Ok(text) = fault.to_string(alloc) {
+        check_items(rt, want, 0, text.as_bytes(), want.as_bytes());
+    }
+}
+
 #[test]
 fn faults_say_what_is_wrong(rt: HostRuntime) {
     for (fault, want) in TEXTS {
-        let Ok(text) = fault.to_string(rt.alloc()) else {
-            return;
-        };
-        check_items(&rt, want, 0, text.as_bytes(), want.as_bytes());
+        check_text(&rt, rt.alloc(), fault, want);
     }
     let refused = NetpbmFault::from(AllocError);
     check(&rt, "no memory", 0, &refused, &NetpbmFault::NoMemory);
 }
 
+/// What is found in front of bytes: the first sample of the image, and its length.
+type Front = Result<Option<(u16, usize)>, NetpbmFault>;
+
+const FRONTS: &[(&str, &[u8], Front)] = &[
+    ("nothing", b"", Ok(None)),
+    (
+        "an image and another",
+        b"P5\n1 1\n255\n\x07P5\n1 1\n255\n\x08",
+        Ok(Some((7, 12))),
+    ),
+    (
+        "an image and no other",
+        b"P5\n1 1\n255\n\x07P4",
+        Ok(Some((7, 12))),
+    ),
+    (
+        "half an image",
+        b"P5\n1 1\n255\n",
+        Err(NetpbmFault::Truncated),
+    ),
+];
+
+fn front_of(alloc: Global, bytes: &[u8]) -> Front {
+    match first_frame(alloc, bytes) {
+        Ok(None) => Ok(None),
+        Ok(Some((frame, length))) => {
+            let first = frame.samples().first().copied().unwrap_or(0);
+            Ok(Some((first, length)))
+        }
+        Err(fault) => Err(fault),
+    }
+}
+
 #[test]
 fn the_image_in_front_is_found_with_its_length_with_ample_memory(rt: HostRuntime) {
-    let cases: [(&str, &[u8], Result<Option<(u16, usize)>, NetpbmFault>); 4] = [
-        ("nothing", b"", Ok(None)),
-        (
-            "an image and another",
-            b"P5\n1 1\n255\n\x07P5\n1 1\n255\n\x08",
-            Ok(Some((7, 12))),
-        ),
-        (
-            "an image and no other",
-            b"P5\n1 1\n255\n\x07P4",
-            Ok(Some((7, 12))),
-        ),
-        (
-            "half an image",
-            b"P5\n1 1\n255\n",
-            Err(NetpbmFault::Truncated),
-        ),
-    ];
-    for (case, bytes, want) in cases {
-        let got = match first_frame(rt.alloc(), bytes) {
-            Ok(None) => Ok(None),
-            Ok(Some((frame, length))) => Ok(Some((
-                frame.samples().first().copied().unwrap_or(0),
-                length,
-            ))),
-            Err(fault) => Err(fault),
-        };
-        check(&rt, case, 0, &got, &want);
+    for (case, bytes, want) in FRONTS {
+        check(&rt, case, 0, &front_of(rt.alloc(), bytes), want);
     }
 }

@@ -28,7 +28,7 @@ pub fn check_items<T: PartialEq + Debug>(
     got: &[T],
     want: &[T],
 ) {
-    assert_eq!(rt; got, want, "{case}, at {at}");
+    check(rt, case, at, &got, &want);
 }
 
 /// That this holds.
@@ -51,10 +51,8 @@ pub type Parts<'a> = (Kind, u16, u16, u16, &'a [u16]);
 /// A frame of these parts.
 pub fn frame_of(rt: &impl Abort, alloc: Global, parts: &Parts<'_>) -> Result<Frame, AllocError> {
     let (kind, width, height, maxval, samples) = *parts;
-    match Frame::new(kind, width, height, maxval, samples.to_vec(alloc)?) {
-        Ok(frame) => Ok(frame),
-        Err((fault, _)) => panic!(rt; "these parts make no frame: {fault:?}"),
-    }
+    let made = Frame::new(kind, width, height, maxval, samples.to_vec(alloc)?);
+    Ok(made.expect(rt, "parts that make no frame"))
 }
 
 /// A call of `feed_until` by its mark and how many bytes it may take, what it answers, the bytes taken by it and those
@@ -69,8 +67,17 @@ pub fn check_takes<R: Feed>(
     takes: &[Take<'_>],
 ) -> bool {
     let mut bytes = Vec::new(alloc);
+    are_taken(rt, reader, &mut bytes, takes)
+}
+
+fn are_taken<R: Feed>(
+    rt: &impl Abort,
+    reader: &mut R,
+    bytes: &mut Vec<u8>,
+    takes: &[Take<'_>],
+) -> bool {
     for (at, take) in takes.iter().enumerate() {
-        if !is_taken(rt, reader, &mut bytes, at, take) {
+        if !is_taken(rt, reader, bytes, at, take) {
             return false;
         }
     }
@@ -92,15 +99,9 @@ fn is_taken<R: Feed>(
         check(rt, "bytes without memory", at, &bytes.len(), &before);
         return false;
     }
-    let got = (got, reader.failures());
-    check(
-        rt,
-        "the last byte, and failures",
-        at,
-        &got,
-        &(want, failures),
-    );
-    check_items(rt, "bytes taken", at, bytes, taken);
+    let got = (got, bytes.as_slice(), reader.failures());
+    let want = (want, taken, failures);
+    check(rt, "the last byte, all bytes, failures", at, &got, &want);
     true
 }
 
@@ -142,13 +143,15 @@ impl<'a> Read for Chunks<'a> {
         if buf.len() > 1 && self.singly.is_none() {
             self.singly = Some(self.given);
         }
-        if is_among(call, self.failing) {
+        if self.failing.contains(&call) {
             return Err(io::Error::from(io::ErrorKind::BrokenPipe));
         }
-        let room = buf.len().min(self.most);
-        let given = self.rest.read(&mut buf[..room])?;
-        self.given = self.given.saturating_add(given);
-        Ok(given)
+        let count = buf.len().min(self.most).min(self.rest.len());
+        let (given, rest) = self.rest.split_at(count);
+        buf[..count].copy_from_slice(given);
+        self.rest = rest;
+        self.given = self.given.saturating_add(count);
+        Ok(count)
     }
 }
 
@@ -201,7 +204,7 @@ impl<'a> Write for Sink<'a> {
     fn write(&mut self, buf: &[u8]) -> io::Result<usize> {
         let call = self.calls;
         self.calls = call.saturating_add(1);
-        if is_among(call, self.failing) {
+        if self.failing.contains(&call) {
             return match self.mishap {
                 Mishap::Fails => Err(io::Error::from(io::ErrorKind::BrokenPipe)),
                 Mishap::TakesNothing => Ok(0),
@@ -217,13 +220,9 @@ impl<'a> Write for Sink<'a> {
     fn flush(&mut self) -> io::Result<()> {
         let call = self.flushes;
         self.flushes = call.saturating_add(1);
-        if is_among(call, self.failing) {
+        if self.failing.contains(&call) {
             return Err(io::Error::from(io::ErrorKind::BrokenPipe));
         }
         Ok(())
     }
-}
-
-fn is_among(call: usize, calls: &[usize]) -> bool {
-    calls.iter().any(|one| *one == call)
 }

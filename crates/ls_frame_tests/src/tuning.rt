@@ -1,5 +1,6 @@
 use crate::testing::{check, check_so};
 use ls_frame::{PresetFault, Presets, Tuning};
+use std::process::Abort;
 
 /// MAXVAL, T1, T2, T3, RESET.
 type Row = (u16, u16, u16, u16, u16);
@@ -30,17 +31,25 @@ fn seen(got: Result<Presets, PresetFault>) -> Result<Row, PresetFault> {
     ))
 }
 
+/// What is chosen, maxval, and the parameters or the fault.
+type Chosen = (Tuning, u16, Result<Row, PresetFault>);
+
+const CHOSEN: &[Chosen] = &[
+    (Tuning { t1: 5, ..PLAIN }, 255, Ok((255, 5, 7, 21, 64))),
+    (Tuning { reset: 32, ..PLAIN }, 255, Ok((255, 3, 7, 21, 32))),
+    (Tuning { t1: 10, ..PLAIN }, 255, Err(PresetFault::T2Range)),
+    (SPELLED_OUT, 1, Err(PresetFault::T1Range)),
+];
+
+fn check_chosen(rt: &impl Abort, i: usize, (tuning, maxval, want): &Chosen) {
+    assert!(rt; *maxval > 0);
+    check(rt, "a tuning", i, &seen(tuning.presets(*maxval)), want);
+}
+
 #[test]
 fn what_is_chosen_stands_beside_the_defaults(rt: HostRuntime) {
-    let rows: [(Tuning, u16, Result<Row, PresetFault>); 4] = [
-        (Tuning { t1: 5, ..PLAIN }, 255, Ok((255, 5, 7, 21, 64))),
-        (Tuning { reset: 32, ..PLAIN }, 255, Ok((255, 3, 7, 21, 32))),
-        (Tuning { t1: 10, ..PLAIN }, 255, Err(PresetFault::T2Range)),
-        (SPELLED_OUT, 1, Err(PresetFault::T1Range)),
-    ];
-    for (i, (tuning, maxval, want)) in rows.into_iter().enumerate() {
-        assert!(rt; maxval > 0);
-        check(&rt, "a tuning", i, &seen(tuning.presets(maxval)), &want);
+    for (i, chosen) in CHOSEN.iter().enumerate() {
+        check_chosen(&rt, i, chosen);
     }
 }
 

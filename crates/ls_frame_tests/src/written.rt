@@ -3,8 +3,13 @@ use ls_frame::{Counted, Frame, Kind, Outlet, WriteFault, first_frame, write_fram
 use std::alloc::{AllocError, Global};
 use std::process::Abort;
 
-const TEXTS: [(Parts<'static>, &[u8]); 6] = [
-    ((Kind::Gray, 1, 1, 255, &[255]), b"P5\n1 1\n255\n\xFF"),
+/// The parts of a frame, and its text.
+type Text<'a> = (Parts<'a>, &'a [u8]);
+
+const SHORT: Text<'static> = ((Kind::Gray, 1, 1, 255, &[255]), b"P5\n1 1\n255\n\xFF");
+
+const TEXTS: &[Text<'static>] = &[
+    SHORT,
     ((Kind::Gray, 1, 2, 1, &[1, 0]), b"P5\n1 2\n1\n\x01\x00"),
     (
         (Kind::Color, 1, 1, 10, &[1, 2, 10]),
@@ -18,27 +23,34 @@ const TEXTS: [(Parts<'static>, &[u8]); 6] = [
     ),
 ];
 
-/// That a frame is written as this text.
-fn check_text(rt: &impl Abort, i: usize, frame: &Frame, want: &[u8]) {
-    let mut writer = Counted::new(Sink::new(16, &[], Mishap::Fails));
+/// That writing a frame answers this, with so many failures, and that these bytes go out.
+fn check_written(
+    rt: &impl Abort,
+    frame: &Frame,
+    sink: Sink<'_>,
+    want: (Result<(), WriteFault>, u64),
+    bytes: &[u8],
+) {
+    let mut writer = Counted::new(sink);
     let got = write_frame(&mut writer, frame);
-    let failures = Outlet::failures(&writer);
-    check(
-        rt,
-        "a text, and failures",
-        i,
-        &(got, failures),
-        &(Ok(()), 0),
-    );
-    check_items(rt, "its bytes", i, writer.into_inner().written(), want);
+    let got = (got, Outlet::failures(&writer));
+    check(rt, "a text, and failures", bytes.len(), &got, &want);
+    let sink = writer.into_inner();
+    check_items(rt, "its bytes", bytes.len(), sink.written(), bytes);
+}
+
+/// That a frame is written as its text.
+fn check_text(rt: &impl Abort, alloc: Global, (parts, text): &Text<'_>) {
+    if let Ok(frame) = frame_of(rt, alloc, parts) {
+        let sink = Sink::new(16, &[], Mishap::Fails);
+        check_written(rt, &frame, sink, (Ok(()), 0), text);
+    }
 }
 
 #[test]
 fn a_frame_has_one_text(rt: HostRuntime) {
-    for (i, (parts, want)) in TEXTS.iter().enumerate() {
-        if let Ok(frame) = frame_of(&rt, rt.alloc(), parts) {
-            check_text(&rt, i, &frame, want);
-        }
+    for text in TEXTS {
+        check_text(&rt, rt.alloc(), text);
     }
 }
 
@@ -46,29 +58,22 @@ fn a_frame_has_one_text(rt: HostRuntime) {
 fn check_fault(rt: &impl Abort, frame: &Frame, before: &[u8], mishap: Mishap) {
     let call = before.len();
     let failing = [call];
-    let mut writer = Counted::new(Sink::new(1, &failing, mishap));
-    let got = write_frame(&mut writer, frame);
-    let got = (got, Outlet::failures(&writer));
-    let want = (Err(WriteFault { written: call }), 1);
-    check(rt, "a fault, and failures", call, &got, &want);
-    check_items(
-        rt,
-        "the bytes before",
-        call,
-        writer.into_inner().written(),
-        before,
-    );
+    let want = Err(WriteFault { written: call });
+    check_written(rt, frame, Sink::new(1, &failing, mishap), (want, 1), before);
+}
+
+fn check_faults(rt: &impl Abort, frame: &Frame, text: &[u8]) {
+    for i in 0..text.len() {
+        check_fault(rt, frame, &text[..i], Mishap::Fails);
+        check_fault(rt, frame, &text[..i], Mishap::TakesNothing);
+    }
 }
 
 #[test]
 fn a_fault_says_how_much_of_the_text_went_out(rt: HostRuntime) {
-    let (parts, text) = TEXTS[0];
-    let Ok(frame) = frame_of(&rt, rt.alloc(), &parts) else {
-        return;
-    };
-    for i in 0..text.len() {
-        check_fault(&rt, &frame, &text[..i], Mishap::Fails);
-        check_fault(&rt, &frame, &text[..i], Mishap::TakesNothing);
+    let (parts, text) = &SHORT;
+    if let Ok(frame) = frame_of(&rt, rt.alloc(), parts) {
+        check_faults(&rt, &frame, text);
     }
 }
 

@@ -21,47 +21,57 @@ fn long_image(alloc: Global, is_wide: bool) -> Result<Vec<u8>, AllocError> {
     Ok(bytes)
 }
 
-/// That the image was read, or memory was refused where it may be.
-fn check_long_image(
-    rt: &impl Abort,
-    memory: Memory,
-    got: &Result<Option<Frame>, NetpbmFault>,
-    is_wide: bool,
-) {
-    let maxval = if is_wide { 65535 } else { 255 };
-    let at = usize::from(maxval);
-    match seen(got) {
-        Ok(Some((kind, width, height, greatest, samples))) => {
-            let size = (kind, width, height, greatest);
-            check(rt, "its size", at, &size, &(Kind::Gray, 300, 300, maxval));
-            assert!(rt; samples.len() == 90_000, "up to {maxval}");
-            let mut sample = 0u16;
-            for (i, got) in samples.iter().enumerate() {
-                let got = *got;
-                check(rt, "a sample", i, &got, &(sample & maxval));
-                sample = sample.wrapping_add(7);
-            }
-        }
-        Err(NetpbmFault::NoMemory) => {
-            check(rt, "no memory", at, &memory, &Memory::Refusable);
-        }
-        Ok(None) => panic!(rt; "no image up to {maxval}"),
-        Err(fault) => panic!(rt; "{fault} up to {maxval}"),
+/// That samples are the wanted ones.
+fn check_long_samples(rt: &impl Abort, samples: &[u16], maxval: u16) {
+    check(
+        rt,
+        "how many samples",
+        usize::from(maxval),
+        &samples.len(),
+        &90_000,
+    );
+    let mut sample = 0u16;
+    for (i, got) in samples.iter().enumerate() {
+        check(rt, "a sample", i, got, &(sample & maxval));
+        sample = sample.wrapping_add(7);
     }
+}
+
+/// That the image was read, or memory was refused where it may be.
+fn check_long_image(rt: &impl Abort, memory: Memory, image: &Image, is_wide: bool) {
+    if lacks_memory(memory, image) {
+        return;
+    }
+    let maxval = if is_wide { 65535 } else { 255 };
+    let seen = seen(image);
+    let Ok(Some((kind, width, height, greatest, samples))) = seen else {
+        panic!(rt; "{seen:?} up to {maxval}");
+    };
+    let size = (kind, width, height, greatest);
+    check(
+        rt,
+        "its size",
+        usize::from(maxval),
+        &size,
+        &(Kind::Gray, 300, 300, maxval),
+    );
+    check_long_samples(rt, samples, maxval);
+}
+
+/// That the image is read, whole and in chunks.
+fn check_long_reads(rt: &impl Abort, alloc: Global, memory: Memory, bytes: &[u8], is_wide: bool) {
+    let (image, _) = read_whole(alloc, bytes);
+    check_long_image(rt, memory, &image, is_wide);
+    let reading = read_chunks(alloc, Chunks::new(bytes, 65_535, &[]));
+    check_long_image(rt, memory, &reading.image, is_wide);
 }
 
 fn check_long_images(rt: &impl Abort, alloc: Global, memory: Memory) {
     for is_wide in [false, true] {
-        let Ok(bytes) = long_image(alloc, is_wide) else {
-            check(rt, "no memory", 0, &memory, &Memory::Refusable);
-            return;
-        };
-        let mut rest = bytes.as_slice();
-        let got = next_frame(alloc, &mut rest);
-        check_long_image(rt, memory, &got, is_wide);
-        let mut reader = Counted::new(Chunks::new(&bytes, 65_535, &[]));
-        let got = next_frame(alloc, &mut reader);
-        check_long_image(rt, memory, &got, is_wide);
+        match long_image(alloc, is_wide) {
+            Ok(bytes) => check_long_reads(rt, alloc, memory, &bytes, is_wide),
+            Err(_) => check(rt, "no memory", 0, &memory, &Memory::Refusable),
+        }
     }
 }
 
