@@ -12,40 +12,37 @@ fn buffered<R: Read + Drop>(rt: &impl Abort, alloc: Global, inner: R) -> Buffere
     Buffered::new(alloc, inner).expect(rt, "memory for a chunk")
 }
 
-/// A call of `feed` with room for so many: what it gives, its bytes, and how many calls failed by then.
-type Step = (usize, Result<usize, Failed>, &'static [u8], u64);
+/// What a call of `feed` gives, its bytes, and how many calls failed by then.
+type Fed<'a> = (Result<usize, Failed>, &'a [u8], u64);
+
+/// A call of `feed` with room for so many, and what it gives.
+type Step = (usize, Fed<'static>);
 
 /// Of five bytes three are taken at once; the second chunk fails twice, and the third time gives the others.
 const STEPS: &[Step] = &[
-    (1, Ok(1), b"a", 0),
-    (0, Ok(0), b"", 0),
-    (2, Ok(2), b"bc", 0),
-    (2, Err(BROKEN), b"", 1),
-    (2, Err(BROKEN), b"", 2),
-    (1, Ok(1), b"d", 2),
-    (4, Ok(1), b"e", 2),
-    (4, Ok(0), b"", 2),
-    (1, Ok(0), b"", 2),
+    (1, (Ok(1), b"a", 0)),
+    (0, (Ok(0), b"", 0)),
+    (2, (Ok(2), b"bc", 0)),
+    (2, (Err(BROKEN), b"", 1)),
+    (2, (Err(BROKEN), b"", 2)),
+    (1, (Ok(1), b"d", 2)),
+    (4, (Ok(1), b"e", 2)),
+    (4, (Ok(0), b"", 2)),
+    (1, (Ok(0), b"", 2)),
 ];
+
+/// A call of `feed` with room for so many.
+fn fed<'a>(reader: &mut impl Feed, buf: &'a mut [u8; 4], room: usize) -> Fed<'a> {
+    let got = reader.feed(&mut buf[..room.min(4)]);
+    (got, &buf[..got.unwrap_or(0).min(4)], reader.failures())
+}
 
 /// That the calls of `feed` give this.
 fn check_feeds(rt: &impl Abort, reader: &mut impl Feed, steps: &[Step]) {
-    for (at, step) in steps.iter().enumerate() {
-        check_feed(rt, reader, at, step);
-    }
-}
-
-fn check_feed(rt: &impl Abort, reader: &mut impl Feed, at: usize, step: &Step) {
-    let (room, want, bytes, failures) = *step;
     let mut buf = [0u8; 4];
-    let got = reader.feed(buf.get_mut(..room).unwrap_or(&mut []));
-    let got = (
-        got,
-        buf.get(..bytes.len()).unwrap_or(&[]),
-        reader.failures(),
-    );
-    let want = (want, bytes, failures);
-    check(rt, "a feed, its bytes, and failures", at, &got, &want);
+    for (at, (room, want)) in steps.iter().enumerate() {
+        check(rt, "a feed", at, &fed(reader, &mut buf, *room), want);
+    }
 }
 
 #[test]
@@ -124,7 +121,14 @@ fn numbered() -> [u8; 3 * CHUNK] {
     bytes
 }
 
-/// That a call with room for so many gives the first of these bytes; those after them.
+/// The bytes that a read with room for so many gives, unless it fails.
+fn read_of<'a>(reader: &mut impl Read, buf: &'a mut [u8], room: usize) -> Option<&'a [u8]> {
+    let room = room.min(buf.len());
+    let count = reader.read(&mut buf[..room]).ok()?;
+    buf.get(..count)
+}
+
+/// That a read with room for so many gives the first of these bytes; those after them.
 fn check_read<'a>(
     rt: &impl Abort,
     reader: &mut impl Read,
@@ -132,11 +136,10 @@ fn check_read<'a>(
     room: usize,
 ) -> &'a [u8] {
     let mut buf = [0u8; 1000];
-    let Ok(count) = reader.read(buf.get_mut(..room).unwrap_or(&mut [])) else {
-        panic!(rt; "a read failed");
-    };
-    let (want, rest) = bytes.split_at(count.min(bytes.len()));
-    check_items(rt, "bytes", room, buf.get(..count).unwrap_or(&[]), want);
+    let got = read_of(reader, &mut buf, room);
+    let count = got.map_or(0, <[u8]>::len).min(bytes.len());
+    let (want, rest) = bytes.split_at(count);
+    check(rt, "a read", room, &got, &Some(want));
     rest
 }
 
@@ -172,93 +175,96 @@ fn count_takes<R: Feed>(reader: &mut R, mark: u8, limit: u8, bytes: &mut Vec<u8>
     CHUNK
 }
 
-/// Each number of a place but the last ends a run of 251 bytes; a chunk's end cuts one in two. A 0 follows each mark.
-#[test]
-fn chunks_join_by_marks_with_ample_memory(rt: HostRuntime) {
-    let numbered = numbered();
-    for (count, calls) in [(0, 0), (251, 1), (252, 2), (CHUNK, 262), (CHUNK + 251, 264)] {
-        check_marks(&rt, rt.alloc(), &numbered[..count], 0, calls);
-    }
-    for (count, calls) in [(0, 0), (251, 1), (252, 1), (CHUNK, 1), (CHUNK + 251, 2)] {
-        check_marks(&rt, rt.alloc(), &numbered[..count], 1, calls);
-    }
-}
+/// The limit and how many of the bytes there are, and how many calls take them. Each number of a place but the last
+/// ends a run of 251 bytes; a chunk's end cuts one in two. A 0 follows each mark.
+const MARKS: &[(u8, usize, usize)] = &[
+    (0, 0, 0),
+    (0, 251, 1),
+    (0, 252, 2),
+    (0, CHUNK, 262),
+    (0, CHUNK + 251, 264),
+    (1, 0, 0),
+    (1, 251, 1),
+    (1, 252, 1),
+    (1, CHUNK, 1),
+    (1, CHUNK + 251, 2),
+];
 
-/// That so many calls take all of these bytes.
-fn check_marks(rt: &impl Abort, alloc: Global, want: &[u8], limit: u8, calls: usize) {
+/// That so many calls take the first of these bytes.
+fn check_marks(rt: &impl Abort, alloc: Global, bytes: &[u8], case: &(u8, usize, usize)) {
+    let (limit, count, calls) = *case;
+    let want = bytes.get(..count).unwrap_or(&[]);
     let mut reader = buffered(rt, alloc, Counted::new(want));
     let mut bytes = Vec::new(alloc);
     let got = count_takes(&mut reader, 250, limit, &mut bytes);
-    check(rt, "calls", want.len(), &got, &calls);
-    check_items(rt, "bytes", want.len(), &bytes, want);
+    check(rt, "calls", count, &got, &calls);
+    check_items(rt, "bytes", count, &bytes, want);
 }
 
-/// That reads with this room give these bytes.
-fn check_reads(rt: &impl Abort, reader: &mut impl Read, reads: &[(usize, &[u8])]) {
-    let mut buf = [0u8; CHUNK];
-    for (at, (room, bytes)) in reads.iter().enumerate() {
-        let count = reader.read(buf.get_mut(..*room).unwrap_or(&mut [])).ok();
-        let got = (count, buf.get(..bytes.len()).unwrap_or(&[]));
-        check(rt, "a read", at, &got, &(Some(bytes.len()), *bytes));
+#[test]
+fn chunks_join_by_marks_with_ample_memory(rt: HostRuntime) {
+    let numbered = numbered();
+    for case in MARKS {
+        check_marks(&rt, rt.alloc(), &numbered, case);
     }
 }
 
-/// That these reads give their bytes; and how many bytes were taken from the chunks then, and the farthest that there
+/// A read with this room: its bytes, and then how many bytes were taken from the chunks, and the farthest that there
 /// was room for.
-fn check_asked(
-    rt: &impl Abort,
-    alloc: Global,
-    chunks: Chunks<'_>,
-    reads: &[(usize, &[u8])],
-    asked: (usize, usize),
-) {
-    let mut chunks = chunks;
-    check_reads(rt, &mut buffered(rt, alloc, &mut chunks), reads);
-    let got = (chunks.given, chunks.furthest);
-    check(rt, "bytes taken, and room", reads.len(), &got, &asked);
+type Asked<'a> = (usize, Option<&'a [u8]>, usize, usize);
+
+fn asked<'a>(reader: &mut Buffered<Chunks<'_>>, buf: &'a mut [u8], room: usize) -> Asked<'a> {
+    let bytes = read_of(reader, buf, room);
+    let chunks = reader.get_ref();
+    (room, bytes, chunks.given, chunks.furthest)
 }
 
-const BYTE_BY_BYTE: [(usize, &[u8]); 5] = [(1, b"a"), (1, b"b"), (1, b"c"), (1, b"d"), (1, b"e")];
+/// That a buffered reader of these chunks asks for none at first, and then so.
+fn check_asked(rt: &impl Abort, alloc: Global, chunks: Chunks<'_>, reads: &[Asked<'_>]) {
+    let mut reader = buffered(rt, alloc, chunks);
+    let mut buf = [0u8; CHUNK];
+    let first = (reader.get_ref().given, reader.get_ref().furthest);
+    check(rt, "before any read", 0, &first, &(0, 0));
+    for (at, want) in reads.iter().enumerate() {
+        check(
+            rt,
+            "a read",
+            at,
+            &asked(&mut reader, &mut buf, want.0),
+            want,
+        );
+    }
+}
+
+const BYTE_BY_BYTE: &[Asked<'static>] = &[
+    (1, Some(b"a"), 4, CHUNK),
+    (1, Some(b"b"), 4, CHUNK),
+    (1, Some(b"c"), 4, CHUNK),
+    (1, Some(b"d"), 4, CHUNK),
+    (1, Some(b"e"), 5, CHUNK + 4),
+];
 
 /// A chunk is asked for whole, and none before its bytes are wanted.
 #[test]
 fn chunks_are_asked_for_when_they_are_wanted_with_ample_memory(rt: HostRuntime) {
-    // By the number of reads.
-    for (reads, asked) in [
-        (0, (0, 0)),
-        (1, (4, CHUNK)),
-        (2, (4, CHUNK)),
-        (3, (4, CHUNK)),
-        (4, (4, CHUNK)),
-        (5, (5, CHUNK + 4)),
-    ] {
-        let chunks = Chunks::new(b"abcde", 4, &[]);
-        check_asked(&rt, rt.alloc(), chunks, &BYTE_BY_BYTE[..reads], asked);
-    }
+    let chunks = Chunks::new(b"abcde", 4, &[]);
+    check_asked(&rt, rt.alloc(), chunks, BYTE_BY_BYTE);
 }
 
-/// Reads with room for a whole chunk, after that of a byte.
-const BY_CHUNKS: [(usize, &[u8]); 5] = [
-    (1, b"a"),
-    (CHUNK, b"bc"),
-    (CHUNK, b"def"),
-    (CHUNK, b"g"),
-    (CHUNK, b""),
+/// The bytes taken are those handed out.
+const BY_CHUNKS: &[Asked<'static>] = &[
+    (1, Some(b"a"), 3, CHUNK),
+    (CHUNK, Some(b"bc"), 3, CHUNK),
+    (CHUNK, Some(b"def"), 6, CHUNK + 3),
+    (CHUNK, Some(b"g"), 7, CHUNK + 6),
+    (CHUNK, Some(b""), 7, CHUNK + 7),
 ];
 
 /// Room for a whole chunk is handed on, once the chunk before was handed out.
 #[test]
 fn room_for_a_chunk_is_handed_on_with_ample_memory(rt: HostRuntime) {
-    // By the number of reads; the bytes taken are those handed out.
-    for (reads, asked) in [
-        (2, (3, CHUNK)),
-        (3, (6, CHUNK + 3)),
-        (4, (7, CHUNK + 6)),
-        (5, (7, CHUNK + 7)),
-    ] {
-        let chunks = Chunks::new(b"abcdefg", 3, &[]);
-        check_asked(&rt, rt.alloc(), chunks, &BY_CHUNKS[..reads], asked);
-    }
+    let chunks = Chunks::new(b"abcdefg", 3, &[]);
+    check_asked(&rt, rt.alloc(), chunks, BY_CHUNKS);
 }
 
 /// How many of the six bytes `abcdef` are taken, what is put back then, and what is left after that.

@@ -138,27 +138,37 @@ fn plain(answer: io::Result<usize>) -> Plain {
     }
 }
 
-/// What plain reads answer after a feed that fails, and the buffer after each.
-const READS: &[(Plain, [u8; 2])] = &[
-    (Ok(2), [b'a', b'b']),
-    (Err(io::ErrorKind::BrokenPipe), [b'a', b'b']),
-    (Ok(1), [b'c', b'b']),
-];
-
-/// A plain read into this buffer.
+/// A plain read into this buffer, and the buffer then.
 fn read(reader: &mut Counted<Chunks<'_>>, buf: &mut [u8; 2]) -> (Plain, [u8; 2]) {
     (plain(reader.read(buf)), *buf)
+}
+
+/// A feed, three plain reads, and how many feeds failed.
+type FedAndRead = (Result<usize, Failed>, [(Plain, [u8; 2]); 3], u64);
+
+fn fed_and_read(reader: &mut Counted<Chunks<'_>>) -> FedAndRead {
+    let mut buf = [0u8; 2];
+    (
+        reader.feed(&mut buf),
+        [
+            read(reader, &mut buf),
+            read(reader, &mut buf),
+            read(reader, &mut buf),
+        ],
+        Feed::failures(reader),
+    )
 }
 
 #[test]
 fn plain_reads_are_handed_on_and_not_counted(rt: HostRuntime) {
     let mut reader = Counted::new(Chunks::new(b"abc", 2, &[0, 2]));
-    let mut buf = [0u8; 2];
-    check(&rt, "a feed", 0, &reader.feed(&mut buf), &Err(BROKEN));
-    for (i, want) in READS.iter().enumerate() {
-        check(&rt, "a read", i, &read(&mut reader, &mut buf), want);
-    }
-    check(&rt, "failures", 0, &Feed::failures(&reader), &1);
+    let reads = [
+        (Ok(2), [b'a', b'b']),
+        (Err(io::ErrorKind::BrokenPipe), [b'a', b'b']),
+        (Ok(1), [b'c', b'b']),
+    ];
+    let got = fed_and_read(&mut reader);
+    check(&rt, "a feed and reads", 0, &got, &(Err(BROKEN), reads, 1));
 }
 
 /// A plain write.
@@ -166,28 +176,34 @@ fn write(writer: &mut Counted<Sink<'_>>, bytes: &[u8]) -> Plain {
     plain(writer.write(bytes))
 }
 
-/// A give that goes wrong, three writes of which the second goes wrong, and three flushes of which two fail.
-fn check_each_call(rt: &impl Abort, writer: &mut Counted<Sink<'_>>, failed: Failed, wrong: Plain) {
-    check(rt, "a give", 0, &writer.give(b"abc"), &Err(failed));
-    let writes = [
-        write(writer, b"abc"),
-        write(writer, b"c"),
-        write(writer, b"c"),
-    ];
-    check(rt, "writes", 0, &writes, &[Ok(2), wrong, Ok(1)]);
-    let flushes = [
-        writer.flush().is_ok(),
-        writer.flush().is_ok(),
-        writer.flush().is_ok(),
-    ];
-    check(rt, "flushes", 0, &flushes, &[false, true, false]);
-    check(rt, "failures", 0, &Outlet::failures(writer), &1);
+/// Whether a flush succeeds.
+fn flush(writer: &mut Counted<Sink<'_>>) -> bool {
+    writer.flush().is_ok()
+}
+
+/// A give, three plain writes, three flushes, and how many gives failed.
+type GivenAndWritten = (Result<usize, Failed>, [Plain; 3], [bool; 3], u64);
+
+fn given_and_written(writer: &mut Counted<Sink<'_>>) -> GivenAndWritten {
+    (
+        writer.give(b"abc"),
+        [
+            write(writer, b"abc"),
+            write(writer, b"c"),
+            write(writer, b"c"),
+        ],
+        [flush(writer), flush(writer), flush(writer)],
+        Outlet::failures(writer),
+    )
 }
 
 /// A writer whose calls 0 and 2 go wrong, of `give` and `write` together and of `flush`.
 fn check_plain_writes(rt: &impl Abort, mishap: Mishap, failed: Failed, wrong: Plain) {
     let mut writer = Counted::new(Sink::new(2, &[0, 2], mishap));
-    check_each_call(rt, &mut writer, failed, wrong);
+    let got = given_and_written(&mut writer);
+    let writes = [Ok(2), wrong, Ok(1)];
+    let want = (Err(failed), writes, [false, true, false], 1);
+    check(rt, "a give, writes and flushes", 0, &got, &want);
     let sink = writer.into_inner();
     check_items(rt, "all bytes", 0, sink.written(), b"abc");
     check(rt, "flushes", 0, &sink.flushes, &3);

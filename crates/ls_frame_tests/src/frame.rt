@@ -1,4 +1,4 @@
-use crate::testing::{Parts, check, check_items, check_samples, frame_of};
+use crate::testing::{Parts, check, check_items, check_samples, frame_of, parts_of};
 use ls_frame::{Frame, FrameFault, FrameView, Kind, Samples};
 use std::alloc::{AllocError, Global};
 use std::process::Abort;
@@ -67,20 +67,9 @@ const FRAMES: &[Parts<'static>] = &[
 
 /// That a frame has these parts, and its view too.
 fn check_parts(rt: &impl Abort, i: usize, frame: &Frame, parts: &Parts<'_>) {
-    let got = (
-        frame.kind(),
-        frame.width(),
-        frame.height(),
-        frame.maxval(),
-        frame.samples(),
-    );
-    check(rt, "the parts", i, &got, parts);
-    check_view(rt, i, &frame.view(), parts);
-}
-
-/// That a view has these parts.
-fn check_view(rt: &impl Abort, i: usize, view: &FrameView<'_>, parts: &Parts<'_>) {
+    check(rt, "the parts", i, &parts_of(frame), parts);
     let (kind, width, height, maxval, samples) = *parts;
+    let view = frame.view();
     let got = (view.kind(), view.width(), view.height(), view.maxval());
     let want = (kind, width, height, maxval);
     check(rt, "the view's kind, size and maxval", i, &got, &want);

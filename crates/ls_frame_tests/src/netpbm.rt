@@ -1,13 +1,13 @@
 mod failures;
 mod long;
 
-use crate::testing::{Chunks, Parts, check, check_items, check_so};
+use crate::testing::{Chunks, Parts, check, check_items, check_so, parts_of};
 use ls_frame::{Counted, Feed, Frame, Kind, NetpbmFault, first_frame, next_frame};
 use std::alloc::{AllocError, Global};
 use std::process::Abort;
 
 /// If memory may be refused, running out of it is an answer too.
-#[derive(Clone, Copy, Debug, PartialEq, Eq)]
+#[derive(Clone, Copy, PartialEq, Eq)]
 enum Memory {
     Ample,
     Refusable,
@@ -41,17 +41,11 @@ fn read_chunks(alloc: Global, chunks: Chunks<'_>) -> Reading<'_> {
     }
 }
 
-/// The fault of reading from chunks, and how many reads failed.
-fn fault_of(alloc: Global, chunks: Chunks<'_>) -> (Option<NetpbmFault>, u64) {
-    let reading = read_chunks(alloc, chunks);
-    (reading.image.err(), reading.failures)
-}
-
 /// The parts of what was read.
 fn seen(image: &Image) -> Result<Option<Parts<'_>>, NetpbmFault> {
     match image {
         Ok(None) => Ok(None),
-        Ok(Some(f)) => Ok(Some((f.kind(), f.width(), f.height(), f.maxval(), f.samples()))),
+        Ok(Some(frame)) => Ok(Some(parts_of(frame))),
         Err(fault) => Err(*fault),
     }
 }
@@ -68,105 +62,126 @@ fn is_refused(
     image: &Image,
     want: Result<Parts<'_>, NetpbmFault>,
     case: &str,
+    at: usize,
 ) -> bool {
     if lacks_memory(memory, image) {
         return true;
     }
-    check(rt, case, 0, &seen(image), &want.map(Some));
+    check(rt, case, at, &seen(image), &want.map(Some));
     false
 }
 
-const BAD_HEADERS: &[(&str, &[u8], NetpbmFault)] = &[
-    ("another letter", b"X", NetpbmFault::BadMagic),
-    ("another digit", b"P4 1 1\n", NetpbmFault::BadMagic),
-    ("a lone letter", b"P", NetpbmFault::Truncated),
-    ("no gap", b"P51 1 255\n", NetpbmFault::BadHeader),
+/// What bytes are, the bytes, and what is read of them.
+type Case<'a> = (&'a str, &'a [u8], Result<Parts<'a>, NetpbmFault>);
+
+/// That an image is read of bytes in memory, and these are left.
+fn check_whole(rt: &impl Abort, alloc: Global, memory: Memory, case: &Case<'_>, left: &[u8]) {
+    let (name, bytes, want) = *case;
+    let (image, rest) = read_whole(alloc, bytes);
+    if !is_refused(rt, memory, &image, want, name, bytes.len()) && want.is_ok() {
+        check_items(rt, name, bytes.len(), rest, left);
+    }
+}
+
+/// That an image is read from chunks of its bytes, and no byte after it asked for; a failed read is counted.
+fn check_chunks(
+    rt: &impl Abort,
+    alloc: Global,
+    memory: Memory,
+    case: &Case<'_>,
+    chunks: Chunks<'_>,
+) {
+    let (name, bytes, want) = *case;
+    let reading = read_chunks(alloc, chunks);
+    let calls = reading.chunks.calls;
+    let is_read = !is_refused(rt, memory, &reading.image, want, name, calls);
+    let failures = u64::from(is_read && want == Err(NetpbmFault::Io));
+    check(rt, name, calls, &reading.failures, &failures);
+    if is_read && want.is_ok() {
+        check(rt, name, calls, &reading.chunks.furthest, &bytes.len());
+    }
+}
+
+const BAD_HEADERS: &[Case<'static>] = &[
+    ("another letter", b"X", Err(NetpbmFault::BadMagic)),
+    ("another digit", b"P4 1 1\n", Err(NetpbmFault::BadMagic)),
+    ("a lone letter", b"P", Err(NetpbmFault::Truncated)),
+    ("no gap", b"P51 1 255\n", Err(NetpbmFault::BadHeader)),
     (
         "a comment at the magic",
         b"P5#c\n1 1 255\n",
-        NetpbmFault::BadHeader,
+        Err(NetpbmFault::BadHeader),
     ),
     (
         "a comment at the width",
         b"P5 1#c\n1 255\n",
-        NetpbmFault::BadHeader,
+        Err(NetpbmFault::BadHeader),
     ),
     (
         "a comment at maxval",
         b"P5 1 1 255#",
-        NetpbmFault::BadHeader,
+        Err(NetpbmFault::BadHeader),
     ),
-    ("a width of 0", b"P5 0 1 255\n", NetpbmFault::SizeOutOfRange),
+    (
+        "a width of 0",
+        b"P5 0 1 255\n",
+        Err(NetpbmFault::SizeOutOfRange),
+    ),
     (
         "a height of 0",
         b"P5 1 0 255\n",
-        NetpbmFault::SizeOutOfRange,
+        Err(NetpbmFault::SizeOutOfRange),
     ),
     (
         "a width of 65536",
         b"P5 65536 1 255\n",
-        NetpbmFault::SizeOutOfRange,
+        Err(NetpbmFault::SizeOutOfRange),
     ),
     (
         "a height of 65536",
         b"P5 1 65536 255\n",
-        NetpbmFault::SizeOutOfRange,
+        Err(NetpbmFault::SizeOutOfRange),
     ),
     (
         "a width of forty digits",
         b"P5 1000000000000000000000000000000000000001 1 255\n",
-        NetpbmFault::SizeOutOfRange,
+        Err(NetpbmFault::SizeOutOfRange),
     ),
     (
         "3 * 2^28 samples",
         b"P6 16384 16384 255\n",
-        NetpbmFault::SizeOutOfRange,
+        Err(NetpbmFault::SizeOutOfRange),
     ),
     (
         "a maxval of 0",
         b"P5 1 1 0\n",
-        NetpbmFault::MaxvalOutOfRange,
+        Err(NetpbmFault::MaxvalOutOfRange),
     ),
     (
         "a maxval of 65536",
         b"P5 1 1 65536\n",
-        NetpbmFault::MaxvalOutOfRange,
+        Err(NetpbmFault::MaxvalOutOfRange),
     ),
 ];
 
-/// That a header has its fault, at once and byte by byte.
-fn check_bad_header(rt: &impl Abort, alloc: Global, header: &(&str, &[u8], NetpbmFault)) {
-    let (case, bytes, want) = *header;
-    let (image, _) = read_whole(alloc, bytes);
-    check(rt, case, 0, &image.err(), &Some(want));
-    let got = fault_of(alloc, Chunks::new(bytes, 1, &[]));
-    check(rt, case, 1, &got, &(Some(want), 0));
-}
-
 #[test]
 fn bad_headers_are_named_without_memory(rt: HostRuntime) {
-    for header in BAD_HEADERS {
-        check_bad_header(&rt, rt.alloc(), header);
+    for case in BAD_HEADERS {
+        check_whole(&rt, rt.alloc(), Memory::Ample, case, b"");
+        let chunks = Chunks::new(case.1, 1, &[]);
+        check_chunks(&rt, rt.alloc(), Memory::Ample, case, chunks);
     }
-}
-
-/// That the input was at its end.
-fn check_end(rt: &impl Abort, image: &Image) {
-    check(rt, "the end", 0, &seen(image), &Ok(None));
 }
 
 #[test]
 fn no_bytes_are_no_image(rt: HostRuntime) {
     let (image, _) = read_whole(rt.alloc(), b"");
-    check_end(&rt, &image);
     let reading = read_chunks(rt.alloc(), Chunks::new(b"", 1, &[]));
-    check_end(&rt, &reading.image);
-    check(&rt, "failures", 0, &reading.failures, &0);
-    check(&rt, "the farthest byte", 0, &reading.chunks.furthest, &1);
+    let ends = [seen(&image), seen(&reading.image)];
+    check(&rt, "the end, twice", 0, &ends, &[Ok(None), Ok(None)]);
+    let asked = (reading.failures, reading.chunks.furthest);
+    check(&rt, "failures, and the farthest byte", 0, &asked, &(0, 1));
 }
-
-/// What bytes are, the bytes, and what is read of them.
-type Case<'a> = (&'a str, &'a [u8], Result<Parts<'a>, NetpbmFault>);
 
 const IMAGES: &[Case<'static>] = &[
     (
@@ -278,30 +293,10 @@ const IMAGES: &[Case<'static>] = &[
 /// That each image is read as it is, whole and in chunks.
 fn check_images(rt: &impl Abort, alloc: Global, memory: Memory) {
     for case in IMAGES {
-        check_whole(rt, alloc, memory, case);
+        check_whole(rt, alloc, memory, case, b"");
         for most in [1, 2, 3, 7] {
-            check_in_chunks(rt, alloc, memory, case, most);
+            check_chunks(rt, alloc, memory, case, Chunks::new(case.1, most, &[]));
         }
-    }
-}
-
-/// That an image is read of bytes in memory, all of them.
-fn check_whole(rt: &impl Abort, alloc: Global, memory: Memory, case: &Case<'_>) {
-    let (name, bytes, want) = *case;
-    let (image, rest) = read_whole(alloc, bytes);
-    if !is_refused(rt, memory, &image, want, name) && want.is_ok() {
-        check_so(rt, name, 0, rest.is_empty());
-    }
-}
-
-/// That an image is read from chunks of at most so many bytes, and no byte after it asked for.
-fn check_in_chunks(rt: &impl Abort, alloc: Global, memory: Memory, case: &Case<'_>, most: usize) {
-    let (name, bytes, want) = *case;
-    let reading = read_chunks(alloc, Chunks::new(bytes, most, &[]));
-    let furthest = reading.chunks.furthest;
-    check(rt, name, most, &reading.failures, &0);
-    if !is_refused(rt, memory, &reading.image, want, name) && want.is_ok() {
-        check(rt, name, most, &furthest, &bytes.len());
     }
 }
 
@@ -319,22 +314,17 @@ fn images_are_read_as_they_are_or_memory_is_refused(rt: HostRuntime) {
 fn each_beginning_of_an_image_is_truncated(rt: HostRuntime) {
     let image = b"P5 2 1 255\n\x00\x01";
     for end in 1..image.len() {
-        check_beginning(&rt, rt.alloc(), &image[..end]);
+        let case = ("a beginning", &image[..end], Err(NetpbmFault::Truncated));
+        check_whole(&rt, rt.alloc(), after_header(end, 11), &case, b"");
     }
 }
 
-fn check_beginning(rt: &impl Abort, alloc: Global, bytes: &[u8]) {
-    let (image, _) = read_whole(alloc, bytes);
-    let got = image.err();
-    // Memory is asked for after the header.
-    if bytes.len() < 11 || got != Some(NetpbmFault::NoMemory) {
-        check(
-            rt,
-            "an end",
-            bytes.len(),
-            &got,
-            &Some(NetpbmFault::Truncated),
-        );
+/// Whether memory may be refused after so many bytes: it is asked for after the header.
+fn after_header(bytes: usize, header: usize) -> Memory {
+    if bytes < header {
+        Memory::Ample
+    } else {
+        Memory::Refusable
     }
 }
 
@@ -378,13 +368,14 @@ fn check_long_header(rt: &impl Abort, alloc: Global, header: &LongHeader<'_>) {
         panic!(rt; "no room for {case}");
     };
     place.copy_from_slice(tail);
-    let reading = read_chunks(alloc, Chunks::new(&bytes[..end], end, &[]));
     // A bad header takes no memory.
     let memory = match want {
         Ok(_) => Memory::Refusable,
         Err(_) => Memory::Ample,
     };
-    is_refused(rt, memory, &reading.image, want, case);
+    let bytes = &bytes[..end];
+    let chunks = Chunks::new(bytes, end, &[]);
+    check_chunks(rt, alloc, memory, &(case, bytes, want), chunks);
 }
 
 #[test]
@@ -404,46 +395,33 @@ const BOTH: &[u8] = b"P5 3 1 255\n\x07\x08\x09P6 1 1 255\n\x01\x02\x03";
 /// The bytes of the second alone.
 const LAST: &[u8] = b"P6 1 1 255\n\x01\x02\x03";
 
-/// That this is read of bytes in memory and these are left, or memory is refused.
-fn check_taken(rt: &impl Abort, alloc: Global, bytes: &[u8], want: Option<Parts<'_>>, left: &[u8]) {
-    let (image, rest) = read_whole(alloc, bytes);
-    if !lacks_memory(Memory::Refusable, &image) {
-        check(rt, "an image", bytes.len(), &seen(&image), &Ok(want));
-        check_items(rt, "the rest", bytes.len(), rest, left);
-    }
-}
-
 #[test]
 fn not_a_byte_after_an_image_is_taken(rt: HostRuntime) {
-    check_taken(&rt, rt.alloc(), BOTH, Some(FIRST), LAST);
-    check_taken(&rt, rt.alloc(), LAST, Some(SECOND), b"");
-    check_taken(&rt, rt.alloc(), b"", None, b"");
+    let first = ("the first image", BOTH, Ok(FIRST));
+    check_whole(&rt, rt.alloc(), Memory::Refusable, &first, LAST);
+    let second = ("the second image", LAST, Ok(SECOND));
+    check_whole(&rt, rt.alloc(), Memory::Refusable, &second, b"");
 }
 
 /// Reads the first of the images from chunks of at most so many bytes.
 fn check_first_of_chunks(rt: &impl Abort, alloc: Global, most: usize) {
     let reading = read_chunks(alloc, Chunks::new(BOTH, most, &[]));
-    let (given, furthest) = (reading.chunks.given, reading.chunks.furthest);
-    let singly = reading.chunks.singly;
-    if is_refused(
-        rt,
-        Memory::Refusable,
-        &reading.image,
-        Ok(FIRST),
-        "the chunks",
-    ) {
+    let chunks = &reading.chunks;
+    let got = (chunks.given, chunks.furthest, chunks.singly);
+    let image = &reading.image;
+    let want = if is_refused(rt, Memory::Refusable, image, Ok(FIRST), "the chunks", most) {
         // The room for the raster is made before its first byte is asked for.
-        check(rt, "bytes of a header", most, &given, &11);
+        (11, 11, None)
     } else {
-        check(rt, "bytes one by one", most, &singly, &Some(11));
-        check(
-            rt,
-            "bytes of an image, and the farthest",
-            most,
-            &(given, furthest),
-            &(14, 14),
-        );
-    }
+        (14, 14, Some(11))
+    };
+    check(
+        rt,
+        "bytes given, the farthest, and those one by one",
+        most,
+        &got,
+        &want,
+    );
 }
 
 #[test]
@@ -453,7 +431,7 @@ fn not_a_byte_after_an_image_is_asked_for(rt: HostRuntime) {
     }
 }
 
-const TEXTS: [(NetpbmFault, &str); 9] = [
+const TEXTS: &[(NetpbmFault, &str)] = &[
     (NetpbmFault::BadMagic, "bad magic"),
     (NetpbmFault::BadHeader, "bad header"),
     (NetpbmFault::HeaderTooLong, "header too long"),
@@ -466,7 +444,7 @@ const TEXTS: [(NetpbmFault, &str); 9] = [
 ];
 
 /// That a fault is written so, or memory is refused.
-fn check_text(rt: &impl Abort, alloc: Global, fault: NetpbmFault, want: &str) {
+fn check_text(rt: &impl Abort, alloc: Global, (fault, want): &(NetpbmFault, &str)) {
     if let Ok(text) = fault.to_string(alloc) {
         check_items(rt, want, 0, text.as_bytes(), want.as_bytes());
     }
@@ -474,8 +452,8 @@ fn check_text(rt: &impl Abort, alloc: Global, fault: NetpbmFault, want: &str) {
 
 #[test]
 fn faults_say_what_is_wrong(rt: HostRuntime) {
-    for (fault, want) in TEXTS {
-        check_text(&rt, rt.alloc(), fault, want);
+    for text in TEXTS {
+        check_text(&rt, rt.alloc(), text);
     }
     let refused = NetpbmFault::from(AllocError);
     check(&rt, "no memory", 0, &refused, &NetpbmFault::NoMemory);

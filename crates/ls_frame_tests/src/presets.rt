@@ -1,4 +1,4 @@
-use crate::testing::{Mishap, Sink, check, check_items, check_so};
+use crate::testing::{Mishap, Parameters, Sink, check, check_items, check_so, parameters_of};
 use ls_frame::{PresetFault, Presets};
 use std::io::Write;
 use std::process::Abort;
@@ -35,12 +35,20 @@ fn check_defaults(rt: &impl Abort, row: &Row) {
     let (maxval, ..) = *row;
     assert!(rt; maxval > 0);
     let presets = Presets::default_of(maxval);
-    let at = usize::from(maxval);
-    let range = u32::from(maxval) + 1;
-    check(rt, "the defaults", at, &row_of(presets), row);
-    check(rt, "RANGE", at, &presets.range(), &range);
-    check(rt, "RESET", at, &presets.reset(), &64);
-    check_so(rt, "is_default", at, presets.is_default());
+    let got = (
+        row_of(presets),
+        presets.range(),
+        presets.reset(),
+        presets.is_default(),
+    );
+    let want = (*row, u32::from(maxval) + 1, 64, true);
+    check(
+        rt,
+        "the defaults, RANGE, RESET, is_default",
+        usize::from(maxval),
+        &got,
+        &want,
+    );
 }
 
 #[test]
@@ -50,8 +58,8 @@ fn the_defaults_follow_from_maxval(rt: HostRuntime) {
     }
 }
 
-/// MAXVAL, T1, T2, T3 and RESET, and the first of them that is out of its range.
-type Fault = ((u16, u16, u16, u16, u16), PresetFault);
+/// Parameters, and the first of them that is out of its range.
+type Fault = (Parameters, PresetFault);
 
 const FAULTS: &[Fault] = &[
     ((0, 1, 1, 1, 3), PresetFault::MaxvalRange),
@@ -77,13 +85,8 @@ fn the_first_range_that_is_left_is_named(rt: HostRuntime) {
 
 #[test]
 fn explicit_parameters_are_kept(rt: HostRuntime) {
-    let Ok(presets) = Presets::explicit(1, 1, 1, 1, 255) else {
-        panic!(rt; "these parameters are legal");
-    };
-    let thresholds = (presets.t1(), presets.t2(), presets.t3());
-    check(&rt, "MAXVAL", 0, &presets.maxval(), &1);
-    check(&rt, "the thresholds", 0, &thresholds, &(1, 1, 1));
-    check(&rt, "RESET", 0, &presets.reset(), &255);
+    let got = parameters_of(Presets::explicit(1, 1, 1, 1, 255));
+    check(&rt, "legal parameters", 0, &got, &Ok((1, 1, 1, 1, 255)));
 }
 
 /// That a fault is written so.

@@ -1,9 +1,6 @@
-use crate::testing::{check, check_so};
+use crate::testing::{Parameters, check, check_so, parameters_of};
 use ls_frame::{PresetFault, Presets, Tuning};
 use std::process::Abort;
-
-/// MAXVAL, T1, T2, T3, RESET.
-type Row = (u16, u16, u16, u16, u16);
 
 const PLAIN: Tuning = Tuning {
     t1: 0,
@@ -19,20 +16,8 @@ const SPELLED_OUT: Tuning = Tuning {
     reset: 64,
 };
 
-/// The parameters of these presets, or the fault.
-fn seen(got: Result<Presets, PresetFault>) -> Result<Row, PresetFault> {
-    let presets = got?;
-    Ok((
-        presets.maxval(),
-        presets.t1(),
-        presets.t2(),
-        presets.t3(),
-        presets.reset(),
-    ))
-}
-
 /// What is chosen, maxval, and the parameters or the fault.
-type Chosen = (Tuning, u16, Result<Row, PresetFault>);
+type Chosen = (Tuning, u16, Result<Parameters, PresetFault>);
 
 const CHOSEN: &[Chosen] = &[
     (Tuning { t1: 5, ..PLAIN }, 255, Ok((255, 5, 7, 21, 64))),
@@ -43,7 +28,8 @@ const CHOSEN: &[Chosen] = &[
 
 fn check_chosen(rt: &impl Abort, i: usize, (tuning, maxval, want): &Chosen) {
     assert!(rt; *maxval > 0);
-    check(rt, "a tuning", i, &seen(tuning.presets(*maxval)), want);
+    let got = parameters_of(tuning.presets(*maxval));
+    check(rt, "a tuning", i, &got, want);
 }
 
 #[test]
@@ -79,6 +65,9 @@ fn the_defaults_chosen_are_the_defaults(rt: HostRuntime) {
         &got,
         &Ok(Presets::default_of(255)),
     );
-    let is_default = got.is_ok_and(|presets| presets.is_default());
+    let is_default = match got {
+        Ok(presets) => presets.is_default(),
+        Err(_) => false,
+    };
     check_so(&rt, "is_default", 255, is_default);
 }

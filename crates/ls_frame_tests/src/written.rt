@@ -1,6 +1,6 @@
-use crate::testing::{Mishap, Parts, Sink, check, check_items, check_so, frame_of};
+use crate::testing::{Mishap, Parts, Sink, check, check_items, check_so, frame_of, long_samples};
 use ls_frame::{Counted, Frame, Kind, Outlet, WriteFault, first_frame, write_frame};
-use std::alloc::{AllocError, Global};
+use std::alloc::Global;
 use std::process::Abort;
 
 /// The parts of a frame, and its text.
@@ -77,17 +77,6 @@ fn a_fault_says_how_much_of_the_text_went_out(rt: HostRuntime) {
     }
 }
 
-/// 9000 samples, each 7 more than the one before, and from 0 on again past maxval.
-fn long_samples(alloc: Global, maxval: u16) -> Result<Vec<u16>, AllocError> {
-    let mut samples = Vec::with_capacity(alloc, 9000)?;
-    let mut sample = 0u16;
-    for _ in 0..9000 {
-        samples.push(sample & maxval)?;
-        sample = sample.wrapping_add(7);
-    }
-    Ok(samples)
-}
-
 /// A frame's text.
 fn text_of(rt: &impl Abort, alloc: Global, frame: &Frame) -> Vec<u8> {
     let mut writer = Counted::new(Vec::new(alloc));
@@ -95,34 +84,32 @@ fn text_of(rt: &impl Abort, alloc: Global, frame: &Frame) -> Vec<u8> {
     writer.into_inner()
 }
 
-/// That a text is of this size and is read back as this frame.
-fn check_read_back(rt: &impl Abort, alloc: Global, text: &[u8], size: usize, frame: &Frame) {
-    check(rt, "the length of a text", size, &text.len(), &size);
-    let Ok(Some((read, taken))) = first_frame(alloc, text) else {
-        panic!(rt; "no image in {size} bytes");
-    };
-    check(rt, "what is read", size, &taken, &size);
-    check_so(rt, "the frame", size, read == *frame);
+/// How many bytes of a text an image takes, and whether it is this frame.
+fn read_back(alloc: Global, text: &[u8], frame: &Frame) -> Option<(usize, bool)> {
+    match first_frame(alloc, text) {
+        Ok(Some((read, taken))) => Some((taken, read == *frame)),
+        _ => None,
+    }
 }
 
 /// Writes a frame of 100 by 90 samples as a text of this size, and reads it back.
-fn check_long_frame(
-    rt: &impl Abort,
-    alloc: Global,
-    maxval: u16,
-    size: usize,
-) -> Result<(), AllocError> {
-    let samples = long_samples(alloc, maxval)?;
-    let frame = frame_of(rt, alloc, &(Kind::Gray, 100, 90, maxval, &samples))?;
+fn check_long_frame(rt: &impl Abort, alloc: Global, maxval: u16, size: usize) {
+    let samples = long_samples::<9000>(maxval);
+    let frame = frame_of(rt, alloc, &(Kind::Gray, 100, 90, maxval, &samples));
+    let frame = frame.expect(rt, "memory for a frame");
     let text = text_of(rt, alloc, &frame);
-    check_read_back(rt, alloc, &text, size, &frame);
-    Ok(())
+    let got = (text.len(), read_back(alloc, &text, &frame));
+    check(
+        rt,
+        "a text, and what is read of it",
+        size,
+        &got,
+        &(size, Some((size, true))),
+    );
 }
 
 #[test]
-fn a_frame_of_several_chunks_is_read_back_with_ample_memory(
-    rt: HostRuntime,
-) -> Result<(), AllocError> {
-    check_long_frame(&rt, rt.alloc(), 255, 9014)?;
-    check_long_frame(&rt, rt.alloc(), 65535, 18016)
+fn a_frame_of_several_chunks_is_read_back_with_ample_memory(rt: HostRuntime) {
+    check_long_frame(&rt, rt.alloc(), 255, 9014);
+    check_long_frame(&rt, rt.alloc(), 65535, 18016);
 }

@@ -1,4 +1,5 @@
 use super::*;
+use crate::testing::long_samples;
 use std::alloc::AllocError;
 
 const NARROW: &[u8] = b"P5 300 300 255\n";
@@ -21,56 +22,30 @@ fn long_image(alloc: Global, is_wide: bool) -> Result<Vec<u8>, AllocError> {
     Ok(bytes)
 }
 
-/// That samples are the wanted ones.
-fn check_long_samples(rt: &impl Abort, samples: &[u16], maxval: u16) {
-    check(
-        rt,
-        "how many samples",
-        usize::from(maxval),
-        &samples.len(),
-        &90_000,
-    );
-    let mut sample = 0u16;
-    for (i, got) in samples.iter().enumerate() {
-        check(rt, "a sample", i, got, &(sample & maxval));
-        sample = sample.wrapping_add(7);
-    }
-}
-
 /// That the image was read, or memory was refused where it may be.
-fn check_long_image(rt: &impl Abort, memory: Memory, image: &Image, is_wide: bool) {
-    if lacks_memory(memory, image) {
-        return;
+fn check_long_image(rt: &impl Abort, memory: Memory, image: &Image, want: &Parts<'_>) {
+    if !lacks_memory(memory, image) {
+        let is_read = seen(image) == Ok(Some(*want));
+        check_so(rt, "a long image", usize::from(want.3), is_read);
     }
-    let maxval = if is_wide { 65535 } else { 255 };
-    let seen = seen(image);
-    let Ok(Some((kind, width, height, greatest, samples))) = seen else {
-        panic!(rt; "{seen:?} up to {maxval}");
-    };
-    let size = (kind, width, height, greatest);
-    check(
-        rt,
-        "its size",
-        usize::from(maxval),
-        &size,
-        &(Kind::Gray, 300, 300, maxval),
-    );
-    check_long_samples(rt, samples, maxval);
 }
 
 /// That the image is read, whole and in chunks.
 fn check_long_reads(rt: &impl Abort, alloc: Global, memory: Memory, bytes: &[u8], is_wide: bool) {
+    let maxval = if is_wide { 65535 } else { 255 };
+    let samples = long_samples::<90_000>(maxval);
+    let want = (Kind::Gray, 300, 300, maxval, samples.as_slice());
     let (image, _) = read_whole(alloc, bytes);
-    check_long_image(rt, memory, &image, is_wide);
+    check_long_image(rt, memory, &image, &want);
     let reading = read_chunks(alloc, Chunks::new(bytes, 65_535, &[]));
-    check_long_image(rt, memory, &reading.image, is_wide);
+    check_long_image(rt, memory, &reading.image, &want);
 }
 
 fn check_long_images(rt: &impl Abort, alloc: Global, memory: Memory) {
     for is_wide in [false, true] {
         match long_image(alloc, is_wide) {
             Ok(bytes) => check_long_reads(rt, alloc, memory, &bytes, is_wide),
-            Err(_) => check(rt, "no memory", 0, &memory, &Memory::Refusable),
+            Err(_) => check_so(rt, "memory", 0, memory == Memory::Refusable),
         }
     }
 }
