@@ -84,31 +84,41 @@ const MARKED: &[Take<'static>] = &[
     (b'd', 2, Ok(None), b"abcdef", 0),
 ];
 
-/// That these are taken, up to a call for which memory is refused; whether none was.
-fn are_taken(rt: &impl Abort, alloc: Global) -> bool {
-    let counted = Counted::new(Chunks::new(b"abcde", 3, &[1, 2]));
-    match Buffered::new(alloc, counted) {
-        Ok(mut reader) => check_takes(rt, alloc, &mut reader, TAKES),
-        Err(_) => false,
+/// That these are taken by a reader, which may be lent, up to a call for which memory is refused; whether none was.
+fn are_taken(
+    rt: &impl Abort,
+    alloc: Global,
+    chunks: Chunks<'_>,
+    is_lent: bool,
+    takes: &[Take<'_>],
+) -> bool {
+    let Ok(mut reader) = Buffered::new(alloc, Counted::new(chunks)) else {
+        return false;
+    };
+    if is_lent {
+        check_takes(rt, alloc, &mut &mut reader, takes)
+    } else {
+        check_takes(rt, alloc, &mut reader, takes)
     }
 }
 
 #[test]
 fn bytes_are_taken_up_to_a_mark_or_memory_is_refused(rt: HostRuntime) {
-    are_taken(&rt, rt.alloc());
+    let chunks = Chunks::new(b"abcde", 3, &[1, 2]);
+    are_taken(&rt, rt.alloc(), chunks, false, TAKES);
 }
 
 #[test]
 fn bytes_are_taken_up_to_a_mark_with_ample_memory(rt: HostRuntime) {
-    check_so(&rt, "memory", 0, are_taken(&rt, rt.alloc()));
+    let chunks = Chunks::new(b"abcde", 3, &[1, 2]);
+    let all = are_taken(&rt, rt.alloc(), chunks, false, TAKES);
+    check_so(&rt, "memory", 0, all);
 }
 
-/// The same of a reader that is lent.
 #[test]
 fn a_lent_reader_takes_as_much_with_ample_memory(rt: HostRuntime) {
-    let counted = Counted::new(Chunks::new(b"abcdef", 3, &[]));
-    let mut reader = buffered(&rt, rt.alloc(), counted);
-    let all = check_takes(&rt, rt.alloc(), &mut &mut reader, MARKED);
+    let chunks = Chunks::new(b"abcdef", 3, &[]);
+    let all = are_taken(&rt, rt.alloc(), chunks, true, MARKED);
     check_so(&rt, "memory", 1, all);
 }
 
@@ -137,8 +147,8 @@ fn check_read<'a>(
 ) -> &'a [u8] {
     let mut buf = [0u8; 1000];
     let got = read_of(reader, &mut buf, room);
-    let count = got.map_or(0, <[u8]>::len).min(bytes.len());
-    let (want, rest) = bytes.split_at(count);
+    let count = got.unwrap_or(&[]).len();
+    let (want, rest) = bytes.split_at(count.min(bytes.len()));
     check(rt, "a read", room, &got, &Some(want));
     rest
 }

@@ -7,7 +7,7 @@ use std::alloc::{AllocError, Global};
 use std::process::Abort;
 
 /// If memory may be refused, running out of it is an answer too.
-#[derive(Clone, Copy, PartialEq, Eq)]
+#[derive(Clone, Copy)]
 enum Memory {
     Ample,
     Refusable,
@@ -52,7 +52,10 @@ fn seen(image: &Image) -> Result<Option<Parts<'_>>, NetpbmFault> {
 
 /// Whether memory was refused where it may be.
 fn lacks_memory(memory: Memory, image: &Image) -> bool {
-    memory == Memory::Refusable && *image == Err(NetpbmFault::NoMemory)
+    matches!(
+        (memory, image),
+        (Memory::Refusable, Err(NetpbmFault::NoMemory))
+    )
 }
 
 /// That the wanted image or fault was read. Says whether memory was refused instead.
@@ -95,7 +98,7 @@ fn check_chunks(
     let reading = read_chunks(alloc, chunks);
     let calls = reading.chunks.calls;
     let is_read = !is_refused(rt, memory, &reading.image, want, name, calls);
-    let failures = u64::from(is_read && want == Err(NetpbmFault::Io));
+    let failures = u64::from(matches!(reading.image, Err(NetpbmFault::Io)));
     check(rt, name, calls, &reading.failures, &failures);
     if is_read && want.is_ok() {
         check(rt, name, calls, &reading.chunks.furthest, &bytes.len());

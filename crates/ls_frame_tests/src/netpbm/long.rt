@@ -12,11 +12,8 @@ fn long_image(alloc: Global, is_wide: bool) -> Result<Vec<u8>, AllocError> {
     bytes.extend_from_slice(if is_wide { WIDE } else { NARROW })?;
     let mut sample = 0u16;
     for _ in 0..90_000 {
-        let [high, low] = sample.to_be_bytes();
-        if is_wide {
-            bytes.push(high)?;
-        }
-        bytes.push(low)?;
+        let both = sample.to_be_bytes();
+        bytes.extend_from_slice(if is_wide { &both } else { &both[1..] })?;
         sample = sample.wrapping_add(7);
     }
     Ok(bytes)
@@ -45,7 +42,7 @@ fn check_long_images(rt: &impl Abort, alloc: Global, memory: Memory) {
     for is_wide in [false, true] {
         match long_image(alloc, is_wide) {
             Ok(bytes) => check_long_reads(rt, alloc, memory, &bytes, is_wide),
-            Err(_) => check_so(rt, "memory", 0, memory == Memory::Refusable),
+            Err(_) => check_so(rt, "memory", 0, matches!(memory, Memory::Refusable)),
         }
     }
 }
