@@ -205,10 +205,10 @@ fn check_marks(rt: &impl Abort, alloc: Global, bytes: &[u8], case: &(u8, usize, 
     let (limit, count, calls) = *case;
     let want = bytes.get(..count).unwrap_or(&[]);
     let mut reader = buffered(rt, alloc, Counted::new(want));
-    let mut bytes = Vec::new(alloc);
-    let got = count_takes(&mut reader, 250, limit, &mut bytes);
+    let mut taken = Vec::new(alloc);
+    let got = count_takes(&mut reader, 250, limit, &mut taken);
     check(rt, "calls", count, &got, &calls);
-    check_items(rt, "bytes", count, &bytes, want);
+    check_items(rt, "bytes", count, &taken, want);
 }
 
 #[test]
@@ -261,7 +261,7 @@ fn chunks_are_asked_for_when_they_are_wanted_with_ample_memory(rt: HostRuntime) 
     check_asked(&rt, rt.alloc(), chunks, BYTE_BY_BYTE);
 }
 
-/// The bytes taken are those handed out.
+/// After each, the bytes taken from the chunks are those handed out, but for the first.
 const BY_CHUNKS: &[Asked<'static>] = &[
     (1, Some(b"a"), 3, CHUNK),
     (CHUNK, Some(b"bc"), 3, CHUNK),

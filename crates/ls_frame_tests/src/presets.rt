@@ -6,7 +6,7 @@ use std::process::Abort;
 /// MAXVAL, bpp, qbpp, LIMIT, T1, T2, T3.
 type Row = (u16, u32, u32, u32, u16, u16, u16);
 
-const DEFAULTS: [Row; 10] = [
+const DEFAULTS: &[Row] = &[
     (1, 2, 1, 20, 1, 1, 1),
     (2, 2, 2, 20, 2, 2, 2),
     (3, 2, 2, 20, 2, 3, 3),
@@ -53,7 +53,7 @@ fn check_defaults(rt: &impl Abort, row: &Row) {
 
 #[test]
 fn the_defaults_follow_from_maxval(rt: HostRuntime) {
-    for row in &DEFAULTS {
+    for row in DEFAULTS {
         check_defaults(&rt, row);
     }
 }

@@ -2,7 +2,7 @@ use crate::testing::{check, check_samples};
 use ls_frame::{FrameFault, FrameView, Kind, Place, Samples};
 use std::process::Abort;
 
-/// Rows of bytes by their maxval, and why they make no view of one row.
+/// A maxval and a row of bytes, and why they make no view of one row.
 type Row<'a> = (u16, &'a [u8], Option<FrameFault>);
 
 const ROWS: &[Row<'static>] = &[
