@@ -12,58 +12,58 @@ fn buffered<R: Read + Drop>(rt: &impl Abort, alloc: Global, inner: R) -> Buffere
     Buffered::new(alloc, inner).expect(rt, "memory for a chunk")
 }
 
-/// A call of `feed` with room for so many: what it gives, its bytes, and how many calls failed by then.
-type Step = (usize, Result<usize, Failed>, &'static [u8], u64);
+/// What a call of `feed` gives, its bytes, and how many calls failed by then.
+type Fed<'a> = (Result<usize, Failed>, &'a [u8], u64);
+
+/// A call of `feed` with room for so many, and what it gives.
+type Step = (usize, Fed<'static>);
 
 /// Of five bytes three are taken at once; the second chunk fails twice, and the third time gives the others.
-const STEPS: [Step; 9] = [
-    (1, Ok(1), b"a", 0),
-    (0, Ok(0), b"", 0),
-    (2, Ok(2), b"bc", 0),
-    (2, Err(BROKEN), b"", 1),
-    (2, Err(BROKEN), b"", 2),
-    (1, Ok(1), b"d", 2),
-    (4, Ok(1), b"e", 2),
-    (4, Ok(0), b"", 2),
-    (1, Ok(0), b"", 2),
+const STEPS: &[Step] = &[
+    (1, (Ok(1), b"a", 0)),
+    (0, (Ok(0), b"", 0)),
+    (2, (Ok(2), b"bc", 0)),
+    (2, (Err(BROKEN), b"", 1)),
+    (2, (Err(BROKEN), b"", 2)),
+    (1, (Ok(1), b"d", 2)),
+    (4, (Ok(1), b"e", 2)),
+    (4, (Ok(0), b"", 2)),
+    (1, (Ok(0), b"", 2)),
 ];
+
+/// A call of `feed` with room for so many.
+fn fed<'a>(reader: &mut impl Feed, buf: &'a mut [u8; 4], room: usize) -> Fed<'a> {
+    let got = reader.feed(&mut buf[..room.min(4)]);
+    (got, &buf[..got.unwrap_or(0).min(4)], reader.failures())
+}
 
 /// That the calls of `feed` give this.
 fn check_feeds(rt: &impl Abort, reader: &mut impl Feed, steps: &[Step]) {
-    for (at, step) in steps.iter().enumerate() {
-        check_feed(rt, reader, at, step);
-    }
-}
-
-fn check_feed(rt: &impl Abort, reader: &mut impl Feed, at: usize, step: &Step) {
-    let (room, want, bytes, failures) = *step;
     let mut buf = [0u8; 4];
-    let got = reader.feed(buf.get_mut(..room).unwrap_or(&mut []));
-    let got = (got, reader.failures());
-    check(rt, "a feed, and failures", at, &got, &(want, failures));
-    let got = buf.get(..bytes.len()).unwrap_or(&[]);
-    check_items(rt, "its bytes", at, got, bytes);
+    for (at, (room, want)) in steps.iter().enumerate() {
+        check(rt, "a feed", at, &fed(reader, &mut buf, *room), want);
+    }
 }
 
 #[test]
 fn bytes_go_out_before_a_failure_shows_with_ample_memory(rt: HostRuntime) {
     let chunks = Chunks::new(b"abcde", 3, &[1, 2]);
     let mut reader = Counted::new(buffered(&rt, rt.alloc(), chunks));
-    check_feeds(&rt, &mut reader, &STEPS);
+    check_feeds(&rt, &mut reader, STEPS);
 }
 
 #[test]
 fn failures_below_are_counted_with_ample_memory(rt: HostRuntime) {
     let counted = Counted::new(Chunks::new(b"abcde", 3, &[1, 2]));
     let mut reader = buffered(&rt, rt.alloc(), counted);
-    check_feeds(&rt, &mut reader, &STEPS);
+    check_feeds(&rt, &mut reader, STEPS);
     let last = reader.get_ref().last_failure();
     check(&rt, "the last failure", 0, &last, &Some(BROKEN));
 }
 
 /// Of five bytes three are taken at once; the second chunk fails twice, and the third time gives the others. A mark
 /// stands in a chunk, in none, and at the end of one.
-const TAKES: [Take<'static>; 8] = [
+const TAKES: &[Take<'static>] = &[
     (b'x', 1, Ok(Some(b'a')), b"a", 0),
     (b'b', 9, Ok(Some(b'b')), b"ab", 0),
     (b'd', 9, Ok(Some(b'c')), b"abc", 0),
@@ -75,7 +75,7 @@ const TAKES: [Take<'static>; 8] = [
 ];
 
 /// Of six bytes three are taken at once. A mark stands at the front of a chunk, and in neither part of one.
-const MARKED: [Take<'static>; 6] = [
+const MARKED: &[Take<'static>] = &[
     (b'd', 2, Ok(Some(b'b')), b"ab", 0),
     (b'd', 9, Ok(Some(b'c')), b"abc", 0),
     (b'd', 9, Ok(Some(b'd')), b"abcd", 0),
@@ -84,28 +84,41 @@ const MARKED: [Take<'static>; 6] = [
     (b'd', 2, Ok(None), b"abcdef", 0),
 ];
 
-#[test]
-fn bytes_are_taken_up_to_a_mark_or_memory_is_refused(rt: HostRuntime) {
-    let counted = Counted::new(Chunks::new(b"abcde", 3, &[1, 2]));
-    if let Ok(mut reader) = Buffered::new(rt.alloc(), counted) {
-        check_takes(&rt, rt.alloc(), &mut reader, &TAKES);
+/// That these are taken by a reader, which may be lent, up to a call for which memory is refused; whether none was.
+fn are_taken(
+    rt: &impl Abort,
+    alloc: Global,
+    chunks: Chunks<'_>,
+    is_lent: bool,
+    takes: &[Take<'_>],
+) -> bool {
+    let Ok(mut reader) = Buffered::new(alloc, Counted::new(chunks)) else {
+        return false;
+    };
+    if is_lent {
+        check_takes(rt, alloc, &mut &mut reader, takes)
+    } else {
+        check_takes(rt, alloc, &mut reader, takes)
     }
 }
 
 #[test]
+fn bytes_are_taken_up_to_a_mark_or_memory_is_refused(rt: HostRuntime) {
+    let chunks = Chunks::new(b"abcde", 3, &[1, 2]);
+    are_taken(&rt, rt.alloc(), chunks, false, TAKES);
+}
+
+#[test]
 fn bytes_are_taken_up_to_a_mark_with_ample_memory(rt: HostRuntime) {
-    let counted = Counted::new(Chunks::new(b"abcde", 3, &[1, 2]));
-    let mut reader = buffered(&rt, rt.alloc(), counted);
-    let all = check_takes(&rt, rt.alloc(), &mut reader, &TAKES);
+    let chunks = Chunks::new(b"abcde", 3, &[1, 2]);
+    let all = are_taken(&rt, rt.alloc(), chunks, false, TAKES);
     check_so(&rt, "memory", 0, all);
 }
 
-/// The same of a reader that is lent.
 #[test]
 fn a_lent_reader_takes_as_much_with_ample_memory(rt: HostRuntime) {
-    let counted = Counted::new(Chunks::new(b"abcdef", 3, &[]));
-    let mut reader = buffered(&rt, rt.alloc(), counted);
-    let all = check_takes(&rt, rt.alloc(), &mut &mut reader, &MARKED);
+    let chunks = Chunks::new(b"abcdef", 3, &[]);
+    let all = are_taken(&rt, rt.alloc(), chunks, true, MARKED);
     check_so(&rt, "memory", 1, all);
 }
 
@@ -118,23 +131,33 @@ fn numbered() -> [u8; 3 * CHUNK] {
     bytes
 }
 
-/// That a call with room for so many gives the first of these bytes; how many.
-fn check_read(rt: &impl Abort, reader: &mut impl Read, rest: &[u8], room: usize) -> usize {
+/// The bytes that a read with room for so many gives, unless it fails.
+fn read_of<'a>(reader: &mut impl Read, buf: &'a mut [u8], room: usize) -> Option<&'a [u8]> {
+    let room = room.min(buf.len());
+    let count = reader.read(&mut buf[..room]).ok()?;
+    buf.get(..count)
+}
+
+/// That a read with room for so many gives the first of these bytes; those after them.
+fn check_read<'a>(
+    rt: &impl Abort,
+    reader: &mut impl Read,
+    bytes: &'a [u8],
+    room: usize,
+) -> &'a [u8] {
     let mut buf = [0u8; 1000];
-    let Ok(count) = reader.read(buf.get_mut(..room).unwrap_or(&mut [])) else {
-        panic!(rt; "a read failed");
-    };
-    let want = rest.get(..count).unwrap_or(&[]);
-    check_items(rt, "bytes", room, buf.get(..count).unwrap_or(&[]), want);
-    count
+    let got = read_of(reader, &mut buf, room);
+    let count = got.unwrap_or(&[]).len();
+    let (want, rest) = bytes.split_at(count.min(bytes.len()));
+    check(rt, "a read", room, &got, &Some(want));
+    rest
 }
 
 /// That a reader gives all of these bytes and no more, by calls with room for so many.
 fn check_all(rt: &impl Abort, reader: &mut impl Read, bytes: &[u8], room: usize) {
     let mut rest = bytes;
     for _ in 0..bytes.len() {
-        let count = check_read(rt, reader, rest, room);
-        rest = rest.get(count..).unwrap_or(&[]);
+        rest = check_read(rt, reader, rest, room);
     }
     check(rt, "bytes left", room, &rest.len(), &0);
 }
@@ -162,98 +185,100 @@ fn count_takes<R: Feed>(reader: &mut R, mark: u8, limit: u8, bytes: &mut Vec<u8>
     CHUNK
 }
 
-/// Each number of a place but the last ends a run of 251 bytes; a chunk's end cuts one in two. A 0 follows each mark.
+/// The limit and how many of the bytes there are, and how many calls take them. Each number of a place but the last
+/// ends a run of 251 bytes; a chunk's end cuts one in two. A 0 follows each mark.
+const MARKS: &[(u8, usize, usize)] = &[
+    (0, 0, 0),
+    (0, 251, 1),
+    (0, 252, 2),
+    (0, CHUNK, 262),
+    (0, CHUNK + 251, 264),
+    (1, 0, 0),
+    (1, 251, 1),
+    (1, 252, 1),
+    (1, CHUNK, 1),
+    (1, CHUNK + 251, 2),
+];
+
+/// That so many calls take the first of these bytes.
+fn check_marks(rt: &impl Abort, alloc: Global, bytes: &[u8], case: &(u8, usize, usize)) {
+    let (limit, count, calls) = *case;
+    let want = bytes.get(..count).unwrap_or(&[]);
+    let mut reader = buffered(rt, alloc, Counted::new(want));
+    let mut taken = Vec::new(alloc);
+    let got = count_takes(&mut reader, 250, limit, &mut taken);
+    check(rt, "calls", count, &got, &calls);
+    check_items(rt, "bytes", count, &taken, want);
+}
+
 #[test]
 fn chunks_join_by_marks_with_ample_memory(rt: HostRuntime) {
     let numbered = numbered();
-    for (count, calls) in [(0, 0), (251, 1), (252, 2), (CHUNK, 262), (CHUNK + 251, 264)] {
-        check_marks(&rt, rt.alloc(), &numbered[..count], 0, calls);
-    }
-    for (count, calls) in [(0, 0), (251, 1), (252, 1), (CHUNK, 1), (CHUNK + 251, 2)] {
-        check_marks(&rt, rt.alloc(), &numbered[..count], 1, calls);
+    for case in MARKS {
+        check_marks(&rt, rt.alloc(), &numbered, case);
     }
 }
 
-/// That so many calls take all of these bytes.
-fn check_marks(rt: &impl Abort, alloc: Global, want: &[u8], limit: u8, calls: usize) {
-    let mut reader = buffered(rt, alloc, Counted::new(want));
-    let mut bytes = Vec::new(alloc);
-    let got = count_takes(&mut reader, 250, limit, &mut bytes);
-    check(rt, "calls", want.len(), &got, &calls);
-    check_items(rt, "bytes", want.len(), &bytes, want);
+/// A read with this room: its bytes, and then how many bytes were taken from the chunks, and the farthest that there
+/// was room for.
+type Asked<'a> = (usize, Option<&'a [u8]>, usize, usize);
+
+fn asked<'a>(reader: &mut Buffered<Chunks<'_>>, buf: &'a mut [u8], room: usize) -> Asked<'a> {
+    let bytes = read_of(reader, buf, room);
+    let chunks = reader.get_ref();
+    (room, bytes, chunks.given, chunks.furthest)
 }
 
-/// A chunk is asked for whole, and none before its bytes are wanted.
-#[test]
-fn chunks_are_asked_for_when_they_are_wanted_with_ample_memory(rt: HostRuntime) {
-    // By the number of reads: the bytes taken then, and the farthest that there was room for.
-    let taken = [
-        (0, 0),
-        (4, CHUNK),
-        (4, CHUNK),
-        (4, CHUNK),
-        (4, CHUNK),
-        (5, CHUNK + 4),
-    ];
-    for (reads, (given, furthest)) in taken.iter().enumerate() {
-        let mut chunks = Chunks::new(b"abcde", 4, &[]);
-        check_bytes(&rt, &mut buffered(&rt, rt.alloc(), &mut chunks), reads);
-        let got = (chunks.given, chunks.furthest);
-        check(
-            &rt,
-            "bytes taken, and room",
-            reads,
-            &got,
-            &(*given, *furthest),
-        );
-    }
-}
-
-/// That so many reads of a byte give one each.
-fn check_bytes(rt: &impl Abort, reader: &mut impl Read, reads: usize) {
-    let mut buf = [0u8; 1];
-    for at in 0..reads {
-        check(rt, "a read", at, &reader.read(&mut buf).ok(), &Some(1));
-    }
-}
-
-/// Reads with room for a whole chunk, after that of a byte: how many bytes each gives, and which.
-const READS: [(usize, &[u8]); 4] = [(2, b"bc"), (3, b"def"), (1, b"g"), (0, b"")];
-
-/// That a reader gives a byte, and then this by reads with room for a whole chunk.
-fn check_reads(rt: &impl Abort, reader: &mut impl Read, reads: &[(usize, &[u8])]) {
-    let mut room = [0u8; CHUNK];
-    check_bytes(rt, reader, 1);
-    for (at, (count, bytes)) in reads.iter().enumerate() {
+/// That a buffered reader of these chunks asks for none at first, and then so.
+fn check_asked(rt: &impl Abort, alloc: Global, chunks: Chunks<'_>, reads: &[Asked<'_>]) {
+    let mut reader = buffered(rt, alloc, chunks);
+    let mut buf = [0u8; CHUNK];
+    let first = (reader.get_ref().given, reader.get_ref().furthest);
+    check(rt, "before any read", 0, &first, &(0, 0));
+    for (at, want) in reads.iter().enumerate() {
         check(
             rt,
             "a read",
             at,
-            &reader.read(&mut room).ok(),
-            &Some(*count),
+            &asked(&mut reader, &mut buf, want.0),
+            want,
         );
-        check_items(rt, "bytes", at, room.get(..*count).unwrap_or(&[]), bytes);
     }
 }
+
+const BYTE_BY_BYTE: &[Asked<'static>] = &[
+    (1, Some(b"a"), 4, CHUNK),
+    (1, Some(b"b"), 4, CHUNK),
+    (1, Some(b"c"), 4, CHUNK),
+    (1, Some(b"d"), 4, CHUNK),
+    (1, Some(b"e"), 5, CHUNK + 4),
+];
+
+/// A chunk is asked for whole, and none before its bytes are wanted.
+#[test]
+fn chunks_are_asked_for_when_they_are_wanted_with_ample_memory(rt: HostRuntime) {
+    let chunks = Chunks::new(b"abcde", 4, &[]);
+    check_asked(&rt, rt.alloc(), chunks, BYTE_BY_BYTE);
+}
+
+/// After each, the bytes taken from the chunks are those handed out, but for the first.
+const BY_CHUNKS: &[Asked<'static>] = &[
+    (1, Some(b"a"), 3, CHUNK),
+    (CHUNK, Some(b"bc"), 3, CHUNK),
+    (CHUNK, Some(b"def"), 6, CHUNK + 3),
+    (CHUNK, Some(b"g"), 7, CHUNK + 6),
+    (CHUNK, Some(b""), 7, CHUNK + 7),
+];
 
 /// Room for a whole chunk is handed on, once the chunk before was handed out.
 #[test]
 fn room_for_a_chunk_is_handed_on_with_ample_memory(rt: HostRuntime) {
-    // By the number of these reads that are done: the bytes handed out then, with the one before, which are all that
-    // were taken.
-    for (done, handed_out) in [(1, 3), (2, 6), (3, 7), (4, 7)] {
-        let mut chunks = Chunks::new(b"abcdefg", 3, &[]);
-        check_reads(
-            &rt,
-            &mut buffered(&rt, rt.alloc(), &mut chunks),
-            &READS[..done],
-        );
-        check(&rt, "bytes taken", done, &chunks.given, &handed_out);
-    }
+    let chunks = Chunks::new(b"abcdefg", 3, &[]);
+    check_asked(&rt, rt.alloc(), chunks, BY_CHUNKS);
 }
 
 /// How many of the six bytes `abcdef` are taken, what is put back then, and what is left after that.
-const PUT_BACK: [(usize, &[u8], &[u8]); 6] = [
+const PUT_BACK: &[(usize, &[u8], &[u8])] = &[
     (0, b"", b"abcdef"),
     (0, b"xy", b"xyabcdef"),
     (2, b"ab", b"abcdef"),
@@ -264,18 +289,28 @@ const PUT_BACK: [(usize, &[u8], &[u8]); 6] = [
 
 /// That this is left after bytes were taken and others put back.
 fn check_put_back(rt: &impl Abort, alloc: Global, case: &(usize, &[u8], &[u8])) {
-    let (taken, back, want) = *case;
     let mut reader = buffered(rt, alloc, Chunks::new(b"abcdef", 4, &[]));
-    for at in 0..taken {
-        check_read(rt, &mut reader, b"abcdef".get(at..).unwrap_or(&[]), 1);
+    check_left(rt, alloc, &mut reader, case);
+}
+
+fn check_left(
+    rt: &impl Abort,
+    alloc: Global,
+    reader: &mut Buffered<Chunks<'_>>,
+    case: &(usize, &[u8], &[u8]),
+) {
+    let (taken, back, want) = *case;
+    let mut rest = b"abcdef".as_slice();
+    for _ in 0..taken {
+        rest = check_read(rt, reader, rest, 1);
     }
     check_so(rt, "memory", taken, reader.put_back(alloc, back).is_ok());
-    check_all(rt, &mut reader, want, 4);
+    check_all(rt, reader, want, 4);
 }
 
 #[test]
 fn bytes_are_put_back_with_ample_memory(rt: HostRuntime) {
-    for case in &PUT_BACK {
+    for case in PUT_BACK {
         check_put_back(&rt, rt.alloc(), case);
     }
 }

@@ -2,6 +2,7 @@ use crate::testing::{
     BROKEN, Chunks, Mishap, Sink, Take, check, check_items, check_so, check_takes,
 };
 use ls_frame::{Counted, Failed, Feed, FeedFault, Outlet};
+use std::alloc::Global;
 use std::io;
 use std::io::{Read, Write};
 use std::process::Abort;
@@ -25,7 +26,7 @@ fn a_failure_keeps_its_kind_and_the_number_of_the_system(rt: HostRuntime) {
 /// What a feed answers, the first bytes of the buffer then, how many feeds failed by then, and the last failure.
 type Fed = (Result<usize, Failed>, [u8; 2], u64, Option<Failed>);
 
-const FEEDS: [Fed; 7] = [
+const FEEDS: &[Fed] = &[
     (Ok(2), [b'a', b'b'], 0, None),
     (Err(BROKEN), [b'a', b'b'], 1, Some(BROKEN)),
     (Err(BROKEN), [b'a', b'b'], 2, Some(BROKEN)),
@@ -58,7 +59,7 @@ fn failed_feeds_are_counted_one_by_one_and_the_last_is_kept(rt: HostRuntime) {
 }
 
 /// Where a reader doesn't say otherwise, a byte is taken at a time; of these three the second read fails.
-const TAKES: [Take<'static>; 6] = [
+const TAKES: &[Take<'static>] = &[
     (b'x', 9, Ok(Some(b'a')), b"a", 0),
     (b'b', 9, Err(FeedFault::Io), b"a", 1),
     (b'b', 9, Ok(Some(b'b')), b"ab", 1),
@@ -67,17 +68,20 @@ const TAKES: [Take<'static>; 6] = [
     (b'x', 1, Ok(None), b"abc", 1),
 ];
 
+/// That these are taken, up to a call for which memory is refused; whether none was.
+fn are_taken(rt: &impl Abort, alloc: Global) -> bool {
+    let mut reader = Counted::new(Chunks::new(b"abc", 2, &[1]));
+    check_takes(rt, alloc, &mut reader, TAKES)
+}
+
 #[test]
 fn bytes_are_taken_one_by_one_or_memory_is_refused(rt: HostRuntime) {
-    let mut reader = Counted::new(Chunks::new(b"abc", 2, &[1]));
-    check_takes(&rt, rt.alloc(), &mut reader, &TAKES);
+    are_taken(&rt, rt.alloc());
 }
 
 #[test]
 fn bytes_are_taken_one_by_one_with_ample_memory(rt: HostRuntime) {
-    let mut reader = Counted::new(Chunks::new(b"abc", 2, &[1]));
-    let all = check_takes(&rt, rt.alloc(), &mut reader, &TAKES);
-    check_so(&rt, "memory", 0, all);
+    check_so(&rt, "memory", 0, are_taken(&rt, rt.alloc()));
 }
 
 /// What a give answers, how many gives failed by then, and the last failure.
@@ -89,22 +93,30 @@ fn given(writer: &mut Counted<Sink<'_>>, bytes: &[u8]) -> Given {
     (answer, Outlet::failures(writer), writer.last_failure())
 }
 
-/// Steps of a writer that takes two bytes a call, and whose calls 1, 2 and 4 go wrong.
+/// Gives to a writer that takes two bytes a call, and whose calls 1, 2 and 4 go wrong: the bytes, how many are taken if
+/// the call doesn't go wrong, and how many gives failed by then.
+const GIVES: &[(&[u8], Option<usize>, u64)] = &[
+    (b"abc", Some(2), 0),
+    (b"c", None, 1),
+    (b"cde", None, 2),
+    (b"c", Some(1), 2),
+    (b"d", None, 3),
+    (b"", Some(0), 3),
+    (b"de", Some(2), 3),
+];
+
+/// That the writer answers so; the calls that go wrong fail so.
+fn check_each_give(rt: &impl Abort, writer: &mut Counted<Sink<'_>>, failed: Failed) {
+    for (i, (bytes, taken, failures)) in GIVES.iter().enumerate() {
+        let last = if *failures == 0 { None } else { Some(failed) };
+        let want = (taken.ok_or(failed), *failures, last);
+        check(rt, "a give", i, &given(writer, bytes), &want);
+    }
+}
+
 fn check_gives(rt: &impl Abort, mishap: Mishap, failed: Failed) {
     let mut writer = Counted::new(Sink::new(2, &[1, 2, 4], mishap));
-    let last = Some(failed);
-    let steps: [(&[u8], Given); 7] = [
-        (b"abc", (Ok(2), 0, None)),
-        (b"c", (Err(failed), 1, last)),
-        (b"cde", (Err(failed), 2, last)),
-        (b"c", (Ok(1), 2, last)),
-        (b"d", (Err(failed), 3, last)),
-        (b"", (Ok(0), 3, last)),
-        (b"de", (Ok(2), 3, last)),
-    ];
-    for (i, (bytes, want)) in steps.iter().enumerate() {
-        check(rt, "a give", i, &given(&mut writer, bytes), want);
-    }
+    check_each_give(rt, &mut writer, failed);
     let sink = writer.into_inner();
     check_items(rt, "all bytes", 0, sink.written(), b"abcde");
     check(rt, "calls", 0, &sink.calls, &7);
@@ -116,46 +128,82 @@ fn failed_gives_are_counted_one_by_one_and_the_last_is_kept(rt: HostRuntime) {
     check_gives(&rt, Mishap::TakesNothing, NOTHING);
 }
 
-/// A plain read.
-fn read<R: Read>(reader: &mut R, buf: &mut [u8]) -> Result<usize, io::ErrorKind> {
-    reader.read(buf).map_err(|e| e.kind())
+/// What a plain read or write answers.
+type Plain = Result<usize, io::ErrorKind>;
+
+fn plain(answer: io::Result<usize>) -> Plain {
+    match answer {
+        Ok(count) => Ok(count),
+        Err(error) => Err(error.kind()),
+    }
+}
+
+/// A plain read into this buffer, and the buffer then.
+fn read(reader: &mut Counted<Chunks<'_>>, buf: &mut [u8; 2]) -> (Plain, [u8; 2]) {
+    (plain(reader.read(buf)), *buf)
+}
+
+/// A feed, three plain reads, and how many feeds failed.
+type FedAndRead = (Result<usize, Failed>, [(Plain, [u8; 2]); 3], u64);
+
+fn fed_and_read(reader: &mut Counted<Chunks<'_>>) -> FedAndRead {
+    let mut buf = [0u8; 2];
+    (
+        reader.feed(&mut buf),
+        [
+            read(reader, &mut buf),
+            read(reader, &mut buf),
+            read(reader, &mut buf),
+        ],
+        Feed::failures(reader),
+    )
 }
 
 #[test]
 fn plain_reads_are_handed_on_and_not_counted(rt: HostRuntime) {
-    let broken = Err(io::ErrorKind::BrokenPipe);
     let mut reader = Counted::new(Chunks::new(b"abc", 2, &[0, 2]));
-    let mut buf = [0u8; 2];
-    check(&rt, "a feed", 0, &reader.feed(&mut buf), &Err(BROKEN));
-    check(&rt, "a read", 1, &read(&mut reader, &mut buf), &Ok(2));
-    check_items(&rt, "its bytes", 1, &buf, b"ab");
-    check(&rt, "a read", 2, &read(&mut reader, &mut buf), &broken);
-    check(&rt, "a read", 3, &read(&mut reader, &mut buf), &Ok(1));
-    check_items(&rt, "its bytes", 3, &buf, b"cb");
-    check(&rt, "failures", 0, &Feed::failures(&reader), &1);
+    let reads = [
+        (Ok(2), [b'a', b'b']),
+        (Err(io::ErrorKind::BrokenPipe), [b'a', b'b']),
+        (Ok(1), [b'c', b'b']),
+    ];
+    let got = fed_and_read(&mut reader);
+    check(&rt, "a feed and reads", 0, &got, &(Err(BROKEN), reads, 1));
 }
 
 /// A plain write.
-fn write<W: Write>(writer: &mut W, bytes: &[u8]) -> Result<usize, io::ErrorKind> {
-    writer.write(bytes).map_err(|e| e.kind())
+fn write(writer: &mut Counted<Sink<'_>>, bytes: &[u8]) -> Plain {
+    plain(writer.write(bytes))
 }
 
-/// A writer whose first call of `give`, later call of `write` and second call of `flush` go wrong, the write so.
-fn check_plain_writes(
-    rt: &impl Abort,
-    mishap: Mishap,
-    failed: Failed,
-    want: Result<usize, io::ErrorKind>,
-) {
+/// Whether a flush succeeds.
+fn flush(writer: &mut Counted<Sink<'_>>) -> bool {
+    writer.flush().is_ok()
+}
+
+/// A give, three plain writes, three flushes, and how many gives failed.
+type GivenAndWritten = (Result<usize, Failed>, [Plain; 3], [bool; 3], u64);
+
+fn given_and_written(writer: &mut Counted<Sink<'_>>) -> GivenAndWritten {
+    (
+        writer.give(b"abc"),
+        [
+            write(writer, b"abc"),
+            write(writer, b"c"),
+            write(writer, b"c"),
+        ],
+        [flush(writer), flush(writer), flush(writer)],
+        Outlet::failures(writer),
+    )
+}
+
+/// A writer whose calls 0 and 2 go wrong, of `give` and `write` together and of `flush`.
+fn check_plain_writes(rt: &impl Abort, mishap: Mishap, failed: Failed, wrong: Plain) {
     let mut writer = Counted::new(Sink::new(2, &[0, 2], mishap));
-    check(rt, "a give", 0, &writer.give(b"abc"), &Err(failed));
-    check(rt, "a write", 1, &write(&mut writer, b"abc"), &Ok(2));
-    check(rt, "a write", 2, &write(&mut writer, b"c"), &want);
-    check(rt, "a write", 3, &write(&mut writer, b"c"), &Ok(1));
-    for (call, is_done) in [(0, false), (1, true), (2, false)] {
-        check_so(rt, "a flush", call, writer.flush().is_ok() == is_done);
-    }
-    check(rt, "failures", 0, &Outlet::failures(&writer), &1);
+    let got = given_and_written(&mut writer);
+    let writes = [Ok(2), wrong, Ok(1)];
+    let want = (Err(failed), writes, [false, true, false], 1);
+    check(rt, "a give, writes and flushes", 0, &got, &want);
     let sink = writer.into_inner();
     check_items(rt, "all bytes", 0, sink.written(), b"abc");
     check(rt, "flushes", 0, &sink.flushes, &3);
@@ -168,14 +216,25 @@ fn plain_writes_and_flushes_are_handed_on_and_not_counted(rt: HostRuntime) {
     check_plain_writes(&rt, Mishap::TakesNothing, NOTHING, Ok(0));
 }
 
+/// What a feed of bytes in memory answers, the buffer then, how many bytes are left, and how many feeds failed.
+type FedOfMemory = (Result<usize, Failed>, [u8; 2], usize, u64);
+
+const FEEDS_OF_MEMORY: &[FedOfMemory] = &[
+    (Ok(2), [b'a', b'b'], 1, 0),
+    (Ok(1), [b'c', b'b'], 0, 0),
+    (Ok(0), [b'c', b'b'], 0, 0),
+];
+
+fn fed_of_memory(rest: &mut &[u8], buf: &mut [u8; 2]) -> FedOfMemory {
+    let answer = rest.feed(buf);
+    (answer, *buf, rest.len(), rest.failures())
+}
+
 #[test]
 fn bytes_in_memory_never_fail(rt: HostRuntime) {
     let mut rest = b"abc".as_slice();
     let mut buf = [0u8; 2];
-    for (want, bytes, left) in [(2, b"ab", 1), (1, b"cb", 0), (0, b"cb", 0)] {
-        check(&rt, "a feed", left, &rest.feed(&mut buf), &Ok(want));
-        check_items(&rt, "its bytes", left, &buf, bytes);
-        check(&rt, "bytes left", left, &rest.len(), &left);
-        check(&rt, "failures", left, &rest.failures(), &0);
+    for (i, want) in FEEDS_OF_MEMORY.iter().enumerate() {
+        check(&rt, "a feed", i, &fed_of_memory(&mut rest, &mut buf), want);
     }
 }

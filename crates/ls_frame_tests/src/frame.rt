@@ -1,9 +1,12 @@
-use crate::testing::{Parts, check, check_items, check_samples, frame_of};
+use crate::testing::{Parts, check, check_items, check_samples, frame_of, parts_of};
 use ls_frame::{Frame, FrameFault, FrameView, Kind, Samples};
 use std::alloc::{AllocError, Global};
 use std::process::Abort;
 
-const REFUSED: [(Parts<'static>, FrameFault); 10] = [
+/// Parts that make no frame, and why not.
+type Refused<'a> = (Parts<'a>, FrameFault);
+
+const REFUSED: &[Refused<'static>] = &[
     ((Kind::Gray, 0, 1, 0, &[]), FrameFault::ZeroSize),
     ((Kind::Gray, 1, 0, 0, &[]), FrameFault::ZeroSize),
     (
@@ -28,73 +31,50 @@ const REFUSED: [(Parts<'static>, FrameFault); 10] = [
     ),
 ];
 
-/// That parts make no frame for this reason, and that their samples come back.
-fn check_refused(rt: &impl Abort, alloc: Global, i: usize, parts: &Parts<'_>, want: FrameFault) {
-    let (kind, width, height, maxval, samples) = *parts;
-    check_view_refused(rt, i, parts, want);
+/// That parts make no frame for their reason, and that their samples come back.
+fn check_refused(rt: &impl Abort, alloc: Global, i: usize, refused: &Refused<'_>) {
+    let ((kind, width, height, maxval, samples), want) = *refused;
+    check_view_refused(rt, i, refused);
     let Ok(given) = samples.to_vec(alloc) else {
         return;
     };
-    match Frame::new(kind, width, height, maxval, given) {
-        Ok(_) => panic!(rt; "parts {i} make a frame"),
-        Err((fault, returned)) => check(
-            rt,
-            "a fault, and the samples",
-            i,
-            &(fault, returned.as_slice()),
-            &(want, samples),
-        ),
-    }
+    let made = Frame::new(kind, width, height, maxval, given);
+    let (fault, returned) = made.expect_err(rt, "parts that make a frame");
+    check(rt, "a fault", i, &fault, &want);
+    check_items(rt, "the samples", i, &returned, samples);
 }
 
 /// That parts make no view either, for the same reason.
-fn check_view_refused(rt: &impl Abort, i: usize, parts: &Parts<'_>, want: FrameFault) {
-    let (kind, width, height, maxval, samples) = *parts;
-    match FrameView::new(kind, width, height, maxval, Samples::Words(samples)) {
-        Ok(_) => panic!(rt; "parts {i} make a view"),
-        Err(fault) => check(rt, "a view's fault", i, &fault, &want),
-    }
+fn check_view_refused(rt: &impl Abort, i: usize, refused: &Refused<'_>) {
+    let ((kind, width, height, maxval, samples), want) = *refused;
+    let made = FrameView::new(kind, width, height, maxval, Samples::Words(samples));
+    check(rt, "a view's fault", i, &made.err(), &Some(want));
 }
 
 #[test]
 fn the_first_fault_is_named_and_the_samples_come_back(rt: HostRuntime) {
-    for (i, (parts, want)) in REFUSED.iter().enumerate() {
-        check_refused(&rt, rt.alloc(), i, parts, *want);
+    for (i, refused) in REFUSED.iter().enumerate() {
+        check_refused(&rt, rt.alloc(), i, refused);
     }
 }
 
-const FRAMES: [Parts<'static>; 4] = [
+const FRAMES: &[Parts<'static>] = &[
     (Kind::Gray, 1, 1, 1, &[0]),
     (Kind::Gray, 2, 1, 7, &[7, 7]),
     (Kind::Gray, 2, 3, 65535, &[0, 1, 255, 256, 65534, 65535]),
     (Kind::Color, 2, 1, 9, &[1, 2, 3, 4, 5, 6]),
 ];
 
-/// That a frame has these parts.
+/// That a frame has these parts, and its view too.
 fn check_parts(rt: &impl Abort, i: usize, frame: &Frame, parts: &Parts<'_>) {
+    check(rt, "the parts", i, &parts_of(frame), parts);
     let (kind, width, height, maxval, samples) = *parts;
-    check(rt, "the kind", i, &frame.kind(), &kind);
-    check(rt, "the width", i, &frame.width(), &width);
-    check(rt, "the height", i, &frame.height(), &height);
-    check(rt, "maxval", i, &frame.maxval(), &maxval);
-    check_items(rt, "the samples", i, frame.samples(), samples);
-    check_view(rt, i, &frame.view(), parts);
-}
-
-/// That a view has these parts.
-fn check_view(rt: &impl Abort, i: usize, view: &FrameView<'_>, parts: &Parts<'_>) {
-    let (kind, width, height, maxval, samples) = *parts;
-    check(rt, "the view's kind", i, &view.kind(), &kind);
-    check(rt, "its width", i, &view.width(), &width);
-    check(rt, "its height", i, &view.height(), &height);
-    check(rt, "its maxval", i, &view.maxval(), &maxval);
-    check_samples(
-        rt,
-        "its samples",
-        i,
-        view.samples(),
-        Samples::Words(samples),
-    );
+    let view = frame.view();
+    let got = (view.kind(), view.width(), view.height(), view.maxval());
+    let want = (kind, width, height, maxval);
+    check(rt, "the view's kind, size and maxval", i, &got, &want);
+    let want = Samples::Words(samples);
+    check_samples(rt, "its samples", i, view.samples(), want);
 }
 
 #[test]
@@ -106,7 +86,10 @@ fn a_frame_has_the_parts_that_it_was_made_of(rt: HostRuntime) {
     }
 }
 
-const PAIRS: [(Parts<'static>, Parts<'static>, bool); 7] = [
+/// Parts of two frames, and whether these are equal.
+type Pair<'a> = (Parts<'a>, Parts<'a>, bool);
+
+const PAIRS: &[Pair<'static>] = &[
     (
         (Kind::Gray, 2, 1, 7, &[1, 2]),
         (Kind::Gray, 2, 1, 7, &[1, 2]),
@@ -156,12 +139,16 @@ fn are_equal(
     Ok((left == right, right == left))
 }
 
+fn check_pair(rt: &impl Abort, alloc: Global, i: usize, (left, right, alike): &Pair<'_>) {
+    if let Ok(got) = are_equal(rt, alloc, left, right) {
+        check(rt, "equal both ways", i, &got, &(*alike, *alike));
+    }
+}
+
 #[test]
 fn frames_are_equal_if_they_are_alike_in_all(rt: HostRuntime) {
-    for (i, (left, right, alike)) in PAIRS.iter().enumerate() {
-        if let Ok(got) = are_equal(&rt, rt.alloc(), left, right) {
-            check(&rt, "equal both ways", i, &got, &(*alike, *alike));
-        }
+    for (i, pair) in PAIRS.iter().enumerate() {
+        check_pair(&rt, rt.alloc(), i, pair);
     }
 }
 

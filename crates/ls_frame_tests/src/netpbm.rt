@@ -1,143 +1,192 @@
 mod failures;
 mod long;
 
-use crate::testing::{Chunks, Parts, check, check_items, check_so};
+use crate::testing::{Chunks, Parts, check, check_items, check_so, parts_of};
 use ls_frame::{Counted, Feed, Frame, Kind, NetpbmFault, first_frame, next_frame};
 use std::alloc::{AllocError, Global};
-use std::io;
-use std::io::Read;
 use std::process::Abort;
 
 /// If memory may be refused, running out of it is an answer too.
-#[derive(Clone, Copy, Debug, PartialEq, Eq)]
+#[derive(Clone, Copy)]
 enum Memory {
     Ample,
     Refusable,
 }
 
+/// An image that was read, the end of the input, or a fault.
+type Image = Result<Option<Frame>, NetpbmFault>;
+
+/// What is read of bytes in memory, and the bytes after it.
+fn read_whole(alloc: Global, bytes: &[u8]) -> (Image, &[u8]) {
+    let mut rest = bytes;
+    let image = next_frame(alloc, &mut rest);
+    (image, rest)
+}
+
+/// What is read from chunks, and how many reads failed.
+#[derive(Drop)]
+struct Reading<'a> {
+    image: Image,
+    failures: u64,
+    chunks: Chunks<'a>,
+}
+
+fn read_chunks(alloc: Global, chunks: Chunks<'_>) -> Reading<'_> {
+    let mut reader = Counted::new(chunks);
+    let image = next_frame(alloc, &mut reader);
+    Reading {
+        image,
+        failures: Feed::failures(&reader),
+        chunks: reader.into_inner(),
+    }
+}
+
 /// The parts of what was read.
-fn seen(got: &Result<Option<Frame>, NetpbmFault>) -> Result<Option<Parts<'_>>, NetpbmFault> {
-    match got {
+fn seen(image: &Image) -> Result<Option<Parts<'_>>, NetpbmFault> {
+    match image {
         Ok(None) => Ok(None),
-        Ok(Some(f)) => Ok(Some((f.kind(), f.width(), f.height(), f.maxval(), f.samples()))),
+        Ok(Some(frame)) => Ok(Some(parts_of(frame))),
         Err(fault) => Err(*fault),
     }
+}
+
+/// Whether memory was refused where it may be.
+fn lacks_memory(memory: Memory, image: &Image) -> bool {
+    matches!(
+        (memory, image),
+        (Memory::Refusable, Err(NetpbmFault::NoMemory))
+    )
 }
 
 /// That the wanted image or fault was read. Says whether memory was refused instead.
 fn is_refused(
     rt: &impl Abort,
     memory: Memory,
-    got: &Result<Option<Frame>, NetpbmFault>,
+    image: &Image,
     want: Result<Parts<'_>, NetpbmFault>,
     case: &str,
+    at: usize,
 ) -> bool {
-    let got = seen(got);
-    if memory == Memory::Refusable && got == Err(NetpbmFault::NoMemory) {
+    if lacks_memory(memory, image) {
         return true;
     }
-    check(rt, case, 0, &got, &want.map(Some));
+    check(rt, case, at, &seen(image), &want.map(Some));
     false
 }
 
-const BAD_HEADERS: [(&str, &[u8], NetpbmFault); 15] = [
-    ("another letter", b"X", NetpbmFault::BadMagic),
-    ("another digit", b"P4 1 1\n", NetpbmFault::BadMagic),
-    ("a lone letter", b"P", NetpbmFault::Truncated),
-    ("no gap", b"P51 1 255\n", NetpbmFault::BadHeader),
+/// What bytes are, the bytes, and what is read of them.
+type Case<'a> = (&'a str, &'a [u8], Result<Parts<'a>, NetpbmFault>);
+
+/// That an image is read of bytes in memory, and these are left.
+fn check_whole(rt: &impl Abort, alloc: Global, memory: Memory, case: &Case<'_>, left: &[u8]) {
+    let (name, bytes, want) = *case;
+    let (image, rest) = read_whole(alloc, bytes);
+    if !is_refused(rt, memory, &image, want, name, bytes.len()) && want.is_ok() {
+        check_items(rt, name, bytes.len(), rest, left);
+    }
+}
+
+/// That an image is read from chunks of its bytes, and no byte after it asked for; a failed read is counted.
+fn check_chunks(
+    rt: &impl Abort,
+    alloc: Global,
+    memory: Memory,
+    case: &Case<'_>,
+    chunks: Chunks<'_>,
+) {
+    let (name, bytes, want) = *case;
+    let reading = read_chunks(alloc, chunks);
+    let calls = reading.chunks.calls;
+    let is_read = !is_refused(rt, memory, &reading.image, want, name, calls);
+    let failures = u64::from(matches!(reading.image, Err(NetpbmFault::Io)));
+    check(rt, name, calls, &reading.failures, &failures);
+    if is_read && want.is_ok() {
+        check(rt, name, calls, &reading.chunks.furthest, &bytes.len());
+    }
+}
+
+const BAD_HEADERS: &[Case<'static>] = &[
+    ("another letter", b"X", Err(NetpbmFault::BadMagic)),
+    ("another digit", b"P4 1 1\n", Err(NetpbmFault::BadMagic)),
+    ("a lone letter", b"P", Err(NetpbmFault::Truncated)),
+    ("no gap", b"P51 1 255\n", Err(NetpbmFault::BadHeader)),
     (
         "a comment at the magic",
         b"P5#c\n1 1 255\n",
-        NetpbmFault::BadHeader,
+        Err(NetpbmFault::BadHeader),
     ),
     (
         "a comment at the width",
         b"P5 1#c\n1 255\n",
-        NetpbmFault::BadHeader,
+        Err(NetpbmFault::BadHeader),
     ),
     (
         "a comment at maxval",
         b"P5 1 1 255#",
-        NetpbmFault::BadHeader,
+        Err(NetpbmFault::BadHeader),
     ),
-    ("a width of 0", b"P5 0 1 255\n", NetpbmFault::SizeOutOfRange),
+    (
+        "a width of 0",
+        b"P5 0 1 255\n",
+        Err(NetpbmFault::SizeOutOfRange),
+    ),
     (
         "a height of 0",
         b"P5 1 0 255\n",
-        NetpbmFault::SizeOutOfRange,
+        Err(NetpbmFault::SizeOutOfRange),
     ),
     (
         "a width of 65536",
         b"P5 65536 1 255\n",
-        NetpbmFault::SizeOutOfRange,
+        Err(NetpbmFault::SizeOutOfRange),
     ),
     (
         "a height of 65536",
         b"P5 1 65536 255\n",
-        NetpbmFault::SizeOutOfRange,
+        Err(NetpbmFault::SizeOutOfRange),
     ),
     (
         "a width of forty digits",
         b"P5 1000000000000000000000000000000000000001 1 255\n",
-        NetpbmFault::SizeOutOfRange,
+        Err(NetpbmFault::SizeOutOfRange),
     ),
     (
         "3 * 2^28 samples",
         b"P6 16384 16384 255\n",
-        NetpbmFault::SizeOutOfRange,
+        Err(NetpbmFault::SizeOutOfRange),
     ),
     (
         "a maxval of 0",
         b"P5 1 1 0\n",
-        NetpbmFault::MaxvalOutOfRange,
+        Err(NetpbmFault::MaxvalOutOfRange),
     ),
     (
         "a maxval of 65536",
         b"P5 1 1 65536\n",
-        NetpbmFault::MaxvalOutOfRange,
+        Err(NetpbmFault::MaxvalOutOfRange),
     ),
 ];
 
-/// That a header has this fault, at once and byte by byte.
-fn check_bad_header(rt: &impl Abort, alloc: Global, case: &str, bytes: &[u8], want: NetpbmFault) {
-    let mut rest = bytes;
-    let got = next_frame(alloc, &mut rest).err();
-    check(rt, case, 0, &got, &Some(want));
-    let mut reader = Counted::new(Chunks::new(bytes, 1, &[]));
-    let got = next_frame(alloc, &mut reader).err();
-    let failures = Feed::failures(&reader);
-    check(rt, case, 1, &(got, failures), &(Some(want), 0));
-}
-
 #[test]
 fn bad_headers_are_named_without_memory(rt: HostRuntime) {
-    for (case, bytes, want) in &BAD_HEADERS {
-        check_bad_header(&rt, rt.alloc(), case, bytes, *want);
+    for case in BAD_HEADERS {
+        check_whole(&rt, rt.alloc(), Memory::Ample, case, b"");
+        let chunks = Chunks::new(case.1, 1, &[]);
+        check_chunks(&rt, rt.alloc(), Memory::Ample, case, chunks);
     }
-}
-
-/// That the input was at its end.
-fn check_end(rt: &impl Abort, got: &Result<Option<Frame>, NetpbmFault>) {
-    check(rt, "the end", 0, &seen(got), &Ok(None));
 }
 
 #[test]
 fn no_bytes_are_no_image(rt: HostRuntime) {
-    let mut rest = b"".as_slice();
-    check_end(&rt, &next_frame(rt.alloc(), &mut rest));
-    let mut reader = Counted::new(Chunks::new(b"", 1, &[]));
-    check_end(&rt, &next_frame(rt.alloc(), &mut reader));
-    check(&rt, "failures", 0, &Feed::failures(&reader), &0);
-    check(
-        &rt,
-        "the farthest byte",
-        0,
-        &reader.into_inner().furthest,
-        &1,
-    );
+    let (image, _) = read_whole(rt.alloc(), b"");
+    let reading = read_chunks(rt.alloc(), Chunks::new(b"", 1, &[]));
+    let ends = [seen(&image), seen(&reading.image)];
+    check(&rt, "the end, twice", 0, &ends, &[Ok(None), Ok(None)]);
+    let asked = (reading.failures, reading.chunks.furthest);
+    check(&rt, "failures, and the farthest byte", 0, &asked, &(0, 1));
 }
 
-const IMAGES: [(&str, &[u8], Result<Parts<'static>, NetpbmFault>); 20] = [
+const IMAGES: &[Case<'static>] = &[
     (
         "a comment in the gap",
         b"P5 #c\n1 1\n255\n\x00",
@@ -246,21 +295,10 @@ const IMAGES: [(&str, &[u8], Result<Parts<'static>, NetpbmFault>); 20] = [
 
 /// That each image is read as it is, whole and in chunks.
 fn check_images(rt: &impl Abort, alloc: Global, memory: Memory) {
-    for (case, bytes, want) in IMAGES {
-        let mut rest = bytes;
-        let got = next_frame(alloc, &mut rest);
-        if !is_refused(rt, memory, &got, want, case) && want.is_ok() {
-            check_so(rt, case, 0, rest.is_empty());
-        }
+    for case in IMAGES {
+        check_whole(rt, alloc, memory, case, b"");
         for most in [1, 2, 3, 7] {
-            let mut reader = Counted::new(Chunks::new(bytes, most, &[]));
-            let got = next_frame(alloc, &mut reader);
-            let is_refused = is_refused(rt, memory, &got, want, case);
-            check(rt, case, most, &Feed::failures(&reader), &0);
-            if !is_refused && want.is_ok() {
-                let furthest = reader.into_inner().furthest;
-                check(rt, case, most, &furthest, &bytes.len());
-            }
+            check_chunks(rt, alloc, memory, case, Chunks::new(case.1, most, &[]));
         }
     }
 }
@@ -279,18 +317,24 @@ fn images_are_read_as_they_are_or_memory_is_refused(rt: HostRuntime) {
 fn each_beginning_of_an_image_is_truncated(rt: HostRuntime) {
     let image = b"P5 2 1 255\n\x00\x01";
     for end in 1..image.len() {
-        let bytes = &image[..end];
-        let mut rest = bytes;
-        let got = next_frame(rt.alloc(), &mut rest).err();
-        // Memory is asked for after the header.
-        if end < 11 || got != Some(NetpbmFault::NoMemory) {
-            check(&rt, "an end", end, &got, &Some(NetpbmFault::Truncated));
-        }
+        let case = ("a beginning", &image[..end], Err(NetpbmFault::Truncated));
+        check_whole(&rt, rt.alloc(), after_header(end, 11), &case, b"");
     }
 }
 
-/// A header of so many blanks after the magic, and then these bytes.
-const LONG_HEADERS: [(&str, u64, &[u8], Result<Parts<'static>, NetpbmFault>); 4] = [
+/// Whether memory may be refused after so many bytes: it is asked for after the header.
+fn after_header(bytes: usize, header: usize) -> Memory {
+    if bytes < header {
+        Memory::Ample
+    } else {
+        Memory::Refusable
+    }
+}
+
+/// A header of so many blanks after the magic, and then some bytes.
+type LongHeader<'a> = (&'a str, usize, &'a [u8], Result<Parts<'a>, NetpbmFault>);
+
+const LONG_HEADERS: &[LongHeader<'static>] = &[
     (
         "65535 bytes and then the end",
         65533,
@@ -317,29 +361,30 @@ const LONG_HEADERS: [(&str, u64, &[u8], Result<Parts<'static>, NetpbmFault>); 4]
     ),
 ];
 
-/// That a header of so many blanks, and then these bytes, is read so.
-fn check_long_header(
-    rt: &impl Abort,
-    alloc: Global,
-    case: &str,
-    blanks: u64,
-    tail: &[u8],
-    want: Result<Parts<'_>, NetpbmFault>,
-) {
-    let front = b"P5".as_slice().chain(io::repeat(b' ').take(blanks));
-    let mut reader = Counted::new(front.chain(tail));
+fn check_long_header(rt: &impl Abort, alloc: Global, header: &LongHeader<'_>) {
+    let (case, blanks, tail, want) = *header;
+    let mut bytes = [b' '; 65_538];
+    bytes[..2].copy_from_slice(b"P5");
+    let start = blanks.saturating_add(2);
+    let end = start.saturating_add(tail.len());
+    let Some(place) = bytes.get_mut(start..end) else {
+        panic!(rt; "no room for {case}");
+    };
+    place.copy_from_slice(tail);
     // A bad header takes no memory.
     let memory = match want {
         Ok(_) => Memory::Refusable,
         Err(_) => Memory::Ample,
     };
-    is_refused(rt, memory, &next_frame(alloc, &mut reader), want, case);
+    let bytes = &bytes[..end];
+    let chunks = Chunks::new(bytes, end, &[]);
+    check_chunks(rt, alloc, memory, &(case, bytes, want), chunks);
 }
 
 #[test]
 fn a_header_has_65536_bytes_at_most(rt: HostRuntime) {
-    for (case, blanks, tail, want) in &LONG_HEADERS {
-        check_long_header(&rt, rt.alloc(), case, *blanks, tail, *want);
+    for header in LONG_HEADERS {
+        check_long_header(&rt, rt.alloc(), header);
     }
 }
 
@@ -350,41 +395,36 @@ const SECOND: Parts<'static> = (Kind::Color, 1, 1, 255, &[1, 2, 3]);
 
 const BOTH: &[u8] = b"P5 3 1 255\n\x07\x08\x09P6 1 1 255\n\x01\x02\x03";
 
+/// The bytes of the second alone.
+const LAST: &[u8] = b"P6 1 1 255\n\x01\x02\x03";
+
 #[test]
 fn not_a_byte_after_an_image_is_taken(rt: HostRuntime) {
-    let mut rest = BOTH;
-    let got = next_frame(rt.alloc(), &mut rest);
-    if is_refused(&rt, Memory::Refusable, &got, Ok(FIRST), "the first image") {
-        return;
-    }
-    check_items(&rt, "the rest", 0, rest, b"P6 1 1 255\n\x01\x02\x03");
-    let got = next_frame(rt.alloc(), &mut rest);
-    if is_refused(&rt, Memory::Refusable, &got, Ok(SECOND), "the second image") {
-        return;
-    }
-    check_so(&rt, "the end", 0, rest.is_empty());
-    check_end(&rt, &next_frame(rt.alloc(), &mut rest));
+    let first = ("the first image", BOTH, Ok(FIRST));
+    check_whole(&rt, rt.alloc(), Memory::Refusable, &first, LAST);
+    let second = ("the second image", LAST, Ok(SECOND));
+    check_whole(&rt, rt.alloc(), Memory::Refusable, &second, b"");
 }
 
 /// Reads the first of the images from chunks of at most so many bytes.
 fn check_first_of_chunks(rt: &impl Abort, alloc: Global, most: usize) {
-    let mut reader = Counted::new(Chunks::new(BOTH, most, &[]));
-    let got = next_frame(alloc, &mut reader);
-    let chunks = reader.into_inner();
-    if is_refused(rt, Memory::Refusable, &got, Ok(FIRST), "the chunks") {
+    let reading = read_chunks(alloc, Chunks::new(BOTH, most, &[]));
+    let chunks = &reading.chunks;
+    let got = (chunks.given, chunks.furthest, chunks.singly);
+    let image = &reading.image;
+    let want = if is_refused(rt, Memory::Refusable, image, Ok(FIRST), "the chunks", most) {
         // The room for the raster is made before its first byte is asked for.
-        check(rt, "bytes of a header", most, &chunks.given, &11);
+        (11, 11, None)
     } else {
-        check(rt, "bytes one by one", most, &chunks.singly, &Some(11));
-        let asked = (chunks.given, chunks.furthest);
-        check(
-            rt,
-            "bytes of an image, and the farthest",
-            most,
-            &asked,
-            &(14, 14),
-        );
-    }
+        (14, 14, Some(11))
+    };
+    check(
+        rt,
+        "bytes given, the farthest, and those one by one",
+        most,
+        &got,
+        &want,
+    );
 }
 
 #[test]
@@ -394,7 +434,7 @@ fn not_a_byte_after_an_image_is_asked_for(rt: HostRuntime) {
     }
 }
 
-const TEXTS: [(NetpbmFault, &str); 9] = [
+const TEXTS: &[(NetpbmFault, &str)] = &[
     (NetpbmFault::BadMagic, "bad magic"),
     (NetpbmFault::BadHeader, "bad header"),
     (NetpbmFault::HeaderTooLong, "header too long"),
@@ -406,47 +446,58 @@ const TEXTS: [(NetpbmFault, &str); 9] = [
     (NetpbmFault::NoMemory, "no memory"),
 ];
 
+/// That a fault is written so, or memory is refused.
+fn check_text(rt: &impl Abort, alloc: Global, (fault, want): &(NetpbmFault, &str)) {
+    if let Ok(text) = fault.to_string(alloc) {
+        check_items(rt, want, 0, text.as_bytes(), want.as_bytes());
+    }
+}
+
 #[test]
 fn faults_say_what_is_wrong(rt: HostRuntime) {
-    for (fault, want) in TEXTS {
-        let Ok(text) = fault.to_string(rt.alloc()) else {
-            return;
-        };
-        check_items(&rt, want, 0, text.as_bytes(), want.as_bytes());
+    for text in TEXTS {
+        check_text(&rt, rt.alloc(), text);
     }
     let refused = NetpbmFault::from(AllocError);
     check(&rt, "no memory", 0, &refused, &NetpbmFault::NoMemory);
 }
 
+/// What is found in front of bytes: the first sample of the image, and its length.
+type Front = Result<Option<(u16, usize)>, NetpbmFault>;
+
+const FRONTS: &[(&str, &[u8], Front)] = &[
+    ("nothing", b"", Ok(None)),
+    (
+        "an image and another",
+        b"P5\n1 1\n255\n\x07P5\n1 1\n255\n\x08",
+        Ok(Some((7, 12))),
+    ),
+    (
+        "an image and no other",
+        b"P5\n1 1\n255\n\x07P4",
+        Ok(Some((7, 12))),
+    ),
+    (
+        "half an image",
+        b"P5\n1 1\n255\n",
+        Err(NetpbmFault::Truncated),
+    ),
+];
+
+fn front_of(alloc: Global, bytes: &[u8]) -> Front {
+    match first_frame(alloc, bytes) {
+        Ok(None) => Ok(None),
+        Ok(Some((frame, length))) => {
+            let first = frame.samples().first().copied().unwrap_or(0);
+            Ok(Some((first, length)))
+        }
+        Err(fault) => Err(fault),
+    }
+}
+
 #[test]
 fn the_image_in_front_is_found_with_its_length_with_ample_memory(rt: HostRuntime) {
-    let cases: [(&str, &[u8], Result<Option<(u16, usize)>, NetpbmFault>); 4] = [
-        ("nothing", b"", Ok(None)),
-        (
-            "an image and another",
-            b"P5\n1 1\n255\n\x07P5\n1 1\n255\n\x08",
-            Ok(Some((7, 12))),
-        ),
-        (
-            "an image and no other",
-            b"P5\n1 1\n255\n\x07P4",
-            Ok(Some((7, 12))),
-        ),
-        (
-            "half an image",
-            b"P5\n1 1\n255\n",
-            Err(NetpbmFault::Truncated),
-        ),
-    ];
-    for (case, bytes, want) in cases {
-        let got = match first_frame(rt.alloc(), bytes) {
-            Ok(None) => Ok(None),
-            Ok(Some((frame, length))) => Ok(Some((
-                frame.samples().first().copied().unwrap_or(0),
-                length,
-            ))),
-            Err(fault) => Err(fault),
-        };
-        check(&rt, case, 0, &got, &want);
+    for (case, bytes, want) in FRONTS {
+        check(&rt, case, 0, &front_of(rt.alloc(), bytes), want);
     }
 }

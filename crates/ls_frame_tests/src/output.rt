@@ -2,22 +2,30 @@ use crate::testing::{Mishap, Sink, check, check_items};
 use ls_frame::{Counted, Outlet, WriteFault, write_bytes};
 use std::process::Abort;
 
+/// That writing bytes answers this, with so many failures, and that these go out; how many calls it takes.
+fn check_written(
+    rt: &impl Abort,
+    bytes: &[u8],
+    sink: Sink<'_>,
+    want: (Result<(), WriteFault>, u64),
+    written: &[u8],
+) -> usize {
+    let mut writer = Counted::new(sink);
+    let got = write_bytes(&mut writer, bytes);
+    let got = (got, Outlet::failures(&writer));
+    check(rt, "a write, and failures", written.len(), &got, &want);
+    let sink = writer.into_inner();
+    check_items(rt, "its bytes", written.len(), sink.written(), written);
+    sink.calls
+}
+
 #[test]
 fn all_bytes_go_out_in_order(rt: HostRuntime) {
     let bytes = b"abcdefg".as_slice();
-    for (most, calls) in [(1, 7), (2, 4), (5, 2), (16, 1)] {
-        let mut writer = Counted::new(Sink::new(most, &[], Mishap::Fails));
-        check(
-            &rt,
-            "a write",
-            most,
-            &write_bytes(&mut writer, bytes),
-            &Ok(()),
-        );
-        check(&rt, "failures", most, &Outlet::failures(&writer), &0);
-        let sink = writer.into_inner();
-        check_items(&rt, "all bytes", most, sink.written(), bytes);
-        check(&rt, "calls", most, &sink.calls, &calls);
+    for (most, want) in [(1, 7), (2, 4), (5, 2), (16, 1)] {
+        let sink = Sink::new(most, &[], Mishap::Fails);
+        let calls = check_written(&rt, bytes, sink, (Ok(()), 0), bytes);
+        check(&rt, "calls", most, &calls, &want);
     }
 }
 
@@ -25,12 +33,9 @@ fn all_bytes_go_out_in_order(rt: HostRuntime) {
 fn check_fault(rt: &impl Abort, bytes: &[u8], before: &[u8], mishap: Mishap) {
     let call = before.len();
     let failing = [call];
-    let mut writer = Counted::new(Sink::new(1, &failing, mishap));
     let want = Err(WriteFault { written: call });
-    check(rt, "a fault", call, &write_bytes(&mut writer, bytes), &want);
-    check(rt, "failures", call, &Outlet::failures(&writer), &1);
-    let sink = writer.into_inner();
-    check_items(rt, "the bytes before", call, sink.written(), before);
+    let sink = Sink::new(1, &failing, mishap);
+    check_written(rt, bytes, sink, (want, 1), before);
 }
 
 #[test]
@@ -45,8 +50,7 @@ fn a_fault_says_how_many_bytes_went_out(rt: HostRuntime) {
 
 #[test]
 fn no_bytes_take_no_call(rt: HostRuntime) {
-    let mut writer = Counted::new(Sink::new(1, &[0], Mishap::Fails));
-    check(&rt, "a write", 0, &write_bytes(&mut writer, b""), &Ok(()));
-    check(&rt, "failures", 0, &Outlet::failures(&writer), &0);
-    check(&rt, "calls", 0, &writer.into_inner().calls, &0);
+    let sink = Sink::new(1, &[0], Mishap::Fails);
+    let calls = check_written(&rt, b"", sink, (Ok(()), 0), b"");
+    check(&rt, "calls", 0, &calls, &0);
 }

@@ -1,9 +1,11 @@
-use crate::testing::{check, check_items, check_samples};
+use crate::testing::{check, check_samples};
 use ls_frame::{FrameFault, FrameView, Kind, Place, Samples};
 use std::process::Abort;
 
-/// Rows of bytes by their maxval, and why they make no view of one row.
-const ROWS: [(u16, &[u8], Option<FrameFault>); 6] = [
+/// A maxval and a row of bytes, and why they make no view of one row.
+type Row<'a> = (u16, &'a [u8], Option<FrameFault>);
+
+const ROWS: &[Row<'static>] = &[
     (255, &[0, 255], None),
     (256, &[0, 255], None),
     (254, &[255, 0], Some(FrameFault::SampleTooLarge(0))),
@@ -12,30 +14,22 @@ const ROWS: [(u16, &[u8], Option<FrameFault>); 6] = [
     (0, &[0], Some(FrameFault::ZeroMaxval)),
 ];
 
-/// What a row of bytes makes: a view of it, or this fault.
-fn check_row(rt: &impl Abort, i: usize, maxval: u16, row: &[u8], want: Option<FrameFault>) {
-    let Ok(width) = u16::try_from(row.len()) else {
-        panic!(rt; "row {i} is too long");
-    };
-    match FrameView::new(Kind::Gray, width, 1, maxval, Samples::Bytes(row)) {
-        Ok(view) => {
-            check_samples(
-                rt,
-                "the bytes of a view",
-                i,
-                view.samples(),
-                Samples::Bytes(row),
-            );
-            check(rt, "no fault", i, &None, &want);
-        }
-        Err(fault) => check(rt, "the fault of a view of bytes", i, &Some(fault), &want),
+/// What a row of bytes makes: a view of it, or its fault.
+fn check_row(rt: &impl Abort, i: usize, row: &Row<'_>) {
+    let (maxval, bytes, want) = *row;
+    let width = u16::try_from(bytes.len()).unwrap_or(0);
+    let made = FrameView::new(Kind::Gray, width, 1, maxval, Samples::Bytes(bytes));
+    if let Ok(view) = &made {
+        let want = Samples::Bytes(bytes);
+        check_samples(rt, "the bytes of a view", i, view.samples(), want);
     }
+    check(rt, "the fault", i, &made.err(), &want);
 }
 
 #[test]
 fn a_view_is_made_of_bytes_too(rt: HostRuntime) {
-    for (i, (maxval, row, want)) in ROWS.iter().enumerate() {
-        check_row(&rt, i, *maxval, row, *want);
+    for (i, row) in ROWS.iter().enumerate() {
+        check_row(&rt, i, row);
     }
 }
 
@@ -44,7 +38,7 @@ const BYTES: [u8; 5] = [1, 2, 3, 4, 5];
 const WORDS: [u16; 5] = [100, 200, 300, 400, 500];
 
 /// Parts of both by start and count, and the samples that they have.
-const PARTS: [(u8, u8, &[u8], &[u16]); 4] = [
+const PARTS: &[(u8, u8, &[u8], &[u16])] = &[
     (0, 5, &[1, 2, 3, 4, 5], &[100, 200, 300, 400, 500]),
     (1, 3, &[2, 3, 4], &[200, 300, 400]),
     (4, 1, &[5], &[500]),
@@ -61,9 +55,7 @@ fn check_part(
 ) {
     check(rt, "how many there are in all", i, &all.len(), &5);
     let (start, count) = (usize::from(start), usize::from(count));
-    if start + count > all.len() {
-        panic!(rt; "part {i} goes past the samples");
-    }
+    assert!(rt; start + count <= all.len());
     check_samples(rt, "a part", i, all.part(start, count), want);
 }
 
@@ -93,12 +85,24 @@ fn a_part_has_its_samples(rt: HostRuntime) {
 fn places_take_samples_up_to_their_greatest(rt: HostRuntime) {
     let mut bytes = [7u8; 3];
     u8::put(&mut bytes, 1, 255);
-    check_items(&rt, "bytes", 0, &bytes, &[7, 255, 7]);
+    let put = bytes;
     u8::clear(&mut bytes);
-    check_items(&rt, "cleared bytes", 1, &bytes, &[0, 0, 0]);
+    check(
+        &rt,
+        "bytes put and cleared",
+        0,
+        &[put, bytes],
+        &[[7, 255, 7], [0, 0, 0]],
+    );
     let mut words = [7u16; 3];
     u16::put(&mut words, 2, 65535);
-    check_items(&rt, "words", 2, &words, &[7, 7, 65535]);
+    let put = words;
     u16::clear(&mut words);
-    check_items(&rt, "cleared words", 3, &words, &[0, 0, 0]);
+    check(
+        &rt,
+        "words put and cleared",
+        1,
+        &[put, words],
+        &[[7, 7, 65535], [0, 0, 0]],
+    );
 }

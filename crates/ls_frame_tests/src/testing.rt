@@ -2,7 +2,7 @@
 ghost use Rattle.std.specs.Prelude.{◌≤◌};
 ghost use Rattle.ls_frame_tests.specs.declared.testing.TheConstants.{ROOM};
 
-use ls_frame::{Failed, Feed, FeedFault, Frame, Kind, Samples};
+use ls_frame::{Failed, Feed, FeedFault, Frame, Kind, PresetFault, Presets, Samples};
 use std::alloc::{AllocError, Global};
 use std::fmt::Debug;
 use std::io;
@@ -28,7 +28,7 @@ pub fn check_items<T: PartialEq + Debug>(
     got: &[T],
     want: &[T],
 ) {
-    assert_eq!(rt; got, want, "{case}, at {at}");
+    check(rt, case, at, &got, &want);
 }
 
 /// That this holds.
@@ -48,13 +48,48 @@ pub fn check_samples(rt: &impl Abort, case: &str, at: usize, got: Samples<'_>, w
 /// Kind, width, height, maxval, samples.
 pub type Parts<'a> = (Kind, u16, u16, u16, &'a [u16]);
 
+/// The parts of a frame.
+pub fn parts_of(frame: &Frame) -> Parts<'_> {
+    (
+        frame.kind(),
+        frame.width(),
+        frame.height(),
+        frame.maxval(),
+        frame.samples(),
+    )
+}
+
 /// A frame of these parts.
 pub fn frame_of(rt: &impl Abort, alloc: Global, parts: &Parts<'_>) -> Result<Frame, AllocError> {
     let (kind, width, height, maxval, samples) = *parts;
-    match Frame::new(kind, width, height, maxval, samples.to_vec(alloc)?) {
-        Ok(frame) => Ok(frame),
-        Err((fault, _)) => panic!(rt; "these parts make no frame: {fault:?}"),
+    let made = Frame::new(kind, width, height, maxval, samples.to_vec(alloc)?);
+    Ok(made.expect(rt, "parts that make no frame"))
+}
+
+/// Samples, each 7 more than the one before, and from 0 on again past maxval.
+pub fn long_samples<const N: usize>(maxval: u16) -> [u16; N] {
+    let mut samples = [0u16; N];
+    let mut sample = 0u16;
+    for place in &mut samples {
+        *place = sample & maxval;
+        sample = sample.wrapping_add(7);
     }
+    samples
+}
+
+/// MAXVAL, T1, T2, T3, RESET.
+pub type Parameters = (u16, u16, u16, u16, u16);
+
+/// The parameters of these presets, or the fault.
+pub fn parameters_of(got: Result<Presets, PresetFault>) -> Result<Parameters, PresetFault> {
+    let presets = got?;
+    Ok((
+        presets.maxval(),
+        presets.t1(),
+        presets.t2(),
+        presets.t3(),
+        presets.reset(),
+    ))
 }
 
 /// A call of `feed_until` by its mark and how many bytes it may take, what it answers, the bytes taken by it and those
@@ -69,8 +104,17 @@ pub fn check_takes<R: Feed>(
     takes: &[Take<'_>],
 ) -> bool {
     let mut bytes = Vec::new(alloc);
+    are_taken(rt, reader, &mut bytes, takes)
+}
+
+fn are_taken<R: Feed>(
+    rt: &impl Abort,
+    reader: &mut R,
+    bytes: &mut Vec<u8>,
+    takes: &[Take<'_>],
+) -> bool {
     for (at, take) in takes.iter().enumerate() {
-        if !is_taken(rt, reader, &mut bytes, at, take) {
+        if !is_taken(rt, reader, bytes, at, take) {
             return false;
         }
     }
@@ -88,20 +132,15 @@ fn is_taken<R: Feed>(
     let (mark, most, want, taken, failures) = *take;
     let before = bytes.len();
     let got = reader.feed_until(mark, most.max(1), bytes);
-    if got == Err(FeedFault::NoMemory) {
+    let is_refused = got == Err(FeedFault::NoMemory);
+    if is_refused {
         check(rt, "bytes without memory", at, &bytes.len(), &before);
-        return false;
+    } else {
+        let got = (got, bytes.as_slice(), reader.failures());
+        let want = (want, taken, failures);
+        check(rt, "the last byte, all bytes, failures", at, &got, &want);
     }
-    let got = (got, reader.failures());
-    check(
-        rt,
-        "the last byte, and failures",
-        at,
-        &got,
-        &(want, failures),
-    );
-    check_items(rt, "bytes taken", at, bytes, taken);
-    true
+    !is_refused
 }
 
 /// A reader over memory that gives at most `most` bytes a call. Its calls of the numbers `failing`,
@@ -111,7 +150,8 @@ pub struct Chunks<'a> {
     rest: &'a [u8],
     most: usize,
     failing: &'a [usize],
-    calls: usize,
+    /// How many calls there were.
+    pub calls: usize,
     /// How many bytes were given.
     pub given: usize,
     /// The farthest byte that a call had room for, counted from 1.
@@ -142,18 +182,20 @@ impl<'a> Read for Chunks<'a> {
         if buf.len() > 1 && self.singly.is_none() {
             self.singly = Some(self.given);
         }
-        if is_among(call, self.failing) {
+        if self.failing.contains(&call) {
             return Err(io::Error::from(io::ErrorKind::BrokenPipe));
         }
-        let room = buf.len().min(self.most);
-        let given = self.rest.read(&mut buf[..room])?;
-        self.given = self.given.saturating_add(given);
-        Ok(given)
+        let count = buf.len().min(self.most).min(self.rest.len());
+        let (given, rest) = self.rest.split_at(count);
+        buf[..count].copy_from_slice(given);
+        self.rest = rest;
+        self.given = self.given.saturating_add(count);
+        Ok(count)
     }
 }
 
 /// What becomes of a call that is to go wrong.
-#[derive(Clone, Copy, Debug)]
+#[derive(Clone, Copy)]
 pub enum Mishap {
     Fails,
     TakesNothing,
@@ -201,7 +243,7 @@ impl<'a> Write for Sink<'a> {
     fn write(&mut self, buf: &[u8]) -> io::Result<usize> {
         let call = self.calls;
         self.calls = call.saturating_add(1);
-        if is_among(call, self.failing) {
+        if self.failing.contains(&call) {
             return match self.mishap {
                 Mishap::Fails => Err(io::Error::from(io::ErrorKind::BrokenPipe)),
                 Mishap::TakesNothing => Ok(0),
@@ -217,13 +259,9 @@ impl<'a> Write for Sink<'a> {
     fn flush(&mut self) -> io::Result<()> {
         let call = self.flushes;
         self.flushes = call.saturating_add(1);
-        if is_among(call, self.failing) {
+        if self.failing.contains(&call) {
             return Err(io::Error::from(io::ErrorKind::BrokenPipe));
         }
         Ok(())
     }
-}
-
-fn is_among(call: usize, calls: &[usize]) -> bool {
-    calls.iter().any(|one| *one == call)
 }

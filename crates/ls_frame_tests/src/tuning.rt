@@ -1,8 +1,6 @@
-use crate::testing::{check, check_so};
+use crate::testing::{Parameters, check, check_so, parameters_of};
 use ls_frame::{PresetFault, Presets, Tuning};
-
-/// MAXVAL, T1, T2, T3, RESET.
-type Row = (u16, u16, u16, u16, u16);
+use std::process::Abort;
 
 const PLAIN: Tuning = Tuning {
     t1: 0,
@@ -18,29 +16,26 @@ const SPELLED_OUT: Tuning = Tuning {
     reset: 64,
 };
 
-/// The parameters of these presets, or the fault.
-fn seen(got: Result<Presets, PresetFault>) -> Result<Row, PresetFault> {
-    let presets = got?;
-    Ok((
-        presets.maxval(),
-        presets.t1(),
-        presets.t2(),
-        presets.t3(),
-        presets.reset(),
-    ))
+/// What is chosen, maxval, and the parameters or the fault.
+type Chosen = (Tuning, u16, Result<Parameters, PresetFault>);
+
+const CHOSEN: &[Chosen] = &[
+    (Tuning { t1: 5, ..PLAIN }, 255, Ok((255, 5, 7, 21, 64))),
+    (Tuning { reset: 32, ..PLAIN }, 255, Ok((255, 3, 7, 21, 32))),
+    (Tuning { t1: 10, ..PLAIN }, 255, Err(PresetFault::T2Range)),
+    (SPELLED_OUT, 1, Err(PresetFault::T1Range)),
+];
+
+fn check_chosen(rt: &impl Abort, i: usize, (tuning, maxval, want): &Chosen) {
+    assert!(rt; *maxval > 0);
+    let got = parameters_of(tuning.presets(*maxval));
+    check(rt, "a tuning", i, &got, want);
 }
 
 #[test]
 fn what_is_chosen_stands_beside_the_defaults(rt: HostRuntime) {
-    let rows: [(Tuning, u16, Result<Row, PresetFault>); 4] = [
-        (Tuning { t1: 5, ..PLAIN }, 255, Ok((255, 5, 7, 21, 64))),
-        (Tuning { reset: 32, ..PLAIN }, 255, Ok((255, 3, 7, 21, 32))),
-        (Tuning { t1: 10, ..PLAIN }, 255, Err(PresetFault::T2Range)),
-        (SPELLED_OUT, 1, Err(PresetFault::T1Range)),
-    ];
-    for (i, (tuning, maxval, want)) in rows.into_iter().enumerate() {
-        assert!(rt; maxval > 0);
-        check(&rt, "a tuning", i, &seen(tuning.presets(maxval)), &want);
+    for (i, chosen) in CHOSEN.iter().enumerate() {
+        check_chosen(&rt, i, chosen);
     }
 }
 
@@ -70,6 +65,9 @@ fn the_defaults_chosen_are_the_defaults(rt: HostRuntime) {
         &got,
         &Ok(Presets::default_of(255)),
     );
-    let is_default = got.is_ok_and(|presets| presets.is_default());
+    let is_default = match got {
+        Ok(presets) => presets.is_default(),
+        Err(_) => false,
+    };
     check_so(&rt, "is_default", 255, is_default);
 }

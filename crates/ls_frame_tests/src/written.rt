@@ -1,10 +1,15 @@
-use crate::testing::{Mishap, Parts, Sink, check, check_items, check_so, frame_of};
+use crate::testing::{Mishap, Parts, Sink, check, check_items, check_so, frame_of, long_samples};
 use ls_frame::{Counted, Frame, Kind, Outlet, WriteFault, first_frame, write_frame};
-use std::alloc::{AllocError, Global};
+use std::alloc::Global;
 use std::process::Abort;
 
-const TEXTS: [(Parts<'static>, &[u8]); 6] = [
-    ((Kind::Gray, 1, 1, 255, &[255]), b"P5\n1 1\n255\n\xFF"),
+/// The parts of a frame, and its text.
+type Text<'a> = (Parts<'a>, &'a [u8]);
+
+const SHORT: Text<'static> = ((Kind::Gray, 1, 1, 255, &[255]), b"P5\n1 1\n255\n\xFF");
+
+const TEXTS: &[Text<'static>] = &[
+    SHORT,
     ((Kind::Gray, 1, 2, 1, &[1, 0]), b"P5\n1 2\n1\n\x01\x00"),
     (
         (Kind::Color, 1, 1, 10, &[1, 2, 10]),
@@ -18,27 +23,34 @@ const TEXTS: [(Parts<'static>, &[u8]); 6] = [
     ),
 ];
 
-/// That a frame is written as this text.
-fn check_text(rt: &impl Abort, i: usize, frame: &Frame, want: &[u8]) {
-    let mut writer = Counted::new(Sink::new(16, &[], Mishap::Fails));
+/// That writing a frame answers this, with so many failures, and that these bytes go out.
+fn check_written(
+    rt: &impl Abort,
+    frame: &Frame,
+    sink: Sink<'_>,
+    want: (Result<(), WriteFault>, u64),
+    bytes: &[u8],
+) {
+    let mut writer = Counted::new(sink);
     let got = write_frame(&mut writer, frame);
-    let failures = Outlet::failures(&writer);
-    check(
-        rt,
-        "a text, and failures",
-        i,
-        &(got, failures),
-        &(Ok(()), 0),
-    );
-    check_items(rt, "its bytes", i, writer.into_inner().written(), want);
+    let got = (got, Outlet::failures(&writer));
+    check(rt, "a text, and failures", bytes.len(), &got, &want);
+    let sink = writer.into_inner();
+    check_items(rt, "its bytes", bytes.len(), sink.written(), bytes);
+}
+
+/// That a frame is written as its text.
+fn check_text(rt: &impl Abort, alloc: Global, (parts, text): &Text<'_>) {
+    if let Ok(frame) = frame_of(rt, alloc, parts) {
+        let sink = Sink::new(16, &[], Mishap::Fails);
+        check_written(rt, &frame, sink, (Ok(()), 0), text);
+    }
 }
 
 #[test]
 fn a_frame_has_one_text(rt: HostRuntime) {
-    for (i, (parts, want)) in TEXTS.iter().enumerate() {
-        if let Ok(frame) = frame_of(&rt, rt.alloc(), parts) {
-            check_text(&rt, i, &frame, want);
-        }
+    for text in TEXTS {
+        check_text(&rt, rt.alloc(), text);
     }
 }
 
@@ -46,41 +58,23 @@ fn a_frame_has_one_text(rt: HostRuntime) {
 fn check_fault(rt: &impl Abort, frame: &Frame, before: &[u8], mishap: Mishap) {
     let call = before.len();
     let failing = [call];
-    let mut writer = Counted::new(Sink::new(1, &failing, mishap));
-    let got = write_frame(&mut writer, frame);
-    let got = (got, Outlet::failures(&writer));
-    let want = (Err(WriteFault { written: call }), 1);
-    check(rt, "a fault, and failures", call, &got, &want);
-    check_items(
-        rt,
-        "the bytes before",
-        call,
-        writer.into_inner().written(),
-        before,
-    );
+    let want = Err(WriteFault { written: call });
+    check_written(rt, frame, Sink::new(1, &failing, mishap), (want, 1), before);
+}
+
+fn check_faults(rt: &impl Abort, frame: &Frame, text: &[u8]) {
+    for i in 0..text.len() {
+        check_fault(rt, frame, &text[..i], Mishap::Fails);
+        check_fault(rt, frame, &text[..i], Mishap::TakesNothing);
+    }
 }
 
 #[test]
 fn a_fault_says_how_much_of_the_text_went_out(rt: HostRuntime) {
-    let (parts, text) = TEXTS[0];
-    let Ok(frame) = frame_of(&rt, rt.alloc(), &parts) else {
-        return;
-    };
-    for i in 0..text.len() {
-        check_fault(&rt, &frame, &text[..i], Mishap::Fails);
-        check_fault(&rt, &frame, &text[..i], Mishap::TakesNothing);
+    let (parts, text) = &SHORT;
+    if let Ok(frame) = frame_of(&rt, rt.alloc(), parts) {
+        check_faults(&rt, &frame, text);
     }
-}
-
-/// 9000 samples, each 7 more than the one before, and from 0 on again past maxval.
-fn long_samples(alloc: Global, maxval: u16) -> Result<Vec<u16>, AllocError> {
-    let mut samples = Vec::with_capacity(alloc, 9000)?;
-    let mut sample = 0u16;
-    for _ in 0..9000 {
-        samples.push(sample & maxval)?;
-        sample = sample.wrapping_add(7);
-    }
-    Ok(samples)
 }
 
 /// A frame's text.
@@ -90,34 +84,32 @@ fn text_of(rt: &impl Abort, alloc: Global, frame: &Frame) -> Vec<u8> {
     writer.into_inner()
 }
 
-/// That a text is of this size and is read back as this frame.
-fn check_read_back(rt: &impl Abort, alloc: Global, text: &[u8], size: usize, frame: &Frame) {
-    check(rt, "the length of a text", size, &text.len(), &size);
-    let Ok(Some((read, taken))) = first_frame(alloc, text) else {
-        panic!(rt; "no image in {size} bytes");
-    };
-    check(rt, "what is read", size, &taken, &size);
-    check_so(rt, "the frame", size, read == *frame);
+/// How many bytes of a text an image takes, and whether it is this frame.
+fn read_back(alloc: Global, text: &[u8], frame: &Frame) -> Option<(usize, bool)> {
+    match first_frame(alloc, text) {
+        Ok(Some((read, taken))) => Some((taken, read == *frame)),
+        _ => None,
+    }
 }
 
 /// Writes a frame of 100 by 90 samples as a text of this size, and reads it back.
-fn check_long_frame(
-    rt: &impl Abort,
-    alloc: Global,
-    maxval: u16,
-    size: usize,
-) -> Result<(), AllocError> {
-    let samples = long_samples(alloc, maxval)?;
-    let frame = frame_of(rt, alloc, &(Kind::Gray, 100, 90, maxval, &samples))?;
+fn check_long_frame(rt: &impl Abort, alloc: Global, maxval: u16, size: usize) {
+    let samples = long_samples::<9000>(maxval);
+    let frame = frame_of(rt, alloc, &(Kind::Gray, 100, 90, maxval, &samples));
+    let frame = frame.expect(rt, "memory for a frame");
     let text = text_of(rt, alloc, &frame);
-    check_read_back(rt, alloc, &text, size, &frame);
-    Ok(())
+    let got = (text.len(), read_back(alloc, &text, &frame));
+    check(
+        rt,
+        "a text, and what is read of it",
+        size,
+        &got,
+        &(size, Some((size, true))),
+    );
 }
 
 #[test]
-fn a_frame_of_several_chunks_is_read_back_with_ample_memory(
-    rt: HostRuntime,
-) -> Result<(), AllocError> {
-    check_long_frame(&rt, rt.alloc(), 255, 9014)?;
-    check_long_frame(&rt, rt.alloc(), 65535, 18016)
+fn a_frame_of_several_chunks_is_read_back_with_ample_memory(rt: HostRuntime) {
+    check_long_frame(&rt, rt.alloc(), 255, 9014);
+    check_long_frame(&rt, rt.alloc(), 65535, 18016);
 }

@@ -1,32 +1,25 @@
 use super::*;
 
+/// Images, each with a header of 11 bytes.
 const FAILING: [&[u8]; 2] = [b"P5\n1 1\n255\n\x00", b"P5 1 1 256\n\x01\x00"];
 
 #[test]
 fn a_failed_read_is_named_and_counted_once(rt: HostRuntime) {
     for bytes in FAILING {
-        for i in 0..bytes.len() {
-            let failing = [i];
-            let mut reader = Counted::new(Chunks::new(bytes, 1, &failing));
-            let got = next_frame(rt.alloc(), &mut reader).err();
-            let failures = Feed::failures(&reader);
-            // Memory is asked for after the header, and before the call that fails.
-            if i >= 11 && got == Some(NetpbmFault::NoMemory) {
-                check(&rt, "failures", i, &failures, &0);
-            } else {
-                check(&rt, "a failed read", i, &got, &Some(NetpbmFault::Io));
-                check(&rt, "failures", i, &failures, &1);
-            }
+        for call in 0..bytes.len() {
+            let failing = [call];
+            let case = ("a failed read", bytes, Err(NetpbmFault::Io));
+            let chunks = Chunks::new(bytes, 1, &failing);
+            check_chunks(&rt, rt.alloc(), after_header(call, 11), &case, chunks);
         }
     }
 }
 
 #[test]
 fn a_failed_read_is_not_the_end(rt: HostRuntime) {
-    let mut reader = Counted::new(Chunks::new(b"", 1, &[0]));
-    let got = next_frame(rt.alloc(), &mut reader);
-    check(&rt, "a failed read", 0, &seen(&got), &Err(NetpbmFault::Io));
-    check(&rt, "failures", 0, &Feed::failures(&reader), &1);
+    let case = ("a failed read", b"".as_slice(), Err(NetpbmFault::Io));
+    let chunks = Chunks::new(b"", 1, &[0]);
+    check_chunks(&rt, rt.alloc(), Memory::Ample, &case, chunks);
 }
 
 /// An image with a bad sample, and the call after the bytes of that sample.
@@ -37,12 +30,10 @@ const BAD_SAMPLES: [(&[u8], usize); 2] = [
 
 #[test]
 fn a_bad_sample_is_named_before_the_next_read(rt: HostRuntime) {
-    let want = Err(NetpbmFault::SampleTooLarge);
     for (bytes, call) in BAD_SAMPLES {
         let failing = [call];
-        let mut reader = Counted::new(Chunks::new(bytes, 1, &failing));
-        let got = next_frame(rt.alloc(), &mut reader);
-        is_refused(&rt, Memory::Refusable, &got, want, "a read that would fail");
-        check(&rt, "failures before", call, &Feed::failures(&reader), &0);
+        let case = ("a bad sample", bytes, Err(NetpbmFault::SampleTooLarge));
+        let chunks = Chunks::new(bytes, 1, &failing);
+        check_chunks(&rt, rt.alloc(), Memory::Refusable, &case, chunks);
     }
 }

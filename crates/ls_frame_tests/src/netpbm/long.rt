@@ -1,4 +1,5 @@
 use super::*;
+use crate::testing::long_samples;
 use std::alloc::AllocError;
 
 const NARROW: &[u8] = b"P5 300 300 255\n";
@@ -11,57 +12,38 @@ fn long_image(alloc: Global, is_wide: bool) -> Result<Vec<u8>, AllocError> {
     bytes.extend_from_slice(if is_wide { WIDE } else { NARROW })?;
     let mut sample = 0u16;
     for _ in 0..90_000 {
-        let [high, low] = sample.to_be_bytes();
-        if is_wide {
-            bytes.push(high)?;
-        }
-        bytes.push(low)?;
+        let both = sample.to_be_bytes();
+        bytes.extend_from_slice(if is_wide { &both } else { &both[1..] })?;
         sample = sample.wrapping_add(7);
     }
     Ok(bytes)
 }
 
 /// That the image was read, or memory was refused where it may be.
-fn check_long_image(
-    rt: &impl Abort,
-    memory: Memory,
-    got: &Result<Option<Frame>, NetpbmFault>,
-    is_wide: bool,
-) {
-    let maxval = if is_wide { 65535 } else { 255 };
-    let at = usize::from(maxval);
-    match seen(got) {
-        Ok(Some((kind, width, height, greatest, samples))) => {
-            let size = (kind, width, height, greatest);
-            check(rt, "its size", at, &size, &(Kind::Gray, 300, 300, maxval));
-            assert!(rt; samples.len() == 90_000, "up to {maxval}");
-            let mut sample = 0u16;
-            for (i, got) in samples.iter().enumerate() {
-                let got = *got;
-                check(rt, "a sample", i, &got, &(sample & maxval));
-                sample = sample.wrapping_add(7);
-            }
-        }
-        Err(NetpbmFault::NoMemory) => {
-            check(rt, "no memory", at, &memory, &Memory::Refusable);
-        }
-        Ok(None) => panic!(rt; "no image up to {maxval}"),
-        Err(fault) => panic!(rt; "{fault} up to {maxval}"),
+fn check_long_image(rt: &impl Abort, memory: Memory, image: &Image, want: &Parts<'_>) {
+    if !lacks_memory(memory, image) {
+        let is_read = seen(image) == Ok(Some(*want));
+        check_so(rt, "a long image", usize::from(want.3), is_read);
     }
+}
+
+/// That the image is read, whole and in chunks.
+fn check_long_reads(rt: &impl Abort, alloc: Global, memory: Memory, bytes: &[u8], is_wide: bool) {
+    let maxval = if is_wide { 65535 } else { 255 };
+    let samples = long_samples::<90_000>(maxval);
+    let want = (Kind::Gray, 300, 300, maxval, samples.as_slice());
+    let (image, _) = read_whole(alloc, bytes);
+    check_long_image(rt, memory, &image, &want);
+    let reading = read_chunks(alloc, Chunks::new(bytes, 65_535, &[]));
+    check_long_image(rt, memory, &reading.image, &want);
 }
 
 fn check_long_images(rt: &impl Abort, alloc: Global, memory: Memory) {
     for is_wide in [false, true] {
-        let Ok(bytes) = long_image(alloc, is_wide) else {
-            check(rt, "no memory", 0, &memory, &Memory::Refusable);
-            return;
-        };
-        let mut rest = bytes.as_slice();
-        let got = next_frame(alloc, &mut rest);
-        check_long_image(rt, memory, &got, is_wide);
-        let mut reader = Counted::new(Chunks::new(&bytes, 65_535, &[]));
-        let got = next_frame(alloc, &mut reader);
-        check_long_image(rt, memory, &got, is_wide);
+        match long_image(alloc, is_wide) {
+            Ok(bytes) => check_long_reads(rt, alloc, memory, &bytes, is_wide),
+            Err(_) => check_so(rt, "memory", 0, matches!(memory, Memory::Refusable)),
+        }
     }
 }
 
