@@ -21,7 +21,7 @@ use crate::request::{Request, Shape, adjacent, joined, request_of};
 use ls_frame::{FrameView, Place, Presets, Samples};
 use ls_stream::laws::codestreams_spell_their_frames;
 use ls_stream::{
-    DecoderLines, Lines, Opening, Regions, StreamFault, encode_into, encode_view, view_bound,
+    Lines, Opening, Regions, StreamFault, encode_into, encode_view, view_bound,
 };
 use std::alloc::Global;
 
@@ -280,7 +280,7 @@ fn decode_at<S: Place>(
     ensures first { IfErr result (λ fault. (fault ≡ StreamFault.NoMemory) ⊎ IsFirstFault opening.now.bytes fault) }
     ensures kept { IfErr result (λ fault. fault ≡ StreamFault.NoMemory → S.numbers places.new ≡ S.numbers places.old) }
 {
-    let mut lines = DecoderLines::new(alloc, opening.width())?;
+    let mut lines = Lines::new(alloc, opening.width())?;
     let regions = Regions::new(alloc, opening.presets())?;
     S::clear(places);
     match opening.decode(&mut lines, &regions, places) {

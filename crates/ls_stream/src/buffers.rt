@@ -1,11 +1,11 @@
-//! What an encoder and a decoder need beside a frame: two lines, and a decoder a row of half contexts.
+//! What an encoder and a decoder need beside a frame: two lines.
 ghost use Rattle.std.specs.Prelude.{◌≡◌, IfOk};
 
 use std::alloc::{AllocError, Global};
 use std::marker::Model;
 
-/// Buffers for two lines of a plane, the one that is coded and the one above it. One value serves any number of frames
-/// up to its width.
+/// Buffers for two lines of a plane, the one that is coded or read and the one above it. One value serves any number of
+/// frames up to its width.
 ///
 /// In contracts it is its width, in samples.
 #[derive(Drop)]
@@ -43,40 +43,5 @@ impl Lines {
         ensures { result ≡ self.now }
     {
         self.width
-    }
-}
-
-/// A decoder's lines: the two of a plane, and of the samples of the line that is read the half contexts that the line
-/// above gives (T.87 A.3).
-///
-/// In contracts it is its width, in samples.
-#[derive(Drop)]
-pub struct DecoderLines {
-    pub lines: Lines,
-    /// For each sample of a line the part of its context that the line above decides.
-    pub half_contexts: Vec<i16>,
-}
-
-impl Model for DecoderLines {
-    ghost use Rattle.std.specs.Prelude.{◌≡◌, ℕ, vec_len};
-
-    ghost Value = { ℕ };
-
-    ghost view = { λ l. l.lines };
-
-    ghost invariant = { λ l. vec_len l.half_contexts ≡ l.lines };
-}
-
-impl DecoderLines {
-    /// Buffers for lines of up to `width` samples. Fails only if an allocation fails.
-    pub fn new(alloc: Global, width: u16) -> Result<DecoderLines, AllocError>
-        ensures { IfOk result (λ lines. lines ≡ width) }
-    {
-        let lines = Lines::new(alloc, width)?;
-        let half_contexts = vec![in alloc; 0i16; usize::from(width)]?;
-        Ok(DecoderLines {
-            lines,
-            half_contexts,
-        })
     }
 }

@@ -16,7 +16,7 @@ ghost use Rattle.ls_stream.specs.View.Reading.{opening_at, Gives};
 ghost use Rattle.ls_stream.specs.View.Outlines.{Outline, IsOutlineOf, ids_in, scans_at, rest_of, outline_at, data_at, after_data, ScansStop, DecodingStops, outline_of, IsFirstFault};
 ghost use Rattle.ls_stream.specs.View.Decoding.{AreScansOf, NoScans, fault_in, picture};
 
-use crate::buffers::DecoderLines;
+use crate::buffers::Lines;
 use crate::decode::markers::{fault_of, find_end, find_next_scan, first_bytes, read_opening};
 use crate::decode::scan::{ScanFault, decode_scan};
 use crate::faults::StreamFault;
@@ -63,7 +63,7 @@ pub fn decode_frame(alloc: Global, bytes: &[u8]) -> Result<Decoded, StreamFault>
         Err(fault) => return Err(fault),
     };
     let (Ok(mut lines), Ok(regions), Ok(mut samples)) = (
-        DecoderLines::new(alloc, opening.width()),
+        Lines::new(alloc, opening.width()),
         Regions::new(alloc, opening.presets()),
         vec![in alloc; 0u16; opening.sample_count()],
     ) else {
@@ -185,7 +185,7 @@ impl<'a> Opening<'a> {
     /// as `decode_frame` says it and never NoMemory, nothing is said of the places.
     pub fn decode<S: Place>(
         &self,
-        lines: &mut DecoderLines,
+        lines: &mut Lines,
         regions: &Regions,
         samples: &mut [S],
     ) -> Result<usize, StreamFault>
@@ -245,7 +245,7 @@ impl<'a> Opening<'a> {
 fn decode_opened<S: Place>(
     bytes: &[u8],
     opening: (FrameHeader, Presets, &[u8]),
-    lines: &mut DecoderLines,
+    lines: &mut Lines,
     regions: &Regions,
     samples: &mut [S],
 ) -> Result<usize, StreamFault>
@@ -281,7 +281,7 @@ fn decode_scans<'a, S: Place>(
     presets: &Presets,
     regions: &Regions,
     header: &FrameHeader,
-    lines: &mut DecoderLines,
+    lines: &mut Lines,
     samples: &mut [S],
     bytes: &'a [u8],
 ) -> Result<&'a [u8], StreamFault>
@@ -337,7 +337,7 @@ fn after_data(bytes: &[u8]) -> &[u8]
 fn decode_data<'a, S: Place>(
     presets: &Presets,
     regions: &Regions,
-    lines: &mut DecoderLines,
+    lines: &mut Lines,
     samples: &mut [S],
     shape: Shape,
     component: usize,

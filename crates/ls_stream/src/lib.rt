@@ -40,7 +40,7 @@ pub mod next;
 mod segments;
 mod shape;
 
-pub use buffers::{DecoderLines, Lines};
+pub use buffers::Lines;
 pub use decode::{Decoded, Opening, decode_frame};
 pub use encode::{
     code_bound, encode_frame, encode_into, encode_view, encode_with, encode_within, view_bound,

@@ -6,7 +6,7 @@ use crate::testing::{
 };
 use ls_frame::{Frame, Kind, PresetFault, Presets, Tuning};
 use ls_stream::{
-    Decoded, DecoderLines, Opening, Regions, StreamFault, What, decode_frame, encode_with,
+    Decoded, Lines, Opening, Regions, StreamFault, What, decode_frame, encode_with,
 };
 use std::alloc::{AllocError, Global};
 use std::process::Abort;
@@ -50,7 +50,7 @@ fn check_opened(
         }
     };
     let (kind, width, height) = (opening.kind(), opening.width(), opening.height());
-    let mut lines = DecoderLines::new(alloc, width)?;
+    let mut lines = Lines::new(alloc, width)?;
     let regions = Regions::new(alloc, opening.presets())?;
     let mut samples = vec![in alloc; 0u16; opening.sample_count()]?;
     match opening.decode(&mut lines, &regions, &mut samples) {
@@ -76,7 +76,7 @@ fn check_opened_to_bytes(
     if maxval > 255 {
         return Ok(());
     }
-    let mut lines = DecoderLines::new(alloc, width)?;
+    let mut lines = Lines::new(alloc, width)?;
     let regions = Regions::new(alloc, opening.presets())?;
     let mut places = vec![in alloc; 0u8; opening.sample_count()]?;
     match opening.decode(&mut lines, &regions, &mut places) {

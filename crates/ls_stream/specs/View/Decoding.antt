@@ -126,9 +126,9 @@ pub record AreRepeated (old : List ℕ) (column end : ℕ) (new : List ℕ) : Ty
 abbrev pub half_context_in : Parameters → List ℕ → ℕ → ℤ
 half_context_in p above j = half_context p (slice_index above (j + 1)) (slice_index above j) (slice_index above (j + 2))
 
--- and of those of the columns from one up to another
+-- and of those of so many columns from one on
 abbrev pub AreHalfContexts : Parameters → ℕ → ℕ → List ℕ → List ℤ → Type 0
-AreHalfContexts p start end above half_contexts = (j : ℕ) → start ≤ j → j < end → slice_index_or half_contexts j (pos 0) ≡ half_context_in p above j
+AreHalfContexts p start count above half_contexts = (i : ℕ) → i < count → slice_index_or half_contexts i (pos 0) ≡ half_context_in p above (start + i)
 
 -- a run of so many samples, with so many left in the line: one that ends with the line has all of them, one that is interrupted fewer
 pub record EndsInLine (left count : ℕ) (interrupted : Bool) : Type 0 where

@@ -23,46 +23,46 @@ struct Reached {
     bits: BitPlace,
 }
 
-/// Reads a row into its line, whose first place is filled; `above` is the line above it, and `half_contexts` is a
-/// buffer for the half contexts that it gives.
+/// Reads a row into its line, whose first place is filled; `above` is the line above it.
 pub fn decode_row(
     decoder: &mut Decoder,
     above: &[u16],
     line: &mut [u16],
-    half_contexts: &mut [i16],
     width: usize,
 ) -> Result<(), CodeFault>
     requires lines { ArePadded decoder.old.state.parameters.maxval width above.now line.old }
-    requires half_contexts { length half_contexts.old ≡ width }
     requires narrow { width ≤ 65535 }
     requires uninterrupted { decoder.old.state.interrupted ≡ false }
     ensures on { IfOk result (λ _. ReadsOn width above.now
         (place 0 line.old decoder.old.state decoder.old.bits) (place width line.new decoder.new.state decoder.new.bits)) }
     ensures stops { IfErr result (λ fault. ReadsNoFurther width above.now (place 0 line.old decoder.old.state decoder.old.bits) fault) }
 {
+    let mut half_contexts = [0; BLOCK];
     let mut column = 0;
     'columns: while column < width {
-        let end = (column + BLOCK).min(width);
-        find_half_contexts(decoder.presets(), above, half_contexts, column, end);
-        column = decode_block(decoder, above, line, half_contexts, width, column, end)?;
+        let count = BLOCK.min(width - column);
+        find_half_contexts(decoder.presets(), above, &mut half_contexts, column, count);
+        column = decode_block(decoder, above, line, &half_contexts[..count], width, column)?;
     }
     Ok(())
 }
 
-/// Finds the half contexts of the samples from column `start` up to `end`, by the line above.
+/// Finds the half contexts of so many samples from column `start` on, by the line above.
 fn find_half_contexts(
     presets: &Presets,
     above: &[u16],
     half_contexts: &mut [i16],
     start: usize,
-    end: usize,
+    count: usize,
 )
-    requires above { length above.now ≡ length half_contexts.old + 2 }
-    requires end { end ≤ length half_contexts.old }
-    ensures { AreHalfContexts presets.now start end above.now half_contexts.new }
+    requires above { start + count + 2 ≤ length above.now }
+    requires count { count ≤ length half_contexts.old }
+    ensures found { AreHalfContexts presets.now start count above.now half_contexts.new }
+    ensures len { length half_contexts.new ≡ length half_contexts.old }
 {
-    for column in start..end {
-        half_contexts[column] = half_context(
+    for number in 0..count {
+        let column = start + number;
+        half_contexts[number] = half_context(
             presets,
             above[column + 1],
             above[column],
@@ -71,7 +71,8 @@ fn find_half_contexts(
     }
 }
 
-/// Reads the spans that begin at the columns from `start` up to `end`, and answers the column after them.
+/// Reads the spans that begin at the columns from `start` on of which these are the half contexts, and answers the
+/// column after them.
 fn decode_block(
     decoder: &mut Decoder,
     above: &[u16],
@@ -79,13 +80,11 @@ fn decode_block(
     half_contexts: &[i16],
     width: usize,
     start: usize,
-    end: usize,
 ) -> Result<usize, CodeFault>
     requires lines { ArePadded decoder.old.state.parameters.maxval width above.now line.old }
-    requires half_contexts { AreHalfContexts decoder.old.state.parameters start end above.now half_contexts.now }
-    requires long { end ≤ length half_contexts.now }
-    requires some { start < end }
-    requires inside { end ≤ width }
+    requires half_contexts { AreHalfContexts decoder.old.state.parameters start (length half_contexts.now) above.now half_contexts.now }
+    requires some { 0 < length half_contexts.now }
+    requires inside { start + length half_contexts.now ≤ width }
     requires narrow { width ≤ 65535 }
     requires uninterrupted { decoder.old.state.interrupted ≡ false }
     ensures next { IfOk result (λ next. (start < next) × (next ≤ width)) }
@@ -98,8 +97,8 @@ fn decode_block(
         left: line[start],
         bits: decoder.place(),
     };
-    'spans: while reached.column < end {
-        let half = half_contexts[reached.column];
+    'spans: while reached.column - start < half_contexts.len() {
+        let half = half_contexts[reached.column - start];
         reached = decode_span(decoder, reached, half, above, line, width)?;
     }
     decoder.go_to(reached.bits);

@@ -9,7 +9,7 @@ ghost use Rattle.ls_stream.specs.Grammar.{IsCoded};
 ghost use Rattle.ls_stream.specs.View.BitFaults.{BreaksSpans, BreaksPlane};
 ghost use Rattle.ls_stream.specs.View.Decoding.{RowsMayBeRead, ScanBreaks};
 
-use crate::buffers::DecoderLines;
+use crate::buffers::Lines;
 use crate::decode::decoder::Decoder;
 use crate::decode::row::decode_row;
 use crate::lines::clear;
@@ -32,7 +32,7 @@ pub fn decode_scan<S: Place>(
     presets: &Presets,
     regions: &Regions,
     bytes: &[u8],
-    lines: &mut DecoderLines,
+    lines: &mut Lines,
     samples: &mut [S],
     shape: Shape,
     component: usize,
@@ -65,9 +65,8 @@ pub fn decode_scan<S: Place>(
     let mut decoder = Decoder::new(presets, regions, &sure, &mut state, &mut source);
     let read = decode_plane(
         &mut decoder,
-        &mut lines.lines.above,
-        &mut lines.lines.line,
-        &mut lines.half_contexts,
+        &mut lines.above,
+        &mut lines.line,
         samples,
         shape,
         component,
@@ -81,20 +80,17 @@ pub fn decode_scan<S: Place>(
     Ok(())
 }
 
-/// Reads a component's plane, at a scan's start; `above`, `line` and `half_contexts` are buffers for what a row is read
-/// by.
+/// Reads a component's plane, at a scan's start; `above` and `line` are buffers for what a row is read by.
 fn decode_plane<S: Place>(
     decoder: &mut Decoder,
     above: &mut Vec<u16>,
     line: &mut Vec<u16>,
-    half_contexts: &mut Vec<i16>,
     samples: &mut [S],
     shape: Shape,
     component: usize,
 ) -> Result<(), CodeFault>
     requires above { shape.width + 2 ≤ vec_len above.old }
     requires line { shape.width + 2 ≤ vec_len line.old }
-    requires half_contexts { shape.width ≤ vec_len half_contexts.old }
     requires some { 1 ≤ shape.width }
     requires narrow { shape.width ≤ 65535 }
     requires fits { decoder.old.state.parameters.maxval ≤ S.most }
@@ -117,33 +113,29 @@ fn decode_plane<S: Place>(
     ensures len { length (S.numbers samples.new) ≡ length (S.numbers samples.old) }
     ensures above { vec_len above.new ≡ vec_len above.old }
     ensures line { vec_len line.new ≡ vec_len line.old }
-    ensures half_contexts { vec_len half_contexts.new ≡ vec_len half_contexts.old }
 {
     let places = shape.width + 2;
     decode_rows(
         decoder,
         &mut above[..places],
         &mut line[..places],
-        &mut half_contexts[..shape.width],
         samples,
         shape,
         component,
     )
 }
 
-/// Reads the rows of one component; `above`, `line` and `half_contexts` are buffers for what a row is read by.
+/// Reads the rows of one component; `above` and `line` are buffers for what a row is read by.
 fn decode_rows<S: Place>(
     decoder: &mut Decoder,
     above: &mut [u16],
     line: &mut [u16],
-    half_contexts: &mut [i16],
     samples: &mut [S],
     shape: Shape,
     component: usize,
 ) -> Result<(), CodeFault>
     requires above { length above.old ≡ shape.width + 2 }
     requires line { length line.old ≡ shape.width + 2 }
-    requires half_contexts { length half_contexts.old ≡ shape.width }
     requires some { 1 ≤ shape.width }
     requires narrow { shape.width ≤ 65535 }
     requires fits { decoder.old.state.parameters.maxval ≤ S.most }
@@ -168,7 +160,7 @@ fn decode_rows<S: Place>(
     clear(line);
     for row in 0..shape.height {
         line[0] = above[1];
-        decode_row(decoder, above, line, half_contexts, shape.width)?;
+        decode_row(decoder, above, line, shape.width)?;
         line[shape.width + 1] = line[shape.width];
         store_row(samples, line, row, shape, component);
         above.copy_from_slice(line);

@@ -15,4 +15,4 @@ invariant-spans l = record {
 }
 
 abbrev pub decreases-spans : goal.decreases-spans
-decreases-spans l = l.end - l.reached.column
+decreases-spans l = l.width - l.reached.column

@@ -71,7 +71,6 @@ loop-row-preserved g c =
       line_small = last_small;
       above_length = ap length c.copy_from_slice.ensures.after ∙ length-set read (width + 1) (get_or read width 0) ∙ read_length;
       line_length = length-set read (width + 1) (get_or read width 0) ∙ read_length;
-      half_contexts = c.decode_row.auto.half_contexts ∙ c.loop-row.invariant.half_contexts;
       len = c.store_row.ensures.len ∙ c.loop-row.invariant.len;
       uninterrupted = c.in_ok-decode_row.ensures.on.uninterrupted;
       parameters = c.in_ok-decode_row.ensures.on.parameters ∙ c.loop-row.invariant.parameters;

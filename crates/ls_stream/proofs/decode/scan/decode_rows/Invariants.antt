@@ -22,7 +22,6 @@ invariant-loop-row g l = record {
   line_small : (k : ℕ) → get_or l.line k 0 ≤ l.fn.decoder.state.parameters.maxval;
   above_length : length l.above ≡ l.shape.width + 2;
   line_length : length l.line ≡ l.shape.width + 2;
-  half_contexts : length l.half_contexts ≡ l.shape.width;
   len : length (g.S.Place.numbers l.samples) ≡ length (g.S.Place.numbers l.fn.samples);
   uninterrupted : l.decoder.state.interrupted ≡ false;
   parameters : l.decoder.state.parameters ≡ l.fn.decoder.state.parameters;
