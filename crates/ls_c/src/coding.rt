@@ -20,9 +20,7 @@ use crate::refusal::{NO_MEMORY, Refusal};
 use crate::request::{Request, Shape, adjacent, joined, request_of};
 use ls_frame::{FrameView, Place, Presets, Samples};
 use ls_stream::laws::codestreams_spell_their_frames;
-use ls_stream::{
-    Lines, Opening, Regions, StreamFault, encode_into, encode_view, view_bound,
-};
+use ls_stream::{Lines, Opening, Regions, StreamFault, encode_into, encode_view, view_bound};
 use std::alloc::Global;
 
 /// Encodes samples of 16 bits.

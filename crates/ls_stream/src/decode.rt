@@ -47,7 +47,7 @@ pub struct Decoded {
 ///
 /// NoMemory comes only if an allocation fails, and only for bytes that begin with a complete legal opening: SOI, the
 /// frame header, the segments before the first scan and its header, with coding parameters that are legal. What is
-/// asked for is two lines and a row of half contexts, a table of 2 * MAXVAL + 1 bytes, and the samples.
+/// asked for is two lines, a table of 2 * MAXVAL + 1 bytes, and the samples.
 pub fn decode_frame(alloc: Global, bytes: &[u8]) -> Result<Decoded, StreamFault>
     ensures ok { IfOk result (λ decoded. (decoded.used ≤ length bytes.now) × Spells (take decoded.used bytes.now) decoded.frame) }
     ensures fault { IfErr result (λ fault. (fault ≡ StreamFault.NoMemory)
