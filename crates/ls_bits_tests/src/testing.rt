@@ -90,7 +90,11 @@ pub fn check_few(rt: &impl Abort, k: u32, most: u32, bytes: &[u8], value: Option
         }
         None => None,
     };
-    assert_eq!(rt; (none, found, source.left()), (Ok(0), value, left), "of {bytes:?}");
+    assert_eq!(rt;
+        (none, found, source.left()),
+        (Ok(0), value, left),
+        "of {bytes:?}"
+    );
 }
 
 /// A code of words: k, glimit, qbpp.

@@ -5,9 +5,7 @@ use crate::testing::{
     Chance, PICTURES, Parts, Picture, Shape, drawn_frame, frame_of, longest_line, parts_of,
 };
 use ls_frame::{Frame, Kind, PresetFault, Presets, Tuning};
-use ls_stream::{
-    Decoded, Lines, Opening, Regions, StreamFault, What, decode_frame, encode_with,
-};
+use ls_stream::{Decoded, Lines, Opening, Regions, StreamFault, What, decode_frame, encode_with};
 use std::alloc::{AllocError, Global};
 use std::process::Abort;
 use std::test::Fail;
