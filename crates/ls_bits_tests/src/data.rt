@@ -1,6 +1,7 @@
+use crate::testing::{check, check_bytes};
 use ls_bits::{Data, Stop, data_of};
 
-const FRONTS: [(&[u8], usize, Stop); 8] = [
+const FRONTS: &[(&[u8], usize, Stop)] = &[
     (&[0x80, 0xff, 0xd9], 1, Stop::Marker),
     (&[0x80, 0xff, 0xff, 0xd9], 1, Stop::Marker),
     (&[0xff, 0x00, 0xff, 0xd9], 2, Stop::Marker),
@@ -14,12 +15,13 @@ const FRONTS: [(&[u8], usize, Stop); 8] = [
 #[test]
 fn data_ends_before_a_marker_or_a_lone_ff(rt: HostRuntime) {
     for (bytes, len, stop) in FRONTS {
-        assert_eq!(rt; data_of(bytes), Data { len, stop }, "of {bytes:?}");
+        let (len, stop) = (*len, *stop);
+        check(&rt, bytes, &data_of(bytes), &Data { len, stop });
     }
 }
 
 /// Data beside that of two bytes before a marker, and whether it is equal.
-const OTHERS: [(usize, Stop, bool); 3] = [
+const OTHERS: &[(usize, Stop, bool)] = &[
     (2, Stop::Marker, true),
     (1, Stop::Marker, false),
     (2, Stop::End, false),
@@ -34,8 +36,9 @@ fn data_and_stops_are_printed_and_compared_by_their_fields(rt: HostRuntime) {
     let Ok(text) = format!(in rt.alloc(); "{data:?} {:?}", Stop::End) else {
         return;
     };
-    assert_eq!(rt; text.as_str(), "Data { len: 2, stop: Marker } End");
+    check_bytes(&rt, text.as_bytes(), b"Data { len: 2, stop: Marker } End");
     for (len, stop, is_equal) in OTHERS {
-        assert_eq!(rt; data == Data { len, stop }, is_equal);
+        let (len, stop) = (*len, *stop);
+        check(&rt, &[], &(data == Data { len, stop }), is_equal);
     }
 }

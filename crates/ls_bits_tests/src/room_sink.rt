@@ -1,4 +1,4 @@
-use crate::testing::check_bytes;
+use crate::testing::{check, check_bytes};
 use ls_bits::{RoomSink, SliceRoom};
 
 #[test]
@@ -17,7 +17,7 @@ fn bits_go_after_the_bytes_that_were_there(rt: HostRuntime) {
     let filled = sink.finish();
     check_bytes(&rt, &filled, &[0x07, 0xff, 0x40]);
     // The memory is that of before: nothing was allocated.
-    assert_eq!(rt; filled.capacity(), capacity);
+    check(&rt, &filled, &filled.capacity(), &capacity);
 }
 
 #[test]
@@ -27,6 +27,6 @@ fn bits_go_into_a_slice_and_leave_the_places_behind_them(rt: HostRuntime) {
     sink.put(255, 8);
     sink.put(1, 1);
     let room = sink.finish();
-    assert_eq!(rt; room.len, 2);
+    check(&rt, &[], &room.len, &2);
     check_bytes(&rt, &places, &[0xff, 0x40, 0x11, 0x11]);
 }

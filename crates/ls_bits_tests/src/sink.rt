@@ -1,12 +1,12 @@
 ghost use Rattle.std.specs.Prelude.{◌<◌};
 
-use crate::testing::{Code, Filling, Put, WORDS, check_bytes, put, put_word};
+use crate::testing::{Code, Filling, Put, WORDS, Word, check_bytes, put, put_word};
 use ls_bits::BitSink;
 use std::alloc::{AllocError, Global};
 use std::process::Abort;
 
 /// Bits that are put one after the other, and the bytes that they make.
-const BYTES: [(&[Put], &[u8]); 7] = [
+const BYTES: &[(&[Put], &[u8])] = &[
     (&[], &[]),
     (&[(0, 0)], &[]),
     (&[(255, 8), (1, 1)], &[0xff, 0x40]),
@@ -19,16 +19,28 @@ const BYTES: [(&[Put], &[u8]); 7] = [
 /// Room for the bits of each list and each word.
 const ROOM: usize = 192;
 
-/// That both sinks make these bytes of the bits; nothing if an allocation fails.
-fn check_puts(rt: &impl Abort, alloc: Global, puts: &[Put], want: &[u8]) -> Result<(), AllocError> {
+/// The bytes that a sink makes of bits.
+fn bytes_of(rt: &impl Abort, alloc: Global, puts: &[Put]) -> Result<Vec<u8>, AllocError> {
     let mut sink = BitSink::new(alloc);
+    for bits in puts {
+        put(rt, &mut sink, *bits)?;
+    }
+    sink.finish()
+}
+
+/// The bytes that a sink with room makes of bits.
+fn filled_of(rt: &impl Abort, alloc: Global, puts: &[Put]) -> Result<Vec<u8>, AllocError> {
     let mut filling = Filling::new(alloc, ROOM)?;
     for (value, count) in puts {
-        put(rt, &mut sink, (*value, *count))?;
         filling.put(rt, *value, *count);
     }
-    check_bytes(rt, &sink.finish()?, want);
-    check_bytes(rt, &filling.finish(), want);
+    Ok(filling.finish())
+}
+
+/// That both sinks make these bytes of the bits; nothing if an allocation fails.
+fn check_puts(rt: &impl Abort, alloc: Global, puts: &[Put], want: &[u8]) -> Result<(), AllocError> {
+    check_bytes(rt, &bytes_of(rt, alloc, puts)?, want);
+    check_bytes(rt, &filled_of(rt, alloc, puts)?, want);
     Ok(())
 }
 
@@ -40,7 +52,7 @@ fn bits_are_stuffed(rt: HostRuntime) {
 }
 
 /// So many bits 0 and forty bits 1.
-const ONES: [(u32, &[u8]); 8] = [
+const ONES: &[(u32, &[u8])] = &[
     (0, &[0xff, 0x7f, 0xff, 0x7f, 0xff, 0x60]),
     (1, &[0x7f, 0xff, 0x7f, 0xff, 0x7f, 0xe0]),
     (2, &[0x3f, 0xff, 0x7f, 0xff, 0x7f, 0xf0]),
@@ -51,19 +63,25 @@ const ONES: [(u32, &[u8]); 8] = [
     (7, &[0x01, 0xff, 0x7f, 0xff, 0x7f, 0xff, 0x40]),
 ];
 
+/// Bytes after so many bytes 00.
+fn after_zeros(alloc: Global, zeros: u32, bytes: &[u8]) -> Result<Vec<u8>, AllocError> {
+    let mut all = Vec::new(alloc);
+    for _ in 0..zeros {
+        all.push(0x00)?;
+    }
+    all.extend_from_slice(bytes)?;
+    Ok(all)
+}
+
 /// That ones are stuffed also if they stand after so many bytes 00.
 fn check_ones(rt: &impl Abort, alloc: Global, bytes: u32) -> Result<(), AllocError>
     requires { bytes < 8 }
 {
     for (zeros, ones) in ONES {
-        let mut want = Vec::new(alloc);
-        for _ in 0..bytes {
-            want.push(0x00)?;
-        }
-        want.extend_from_slice(ones)?;
+        let want = after_zeros(alloc, bytes, ones)?;
         let puts = [
             (0, 4 * bytes),
-            (0, zeros),
+            (0, *zeros),
             (0, 4 * bytes),
             (u32::MAX, 32),
             (255, 8),
@@ -80,28 +98,33 @@ fn ones_are_stuffed_wherever_they_begin_in_64_bits(rt: HostRuntime) {
     }
 }
 
-/// That both sinks make these bytes of a word.
-fn check_word(
-    rt: &impl Abort,
-    alloc: Global,
-    code: Code,
-    v: u32,
-    want: &[u8],
-) -> Result<(), AllocError> {
+/// The bytes that a sink makes of a word.
+fn word_of(rt: &impl Abort, alloc: Global, code: Code, v: u32) -> Result<Vec<u8>, AllocError> {
     let mut sink = BitSink::new(alloc);
     put_word(rt, &mut sink, code, v)?;
-    check_bytes(rt, &sink.finish()?, want);
+    sink.finish()
+}
+
+/// The bytes that a sink with room makes of a word.
+fn filled_word(rt: &impl Abort, alloc: Global, code: Code, v: u32) -> Result<Vec<u8>, AllocError> {
     let mut filling = Filling::new(alloc, ROOM)?;
     filling.put_word(rt, code, v);
-    check_bytes(rt, &filling.finish(), want);
+    Ok(filling.finish())
+}
+
+/// That both sinks make its bytes of a word; nothing if an allocation fails.
+fn check_word(rt: &impl Abort, alloc: Global, word: &Word) -> Result<(), AllocError> {
+    let (k, glimit, qbpp, v, want) = *word;
+    let code = Code::new(rt, k, glimit, qbpp);
+    check_bytes(rt, &word_of(rt, alloc, code, v)?, want);
+    check_bytes(rt, &filled_word(rt, alloc, code, v)?, want);
     Ok(())
 }
 
 #[test]
 fn values_are_put_in_golomb_words(rt: HostRuntime) {
-    for (k, glimit, qbpp, v, want) in WORDS {
-        let code = Code::new(&rt, k, glimit, qbpp);
-        let _ = check_word(&rt, rt.alloc(), code, v, want);
+    for word in WORDS {
+        let _ = check_word(&rt, rt.alloc(), word);
     }
 }
 

@@ -1,19 +1,28 @@
-use crate::testing::{Code, WORDS, check_answer, check_few, check_left, source_of};
+use crate::testing::{
+    Code, WORDS, Word, check, check_answer, check_bytes, check_few, check_left, source_of,
+};
 use ls_bits::CodeFault;
 use std::alloc::{AllocError, Global};
+use std::process::Abort;
+
+/// That the value of a word is taken.
+fn check_word(rt: &impl Abort, word: &Word) {
+    let (k, glimit, qbpp, v, bytes) = *word;
+    let code = Code::new(rt, k, glimit, qbpp);
+    check_answer(rt, code.take_first(bytes), Ok(v), bytes);
+}
 
 #[test]
 fn words_are_taken(rt: HostRuntime) {
-    for (k, glimit, qbpp, v, bytes) in WORDS {
-        let code = Code::new(&rt, k, glimit, qbpp);
-        check_answer(&rt, code.take_first(bytes), Ok(v), bytes);
+    for word in WORDS {
+        check_word(&rt, word);
     }
 }
 
 /// k, glimit, qbpp, and bytes of which no word is taken.
 type Row = (u32, u32, u32, &'static [u8], CodeFault);
 
-const NO_WORDS: [Row; 7] = [
+const NO_WORDS: &[Row] = &[
     (2, 31, 8, &[0x00], CodeFault::OutOfBits),
     (2, 31, 8, &[], CodeFault::OutOfBits),
     (2, 31, 8, &[0x00, 0x00, 0x02], CodeFault::OutOfBits),
@@ -26,15 +35,15 @@ const NO_WORDS: [Row; 7] = [
 #[test]
 fn the_fault_is_named_if_no_word_is_taken(rt: HostRuntime) {
     for (k, glimit, qbpp, bytes, fault) in NO_WORDS {
-        let code = Code::new(&rt, k, glimit, qbpp);
-        check_answer(&rt, code.take_first(bytes), Err(fault), bytes);
+        let code = Code::new(&rt, *k, *glimit, *qbpp);
+        check_answer(&rt, code.take_first(bytes), Err(*fault), bytes);
     }
 }
 
 /// k, glimit, qbpp, a value, its word with four bytes 00 after it, and how many bits the word leaves.
 type Short = (u32, u32, u32, u32, &'static [u8], u64);
 
-const SHORT: [Short; 7] = [
+const SHORT: &[Short] = &[
     (2, 31, 8, 17, &[0x0a, 0, 0, 0, 0], 33),
     (3, 12, 5, 7, &[0xf0, 0, 0, 0, 0], 36),
     (0, 64, 0, 1, &[0x40, 0, 0, 0, 0], 38),
@@ -44,17 +53,19 @@ const SHORT: [Short; 7] = [
     (8, 32, 8, 255, &[0xff, 0x40, 0, 0, 0, 0], 38),
 ];
 
+/// That a short word is taken, and that so many bits are left after it.
+fn check_short(rt: &impl Abort, short: &Short) {
+    let (k, glimit, qbpp, v, bytes, left) = *short;
+    let mut source = source_of(bytes);
+    let code = Code::new(rt, k, glimit, qbpp);
+    check_answer(rt, code.take(&mut source), Ok(v), bytes);
+    check_left(rt, &source, left);
+}
+
 #[test]
 fn a_short_word_leaves_what_follows_it(rt: HostRuntime) {
-    for (k, glimit, qbpp, v, bytes, left) in SHORT {
-        let mut source = source_of(bytes);
-        check_answer(
-            &rt,
-            Code::new(&rt, k, glimit, qbpp).take(&mut source),
-            Ok(v),
-            bytes,
-        );
-        check_left(&rt, &source, left);
+    for short in SHORT {
+        check_short(&rt, short);
     }
 }
 
@@ -122,7 +133,7 @@ fn no_bytes_have_no_bit(rt: HostRuntime) {
 /// k, how many zeros a word may have, bytes, what is taken, and how many bits are left then.
 type Few = (u32, u32, &'static [u8], Option<u32>, u64);
 
-const FEW: [Few; 5] = [
+const FEW: &[Few] = &[
     (2, 5, &[0x0a, 0, 0, 0, 0, 0, 0, 0], Some(17), 57),
     (2, 4, &[0x0a, 0, 0, 0, 0, 0, 0, 0], None, 64),
     (0, 24, &[0, 0, 1, 0, 0, 0, 0, 0], Some(23), 40),
@@ -133,7 +144,7 @@ const FEW: [Few; 5] = [
 #[test]
 fn a_word_of_few_zeros_is_taken_where_it_is_known_to_be_whole(rt: HostRuntime) {
     for (k, most, bytes, value, left) in FEW {
-        check_few(&rt, k, most, bytes, value, left);
+        check_few(&rt, *k, *most, bytes, *value, *left);
     }
 }
 
@@ -154,8 +165,7 @@ fn bits_go_on_where_more_are_unstuffed(rt: HostRuntime) {
 fn pairs_of_ff(alloc: Global) -> Result<Vec<u8>, AllocError> {
     let mut bytes = Vec::new(alloc);
     for _ in 0..3000 {
-        bytes.push(0xff)?;
-        bytes.push(0x7f)?;
+        bytes.extend_from_slice(&[0xff, 0x7f])?;
     }
     Ok(bytes)
 }
@@ -166,6 +176,7 @@ fn faults_say_what_they_are(rt: HostRuntime) {
     let Ok(text) = format!(in rt.alloc(); "{first}, {second}, {first:?}, {second:?}") else {
         return;
     };
-    let want = "out of bits, not canonical, OutOfBits, NotCanonical";
-    assert_eq!(rt; (text.as_str(), first == second), (want, false));
+    let want = b"out of bits, not canonical, OutOfBits, NotCanonical";
+    check_bytes(&rt, text.as_bytes(), want);
+    check(&rt, &[], &(first == second), &false);
 }

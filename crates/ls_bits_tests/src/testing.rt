@@ -6,6 +6,7 @@ ghost use Rattle.ls_bits.specs.View.Room.{Fits};
 use ls_bits::laws::words_keep_their_limit;
 use ls_bits::{BitSink, BitSource, CodeFault, RoomSink, data_of};
 use std::alloc::{AllocError, Global};
+use std::fmt::Debug;
 use std::process::Abort;
 
 /// A number, and in how many bits it is put.
@@ -15,7 +16,7 @@ pub type Put = (u32, u32);
 pub type Word = (u32, u32, u32, u32, &'static [u8]);
 
 /// Words by T.87 A.5.3, stuffed by C.1: ones of 8 bits, and then those of the narrowest and widest codes.
-pub const WORDS: [Word; 26] = [
+pub const WORDS: &[Word] = &[
     (2, 31, 8, 17, &[0x0a]),
     (0, 32, 8, 22, &[0x00, 0x00, 0x02]),
     (0, 32, 8, 23, &[0x00, 0x00, 0x01, 0x16]),
@@ -56,9 +57,14 @@ pub const WORDS: [Word; 26] = [
     ),
 ];
 
+/// That a value that was made of bytes is the wanted one.
+pub fn check<T: PartialEq + Debug>(rt: &impl Abort, bytes: &[u8], got: &T, want: &T) {
+    assert_eq!(rt; got, want, "of {bytes:?}");
+}
+
 /// That these are the bytes.
 pub fn check_bytes(rt: &impl Abort, got: &[u8], want: &[u8]) {
-    assert_eq!(rt; got, want);
+    check(rt, want, &got, &want);
 }
 
 /// That a source answers so.
@@ -68,12 +74,12 @@ pub fn check_answer(
     want: Result<u32, CodeFault>,
     bytes: &[u8],
 ) {
-    assert_eq!(rt; got, want, "of {bytes:?}");
+    check(rt, bytes, &got, &want);
 }
 
 /// That so many bits are left.
 pub fn check_left(rt: &impl Abort, source: &BitSource<'_>, want: u64) {
-    assert_eq!(rt; source.left(), want);
+    check(rt, &[], &source.left(), &want);
 }
 
 /// That a word of few zeros is found so at the front of bytes, after their first bits were un-stuffed, and that so many
@@ -90,11 +96,8 @@ pub fn check_few(rt: &impl Abort, k: u32, most: u32, bytes: &[u8], value: Option
         }
         None => None,
     };
-    assert_eq!(rt;
-        (none, found, source.left()),
-        (Ok(0), value, left),
-        "of {bytes:?}"
-    );
+    let got = (none, found, source.left());
+    check(rt, bytes, &got, &(Ok(0), value, left));
 }
 
 /// A code of words: k, glimit, qbpp.
