@@ -1,3 +1,4 @@
+use crate::state::calls::check_equal;
 use ls_coding::{Regions, half_context, whole_context};
 use ls_frame::Presets;
 use std::alloc::{AllocError, Global};
@@ -5,7 +6,7 @@ use std::process::Abort;
 
 /// The samples around one (a, b, c and d), and their context with its sign by the default parameters of 8 bits, whose
 /// thresholds are 3, 7 and 21.
-const CONTEXTS: [([u16; 4], i16); 6] = [
+const CONTEXTS: &[([u16; 4], i16)] = &[
     ([0, 0, 0, 0], 0),
     ([5, 0, 0, 0], -2),
     ([0, 0, 255, 255], 292),
@@ -19,8 +20,8 @@ fn check_contexts(rt: &impl Abort, alloc: Global) -> Result<(), AllocError> {
     let presets = Presets::default_of(255);
     let regions = Regions::new(alloc, &presets)?;
     for ([a, b, c, d], want) in CONTEXTS {
-        let context = whole_context(&regions, half_context(&presets, b, c, d), a, c);
-        assert_eq!(rt; context, want);
+        let half = half_context(&presets, *b, *c, *d);
+        check_equal(rt, &whole_context(&regions, half, *a, *c), want);
     }
     Ok(())
 }

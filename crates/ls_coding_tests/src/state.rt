@@ -8,7 +8,7 @@ use ls_frame::Presets;
 use std::process::Abort;
 
 /// A run's samples, whether it ends with the line, and its word on a new state.
-const RUNS: [(u32, bool, u32, Tail); 7] = [
+const RUNS: &[(u32, bool, u32, Tail)] = &[
     (0, false, 0, Tail::Interrupted { width: 0, rest: 0 }),
     (2, false, 2, Tail::Interrupted { width: 0, rest: 0 }),
     (4, false, 4, Tail::Interrupted { width: 1, rest: 0 }),
@@ -22,13 +22,14 @@ const RUNS: [(u32, bool, u32, Tail); 7] = [
 fn runs_are_coded_on_a_new_state(rt: HostRuntime) {
     for (count, eol, ones, tail) in RUNS {
         let mut state = fresh();
-        check_run(&rt, code_run(&rt, &mut state, count, eol), ones, tail);
-        check(&rt, state.interrupted() != eol);
+        let word = code_run(&rt, &mut state, *count, *eol);
+        check_run(&rt, word, *ones, *tail);
+        check(&rt, state.interrupted() != *eol);
     }
 }
 
 /// A run's samples on a new state; the neighbours of the sample that interrupts it, the sample, and its word.
-const INTERRUPTIONS: [(u32, Around, u16, Numbers); 3] = [
+const INTERRUPTIONS: &[(u32, Around, u16, Numbers)] = &[
     (0, (0, 0, 0, 0), 5, (2, 31, 9)),
     (2, (9, 0, 9, 0), 5, (2, 31, 9)),
     (4, (0, 0, 0, 0), 100, (2, 30, 199)),
@@ -38,12 +39,9 @@ const INTERRUPTIONS: [(u32, Around, u16, Numbers); 3] = [
 fn samples_that_interrupt_runs_are_coded(rt: HostRuntime) {
     for (count, around, sample, want) in INTERRUPTIONS {
         let mut state = fresh();
-        let _ = code_run(&rt, &mut state, count, false);
-        check_word(
-            &rt,
-            code_interruption(&rt, &mut state, around, sample),
-            want,
-        );
+        let _ = code_run(&rt, &mut state, *count, false);
+        let word = code_interruption(&rt, &mut state, *around, *sample);
+        check_word(&rt, word, *want);
         check(&rt, !state.interrupted());
     }
 }
@@ -62,22 +60,27 @@ fn a_sample_of_regular_mode_is_coded_after_one_that_interrupts_a_run(rt: HostRun
 
 /// Takes a bit 1 on a new state with so many samples left, each of which it stands for alone; then RUNindex and the
 /// width of what follows a bit 0.
-const ONES: [(&[u32], u32, u32); 4] = [
+const ONES: &[(&[u32], u32, u32)] = &[
     (&[], 0, 0),
     (&[5, 4, 3], 3, 0),
     (&[5, 4, 3, 2], 4, 1),
     (&[5, 4, 3, 2, 1], 4, 1),
 ];
 
+/// That a bit 1 stands for one sample, with so many left each time.
+fn check_ones(rt: &impl Abort, state: &mut State, lefts: &[u32]) {
+    for left in lefts {
+        check_number(rt, accept_one(rt, state, *left), 1);
+    }
+}
+
 #[test]
 fn run_index_rises_where_a_bit_1_stands_for_all_its_samples(rt: HostRuntime) {
     for (lefts, run_index, width) in ONES {
         let mut state = fresh();
-        for left in lefts {
-            check_number(&rt, accept_one(&rt, &mut state, *left), 1);
-        }
-        check_number(&rt, state.run_index(), run_index);
-        check_number(&rt, state.break_width(), width);
+        check_ones(&rt, &mut state, lefts);
+        check_number(&rt, state.run_index(), *run_index);
+        check_number(&rt, state.break_width(), *width);
         check(&rt, !state.interrupted());
     }
 }
@@ -85,9 +88,7 @@ fn run_index_rises_where_a_bit_1_stands_for_all_its_samples(rt: HostRuntime) {
 #[test]
 fn the_end_of_a_run_leaves_a_sample_to_interrupt_it(rt: HostRuntime) {
     let mut state = fresh();
-    for left in [5, 4, 3, 2] {
-        check_number(&rt, accept_one(&rt, &mut state, left), 1);
-    }
+    check_ones(&rt, &mut state, &[5, 4, 3, 2]);
     for (rest, want) in [(1, Err(CodeFault::NotCanonical)), (0, Ok(()))] {
         check_break(&rt, accept_break(&rt, &mut state, rest, 1), want);
         check(&rt, state.interrupted() == (rest == 0));
@@ -114,7 +115,7 @@ fn a_value_of_few_zeros_is_accepted_as_any(rt: HostRuntime) {
 }
 
 /// maxval, k, and how many zeros a word may have in front and be sure.
-const SURE: [(u16, u32, u32); 6] = [
+const SURE: &[(u16, u32, u32)] = &[
     (255, 0, 23),
     (255, 4, 15),
     (255, 8, 0),
@@ -126,7 +127,7 @@ const SURE: [(u16, u32, u32); 6] = [
 #[test]
 fn words_of_so_few_zeros_are_sure(rt: HostRuntime) {
     for (maxval, k, want) in SURE {
-        check_number(&rt, sure_zeros(&rt, maxval, k), want);
+        check_number(&rt, sure_zeros(&rt, *maxval, *k), *want);
     }
 }
 

@@ -8,6 +8,7 @@ ghost use Rattle.ls_coding.specs.Contexts.{is_run};
 use ls_bits::CodeFault;
 use ls_coding::{Mode, Neighbours, RunWord, State, SureZeros, Tail, Word, mode_of};
 use ls_frame::Presets;
+use std::fmt::Debug;
 use std::process::Abort;
 
 /// The samples around one: a, b, c and d.
@@ -39,24 +40,29 @@ pub fn check(rt: &impl Abort, holds: bool)
     assert!(rt; holds);
 }
 
-pub fn check_number(rt: &impl Abort, got: u32, want: u32) {
+/// That a value is the wanted one.
+pub fn check_equal<T: PartialEq + Debug>(rt: &impl Abort, got: &T, want: &T) {
     assert_eq!(rt; got, want);
+}
+
+pub fn check_number(rt: &impl Abort, got: u32, want: u32) {
+    check_equal(rt, &got, &want);
 }
 
 pub fn check_word(rt: &impl Abort, got: Word, want: Numbers) {
-    assert_eq!(rt; got, word_of(want));
+    check_equal(rt, &got, &word_of(want));
 }
 
 pub fn check_run(rt: &impl Abort, got: RunWord, ones: u32, tail: Tail) {
-    assert_eq!(rt; got, RunWord { ones, tail });
+    check_equal(rt, &got, &RunWord { ones, tail });
 }
 
 pub fn check_sample(rt: &impl Abort, got: Result<u16, CodeFault>, want: Result<u16, CodeFault>) {
-    assert_eq!(rt; got, want);
+    check_equal(rt, &got, &want);
 }
 
 pub fn check_break(rt: &impl Abort, got: Result<(), CodeFault>, want: Result<(), CodeFault>) {
-    assert_eq!(rt; got, want);
+    check_equal(rt, &got, &want);
 }
 
 fn check_samples(rt: &impl Abort, state: &State, neighbours: &Neighbours)

@@ -19,7 +19,7 @@ const ROUNDS: u32 = 5;
 /// Events of each kind, with their words in the last round, which another program worked out by the steps of T.87.
 ///
 /// Contexts are met more often than RESET, with both signs of an error, and RUNindex rises and falls.
-const STEPS: [Step; 30] = [
+const STEPS: &[Step] = &[
     Step::Run(2, 9, 0),
     Step::Interruption((0, 0, 0, 0), 1, (0, 27, 0)),
     Step::Regular((5, 0, 0, 0), 5, (1, 32, 0)),
@@ -138,7 +138,7 @@ fn events_of_all_kinds_are_taken_as_they_were_coded(rt: HostRuntime) {
     };
     let mut pair = Pair::new(&presets);
     for round in 1..ROUNDS + 1 {
-        for step in &STEPS {
+        for step in STEPS {
             let is_wanted = pair.take(&rt, step);
             check(&rt, is_wanted || round < ROUNDS);
         }
