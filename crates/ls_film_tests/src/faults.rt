@@ -1,11 +1,11 @@
-use crate::testing::check_text;
+use crate::testing::{check, check_text};
 use ls_film::FilmFault;
 use ls_film::engine::Stopped;
 use ls_frame::{NetpbmFault, WriteFault};
 use std::process::Abort;
 
 /// The faults of a frame, but for memory that is refused, and their texts.
-const INPUT_FAULTS: [(NetpbmFault, &str); 8] = [
+const INPUT_FAULTS: &[(NetpbmFault, &str)] = &[
     (NetpbmFault::BadMagic, "frame 3: bad magic"),
     (NetpbmFault::BadHeader, "frame 3: bad header"),
     (NetpbmFault::HeaderTooLong, "frame 3: header too long"),
@@ -21,15 +21,15 @@ const INPUT_FAULTS: [(NetpbmFault, &str); 8] = [
 
 /// That a fault is this one, and has this text.
 fn check_fault(rt: &impl Abort, got: FilmFault, want: FilmFault, text: &str) {
-    assert_eq!(rt; got, want, "{text}");
+    check(rt, text, &got, &want);
     check_text(rt, got, text);
 }
 
 #[test]
 fn faults_of_frames_have_their_numbers_and_texts(rt: HostRuntime) {
     for (fault, text) in INPUT_FAULTS {
-        let got = FilmFault::of(Stopped::Input(3, fault));
-        check_fault(&rt, got, FilmFault::Input(3, fault), text);
+        let got = FilmFault::of(Stopped::Input(3, *fault));
+        check_fault(&rt, got, FilmFault::Input(3, *fault), text);
     }
 }
 

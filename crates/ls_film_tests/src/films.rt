@@ -1,7 +1,7 @@
 //! What the engines write of films, good and bad, and where a read or a write fails.
-use crate::testing::{Outcome, check_count, check_outcome, failures_in};
+use crate::testing::{Ending, Outcome, check, check_ending, ending};
 use ls_film::{FilmFault, code_bytes, code_film, list_bytes, list_film};
-use ls_frame::{Counted, Feed, NetpbmFault, Outlet};
+use ls_frame::{Counted, Feed, NetpbmFault};
 use ls_testing::films::{
     FILM, FILM_CODESTREAMS, FILM_LINES, FIRST_CODESTREAM, FIRST_LINE, TWO_CODESTREAMS, TWO_IMAGES,
     endless_header,
@@ -17,19 +17,31 @@ enum Engine {
     Code,
 }
 
-const ENGINES: [Engine; 2] = [Engine::List, Engine::Code];
+/// Runs an engine on a film in memory.
+fn run_on_bytes(engine: Engine, alloc: Global, film: &[u8], writer: Sink) -> Ending<FilmFault> {
+    let mut rest = film;
+    let mut writer = Counted::new(writer);
+    let result = match engine {
+        Engine::List => list_film(alloc, &mut rest, &mut writer),
+        Engine::Code => code_film(alloc, &mut rest, &mut writer),
+    };
+    ending(result, 0, writer)
+}
 
-/// Runs an engine.
-fn run<R: Feed, W: Outlet>(
+/// Runs an engine on a film that comes by chunks.
+fn run_on_chunks(
     engine: Engine,
     alloc: Global,
-    reader: &mut R,
-    writer: &mut W,
-) -> Result<u64, FilmFault> {
-    match engine {
-        Engine::List => list_film(alloc, reader, writer),
-        Engine::Code => code_film(alloc, reader, writer),
-    }
+    reader: Pieces<'_>,
+    writer: Sink,
+) -> Ending<FilmFault> {
+    let mut reader = Counted::new(reader);
+    let mut writer = Counted::new(writer);
+    let result = match engine {
+        Engine::List => list_film(alloc, &mut reader, &mut writer),
+        Engine::Code => code_film(alloc, &mut reader, &mut writer),
+    };
+    ending(result, Feed::failures(&reader), writer)
 }
 
 /// What each of its chunks ends in, and what stands nowhere else in one.
@@ -40,8 +52,41 @@ fn mark_of(engine: Engine) -> &'static [u8] {
     }
 }
 
+/// That an engine ended so. Or, if memory may be refused, that it says so, that no call of its reader or its writer
+/// failed, and that it wrote the first chunks of the text.
+fn check_ended(
+    rt: &impl Abort,
+    memory: Memory,
+    engine: Engine,
+    case: &str,
+    got: &Ending<FilmFault>,
+    want: &Outcome<'_, FilmFault>,
+) {
+    let (_, text, _, _) = *want;
+    if matches!(
+        (memory, got.0),
+        (Memory::Refusable, Err(FilmFault::NoMemory))
+    ) {
+        let written = got.1.written();
+        check_first_chunks(rt, case, mark_of(engine), written, text);
+        check_ending(rt, case, got, &(Err(FilmFault::NoMemory), written, 0, 0));
+    } else {
+        check_ending(rt, case, got, want);
+    }
+}
+
+/// That these are the first chunks of a text, each of which ends in `mark`.
+fn check_first_chunks(rt: &impl Abort, case: &str, mark: &[u8], written: &[u8], text: &[u8]) {
+    assert!(rt; text.starts_with(written), "{case}: another text");
+    let whole = written.is_empty() || written.ends_with(mark);
+    assert!(rt; whole, "{case}: a part of a chunk");
+}
+
 /// What the two engines write.
-type Texts = [&'static [u8]; 2];
+type Texts<'a> = [&'a [u8]; 2];
+
+/// A film: what it is, its bytes, what the engines answer and what they write.
+type Film<'a> = (&'a str, &'a [u8], Result<u64, FilmFault>, Texts<'a>);
 
 /// That an engine does this with a film in memory, and with one that comes by chunks of three bytes and goes to a
 /// writer that takes two.
@@ -50,52 +95,46 @@ fn check_film(
     alloc: Global,
     memory: Memory,
     engine: Engine,
-    film: &[u8],
-    want: Outcome<'_>,
-    case: &str,
+    film: &Film<'_>,
+    text: &[u8],
 ) {
-    let mut rest = film;
-    let mut writer = Counted::new(Sink::new(4096, Mishap::Nothing));
-    let ended = run(engine, alloc, &mut rest, &mut writer);
-    let sink = writer.into_inner();
-    let got = (ended, sink.written());
-    check_outcome(rt, memory, mark_of(engine), got, want, case);
-
-    let mut reader = Counted::new(Pieces::new(film, 3, None));
-    let mut writer = Counted::new(Sink::new(2, Mishap::Nothing));
-    let ended = run(engine, alloc, &mut reader, &mut writer);
-    check_count(rt, case, Feed::failures(&reader), 0);
-    check_count(rt, case, Outlet::failures(&writer), 0);
-    let sink = writer.into_inner();
-    let got = (ended, sink.written());
-    check_outcome(rt, memory, mark_of(engine), got, want, case);
+    let (case, bytes, result, _) = *film;
+    let want = (result, text, 0, 0);
+    let got = run_on_bytes(engine, alloc, bytes, Sink::new(4096, Mishap::Nothing));
+    check_ended(rt, memory, engine, case, &got, &want);
+    let reader = Pieces::new(bytes, 3, None);
+    let got = run_on_chunks(engine, alloc, reader, Sink::new(2, Mishap::Nothing));
+    check_ended(rt, memory, engine, case, &got, &want);
 }
 
 /// The same of both engines.
-fn check_films(
-    rt: &impl Abort,
-    alloc: Global,
-    memory: Memory,
-    film: &[u8],
-    ended: Result<u64, FilmFault>,
-    texts: Texts,
-    case: &str,
-) {
-    for (engine, text) in ENGINES.into_iter().zip(texts) {
-        check_film(rt, alloc, memory, engine, film, (ended, text), case);
+fn check_both(rt: &impl Abort, alloc: Global, memory: Memory, film: &Film<'_>) {
+    let (_, _, _, [lines, codestreams]) = *film;
+    check_film(rt, alloc, memory, Engine::List, film, lines);
+    check_film(rt, alloc, memory, Engine::Code, film, codestreams);
+}
+
+fn check_films(rt: &impl Abort, alloc: Global, memory: Memory, films: &[Film<'_>]) {
+    for film in films {
+        check_both(rt, alloc, memory, film);
     }
 }
 
 /// The lines of `TWO_IMAGES`.
 const TWO_LINES: &[u8] = b"0 gray 1 1 255 8 3 7 21 64 32\n1 gray 1 1 255 8 3 7 21 64 32\n";
 
-const WHOLE_FILMS: [(&str, &[u8], u64, Texts); 4] = [
-    ("three images", FILM, 3, [FILM_LINES, FILM_CODESTREAMS]),
-    ("two images", TWO_IMAGES, 2, [TWO_LINES, TWO_CODESTREAMS]),
+const WHOLE_FILMS: &[Film<'static>] = &[
+    ("three images", FILM, Ok(3), [FILM_LINES, FILM_CODESTREAMS]),
+    (
+        "two images",
+        TWO_IMAGES,
+        Ok(2),
+        [TWO_LINES, TWO_CODESTREAMS],
+    ),
     (
         "a colour image",
         b"P6 1 1 255\n\x00\x00\x00",
-        1,
+        Ok(1),
         [
             b"0 color 1 1 255 8 3 7 21 64 32\n",
             b"\xff\xd8\
@@ -105,83 +144,118 @@ const WHOLE_FILMS: [(&str, &[u8], u64, Texts); 4] = [
 \xff\xda\x00\x08\x01\x03\x00\x00\x00\x00\x80\xff\xd9",
         ],
     ),
-    ("no image", b"", 0, [b"", b""]),
+    ("no image", b"", Ok(0), NO_CHUNKS),
 ];
-
-fn check_whole_films(rt: &impl Abort, alloc: Global, memory: Memory) {
-    for (case, film, frames, texts) in WHOLE_FILMS {
-        check_films(rt, alloc, memory, film, Ok(frames), texts, case);
-    }
-}
 
 #[test]
 fn each_frame_has_its_chunk_with_ample_memory(rt: HostRuntime) {
-    check_whole_films(&rt, rt.alloc(), Memory::Ample);
+    check_films(&rt, rt.alloc(), Memory::Ample, WHOLE_FILMS);
 }
 
 #[test]
 fn each_frame_has_its_chunk_or_memory_is_refused(rt: HostRuntime) {
-    check_whole_films(&rt, rt.alloc(), Memory::Refusable);
+    check_films(&rt, rt.alloc(), Memory::Refusable, WHOLE_FILMS);
+}
+
+/// That the calls for films in memory answer and write this.
+fn check_bytes_of(rt: &impl Abort, alloc: Global, film: &Film<'_>) {
+    let (case, bytes, result, [lines, codestreams]) = *film;
+    let (written, ended) = list_bytes(alloc, bytes);
+    check(rt, case, &(ended, written.as_slice()), &(result, lines));
+    let (written, ended) = code_bytes(alloc, bytes);
+    check(
+        rt,
+        case,
+        &(ended, written.as_slice()),
+        &(result, codestreams),
+    );
 }
 
 #[test]
 fn a_film_in_memory_has_its_chunks_with_ample_memory(rt: HostRuntime) {
-    for (case, film, frames, [lines, codestreams]) in WHOLE_FILMS {
-        let (written, ended) = list_bytes(rt.alloc(), film);
-        let got = (ended, written.as_slice());
-        check_outcome(&rt, Memory::Ample, b"\n", got, (Ok(frames), lines), case);
-        let (written, ended) = code_bytes(rt.alloc(), film);
-        let got = (ended, written.as_slice());
-        let want = (Ok(frames), codestreams);
-        check_outcome(&rt, Memory::Ample, b"\xff\xd9", got, want, case);
+    for film in WHOLE_FILMS {
+        check_bytes_of(&rt, rt.alloc(), film);
     }
 }
 
 /// What is written of the first image of `TWO_IMAGES`.
-const FIRST_CHUNKS: Texts = [FIRST_LINE, FIRST_CODESTREAM];
+const FIRST_CHUNKS: Texts<'static> = [FIRST_LINE, FIRST_CODESTREAM];
 
-const NO_CHUNKS: Texts = [b"", b""];
+const NO_CHUNKS: Texts<'static> = [b"", b""];
 
 /// Films that are bad, at which frame, why, and what is written before.
-const BAD_FILMS: [(&[u8], u64, NetpbmFault, Texts); 8] = [
-    (b"P4 1 1\n", 0, NetpbmFault::BadMagic, NO_CHUNKS),
-    (b"P5 1 1 255#", 0, NetpbmFault::BadHeader, NO_CHUNKS),
-    (b"P5 0 1 255\n", 0, NetpbmFault::SizeOutOfRange, NO_CHUNKS),
-    (b"P5 1 1 0\n", 0, NetpbmFault::MaxvalOutOfRange, NO_CHUNKS),
-    (b"P5 1 1 7\n\x08", 0, NetpbmFault::SampleTooLarge, NO_CHUNKS),
-    (b"P5 2 1 255\n\x00", 0, NetpbmFault::Truncated, NO_CHUNKS),
+const BAD_FILMS: &[Film<'static>] = &[
     (
+        "another magic number",
+        b"P4 1 1\n",
+        Err(FilmFault::Input(0, NetpbmFault::BadMagic)),
+        NO_CHUNKS,
+    ),
+    (
+        "a header without an end",
+        b"P5 1 1 255#",
+        Err(FilmFault::Input(0, NetpbmFault::BadHeader)),
+        NO_CHUNKS,
+    ),
+    (
+        "no width",
+        b"P5 0 1 255\n",
+        Err(FilmFault::Input(0, NetpbmFault::SizeOutOfRange)),
+        NO_CHUNKS,
+    ),
+    (
+        "no maxval",
+        b"P5 1 1 0\n",
+        Err(FilmFault::Input(0, NetpbmFault::MaxvalOutOfRange)),
+        NO_CHUNKS,
+    ),
+    (
+        "a sample over maxval",
+        b"P5 1 1 7\n\x08",
+        Err(FilmFault::Input(0, NetpbmFault::SampleTooLarge)),
+        NO_CHUNKS,
+    ),
+    (
+        "a sample that is missing",
+        b"P5 2 1 255\n\x00",
+        Err(FilmFault::Input(0, NetpbmFault::Truncated)),
+        NO_CHUNKS,
+    ),
+    (
+        "a sample over maxval in the second image",
         b"P5 1 1 255\n\x00P5 1 1 7\n\x08",
-        1,
-        NetpbmFault::SampleTooLarge,
+        Err(FilmFault::Input(1, NetpbmFault::SampleTooLarge)),
         FIRST_CHUNKS,
     ),
     (
+        "a sample that is missing in the second image",
         b"P5 1 1 255\n\x00P5 2 1 255\n\x00",
-        1,
-        NetpbmFault::Truncated,
+        Err(FilmFault::Input(1, NetpbmFault::Truncated)),
         FIRST_CHUNKS,
     ),
 ];
 
-fn check_bad_films(rt: &impl Abort, alloc: Global, memory: Memory) {
-    for (film, frame, fault, texts) in BAD_FILMS {
-        let ended = Err(FilmFault::Input(frame, fault));
-        check_films(rt, alloc, memory, film, ended, texts, "a bad frame");
-    }
-    let ended = Err(FilmFault::Input(0, NetpbmFault::HeaderTooLong));
+fn check_long_header(rt: &impl Abort, alloc: Global, memory: Memory) {
     let film = endless_header();
-    check_films(rt, alloc, memory, &film, ended, NO_CHUNKS, "a long header");
+    let ended = Err(FilmFault::Input(0, NetpbmFault::HeaderTooLong));
+    check_both(
+        rt,
+        alloc,
+        memory,
+        &("a long header", &film, ended, NO_CHUNKS),
+    );
 }
 
 #[test]
 fn a_bad_frame_is_named_after_the_chunks_before_it_with_ample_memory(rt: HostRuntime) {
-    check_bad_films(&rt, rt.alloc(), Memory::Ample);
+    check_films(&rt, rt.alloc(), Memory::Ample, BAD_FILMS);
+    check_long_header(&rt, rt.alloc(), Memory::Ample);
 }
 
 #[test]
 fn a_bad_frame_is_named_after_the_chunks_before_it_or_memory_is_refused(rt: HostRuntime) {
-    check_bad_films(&rt, rt.alloc(), Memory::Refusable);
+    check_films(&rt, rt.alloc(), Memory::Refusable, BAD_FILMS);
+    check_long_header(&rt, rt.alloc(), Memory::Refusable);
 }
 
 /// That a write which goes wrong after `i` bytes of the two images' text ends the engine.
@@ -194,27 +268,23 @@ fn check_failed_write(
     i: usize,
     mishap: Mishap,
 ) {
-    let mut rest = TWO_IMAGES;
-    let mut writer = Counted::new(Sink::new(1, mishap));
-    let ended = run(engine, alloc, &mut rest, &mut writer);
-    let failures = Outlet::failures(&writer);
-    check_count(rt, "failed writes", failures, failures_in(ended));
-    let sink = writer.into_inner();
-    let got = (ended, sink.written());
-    let want = (
-        Err(FilmFault::Output(i as u64)),
-        text.get(..i).unwrap_or(text),
-    );
-    check_outcome(rt, memory, mark_of(engine), got, want, "a failed write");
+    let got = run_on_bytes(engine, alloc, TWO_IMAGES, Sink::new(1, mishap));
+    let before = text.get(..i).unwrap_or(text);
+    let want = (Err(FilmFault::Output(i as u64)), before, 0, 1);
+    check_ended(rt, memory, engine, "a failed write", &got, &want);
+}
+
+/// The same of each byte.
+fn check_writes_of(rt: &impl Abort, alloc: Global, memory: Memory, engine: Engine, text: &[u8]) {
+    for i in 0..text.len() {
+        check_failed_write(rt, alloc, memory, engine, text, i, Mishap::Fails(i));
+        check_failed_write(rt, alloc, memory, engine, text, i, Mishap::TakesNothing(i));
+    }
 }
 
 fn check_failed_writes(rt: &impl Abort, alloc: Global, memory: Memory) {
-    for (engine, text) in ENGINES.into_iter().zip([TWO_LINES, TWO_CODESTREAMS]) {
-        for i in 0..text.len() {
-            check_failed_write(rt, alloc, memory, engine, text, i, Mishap::Fails(i));
-            check_failed_write(rt, alloc, memory, engine, text, i, Mishap::TakesNothing(i));
-        }
-    }
+    check_writes_of(rt, alloc, memory, Engine::List, TWO_LINES);
+    check_writes_of(rt, alloc, memory, Engine::Code, TWO_CODESTREAMS);
 }
 
 #[test]
@@ -236,26 +306,21 @@ fn check_failed_read(
     first: &[u8],
     i: usize,
 ) {
-    let mut reader = Counted::new(Pieces::new(TWO_IMAGES, 1, Some(i)));
-    let mut writer = Counted::new(Sink::new(4096, Mishap::Nothing));
-    let ended = run(engine, alloc, &mut reader, &mut writer);
-    let failures = Feed::failures(&reader);
-    check_count(rt, "failed reads", failures, failures_in(ended));
-    let sink = writer.into_inner();
-    let got = (ended, sink.written());
-    let want = if i < 12 {
-        (Err(FilmFault::Input(0, NetpbmFault::Io)), b"".as_slice())
+    let reader = Pieces::new(TWO_IMAGES, 1, Some(i));
+    let got = run_on_chunks(engine, alloc, reader, Sink::new(4096, Mishap::Nothing));
+    let (frame, before) = if i < 12 {
+        (0, b"".as_slice())
     } else {
-        (Err(FilmFault::Input(1, NetpbmFault::Io)), first)
+        (1, first)
     };
-    check_outcome(rt, memory, mark_of(engine), got, want, "a failed read");
+    let want = (Err(FilmFault::Input(frame, NetpbmFault::Io)), before, 1, 0);
+    check_ended(rt, memory, engine, "a failed read", &got, &want);
 }
 
 fn check_failed_reads(rt: &impl Abort, alloc: Global, memory: Memory) {
-    for (engine, first) in ENGINES.into_iter().zip(FIRST_CHUNKS) {
-        for i in 0..TWO_IMAGES.len() {
-            check_failed_read(rt, alloc, memory, engine, first, i);
-        }
+    for i in 0..TWO_IMAGES.len() {
+        check_failed_read(rt, alloc, memory, Engine::List, FIRST_LINE, i);
+        check_failed_read(rt, alloc, memory, Engine::Code, FIRST_CODESTREAM, i);
     }
 }
 

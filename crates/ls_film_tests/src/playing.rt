@@ -1,54 +1,45 @@
-use crate::testing::{ANNEX_H_IMAGE, COLOUR, TWO_VALUES, check_text};
+use crate::testing::{
+    ANNEX_H_IMAGE, COLOUR, Ending, Outcome, TWO_VALUES, check, check_ending, check_text, ending,
+};
 use ls_film::{PlayFault, play, play_bytes};
-use ls_frame::{Counted, Feed, Outlet, PresetFault};
+use ls_frame::{Counted, Feed, PresetFault};
 use ls_stream::{StreamFault, What};
 use ls_testing::films::{ANNEX_H, TWO_CODESTREAMS, TWO_IMAGES};
-use ls_testing::{Mishap, Pieces, Sink};
+use ls_testing::{Memory, Mishap, Pieces, Sink};
 use std::alloc::Global;
 use std::process::Abort;
 
-/// What playing answered, what it wrote, and how many of its reader's and its writer's calls failed.
-type Outcome<'a> = (Result<u64, PlayFault>, &'a [u8], u64, u64);
-
-/// That playing ended so. Where memory may be refused it may say so, if it wrote the first images alone.
-fn check_outcome(rt: &impl Abort, name: &str, got: Outcome<'_>, want: Outcome<'_>, ample: bool) {
-    let refused = !ample && got.0 == Err(PlayFault::NoMemory);
-    let want = if refused {
-        (Err(PlayFault::NoMemory), got.1, 0, 0)
-    } else {
-        want
-    };
-    assert_eq!(rt; got, want, "{name}");
-}
-
-/// Plays a recording to a writer, and checks how that ends.
+/// That playing ended so. Where memory may be refused it may say so, if no call of its reader or its writer failed.
 fn check_played(
     rt: &impl Abort,
-    alloc: Global,
-    name: &str,
-    reader: Pieces<'_>,
-    writer: Sink,
-    want: Outcome<'_>,
-    ample: bool,
+    memory: Memory,
+    case: &str,
+    got: &Ending<PlayFault>,
+    want: &Outcome<'_, PlayFault>,
 ) {
-    let (result, reader, writer) = match play(alloc, Counted::new(reader), Counted::new(writer)) {
-        Ok((frames, reader, writer)) => (Ok(frames), reader, writer),
-        Err((fault, reader, writer)) => (Err(fault), reader, writer),
-    };
-    let reads = Feed::failures(&reader);
-    let writes = Outlet::failures(&writer);
-    let sink = writer.into_inner();
-    check_outcome(
-        rt,
-        name,
-        (result, sink.written(), reads, writes),
-        want,
-        ample,
-    );
+    if matches!(
+        (memory, got.0),
+        (Memory::Refusable, Err(PlayFault::NoMemory))
+    ) {
+        let want = (Err(PlayFault::NoMemory), got.1.written(), 0, 0);
+        check_ending(rt, case, got, &want);
+    } else {
+        check_ending(rt, case, got, want);
+    }
+}
+
+/// Plays a recording to a writer.
+fn played(alloc: Global, reader: Pieces<'_>, writer: Sink) -> Ending<PlayFault> {
+    match play(alloc, Counted::new(reader), Counted::new(writer)) {
+        Ok((frames, reader, writer)) => ending(Ok(frames), Feed::failures(&reader), writer),
+        Err((fault, reader, writer)) => ending(Err(fault), Feed::failures(&reader), writer),
+    }
 }
 
 /// What a recording is, its bytes, what playing it answers, and the images that it writes.
-const RECORDINGS: [(&str, &[u8], Result<u64, PlayFault>, &[u8]); 7] = [
+type Recording<'a> = (&'a str, &'a [u8], Result<u64, PlayFault>, &'a [u8]);
+
+const RECORDINGS: &[Recording<'static>] = &[
     ("no codestream", b"", Ok(0), b""),
     ("the picture of Annex H.3", ANNEX_H, Ok(1), ANNEX_H_IMAGE),
     ("two codestreams", TWO_CODESTREAMS, Ok(2), TWO_IMAGES),
@@ -77,71 +68,92 @@ const RECORDINGS: [(&str, &[u8], Result<u64, PlayFault>, &[u8]); 7] = [
     ),
 ];
 
-fn check_recordings(rt: &impl Abort, alloc: Global, ample: bool) {
-    for (name, recording, result, images) in RECORDINGS {
-        let reader = Pieces::new(recording, 3, None);
-        let writer = Sink::new(2, Mishap::Nothing);
-        let want = (result, images, 0, 0);
-        check_played(rt, alloc, name, reader, writer, want, ample);
-    }
+/// That a recording is shown, off chunks of three bytes and to a writer that takes two.
+fn check_recording(rt: &impl Abort, alloc: Global, memory: Memory, recording: &Recording<'_>) {
+    let (case, bytes, result, images) = *recording;
+    let reader = Pieces::new(bytes, 3, None);
+    let got = played(alloc, reader, Sink::new(2, Mishap::Nothing));
+    check_played(rt, memory, case, &got, &(result, images, 0, 0));
 }
 
 #[test]
 fn each_frame_is_shown_with_ample_memory(rt: HostRuntime) {
-    check_recordings(&rt, rt.alloc(), true);
+    for recording in RECORDINGS {
+        check_recording(&rt, rt.alloc(), Memory::Ample, recording);
+    }
 }
 
 #[test]
 fn each_frame_is_shown_or_memory_is_refused(rt: HostRuntime) {
-    check_recordings(&rt, rt.alloc(), false);
+    for recording in RECORDINGS {
+        check_recording(&rt, rt.alloc(), Memory::Refusable, recording);
+    }
+}
+
+/// That the call for recordings in memory answers and writes this.
+fn check_bytes_of(rt: &impl Abort, alloc: Global, recording: &Recording<'_>) {
+    let (case, bytes, result, images) = *recording;
+    let (shown, ended) = play_bytes(alloc, bytes);
+    check(rt, case, &(ended, shown.as_slice()), &(result, images));
 }
 
 #[test]
 fn recordings_in_memory_are_shown_with_ample_memory(rt: HostRuntime) {
-    for (name, recording, result, images) in RECORDINGS {
-        let (shown, ended) = play_bytes(rt.alloc(), recording);
-        let got = (ended, shown.as_slice(), 0, 0);
-        check_outcome(&rt, name, got, (result, images, 0, 0), true);
+    for recording in RECORDINGS {
+        check_bytes_of(&rt, rt.alloc(), recording);
+    }
+}
+
+/// That each front of a codestream is truncated.
+fn check_fronts(rt: &impl Abort, alloc: Global, codestream: &[u8]) {
+    let truncated = Err(PlayFault::Stream(0, StreamFault::Truncated));
+    for len in 1..codestream.len() {
+        check_bytes_of(rt, alloc, &("a front", &codestream[..len], truncated, b""));
     }
 }
 
 #[test]
 fn fronts_of_codestreams_are_truncated_with_ample_memory(rt: HostRuntime) {
     for codestream in [ANNEX_H, TWO_VALUES, COLOUR] {
-        for len in 1..codestream.len() {
-            let (shown, ended) = play_bytes(rt.alloc(), &codestream[..len]);
-            let want = Err(PlayFault::Stream(0, StreamFault::Truncated));
-            let got = (ended, shown.as_slice(), 0, 0);
-            check_outcome(&rt, "a front", got, (want, b"", 0, 0), true);
-        }
+        check_fronts(&rt, rt.alloc(), codestream);
     }
+}
+
+/// That a write which fails after `i` bytes of two images ends the playing.
+fn check_failed_write(rt: &impl Abort, alloc: Global, i: usize) {
+    let reader = Pieces::new(TWO_CODESTREAMS, 4096, None);
+    let got = played(alloc, reader, Sink::new(1, Mishap::Fails(i)));
+    let shown = TWO_IMAGES.get(..i).unwrap_or(&[]);
+    let want = (Err(PlayFault::Output(i as u64)), shown, 0, 1);
+    check_ending(rt, "a failed write", &got, &want);
 }
 
 #[test]
 fn a_failed_write_ends_the_playing_with_ample_memory(rt: HostRuntime) {
     for i in 0..TWO_IMAGES.len() {
-        let reader = Pieces::new(TWO_CODESTREAMS, 4096, None);
-        let writer = Sink::new(1, Mishap::Fails(i));
-        let want = Err(PlayFault::Output(i as u64));
-        let want = (want, &TWO_IMAGES[..i], 0, 1);
-        check_played(&rt, rt.alloc(), "a write", reader, writer, want, true);
+        check_failed_write(&rt, rt.alloc(), i);
     }
+}
+
+/// That a read which fails at byte `i` of two codestreams ends the playing.
+fn check_failed_read(rt: &impl Abort, alloc: Global, i: usize) {
+    let reader = Pieces::new(TWO_CODESTREAMS, 1, Some(i));
+    let got = played(alloc, reader, Sink::new(4096, Mishap::Nothing));
+    let (frames, bytes) = if i < 28 { (0, 0) } else { (1, 12) };
+    let shown = TWO_IMAGES.get(..bytes).unwrap_or(&[]);
+    let want = (Err(PlayFault::Io(frames)), shown, 1, 0);
+    check_ending(rt, "a failed read", &got, &want);
 }
 
 #[test]
 fn a_failed_read_ends_the_playing_with_ample_memory(rt: HostRuntime) {
     for i in 0..TWO_CODESTREAMS.len() {
-        let reader = Pieces::new(TWO_CODESTREAMS, 1, Some(i));
-        let writer = Sink::new(4096, Mishap::Nothing);
-        let (frames, bytes) = if i < 28 { (0, 0) } else { (1, 12) };
-        let want = Err(PlayFault::Io(frames));
-        let want = (want, &TWO_IMAGES[..bytes], 1, 0);
-        check_played(&rt, rt.alloc(), "a read", reader, writer, want, true);
+        check_failed_read(&rt, rt.alloc(), i);
     }
 }
 
 /// Faults, and their texts.
-const TEXTS: [(PlayFault, &str); 12] = [
+const TEXTS: &[(PlayFault, &str)] = &[
     (
         PlayFault::Stream(3, StreamFault::Truncated),
         "frame 3: truncated",
@@ -180,6 +192,6 @@ const TEXTS: [(PlayFault, &str); 12] = [
 #[test]
 fn faults_have_their_texts(rt: HostRuntime) {
     for (fault, text) in TEXTS {
-        check_text(&rt, fault, text);
+        check_text(&rt, *fault, text);
     }
 }

@@ -1,73 +1,49 @@
 //! Checks and codestreams for the tests.
-use ls_film::FilmFault;
-use ls_testing::{Memory, Mishap, Sink};
-use std::fmt::Display;
+use ls_frame::{Counted, Outlet};
+use ls_testing::{Mishap, Sink};
+use std::fmt::{Debug, Display};
 use std::io::Write;
 use std::process::Abort;
 
-/// What an engine answered, and the text that it wrote.
-pub type Outcome<'a> = (Result<u64, FilmFault>, &'a [u8]);
+/// What an engine answered, the writer that it wrote to, and how many of its reads and of its writes failed.
+pub type Ending<F> = (Result<u64, F>, Sink, u64, u64);
 
-/// That an engine ended so. Or, if memory may be refused, that it says so and wrote the first chunks of the
-/// text, each of which ends in `mark`.
-pub fn check_outcome(
+/// What an engine answers, what it writes, and how many of its reads and of its writes fail.
+pub type Outcome<'a, F> = (Result<u64, F>, &'a [u8], u64, u64);
+
+/// How an engine ended that answered so, after so many reads that failed.
+pub fn ending<F>(answer: Result<u64, F>, reads: u64, writer: Counted<Sink>) -> Ending<F> {
+    let writes = Outlet::failures(&writer);
+    (answer, writer.into_inner(), reads, writes)
+}
+
+/// That an engine ended so.
+pub fn check_ending<F: PartialEq + Debug + Copy>(
     rt: &impl Abort,
-    memory: Memory,
-    mark: &[u8],
-    got: Outcome<'_>,
-    want: Outcome<'_>,
     case: &str,
+    ending: &Ending<F>,
+    want: &Outcome<'_, F>,
 ) {
-    if memory == Memory::Refusable && got.0 == Err(FilmFault::NoMemory) {
-        assert!(rt; want.1.starts_with(got.1), "{case}: another text");
-        assert!(rt;
-            got.1.is_empty() || got.1.ends_with(mark),
-            "{case}: a part of a chunk"
-        );
-    } else {
-        check_ended(rt, case, got.0, want.0);
-        check_bytes(rt, case, got.1, want.1);
-    }
+    let (result, sink, reads, writes) = ending;
+    check(rt, case, &(*result, sink.written(), *reads, *writes), want);
+}
+
+/// That a value is the wanted one.
+pub fn check<T: PartialEq + Debug>(rt: &impl Abort, case: &str, got: &T, want: &T) {
+    assert_eq!(rt; got, want, "{case}");
+}
+
+/// That these bytes are the wanted ones.
+pub fn check_bytes(rt: &impl Abort, case: &str, got: &[u8], want: &[u8]) {
+    check(rt, case, &got, &want);
 }
 
 /// That a fault has this text.
 pub fn check_text<F: Display + Drop>(rt: &impl Abort, fault: F, text: &str) {
     let mut sink = Sink::new(4096, Mishap::Nothing);
     let written = write!(sink, "{fault}").is_ok();
-    assert_eq!(rt;
-        (written, sink.written()),
-        (true, text.as_bytes()),
-        "{text}"
-    );
-}
-
-/// That these bytes are the wanted ones.
-pub fn check_bytes(rt: &impl Abort, case: &str, got: &[u8], want: &[u8]) {
-    assert_eq!(rt; got, want, "{case}");
-}
-
-/// That an engine or a step of one ended so.
-pub fn check_ended(
-    rt: &impl Abort,
-    case: &str,
-    got: Result<u64, FilmFault>,
-    want: Result<u64, FilmFault>,
-) {
-    assert_eq!(rt; got, want, "{case}");
-}
-
-/// That a count is the wanted one.
-pub fn check_count(rt: &impl Abort, case: &str, got: u64, want: u64) {
-    assert_eq!(rt; got, want, "{case}");
-}
-
-/// How many calls failed in an engine that was to meet one failure: none if memory was refused before.
-pub fn failures_in(got: Result<u64, FilmFault>) -> u64 {
-    if got == Err(FilmFault::NoMemory) {
-        0
-    } else {
-        1
-    }
+    let got = (written, sink.written());
+    check(rt, text, &got, &(true, text.as_bytes()));
 }
 
 pub const ANNEX_H_IMAGE: &[u8] = b"P5\n4 4\n255\n\
