@@ -1,11 +1,14 @@
+ghost use Rattle.std.specs.Prelude.{◌≤◌};
+
 use crate::testing::codestreams::{
     CODESTREAMS, PLANES, Plane, TUNINGS, around_scan, head, height_of,
 };
 use crate::testing::{
-    Chance, PICTURES, Parts, Picture, Shape, drawn_frame, frame_of, longest_line, parts_of,
+    Chance, PICTURES, Parts, Picture, Shape, check, drawn_frame, encode_tuned, frame_of,
+    longest_line, parts_of,
 };
-use ls_frame::{Frame, Kind, PresetFault, Presets, Tuning};
-use ls_stream::{Decoded, Lines, Opening, Regions, StreamFault, What, decode_frame, encode_with};
+use ls_frame::{Frame, Kind, PresetFault};
+use ls_stream::{Decoded, Lines, Opening, Regions, StreamFault, What, decode_frame};
 use std::alloc::{AllocError, Global};
 use std::process::Abort;
 use std::test::Fail;
@@ -24,12 +27,7 @@ fn check_answer(
         Ok(Decoded { frame, used }) => Ok((parts_of(frame), *used)),
         Err(fault) => Err(*fault),
     };
-    check_parts(rt, name, got, want);
-}
-
-/// That these are the parts.
-fn check_parts(rt: &impl Abort, name: &str, got: Answer<'_>, want: Answer<'_>) {
-    assert_eq!(rt; got, want, "{name}");
+    check(rt, name, 0, &got, &want);
 }
 
 /// That bytes are decoded to this in places of the caller's.
@@ -40,25 +38,68 @@ fn check_opened(
     bytes: &[u8],
     want: Answer<'_>,
 ) -> Result<(), AllocError> {
-    let opening = match Opening::read(bytes) {
-        Ok(opening) => opening,
-        Err(fault) => {
-            check_parts(rt, name, Err(fault), want);
-            return Ok(());
+    match Opening::read(bytes) {
+        Ok(opening) => {
+            check_opened_to_words(rt, alloc, name, &opening, want)?;
+            check_opened_to_bytes(rt, alloc, name, &opening, want)
         }
-    };
+        Err(fault) => {
+            check(rt, name, 0, &Err(fault), &want);
+            Ok(())
+        }
+    }
+}
+
+/// How many bytes an opening's frame has and its samples, in places of the caller's; or the fault.
+type Opened<S> = (Result<usize, StreamFault>, Vec<S>);
+
+/// That this was decoded of an opening.
+fn check_samples_of(
+    rt: &impl Abort,
+    name: &str,
+    opening: &Opening<'_>,
+    used: Result<usize, StreamFault>,
+    samples: &[u16],
+    want: Answer<'_>,
+) {
     let (kind, width, height) = (opening.kind(), opening.width(), opening.height());
-    let mut lines = Lines::new(alloc, width)?;
+    let parts = (kind, width, height, opening.presets().maxval(), samples);
+    let got = match used {
+        Ok(used) => Ok((parts, used)),
+        Err(fault) => Err(fault),
+    };
+    check(rt, name, 0, &got, &want);
+}
+
+fn opened_to_words(alloc: Global, opening: &Opening<'_>) -> Result<Opened<u16>, AllocError> {
+    let mut lines = Lines::new(alloc, opening.width())?;
     let regions = Regions::new(alloc, opening.presets())?;
     let mut samples = vec![in alloc; 0u16; opening.sample_count()]?;
-    match opening.decode(&mut lines, &regions, &mut samples) {
-        Ok(used) => {
-            let parts = (kind, width, height, opening.presets().maxval(), &*samples);
-            check_parts(rt, name, Ok((parts, used)), want);
-        }
-        Err(fault) => check_parts(rt, name, Err(fault), want),
-    }
-    check_opened_to_bytes(rt, alloc, name, &opening, want)
+    let used = opening.decode(&mut lines, &regions, &mut samples);
+    Ok((used, samples))
+}
+
+/// That an opening's frame is decoded to this in places of 16 bits.
+fn check_opened_to_words(
+    rt: &impl Abort,
+    alloc: Global,
+    name: &str,
+    opening: &Opening<'_>,
+    want: Answer<'_>,
+) -> Result<(), AllocError> {
+    let (used, samples) = opened_to_words(alloc, opening)?;
+    check_samples_of(rt, name, opening, used, &samples, want);
+    Ok(())
+}
+
+fn opened_to_bytes(alloc: Global, opening: &Opening<'_>) -> Result<Opened<u8>, AllocError>
+    requires { opening.now.parameters.maxval ≤ 255 }
+{
+    let mut lines = Lines::new(alloc, opening.width())?;
+    let regions = Regions::new(alloc, opening.presets())?;
+    let mut samples = vec![in alloc; 0u8; opening.sample_count()]?;
+    let used = opening.decode(&mut lines, &regions, &mut samples);
+    Ok((used, samples))
 }
 
 /// That an opening's frame is decoded to this in places of 8 bits, if its samples fit these.
@@ -69,22 +110,11 @@ fn check_opened_to_bytes(
     opening: &Opening<'_>,
     want: Answer<'_>,
 ) -> Result<(), AllocError> {
-    let (kind, width, height) = (opening.kind(), opening.width(), opening.height());
-    let maxval = opening.presets().maxval();
-    if maxval > 255 {
+    if opening.presets().maxval() > 255 {
         return Ok(());
     }
-    let mut lines = Lines::new(alloc, width)?;
-    let regions = Regions::new(alloc, opening.presets())?;
-    let mut places = vec![in alloc; 0u8; opening.sample_count()]?;
-    match opening.decode(&mut lines, &regions, &mut places) {
-        Ok(used) => {
-            let samples = widened(alloc, &places)?;
-            let parts = (kind, width, height, maxval, &*samples);
-            check_parts(rt, name, Ok((parts, used)), want);
-        }
-        Err(fault) => check_parts(rt, name, Err(fault), want),
-    }
+    let (used, samples) = opened_to_bytes(alloc, opening)?;
+    check_samples_of(rt, name, opening, used, &widened(alloc, &samples)?, want);
     Ok(())
 }
 
@@ -134,7 +164,7 @@ fn check_plane(rt: &impl Abort, alloc: Global, plane: &Plane) -> Result<(), Allo
 fn planes_are_decoded_from_their_scans_with_ample_memory(
     rt: HostRuntime,
 ) -> Result<(), AllocError> {
-    for plane in &PLANES {
+    for plane in PLANES {
         check_plane(&rt, rt.alloc(), plane)?;
     }
     Ok(())
@@ -144,7 +174,7 @@ fn planes_are_decoded_from_their_scans_with_ample_memory(
 fn codestreams_are_decoded_to_their_frames_with_ample_memory(
     rt: HostRuntime,
 ) -> Result<(), AllocError> {
-    for (parts, bytes, _) in &CODESTREAMS {
+    for (parts, bytes, _) in CODESTREAMS {
         check_codestream(&rt, rt.alloc(), "whole", parts, bytes)?;
     }
     Ok(())
@@ -162,7 +192,7 @@ fn check_or_refused(rt: &impl Abort, alloc: Global, parts: &Parts<'_>, bytes: &[
 
 #[test]
 fn codestreams_are_decoded_or_memory_is_refused(rt: HostRuntime) {
-    for (parts, bytes, _) in &CODESTREAMS {
+    for (parts, bytes, _) in CODESTREAMS {
         check_or_refused(&rt, rt.alloc(), parts, bytes);
     }
 }
@@ -188,7 +218,7 @@ const EARLY_RESET: [u8; 15] = [
 
 #[test]
 fn parameters_are_read_with_ample_memory(rt: HostRuntime) -> Result<(), AllocError> {
-    for (_, lse) in &TUNINGS {
+    for (_, lse) in TUNINGS {
         check_tuned(&rt, rt.alloc(), lse, &[0x80], 1, &[0])?;
     }
     let scan = [0x2c, 0xa4, 0x48];
@@ -225,7 +255,7 @@ fn check_changed(
 }
 
 /// A changed codestream of a gray frame of one pixel, its MAXVAL, its sample, and how many bytes of it are read.
-const LONE: [(Change, u16, u16, usize); 13] = [
+const LONE: &[(Change, u16, u16, usize)] = &[
     // A comment.
     ((1, 15, 0, &[0xff, 0xfe, 0x00, 0x03, 0x41]), 255, 0, 33),
     ((1, 26, 0, &[0xff, 0xfe, 0x00, 0x03, 0x41]), 255, 0, 33),
@@ -290,7 +320,7 @@ const LONE: [(Change, u16, u16, usize); 13] = [
 fn frames_are_decoded_from_codestreams_of_others_with_ample_memory(
     rt: HostRuntime,
 ) -> Result<(), AllocError> {
-    for (change, maxval, sample, used) in &LONE {
+    for (change, maxval, sample, used) in LONE {
         let samples = [*sample];
         let parts: Parts<'_> = (Kind::Gray, 1, 1, *maxval, &samples);
         check_changed(&rt, rt.alloc(), change, Ok((parts, *used)))?;
@@ -307,7 +337,7 @@ fn segments_of_others_are_passed_over_with_ample_memory(rt: HostRuntime) -> Resu
 }
 
 /// Changed codestreams that spell no frame: in their headers, and after the first of them.
-const FAULTY: [(Change, StreamFault); 27] = [
+const FAULTY: &[(Change, StreamFault)] = &[
     ((1, 0, 1, &[0x00]), StreamFault::NotSoi),
     ((1, 2, 1, &[0x00]), StreamFault::BadSegment),
     ((1, 4, 1, &[0xff]), StreamFault::Truncated),
@@ -378,14 +408,14 @@ const FAULTY: [(Change, StreamFault); 27] = [
 fn changed_codestreams_have_these_faults_with_ample_memory(
     rt: HostRuntime,
 ) -> Result<(), AllocError> {
-    for (change, fault) in &FAULTY {
+    for (change, fault) in FAULTY {
         check_changed(&rt, rt.alloc(), change, Err(*fault))?;
     }
     Ok(())
 }
 
 /// What the data and what follows it shows, a width and a height, these bytes, and the fault.
-const MALFORMED_SCANS: [(&str, u16, u16, &[u8], StreamFault); 12] = [
+const MALFORMED_SCANS: &[(&str, u16, u16, &[u8], StreamFault)] = &[
     (
         "an escape word of a small value",
         1,
@@ -483,7 +513,7 @@ fn check_scan(
 
 #[test]
 fn malformed_scans_have_these_faults_with_ample_memory(rt: HostRuntime) -> Result<(), AllocError> {
-    for (name, width, height, rest, fault) in &MALFORMED_SCANS {
+    for (name, width, height, rest, fault) in MALFORMED_SCANS {
         let head = head(*width, *height);
         check_scan(&rt, rt.alloc(), name, &head, rest, *fault)?;
     }
@@ -499,7 +529,7 @@ fn check_fronts(rt: &impl Abort, alloc: Global, bytes: &[u8]) {
 
 #[test]
 fn fronts_of_codestreams_are_truncated_with_ample_memory(rt: HostRuntime) {
-    for (_, bytes, _) in &CODESTREAMS {
+    for (_, bytes, _) in CODESTREAMS {
         check_fronts(&rt, rt.alloc(), bytes);
     }
 }
@@ -514,9 +544,7 @@ fn check_round_trip(
     frame: &Frame,
     chosen: [u16; 4],
 ) -> Result<(), Fail> {
-    let [t1, t2, t3, reset] = chosen;
-    let presets = Tuning { t1, t2, t3, reset }.presets(frame.maxval())?;
-    let bytes = encode_with(alloc, frame, &presets)?;
+    let bytes = encode_tuned(alloc, frame, chosen)?;
     let want = Ok((parts_of(frame), bytes.len()));
     check_decoded(rt, alloc, name, &bytes, want);
     Ok(())
@@ -548,7 +576,7 @@ fn check_samples(
 }
 
 /// MAXVAL and a choice of T1, T2, T3 and RESET, each 0 for its default.
-const CHOICES: [(u16, [u16; 4]); 12] = [
+const CHOICES: &[(u16, [u16; 4])] = &[
     (1, [0, 0, 0, 0]),
     (2, [0, 0, 0, 3]),
     (6, [1, 1, 6, 0]),
@@ -563,7 +591,7 @@ const CHOICES: [(u16, [u16; 4]); 12] = [
     (65535, [1, 32768, 65535, 65535]),
 ];
 
-const SMALL: [(Kind, u16, u16); 4] = [
+const SMALL: &[(Kind, u16, u16)] = &[
     (Kind::Gray, 1, 9),
     (Kind::Gray, 13, 1),
     (Kind::Gray, 23, 11),
@@ -579,7 +607,7 @@ fn check_small(
     picture: Picture,
     chosen: [u16; 4],
 ) -> Result<(), Fail> {
-    for (kind, width, height) in &SMALL {
+    for (kind, width, height) in SMALL {
         let shape = (*kind, *width, *height, maxval);
         check_picture(rt, alloc, chance, shape, picture, chosen)?;
     }
@@ -589,8 +617,8 @@ fn check_small(
 #[test]
 fn small_pictures_come_back_with_ample_memory(rt: HostRuntime) -> Result<(), Fail> {
     let mut chance = Chance { state: 3 };
-    for (maxval, chosen) in &CHOICES {
-        for picture in &PICTURES {
+    for (maxval, chosen) in CHOICES {
+        for picture in PICTURES {
             check_small(&rt, rt.alloc(), &mut chance, *maxval, *picture, *chosen)?;
         }
     }
@@ -598,7 +626,7 @@ fn small_pictures_come_back_with_ample_memory(rt: HostRuntime) -> Result<(), Fai
 }
 
 /// The longest lines, the longest columns, and colour.
-const LARGE: [(Shape, Picture); 4] = [
+const LARGE: &[(Shape, Picture)] = &[
     ((Kind::Color, 61, 37, 65535), Picture::Ramp),
     ((Kind::Gray, 65535, 1, 4095), Picture::Runs),
     ((Kind::Gray, 1, 65535, 255), Picture::Ramp),
@@ -607,7 +635,7 @@ const LARGE: [(Shape, Picture); 4] = [
 
 #[test]
 fn large_pictures_come_back_with_ample_memory(rt: HostRuntime) -> Result<(), Fail> {
-    for (shape, picture) in &LARGE {
+    for (shape, picture) in LARGE {
         let mut chance = Chance { state: 4 };
         check_picture(&rt, rt.alloc(), &mut chance, *shape, *picture, [0; 4])?;
     }

@@ -3,9 +3,9 @@ mod sums;
 use crate::testing::codestreams::{CODESTREAMS, PLANES, Plane, TUNINGS, around_scan, height_of};
 use crate::testing::{
     Chance, PICTURES, Parts, Picture, Shape, Sum, check_bytes, check_number, check_sum,
-    drawn_frame, frame_of, frame_of_parts, longest_line,
+    drawn_frame, encode_tuned, frame_of, frame_of_parts, longest_line,
 };
-use ls_frame::{Frame, Kind, Presets, Tuning};
+use ls_frame::{Frame, Kind, Presets};
 use ls_stream::{
     Lines, code_bound, encode_frame, encode_into, encode_view, encode_with, encode_within,
     view_bound,
@@ -43,7 +43,7 @@ fn check_plane(rt: &impl Abort, alloc: Global, plane: &Plane) -> Result<(), Allo
 fn gray_frames_have_their_planes_scans_with_ample_memory(
     rt: HostRuntime,
 ) -> Result<(), AllocError> {
-    for plane in &PLANES {
+    for plane in PLANES {
         check_plane(&rt, rt.alloc(), plane)?;
     }
     Ok(())
@@ -72,7 +72,7 @@ fn check_codestream(
 fn frames_have_these_codestreams_and_bounds_with_ample_memory(
     rt: HostRuntime,
 ) -> Result<(), AllocError> {
-    for (parts, want, bound) in &CODESTREAMS {
+    for (parts, want, bound) in CODESTREAMS {
         check_codestream(&rt, rt.alloc(), parts, want, *bound)?;
     }
     Ok(())
@@ -81,7 +81,7 @@ fn frames_have_these_codestreams_and_bounds_with_ample_memory(
 /// Once its room and its lines are there, encoding asks for no memory: this passes whichever allocation fails.
 #[test]
 fn codestreams_go_after_bytes_without_memory(rt: HostRuntime) {
-    for (parts, want, bound) in &CODESTREAMS {
+    for (parts, want, bound) in CODESTREAMS {
         if let Ok(frame) = frame_of_parts(&rt, rt.alloc(), parts) {
             let _refused = encode_after_a_byte(&rt, rt.alloc(), &frame, want, *bound);
             let _refused = encode_into_a_slice(&rt, rt.alloc(), &frame, want, *bound);
@@ -97,6 +97,21 @@ fn encode_after_a_byte(
     want: &[u8],
     bound: u64,
 ) -> Result<(), AllocError> {
+    let (bytes, capacity, width) = encoded_after_a_byte(rt, alloc, frame, bound)?;
+    check_after_a_byte(rt, &bytes, want);
+    check_number(rt, "capacity", bytes.capacity() as u64, capacity as u64);
+    let frame_width = u64::from(frame.width());
+    check_number(rt, "width", u64::from(width), frame_width);
+    Ok(())
+}
+
+/// The bytes, the capacity that they had before, and the width of the lines afterwards.
+fn encoded_after_a_byte(
+    rt: &impl Abort,
+    alloc: Global,
+    frame: &Frame,
+    bound: u64,
+) -> Result<(Vec<u8>, usize, u16), AllocError> {
     let presets = Presets::default_of(frame.maxval());
     let room = code_bound(frame, &presets) as usize;
     check_number(rt, "bound", room as u64, bound);
@@ -105,11 +120,7 @@ fn encode_after_a_byte(
     bytes.push_reserved(0x07);
     let capacity = bytes.capacity();
     let bytes = encode_within(frame, &presets, &mut lines, bytes);
-    check_after_a_byte(rt, &bytes, want);
-    check_number(rt, "capacity", bytes.capacity() as u64, capacity as u64);
-    let width = u64::from(frame.width());
-    check_number(rt, "width", u64::from(lines.width()), width);
-    Ok(())
+    Ok((bytes, capacity, lines.width()))
 }
 
 /// Encodes into a slice of bytes 5A, as many as the bound and one more, and sees that those behind the codestream stay.
@@ -120,6 +131,20 @@ fn encode_into_a_slice(
     want: &[u8],
     bound: u64,
 ) -> Result<(), AllocError> {
+    let (bytes, count) = encoded_into_a_slice(rt, alloc, frame, bound)?;
+    let (codestream, behind) = bytes.split_at(count.min(bytes.len()));
+    check_bytes(rt, "in a slice", codestream, want);
+    check_number(rt, "behind it", changed_of(behind), 0);
+    Ok(())
+}
+
+/// The slice, and how many of its bytes are the codestream's.
+fn encoded_into_a_slice(
+    rt: &impl Abort,
+    alloc: Global,
+    frame: &Frame,
+    bound: u64,
+) -> Result<(Vec<u8>, usize), AllocError> {
     let presets = Presets::default_of(frame.maxval());
     let view = frame.view();
     let room = view_bound(&view, &presets) as usize;
@@ -127,13 +152,16 @@ fn encode_into_a_slice(
     let mut bytes = vec![in alloc; 0x5Au8; room + 1]?;
     let mut lines = Lines::new(alloc, frame.width())?;
     let count = encode_into(&view, &presets, &mut lines, &mut bytes);
-    check_bytes(rt, "in a slice", bytes.get(..count).unwrap_or(&[]), want);
+    Ok((bytes, count))
+}
+
+/// How many of these bytes aren't 5A.
+fn changed_of(bytes: &[u8]) -> u64 {
     let mut changed = 0;
-    for byte in bytes.get(count..).unwrap_or(&[]) {
-        changed += u64::from(*byte != 0x5A);
+    for byte in bytes {
+        changed = u64::saturating_add(changed, u64::from(*byte != 0x5A));
     }
-    check_number(rt, "behind it", changed, 0);
-    Ok(())
+    changed
 }
 
 /// That a byte 07 stands before these bytes.
@@ -150,11 +178,8 @@ fn check_tuning(
     chosen: [u16; 4],
     lse: &[u8],
 ) -> Result<(), Fail> {
-    let [t1, t2, t3, reset] = chosen;
-    let presets = Tuning { t1, t2, t3, reset }.presets(frame.maxval())?;
-    let got = encode_with(alloc, frame, &presets)?;
     let want = around_scan(alloc, 1, 1, lse, &[0x80])?;
-    check_bytes(rt, "tuned", &got, &want);
+    check_bytes(rt, "tuned", &encode_tuned(alloc, frame, chosen)?, &want);
     Ok(())
 }
 
@@ -163,18 +188,23 @@ fn parameters_are_written_where_they_are_not_the_default_with_ample_memory(
     rt: HostRuntime,
 ) -> Result<(), Fail> {
     let frame = frame_of(&rt, rt.alloc(), Kind::Gray, 1, 1, 255, &[0])?;
-    for (chosen, lse) in &TUNINGS {
+    for (chosen, lse) in TUNINGS {
         check_tuning(&rt, rt.alloc(), &frame, *chosen, lse)?;
     }
     Ok(())
+}
+
+/// The codestream of a frame by the default parameters of maxval 255 but for RESET, which is 3.
+fn encode_with_early_reset(alloc: Global, frame: &Frame) -> Result<Vec<u8>, Fail> {
+    let presets = Presets::explicit(frame.maxval(), 3, 7, 21, 3)?;
+    Ok(encode_with(alloc, frame, &presets)?)
 }
 
 #[test]
 fn counters_are_halved_as_reset_says_with_ample_memory(rt: HostRuntime) -> Result<(), Fail> {
     let samples = [3, 3, 3, 3, 4, 6, 6];
     let frame = frame_of(&rt, rt.alloc(), Kind::Gray, 7, 1, 255, &samples)?;
-    let presets = Presets::explicit(frame.maxval(), 3, 7, 21, 3)?;
-    let bytes = encode_with(rt.alloc(), &frame, &presets)?;
+    let bytes = encode_with_early_reset(rt.alloc(), &frame)?;
     let end = [0x2c, 0xa4, 0x48, 0xff, 0xd9];
     check_bytes(&rt, "early reset", bytes.get(40..).unwrap_or(&[]), &end);
     Ok(())
@@ -182,7 +212,7 @@ fn counters_are_halved_as_reset_says_with_ample_memory(rt: HostRuntime) -> Resul
 
 // ---- beside CharLS
 
-const SIZES: [(u16, u16); 4] = [(1, 1), (1, 9), (13, 1), (23, 11)];
+const SIZES: &[(u16, u16)] = &[(1, 1), (1, 9), (13, 1), (23, 11)];
 
 /// Adds what a picture is coded as by parameters of its maxval, all of them 0 for the defaults.
 fn add_picture(
@@ -195,9 +225,24 @@ fn add_picture(
     chosen: [u16; 4],
 ) -> Result<(), Fail> {
     let frame = drawn_frame(rt, alloc, chance, shape, picture)?;
-    let [t1, t2, t3, reset] = chosen;
-    let presets = Tuning { t1, t2, t3, reset }.presets(frame.maxval())?;
-    sum.add(&encode_with(alloc, &frame, &presets)?);
+    sum.add(&encode_tuned(alloc, &frame, chosen)?);
+    Ok(())
+}
+
+/// Adds what a picture in each small size is coded as.
+fn add_sizes(
+    rt: &impl Abort,
+    alloc: Global,
+    sum: &mut Sum,
+    chance: &mut Chance,
+    maxval: u16,
+    picture: Picture,
+    chosen: [u16; 4],
+) -> Result<(), Fail> {
+    for (width, height) in SIZES {
+        let shape = (Kind::Gray, *width, *height, maxval);
+        add_picture(rt, alloc, sum, chance, shape, picture, chosen)?;
+    }
     Ok(())
 }
 
@@ -210,11 +255,8 @@ fn small_sum(
     chosen: [u16; 4],
 ) -> Result<Sum, Fail> {
     let mut sum = Sum::new();
-    for picture in &PICTURES {
-        for (width, height) in &SIZES {
-            let shape = (Kind::Gray, *width, *height, maxval);
-            add_picture(rt, alloc, &mut sum, chance, shape, *picture, chosen)?;
-        }
+    for picture in PICTURES {
+        add_sizes(rt, alloc, &mut sum, chance, maxval, *picture, chosen)?;
     }
     Ok(sum)
 }
@@ -223,7 +265,7 @@ fn small_sum(
 #[test]
 fn small_pictures_are_coded_as_charls_does_with_ample_memory(rt: HostRuntime) -> Result<(), Fail> {
     let mut chance = Chance { state: 1 };
-    for (maxval, chosen, bytes, fnv) in &SMALL {
+    for (maxval, chosen, bytes, fnv) in SMALL {
         let sum = small_sum(&rt, rt.alloc(), &mut chance, *maxval, *chosen)?;
         check_sum(&rt, "small pictures", sum, (*bytes, *fnv));
     }
@@ -241,7 +283,7 @@ fn large_sum(rt: &impl Abort, alloc: Global, shape: Shape, picture: Picture) -> 
 /// Enough samples for counters to be halved many times, in three components; one column; more than a million samples.
 #[test]
 fn large_pictures_are_coded_as_charls_does_with_ample_memory(rt: HostRuntime) -> Result<(), Fail> {
-    for (components, width, height, maxval, picture, bytes, fnv) in &LARGE {
+    for (components, width, height, maxval, picture, bytes, fnv) in LARGE {
         let kind = match components {
             3 => Kind::Color,
             _ => Kind::Gray,
@@ -266,7 +308,7 @@ fn longest_sum(rt: &impl Abort, alloc: Global, last: u16) -> Result<Sum, AllocEr
 fn the_longest_runs_are_coded_as_charls_does_with_ample_memory(
     rt: HostRuntime,
 ) -> Result<(), AllocError> {
-    for (last, bytes, fnv) in &LONGEST_RUNS {
+    for (last, bytes, fnv) in LONGEST_RUNS {
         let sum = longest_sum(&rt, rt.alloc(), *last)?;
         check_sum(&rt, "the longest runs", sum, (*bytes, *fnv));
     }

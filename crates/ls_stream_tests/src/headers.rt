@@ -1,4 +1,5 @@
 //! What the headers of a codestream say, and what stands after its scans: each fault, and none.
+use crate::testing::check;
 use crate::testing::codestreams::CODESTREAMS;
 use ls_frame::PresetFault;
 use ls_stream::{Opening, StreamFault, What, decode_frame};
@@ -19,12 +20,18 @@ const WITH_PRESETS: [u8; 43] = [
 ];
 
 /// That bytes are decoded with this fault, or with none.
-fn check_fault(rt: &impl Abort, alloc: Global, bytes: &[u8], want: Option<StreamFault>) {
+fn check_fault(rt: &impl Abort, alloc: Global, at: usize, bytes: &[u8], want: Option<StreamFault>) {
     let got = match decode_frame(alloc, bytes) {
         Ok(_) => None,
         Err(fault) => Some(fault),
     };
-    assert_eq!(rt; got, want, "{bytes:?}");
+    check(
+        rt,
+        "the fault of bytes that are changed or cut",
+        at,
+        &got,
+        &want,
+    );
 }
 
 /// That bytes are decoded so after one of them is changed.
@@ -39,7 +46,7 @@ fn check_changed(
     if place < bytes.len() {
         bytes[place] = byte;
     }
-    check_fault(rt, alloc, bytes, want);
+    check_fault(rt, alloc, place, bytes, want);
 }
 
 /// That these bytes, after so many of the first ones of a codestream, are decoded so.
@@ -53,12 +60,12 @@ fn check_after(
 ) -> Result<(), AllocError> {
     let mut all = codestream.get(..count).unwrap_or(codestream).to_vec(alloc)?;
     all.extend_from_slice(bytes)?;
-    check_fault(rt, alloc, &all, want);
+    check_fault(rt, alloc, count, &all, want);
     Ok(())
 }
 
 /// A place in `LONE`, the byte that stands there, and the fault.
-const CHANGED_HEADERS: [(usize, u8, StreamFault); 31] = [
+const CHANGED_HEADERS: &[(usize, u8, StreamFault)] = &[
     (0, 0x00, StreamFault::NotSoi),
     (1, 0xD9, StreamFault::NotSoi),
     (2, 0x00, StreamFault::BadSegment),
@@ -100,14 +107,14 @@ fn check_lone(rt: &impl Abort, alloc: Global, place: usize, byte: u8, want: Opti
 
 #[test]
 fn changed_headers_have_these_faults_with_ample_memory(rt: HostRuntime) {
-    for (place, byte, fault) in &CHANGED_HEADERS {
+    for (place, byte, fault) in CHANGED_HEADERS {
         check_lone(&rt, rt.alloc(), *place, *byte, Some(*fault));
     }
     check_lone(&rt, rt.alloc(), 14, 0x05, None);
 }
 
 /// A place in `WITH_PRESETS`, the byte that stands there, and the fault, if there is one.
-const CHANGED_PRESETS: [(usize, u8, Option<PresetFault>); 6] = [
+const CHANGED_PRESETS: &[(usize, u8, Option<PresetFault>)] = &[
     (21, 0x04, Some(PresetFault::MaxvalRange)),
     (23, 0x02, Some(PresetFault::T1Range)),
     (25, 0x02, Some(PresetFault::T2Range)),
@@ -134,7 +141,7 @@ fn check_presets(
 
 #[test]
 fn changed_presets_have_these_faults_with_ample_memory(rt: HostRuntime) {
-    for (place, byte, fault) in &CHANGED_PRESETS {
+    for (place, byte, fault) in CHANGED_PRESETS {
         check_presets(&rt, rt.alloc(), *place, *byte, *fault);
     }
 }
@@ -142,9 +149,10 @@ fn changed_presets_have_these_faults_with_ample_memory(rt: HostRuntime) {
 #[test]
 fn a_front_of_a_codestream_is_truncated_with_ample_memory(rt: HostRuntime) {
     for len in 0..28 {
-        check_fault(&rt, rt.alloc(), &LONE[..len], Some(StreamFault::Truncated));
+        let truncated = Some(StreamFault::Truncated);
+        check_fault(&rt, rt.alloc(), len, &LONE[..len], truncated);
     }
-    check_fault(&rt, rt.alloc(), &LONE, None);
+    check_fault(&rt, rt.alloc(), 28, &LONE, None);
 }
 
 const COMMENT: [u8; 5] = [0xFF, 0xFE, 0x00, 0x03, 0x41];
@@ -158,7 +166,7 @@ const OTHER: [u8; 2] = [0xFF, 0xC0];
 const LSE: [u8; 2] = [0xFF, 0xF8];
 
 /// What stands after the only scan, and the fault.
-const AFTER_THE_ONLY: [(&[u8], Option<StreamFault>); 5] = [
+const AFTER_THE_ONLY: &[(&[u8], Option<StreamFault>)] = &[
     (&FILLED_EOI, None),
     (&COMMENT, Some(StreamFault::Truncated)),
     (&OTHER, Some(StreamFault::Unsupported(What::Marker(0xC0)))),
@@ -167,7 +175,7 @@ const AFTER_THE_ONLY: [(&[u8], Option<StreamFault>); 5] = [
 ];
 
 /// What stands after the first of three scans, where that of component 2 is due, and the fault.
-const AFTER_THE_FIRST: [(&[u8], Option<StreamFault>); 4] = [
+const AFTER_THE_FIRST: &[(&[u8], Option<StreamFault>)] = &[
     (&FILLED_EOI, Some(StreamFault::BadSegment)),
     (&COMMENT, Some(StreamFault::Truncated)),
     (&LSE, Some(StreamFault::Unsupported(What::LseLate))),
@@ -178,32 +186,36 @@ const AFTER_THE_FIRST: [(&[u8], Option<StreamFault>); 4] = [
 fn what_follows_a_scan_has_these_faults_with_ample_memory(
     rt: HostRuntime,
 ) -> Result<(), AllocError> {
-    for (bytes, want) in &AFTER_THE_ONLY {
+    for (bytes, want) in AFTER_THE_ONLY {
         check_after(&rt, rt.alloc(), &LONE, 26, bytes, *want)?;
     }
     let (_, colour, _) = CODESTREAMS[4];
     let rest = colour.get(32..).unwrap_or(&[]);
     check_after(&rt, rt.alloc(), colour, 32, rest, None)?;
-    for (bytes, want) in &AFTER_THE_FIRST {
+    for (bytes, want) in AFTER_THE_FIRST {
         check_after(&rt, rt.alloc(), colour, 32, bytes, *want)?;
     }
     Ok(())
 }
 
 /// How many bits a sample and how many bytes a codestream has by its markers and headers, or their first fault.
-fn check_skipped(rt: &impl Abort, bytes: &[u8], want: Result<(u8, usize), StreamFault>) {
+type Skipped = Result<(u8, usize), StreamFault>;
+
+/// That a codestream that is changed or cut at a place is read over so.
+fn check_skipped(rt: &impl Abort, at: usize, bytes: &[u8], want: Skipped) {
     let got = match Opening::read(bytes) {
         Ok(opening) => opening.skip().map(|used| (opening.precision(), used)),
         Err(fault) => Err(fault),
     };
-    assert_eq!(rt; got, want, "{bytes:?}");
+    check(rt, "markers and headers", at, &got, &want);
 }
 
 /// That a codestream is read over by its markers and headers, and no front of it is.
 fn check_fronts(rt: &impl Abort, codestream: &[u8], precision: u8) {
-    check_skipped(rt, codestream, Ok((precision, codestream.len())));
+    let len = codestream.len();
+    check_skipped(rt, len, codestream, Ok((precision, len)));
     for len in 0..codestream.len() {
-        check_skipped(rt, &codestream[..len], Err(StreamFault::Truncated));
+        check_skipped(rt, len, &codestream[..len], Err(StreamFault::Truncated));
     }
 }
 
@@ -214,7 +226,7 @@ fn codestreams_are_read_over_by_markers_and_headers(rt: HostRuntime) {
 }
 
 /// A place in `LONE`, the byte that stands there, and what is said of markers and headers: the data isn't looked at.
-const CHANGED_AFTER_THE_HEADERS: [(usize, u8, Result<(u8, usize), StreamFault>); 6] = [
+const CHANGED_AFTER_THE_HEADERS: &[(usize, u8, Skipped)] = &[
     (25, 0x00, Ok((8, 28))),
     (25, 0xC0, Ok((8, 28))),
     (26, 0x00, Err(StreamFault::Truncated)),
@@ -227,9 +239,9 @@ const CHANGED_AFTER_THE_HEADERS: [(usize, u8, Result<(u8, usize), StreamFault>);
 fn faults_of_markers_after_the_headers_are_found(rt: HostRuntime) {
     for (place, byte, want) in CHANGED_AFTER_THE_HEADERS {
         let mut bytes = LONE;
-        if place < bytes.len() {
-            bytes[place] = byte;
+        if *place < bytes.len() {
+            bytes[*place] = *byte;
         }
-        check_skipped(&rt, &bytes, want);
+        check_skipped(&rt, *place, &bytes, *want);
     }
 }

@@ -1,4 +1,5 @@
-use crate::testing::codestreams::{BLACK_AND_WHITE, CODESTREAMS};
+use crate::testing::codestreams::{BLACK, CODESTREAMS, WHITE};
+use crate::testing::{check, check_bytes};
 use ls_frame::{Buffered, Counted, Feed};
 use ls_stream::laws::what_is_taken_is_decoded_alike;
 use ls_stream::{Decoded, NextFault, StreamFault, What, next_stream};
@@ -7,25 +8,20 @@ use std::alloc::{AllocError, Global};
 use std::process::Abort;
 use std::test::Fail;
 
-/// That this was taken: bytes, nothing at the end, or a fault.
-fn check_taken(
-    rt: &impl Abort,
-    name: &str,
-    at: usize,
-    next: &Result<Option<Vec<u8>>, NextFault>,
-    want: Result<Option<&[u8]>, NextFault>,
-) {
+/// What is taken of a reader: bytes, nothing at the end, or a fault.
+type Next = Result<Option<Vec<u8>>, NextFault>;
+
+/// What is to be taken.
+type Wanted<'a> = Result<Option<&'a [u8]>, NextFault>;
+
+/// That this was taken.
+fn check_taken(rt: &impl Abort, name: &str, at: usize, next: &Next, want: Wanted<'_>) {
     let got = match next {
         Ok(Some(bytes)) => Ok(Some(bytes.as_slice())),
         Ok(None) => Ok(None),
         Err(fault) => Err(*fault),
     };
-    assert_eq!(rt; got, want, "{name}, at {at}");
-}
-
-/// That so many are left, were read or failed.
-fn check_count(rt: &impl Abort, name: &str, at: usize, got: usize, want: usize) {
-    assert_eq!(rt; got, want, "{name}, at {at}");
+    check(rt, name, at, &got, &want);
 }
 
 /// That decoding ended with this fault, or with none.
@@ -39,7 +35,14 @@ fn check_fault(
         Ok(_) => None,
         Err(fault) => Some(*fault),
     };
-    assert_eq!(rt; got, want, "the fault of codestream {at}");
+    check(rt, "the fault of a codestream", at, &got, &want);
+}
+
+/// What is taken of bytes in memory, and how many are left.
+fn take_of(alloc: Global, bytes: &[u8]) -> (Next, usize) {
+    let mut rest = bytes;
+    let next = next_stream(alloc, &mut rest);
+    (next, rest.len())
 }
 
 /// That so many of these bytes are taken, whose decoding is that of all of them, and that the others are left.
@@ -51,12 +54,11 @@ fn check_first(
     count: usize,
     want: Option<StreamFault>,
 ) {
-    let mut rest = bytes;
-    let next = next_stream(alloc, &mut rest);
+    let (next, left) = take_of(alloc, bytes);
     let first = bytes.get(..count).unwrap_or(bytes);
     check_taken(rt, "the next codestream", at, &next, Ok(Some(first)));
-    let left = bytes.len().saturating_sub(count);
-    check_count(rt, "bytes left", at, rest.len(), left);
+    let want_left = bytes.len().saturating_sub(count);
+    check(rt, "bytes left", at, &left, &want_left);
     check_decoded(rt, alloc, at, bytes, want);
 }
 
@@ -89,6 +91,51 @@ fn count_left<R: Feed>(reader: &mut R) -> usize {
     left
 }
 
+/// What is taken off a reader one after the other, how many bytes it has left then, and how many of its reads failed by
+/// then.
+type Takes<'a> = (&'a [Wanted<'a>], usize, u64);
+
+/// That these are taken off a reader.
+fn check_takes<R: Feed>(
+    rt: &impl Abort,
+    alloc: Global,
+    at: usize,
+    reader: &mut R,
+    takes: &Takes<'_>,
+) {
+    let (wanted, left, failures) = *takes;
+    for want in wanted {
+        let next = next_stream(alloc, reader);
+        check_taken(rt, "off a reader", at, &next, *want);
+    }
+    let got = (count_left(reader), Feed::failures(reader));
+    check(rt, "bytes left, failures", at, &got, &(left, failures));
+}
+
+/// That these are taken off chunks.
+fn check_unbuffered(
+    rt: &impl Abort,
+    alloc: Global,
+    at: usize,
+    chunks: Pieces<'_>,
+    takes: &Takes<'_>,
+) {
+    check_takes(rt, alloc, at, &mut Counted::new(chunks), takes);
+}
+
+/// That these are taken off a buffered reader of chunks.
+fn check_buffered(
+    rt: &impl Abort,
+    alloc: Global,
+    at: usize,
+    chunks: Pieces<'_>,
+    takes: &Takes<'_>,
+) -> Result<(), AllocError> {
+    let mut reader = Buffered::new(alloc, Counted::new(chunks))?;
+    check_takes(rt, alloc, at, &mut reader, takes);
+    Ok(())
+}
+
 /// That so many of these bytes are taken off a buffered reader that is given so many at once, and that it has the
 /// others left.
 fn check_chunks(
@@ -99,24 +146,16 @@ fn check_chunks(
     count: usize,
     most: usize,
 ) -> Result<(), AllocError> {
-    let counted = Counted::new(Pieces::new(bytes, most, None));
-    let mut reader = Buffered::new(alloc, counted)?;
-    let next = next_stream(alloc, &mut reader);
     let first = bytes.get(..count).unwrap_or(bytes);
-    check_taken(rt, "off chunks", at, &next, Ok(Some(first)));
-    let left = bytes.len().saturating_sub(count);
-    check_left(rt, at, &mut reader, left);
-    Ok(())
-}
-
-/// That a reader has so many bytes left, and that none of its reads failed.
-fn check_left<R: Feed>(rt: &impl Abort, at: usize, reader: &mut R, left: usize) {
-    check_count(rt, "left", at, count_left(reader), left);
-    check_count(rt, "failures", at, Feed::failures(reader) as usize, 0);
+    let wanted = [Ok(Some(first))];
+    let takes = (wanted.as_slice(), bytes.len().saturating_sub(count), 0);
+    check_buffered(rt, alloc, at, Pieces::new(bytes, most, None), &takes)
 }
 
 /// Bytes, how many of them the next codestream has, and the fault of decoding them.
-const MALFORMED: [(&[u8], usize, StreamFault); 22] = [
+type Malformed<'a> = (&'a [u8], usize, StreamFault);
+
+const MALFORMED: &[Malformed<'static>] = &[
     // No SOI.
     (&[0x00, 0x00], 1, StreamFault::NotSoi),
     (&[0xff, 0x00, 0x41], 2, StreamFault::NotSoi),
@@ -206,14 +245,24 @@ fn bytes_are_taken_up_to_what_breaks_them_with_ample_memory(rt: HostRuntime) {
     }
 }
 
+fn check_malformed(
+    rt: &impl Abort,
+    alloc: Global,
+    at: usize,
+    malformed: &Malformed<'_>,
+) -> Result<(), AllocError> {
+    let (bytes, count, _) = *malformed;
+    check_chunks(rt, alloc, at, bytes, count, 1)?;
+    check_chunks(rt, alloc, at, bytes, count, 5)
+}
+
 /// Wherever the chunks are cut.
 #[test]
 fn malformed_bytes_are_taken_off_chunks_with_ample_memory(
     rt: HostRuntime,
 ) -> Result<(), AllocError> {
-    for (at, (bytes, count, _)) in MALFORMED.iter().enumerate() {
-        check_chunks(&rt, rt.alloc(), at, bytes, *count, 1)?;
-        check_chunks(&rt, rt.alloc(), at, bytes, *count, 5)?;
+    for (at, malformed) in MALFORMED.iter().enumerate() {
+        check_malformed(&rt, rt.alloc(), at, malformed)?;
     }
     Ok(())
 }
@@ -267,23 +316,14 @@ fn codestreams_are_taken_whole_with_ample_memory(rt: HostRuntime) -> Result<(), 
 
 #[test]
 fn a_fill_byte_before_eoi_is_taken_with_ample_memory(rt: HostRuntime) -> Result<(), Fail> {
-    let [black, _] = BLACK_AND_WHITE;
-    let mut bytes = black.get(..27).unwrap_or(black).to_vec(rt.alloc())?;
+    let mut bytes = BLACK.get(..27).unwrap_or(BLACK).to_vec(rt.alloc())?;
     bytes.extend_from_slice(&[0xff, 0xd9, 0xff])?;
     check_first(&rt, rt.alloc(), 0, &bytes, 29, None);
     Ok(())
 }
 
-/// Takes two codestreams that stand behind one another, and then the end.
-fn check_two<R: Feed>(rt: &impl Abort, alloc: Global, reader: &mut R, most: usize) {
-    for (at, codestream) in BLACK_AND_WHITE.iter().enumerate() {
-        let next = next_stream(alloc, reader);
-        check_taken(rt, "one of two", at, &next, Ok(Some(*codestream)));
-    }
-    let next = next_stream(alloc, reader);
-    check_taken(rt, "the end", most, &next, Ok(None));
-    check_count(rt, "failures", most, Feed::failures(reader) as usize, 0);
-}
+/// What is taken of two codestreams that stand behind one another: each, and then the end.
+const BOTH: Takes<'static> = (&[Ok(Some(BLACK)), Ok(Some(WHITE)), Ok(None)], 0, 0);
 
 /// Takes two codestreams off chunks of so many bytes, and off a buffered reader of them.
 fn check_joined(
@@ -292,51 +332,39 @@ fn check_joined(
     joined: &[u8],
     most: usize,
 ) -> Result<(), AllocError> {
-    let mut reader = Counted::new(Pieces::new(joined, most, None));
-    check_two(rt, alloc, &mut reader, most);
-    let counted = Counted::new(Pieces::new(joined, most, None));
-    let mut reader = Buffered::new(alloc, counted)?;
-    check_two(rt, alloc, &mut reader, most);
-    Ok(())
+    check_unbuffered(rt, alloc, most, Pieces::new(joined, most, None), &BOTH);
+    check_buffered(rt, alloc, most, Pieces::new(joined, most, None), &BOTH)
 }
 
 #[test]
 fn joined_codestreams_are_taken_one_by_one_with_ample_memory(
     rt: HostRuntime,
 ) -> Result<(), AllocError> {
-    let [black, white] = BLACK_AND_WHITE;
-    let mut joined = black.to_vec(rt.alloc())?;
-    joined.extend_from_slice(white)?;
+    let mut joined = BLACK.to_vec(rt.alloc())?;
+    joined.extend_from_slice(WHITE)?;
     for most in [1, 2, 56, 100] {
         check_joined(&rt, rt.alloc(), &joined, most)?;
     }
     Ok(())
 }
 
-/// That a read of this number failed, once.
-fn check_failed<R: Feed>(rt: &impl Abort, alloc: Global, reader: &mut R, failing: usize) {
-    let next = next_stream(alloc, reader);
-    check_taken(rt, "a failed read", failing, &next, Err(NextFault::Io));
-    let failures = Feed::failures(reader) as usize;
-    check_count(rt, "failures", failing, failures, 1);
+/// That the read of this number is the one that fails, of a reader and of a buffered one, and that the bytes from its
+/// place on are left.
+fn check_failing(rt: &impl Abort, alloc: Global, failing: usize) -> Result<(), AllocError> {
+    let takes = (FAILED, BLACK.len().saturating_sub(failing), 1);
+    let chunks = Pieces::new(BLACK, 1, Some(failing));
+    check_unbuffered(rt, alloc, failing, chunks, &takes);
+    let chunks = Pieces::new(BLACK, 1, Some(failing));
+    check_buffered(rt, alloc, failing, chunks, &takes)
 }
 
-/// That the read of this number is the one that fails, of a reader and of a buffered one.
-fn check_failing(rt: &impl Abort, alloc: Global, failing: usize) -> Result<(), AllocError> {
-    let [black, _] = BLACK_AND_WHITE;
-    let mut reader = Counted::new(Pieces::new(black, 1, Some(failing)));
-    check_failed(rt, alloc, &mut reader, failing);
-    let counted = Counted::new(Pieces::new(black, 1, Some(failing)));
-    let mut reader = Buffered::new(alloc, counted)?;
-    check_failed(rt, alloc, &mut reader, failing);
-    Ok(())
-}
+const FAILED: &[Wanted<'static>] = &[Err(NextFault::Io)];
 
 #[test]
 fn a_failed_read_is_named_and_counted_once_with_ample_memory(
     rt: HostRuntime,
 ) -> Result<(), AllocError> {
-    for failing in 0..BLACK_AND_WHITE[0].len() {
+    for failing in 0..BLACK.len() {
         check_failing(&rt, rt.alloc(), failing)?;
     }
     Ok(())
@@ -344,8 +372,7 @@ fn a_failed_read_is_named_and_counted_once_with_ample_memory(
 
 /// That the answer is that memory was refused, or what it is with ample memory.
 fn check_or_refused(rt: &impl Abort, alloc: Global, at: usize, codestream: &[u8]) {
-    let mut rest = codestream;
-    let next = next_stream(alloc, &mut rest);
+    let (next, _) = take_of(alloc, codestream);
     let want = match next {
         Err(NextFault::NoMemory) => Err(NextFault::NoMemory),
         _ => Ok(Some(codestream)),
@@ -363,16 +390,14 @@ fn codestreams_are_taken_or_memory_is_refused(rt: HostRuntime) {
 /// Nothing is taken at the end, which needs no memory.
 #[test]
 fn the_end_is_named(rt: HostRuntime) {
-    let mut rest: &[u8] = &[];
-    let next = next_stream(rt.alloc(), &mut rest);
+    let (next, _) = take_of(rt.alloc(), &[]);
     check_taken(&rt, "the end", 0, &next, Ok(None));
-    let mut reader = Counted::new(Pieces::new(&[], 1, Some(0)));
-    let next = next_stream(rt.alloc(), &mut reader);
-    check_taken(&rt, "a failed read", 0, &next, Err(NextFault::Io));
+    let chunks = Pieces::new(&[], 1, Some(0));
+    check_unbuffered(&rt, rt.alloc(), 0, chunks, &(FAILED, 0, 1));
 }
 
 /// Faults, and what is said of them.
-const TEXTS: [(NextFault, &str); 3] = [
+const TEXTS: &[(NextFault, &str)] = &[
     (NextFault::TooLarge, "too large"),
     (NextFault::Io, "read failed"),
     (NextFault::NoMemory, "no memory"),
@@ -381,13 +406,13 @@ const TEXTS: [(NextFault, &str); 3] = [
 /// That this is the fault's text.
 fn check_text(rt: &impl Abort, alloc: Global, fault: NextFault, want: &str) -> Result<(), Fail> {
     let got = format!(in alloc; "{fault}")?;
-    assert_eq!(rt; got.as_str(), want);
+    check_bytes(rt, want, got.as_bytes(), want.as_bytes());
     Ok(())
 }
 
 #[test]
 fn faults_have_texts_with_ample_memory(rt: HostRuntime) -> Result<(), Fail> {
-    for (fault, text) in &TEXTS {
+    for (fault, text) in TEXTS {
         check_text(&rt, rt.alloc(), *fault, text)?;
     }
     Ok(())

@@ -1,18 +1,26 @@
 //! What the tests share: frames, pictures that look like chance, and the checks.
 pub mod codestreams;
 
-use ls_frame::{Frame, Kind};
+use ls_frame::{Frame, Kind, Tuning};
+use ls_stream::encode_with;
 use std::alloc::{AllocError, Global};
+use std::fmt::Debug;
 use std::process::Abort;
+use std::test::Fail;
+
+/// That a value is the wanted one.
+pub fn check<T: PartialEq + Debug>(rt: &impl Abort, name: &str, at: usize, got: &T, want: &T) {
+    assert_eq!(rt; got, want, "{name}, at {at}");
+}
 
 /// That these are the bytes.
 pub fn check_bytes(rt: &impl Abort, name: &str, got: &[u8], want: &[u8]) {
-    assert_eq!(rt; got, want, "{name}");
+    check(rt, name, 0, &got, &want);
 }
 
 /// That this is the number.
 pub fn check_number(rt: &impl Abort, name: &str, got: u64, want: u64) {
-    assert_eq!(rt; got, want, "{name}");
+    check(rt, name, 0, &got, &want);
 }
 
 /// Kind, width, height, maxval, samples.
@@ -53,6 +61,13 @@ pub fn frame_of_parts(
 ) -> Result<Frame, AllocError> {
     let (kind, width, height, maxval, samples) = *parts;
     frame_of(rt, alloc, kind, width, height, maxval, samples)
+}
+
+/// The codestream of a frame by these T1, T2, T3 and RESET, each 0 for its default.
+pub fn encode_tuned(alloc: Global, frame: &Frame, chosen: [u16; 4]) -> Result<Vec<u8>, Fail> {
+    let [t1, t2, t3, reset] = chosen;
+    let presets = Tuning { t1, t2, t3, reset }.presets(frame.maxval())?;
+    Ok(encode_with(alloc, frame, &presets)?)
 }
 
 /// The longest line there is, of zeros and this last sample.
@@ -96,7 +111,7 @@ pub enum Picture {
     Extremes,
 }
 
-pub const PICTURES: [Picture; 4] = [
+pub const PICTURES: &[Picture] = &[
     Picture::Noise,
     Picture::Runs,
     Picture::Ramp,
@@ -171,5 +186,5 @@ impl Sum {
 
 /// That this is the sum.
 pub fn check_sum(rt: &impl Abort, name: &str, got: Sum, want: (u64, u64)) {
-    assert_eq!(rt; (got.bytes, got.fnv), want, "{name}");
+    check(rt, name, 0, &(got.bytes, got.fnv), &want);
 }

@@ -3,7 +3,7 @@ use crate::testing::Picture;
 
 /// MAXVAL, T1, T2, T3 and RESET, or four zeros for the defaults; the length and the FNV-1a of the codestreams of
 /// every kind of picture in every small size, joined.
-pub const SMALL: [(u16, [u16; 4], u64, u64); 28] = [
+pub const SMALL: &[(u16, [u16; 4], u64, u64)] = &[
     (3, [2, 2, 2, 64], 951, 0xe5664b6725d5ad15),
     (3, [2, 2, 3, 3], 960, 0xa05a2a352a73fe3b),
     (3, [1, 2, 2, 255], 954, 0x1d397d77c71d3198),
@@ -36,7 +36,7 @@ pub const SMALL: [(u16, [u16; 4], u64, u64); 28] = [
 
 /// Components, width, height, MAXVAL and the kind of picture of larger frames with the default parameters; the length
 /// and the FNV-1a of the codestream.
-pub const LARGE: [(u8, u16, u16, u16, Picture, u64, u64); 14] = [
+pub const LARGE: &[(u8, u16, u16, u16, Picture, u64, u64)] = &[
     (3, 61, 37, 3, Picture::Noise, 2162, 0xb8e4270883b03a58),
     (3, 61, 37, 3, Picture::Runs, 1118, 0x84d7b9eb622db676),
     (3, 61, 37, 3, Picture::Ramp, 2114, 0xf0f579abec858633),
@@ -71,7 +71,7 @@ pub const LARGE: [(u8, u16, u16, u16, Picture, u64, u64); 14] = [
 
 /// The last sample of a line of 65,535 samples, all others of which are 0: with 0 the longest run there is, with 7 the
 /// longest that is interrupted, so that RUNindex comes to its end; the length and the FNV-1a of the codestream.
-pub const LONGEST_RUNS: [(u16, u64, u64); 2] = [
+pub const LONGEST_RUNS: &[(u16, u64, u64)] = &[
     (0, 32, 0x8c4407164e0de18a),
     (7, 34, 0x00a21c43d106f800),
 ];

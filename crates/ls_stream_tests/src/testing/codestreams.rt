@@ -18,7 +18,7 @@ pub const END: [u8; 2] = [0xff, 0xd9];
 /// What a plane shows, its maxval, its width, its samples, and its scan with the default parameters.
 pub type Plane = (&'static str, u16, u16, &'static [u16], &'static [u8]);
 
-pub const PLANES: [Plane; 12] = [
+pub const PLANES: &[Plane] = &[
     (
         "the picture of T.87's Annex H.3",
         255,
@@ -85,8 +85,10 @@ pub fn around_scan(
     Ok(bytes)
 }
 
-/// Frames, their codestreams with the default parameters, and the bound of these.
-pub const CODESTREAMS: [(Parts<'static>, &[u8], u64); 5] = [
+/// A frame, its codestream with the default parameters, and the bound of this.
+pub type Codestream<'a> = (Parts<'a>, &'a [u8], u64);
+
+pub const CODESTREAMS: &[Codestream<'static>] = &[
     (
         (
             Kind::Gray,
@@ -147,7 +149,7 @@ pub const CODESTREAMS: [(Parts<'static>, &[u8], u64); 5] = [
 
 /// T1, T2, T3 and RESET of a tuning, and the bytes between the frame header and the scan header that it makes of a lone
 /// zero of maxval 255.
-pub const TUNINGS: [([u16; 4], &[u8]); 4] = [
+pub const TUNINGS: &[([u16; 4], &[u8])] = &[
     ([3, 7, 21, 64], &[]),
     ([0, 0, 0, 0], &[]),
     (
@@ -166,14 +168,14 @@ pub const TUNINGS: [([u16; 4], &[u8]); 4] = [
     ),
 ];
 
-/// The codestreams of a black and of a white pixel, gray, of maxval 255.
-pub const BLACK_AND_WHITE: [&[u8]; 2] = [
-    &[
-        0xff, 0xd8, 0xff, 0xf7, 0x00, 0x0b, 0x08, 0x00, 0x01, 0x00, 0x01, 0x01, 0x01, 0x11, 0x00,
-        0xff, 0xda, 0x00, 0x08, 0x01, 0x01, 0x00, 0x00, 0x00, 0x00, 0x80, 0xff, 0xd9,
-    ],
-    &[
-        0xff, 0xd8, 0xff, 0xf7, 0x00, 0x0b, 0x08, 0x00, 0x01, 0x00, 0x01, 0x01, 0x01, 0x11, 0x00,
-        0xff, 0xda, 0x00, 0x08, 0x01, 0x01, 0x00, 0x00, 0x00, 0x00, 0x40, 0xff, 0xd9,
-    ],
+/// The codestream of a black pixel, gray, of maxval 255.
+pub const BLACK: &[u8] = &[
+    0xff, 0xd8, 0xff, 0xf7, 0x00, 0x0b, 0x08, 0x00, 0x01, 0x00, 0x01, 0x01, 0x01, 0x11, 0x00, 0xff,
+    0xda, 0x00, 0x08, 0x01, 0x01, 0x00, 0x00, 0x00, 0x00, 0x80, 0xff, 0xd9,
+];
+
+/// That of a white one.
+pub const WHITE: &[u8] = &[
+    0xff, 0xd8, 0xff, 0xf7, 0x00, 0x0b, 0x08, 0x00, 0x01, 0x00, 0x01, 0x01, 0x01, 0x11, 0x00, 0xff,
+    0xda, 0x00, 0x08, 0x01, 0x01, 0x00, 0x00, 0x00, 0x00, 0x40, 0xff, 0xd9,
 ];
