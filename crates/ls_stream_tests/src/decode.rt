@@ -50,7 +50,7 @@ fn check_opened(
     }
 }
 
-/// How many bytes an opening's frame has and its samples, in places of the caller's; or the fault.
+/// How many bytes the codestream of an opening has, or the fault, and the samples in places of the caller's.
 type Opened<S> = (Result<usize, StreamFault>, Vec<S>);
 
 /// That this was decoded of an opening.
@@ -71,6 +71,7 @@ fn check_samples_of(
     check(rt, name, 0, &got, &want);
 }
 
+/// What an opening's frame is decoded to in places of 16 bits.
 fn opened_to_words(alloc: Global, opening: &Opening<'_>) -> Result<Opened<u16>, AllocError> {
     let mut lines = Lines::new(alloc, opening.width())?;
     let regions = Regions::new(alloc, opening.presets())?;
@@ -92,6 +93,7 @@ fn check_opened_to_words(
     Ok(())
 }
 
+/// The same in places of 8 bits.
 fn opened_to_bytes(alloc: Global, opening: &Opening<'_>) -> Result<Opened<u8>, AllocError>
     requires { opening.now.parameters.maxval ≤ 255 }
 {

@@ -19,19 +19,13 @@ const WITH_PRESETS: [u8; 43] = [
     0x00, 0x08, 0x01, 0x01, 0x00, 0x00, 0x00, 0x00, 0x40, 0xFF, 0xD9,
 ];
 
-/// That bytes are decoded with this fault, or with none.
+/// That bytes, which were changed or cut at a place, are decoded with this fault, or with none.
 fn check_fault(rt: &impl Abort, alloc: Global, at: usize, bytes: &[u8], want: Option<StreamFault>) {
     let got = match decode_frame(alloc, bytes) {
         Ok(_) => None,
         Err(fault) => Some(fault),
     };
-    check(
-        rt,
-        "the fault of bytes that are changed or cut",
-        at,
-        &got,
-        &want,
-    );
+    check(rt, "a fault", at, &got, &want);
 }
 
 /// That bytes are decoded so after one of them is changed.
