@@ -1,7 +1,5 @@
 //! What is shown of recordings with damage of each kind, and the gaps that are told.
-use crate::testing::{
-    BLACK, BLACK_IMAGE, Outcome, WHITE, WHITE_IMAGE, check, check_outcome, ended, gap, joined,
-};
+use crate::testing::{BLACK, BLACK_IMAGE, Outcome, WHITE, WHITE_IMAGE, check, ended, gap, joined};
 use ls_salvage::{Gap, salvage_bytes};
 use ls_stream::{StreamFault, What};
 use std::alloc::Global;
@@ -35,7 +33,7 @@ const HOLDING_CUT: &[u8] = b"\xff\xd8\xff\xe0\x00\x1e\
 \xff\xf7\x00\x0b\x08\x00\x01\x00\x01\x01\x01\x11\x00\
 \xff\xda\x00\x08\x01\x01\x00\x00\x00\x00\x80\xff";
 
-const CASES: [Case; 13] = [
+const CASES: &[Case] = &[
     Case {
         name: "nothing",
         parts: [NONE, NONE, NONE, NONE],
@@ -222,17 +220,22 @@ const CASES: [Case; 13] = [
 /// That the recording in these parts is salvaged so.
 fn check_salvaged(rt: &impl Abort, alloc: Global, name: &str, recording: &[u8], want: Outcome<'_>) {
     let (shown, gaps, salvaged) = salvage_bytes(alloc, recording);
-    check_outcome(rt, name, (salvaged, &shown, &gaps), want);
+    let got = (salvaged, shown.as_slice(), gaps.as_slice());
+    check(rt, name, &got, &want);
+}
+
+fn check_case(rt: &impl Abort, alloc: Global, case: &Case) {
+    let recording = joined(rt, alloc, &case.parts);
+    let images = joined(rt, alloc, &case.images);
+    let count = ended(case.frames, case.gaps.len() as u64);
+    let want = (count, images.as_slice(), case.gaps);
+    check_salvaged(rt, alloc, case.name, &recording, want);
 }
 
 #[test]
 fn what_is_whole_is_shown_with_ample_memory(rt: HostRuntime) {
     for case in CASES {
-        let recording = joined(rt.alloc(), &case.parts).expect(&rt, "memory");
-        let images = joined(rt.alloc(), &case.images).expect(&rt, "memory");
-        let count = ended(case.frames, case.gaps.len() as u64);
-        let want = (count, images.as_slice(), case.gaps);
-        check_salvaged(&rt, rt.alloc(), case.name, &recording, want);
+        check_case(&rt, rt.alloc(), case);
     }
 }
 
@@ -254,37 +257,57 @@ fn change(bytes: &mut [u8], place: usize, mask: u8) {
 }
 
 /// The bits of a byte that are changed.
-const MASKS: [u8; 4] = [0xff, 0x01, 0x10, 0x80];
+const MASKS: &[u8] = &[0xff, 0x01, 0x10, 0x80];
 
-#[test]
-fn a_byte_changed_costs_no_other_frame_with_ample_memory(rt: HostRuntime) {
-    let mut recording = joined(rt.alloc(), &[BLACK, WHITE, BLACK]).expect(&rt, "memory");
-    let others = joined(rt.alloc(), &[WHITE_IMAGE, BLACK_IMAGE]).expect(&rt, "memory");
-    for place in 0..56 {
-        // Damage in the first codestream costs the second and the third nothing; damage in the second, the first and
-        // the third.
-        let (first, last) = if place < BLACK.len() {
-            (NONE, others.as_slice())
-        } else {
-            (BLACK_IMAGE, BLACK_IMAGE)
-        };
-        for mask in MASKS {
-            change(&mut recording, place, mask);
-            let shown = shows(rt.alloc(), &recording, first, last);
-            check(&rt, "a byte changed", shown);
-            change(&mut recording, place, mask);
-        }
+/// That a change of the byte at a place, by each of the masks, leaves images that begin and end so.
+fn check_changed(
+    rt: &impl Abort,
+    alloc: Global,
+    recording: &mut [u8],
+    place: usize,
+    first: &[u8],
+    last: &[u8],
+) {
+    for mask in MASKS {
+        change(recording, place, *mask);
+        let shown = shows(alloc, recording, first, last);
+        check(rt, "a byte changed", &shown, &true);
+        change(recording, place, *mask);
     }
 }
 
 #[test]
+fn a_byte_changed_costs_no_other_frame_with_ample_memory(rt: HostRuntime) {
+    let mut recording = joined(&rt, rt.alloc(), &[BLACK, WHITE, BLACK]);
+    let others = joined(&rt, rt.alloc(), &[WHITE_IMAGE, BLACK_IMAGE]);
+    // Damage in the first codestream costs the second and the third nothing.
+    for place in 0..BLACK.len() {
+        check_changed(&rt, rt.alloc(), &mut recording, place, NONE, &others);
+    }
+    // Damage in the second costs the first and the third nothing.
+    for place in BLACK.len()..56 {
+        let (first, last) = (BLACK_IMAGE, BLACK_IMAGE);
+        check_changed(&rt, rt.alloc(), &mut recording, place, first, last);
+    }
+}
+
+/// Two codestreams, and 70,000 of a byte between them.
+fn with_long_gap(rt: &impl Abort, alloc: Global, byte: u8) -> Vec<u8> {
+    let junk = vec![in alloc; byte; 70_000].expect(rt, "memory");
+    joined(rt, alloc, &[BLACK, &junk, WHITE])
+}
+
+fn check_long_gap(rt: &impl Abort, alloc: Global, byte: u8) {
+    let recording = with_long_gap(rt, alloc, byte);
+    let images = joined(rt, alloc, &[BLACK_IMAGE, WHITE_IMAGE]);
+    let gaps = [gap(1, 28, 70_000, StreamFault::NotSoi)];
+    let want = (ended(2, 1), images.as_slice(), gaps.as_slice());
+    check_salvaged(rt, alloc, "a long gap", &recording, want);
+}
+
+#[test]
 fn long_gaps_are_passed_over_with_ample_memory(rt: HostRuntime) {
-    for (byte, fault) in [(0x00, StreamFault::NotSoi), (0xff, StreamFault::NotSoi)] {
-        let junk = vec![in rt.alloc(); byte; 70_000].expect(&rt, "memory");
-        let recording = joined(rt.alloc(), &[BLACK, &junk, WHITE]).expect(&rt, "memory");
-        let images = joined(rt.alloc(), &[BLACK_IMAGE, WHITE_IMAGE]).expect(&rt, "memory");
-        let gaps = [gap(1, 28, 70_000, fault)];
-        let want = (ended(2, 1), images.as_slice(), gaps.as_slice());
-        check_salvaged(&rt, rt.alloc(), "a long gap", &recording, want);
+    for byte in [0x00, 0xff] {
+        check_long_gap(&rt, rt.alloc(), byte);
     }
 }

@@ -1,24 +1,20 @@
 //! Salvage over readers and writers whose calls fail, and with no text.
 use crate::testing::{
-    BLACK, BLACK_IMAGE, Outcome, WHITE, WHITE_IMAGE, check_outcome, check_text, ended, joined,
+    BLACK, BLACK_IMAGE, Outcome, WHITE, WHITE_IMAGE, check, check_text, ended, joined,
 };
 use ls_film::engine::Text;
 use ls_frame::{Buffered, Counted};
-use ls_salvage::{Gap, ImageText, NoText, SalvageFault, salvage};
+use ls_salvage::{Gap, ImageText, NoText, SalvageFault, Salvaged, salvage};
 use ls_stream::StreamFault;
 use ls_testing::{Mishap, Pieces, Sink};
 use std::alloc::Global;
 use std::process::Abort;
 
-/// Salvages a recording to a writer, and checks how that ends.
-fn check_salvaged<T: Text>(
-    rt: &impl Abort,
-    alloc: Global,
-    name: &str,
-    reader: Pieces<'_>,
-    writer: Sink,
-    want: Outcome<'_>,
-) {
+/// How a salvage ended, the writer that it wrote to, and the gaps that it told.
+type Ending = (Result<Salvaged, SalvageFault>, Sink, Vec<Gap>);
+
+/// Salvages a recording to a writer.
+fn salvaged<T: Text>(rt: &impl Abort, alloc: Global, reader: Pieces<'_>, writer: Sink) -> Ending {
     let mut reader = Buffered::new(alloc, Counted::new(reader)).expect(rt, "memory");
     let mut writer = Counted::new(writer);
     let mut gaps = Vec::new(alloc);
@@ -28,8 +24,18 @@ fn check_salvaged<T: Text>(
         &mut writer,
         &mut gaps,
     );
-    let sink = writer.into_inner();
-    check_outcome(rt, name, (salvaged, sink.written(), &gaps), want);
+    (salvaged, writer.into_inner(), gaps)
+}
+
+/// That a salvage ended so.
+fn check_ending(rt: &impl Abort, name: &str, ending: &Ending, want: Outcome<'_>) {
+    let (salvaged, sink, gaps) = ending;
+    check(
+        rt,
+        name,
+        &(*salvaged, sink.written(), gaps.as_slice()),
+        &want,
+    );
 }
 
 const JUNK: Gap = Gap {
@@ -39,50 +45,70 @@ const JUNK: Gap = Gap {
     fault: StreamFault::NotSoi,
 };
 
+/// That a read which fails at a byte of two codestreams with junk between them ends a salvage.
+fn check_failed_read(rt: &impl Abort, alloc: Global, recording: &[u8], place: usize) {
+    let reader = Pieces::new(recording, 1, Some(place));
+    let writer = Sink::new(4096, Mishap::Nothing);
+    let ending = salvaged::<ImageText>(rt, alloc, reader, writer);
+    let frames = u64::from(place >= 28);
+    let shown = if place < 28 { b"" } else { BLACK_IMAGE };
+    let gaps: &[Gap] = if place < 36 { &[] } else { &[JUNK] };
+    let want = (Err(SalvageFault::Io(frames)), shown, gaps);
+    check_ending(rt, "a failed read", &ending, want);
+}
+
 #[test]
 fn a_failed_read_ends_a_salvage_with_ample_memory(rt: HostRuntime) {
-    let recording = joined(rt.alloc(), &[BLACK, b"junk", WHITE]).expect(&rt, "memory");
+    let recording = joined(&rt, rt.alloc(), &[BLACK, b"junk", WHITE]);
     for place in 0..recording.len() {
-        let reader = Pieces::new(&recording, 1, Some(place));
-        let writer = Sink::new(4096, Mishap::Nothing);
-        let frames = u64::from(place >= 28);
-        let shown = if place < 28 { b"" } else { BLACK_IMAGE };
-        let gaps: &[Gap] = if place < 36 { &[] } else { &[JUNK] };
-        let want = (Err(SalvageFault::Io(frames)), shown, gaps);
-        check_salvaged::<ImageText>(&rt, rt.alloc(), "a read", reader, writer, want);
+        check_failed_read(&rt, rt.alloc(), &recording, place);
     }
+}
+
+/// That a write which fails after so many bytes of the images ends a salvage.
+fn check_failed_write(
+    rt: &impl Abort,
+    alloc: Global,
+    recording: &[u8],
+    images: &[u8],
+    place: usize,
+) {
+    let reader = Pieces::new(recording, 4096, None);
+    let writer = Sink::new(1, Mishap::Fails(place));
+    let ending = salvaged::<ImageText>(rt, alloc, reader, writer);
+    let shown = images.get(..place).unwrap_or(images);
+    let gaps: &[Gap] = if place < 12 { &[] } else { &[JUNK] };
+    let want = (Err(SalvageFault::Output(place as u64)), shown, gaps);
+    check_ending(rt, "a failed write", &ending, want);
 }
 
 #[test]
 fn a_failed_write_ends_a_salvage_with_ample_memory(rt: HostRuntime) {
-    let recording = joined(rt.alloc(), &[BLACK, b"junk", WHITE]).expect(&rt, "memory");
-    let images = joined(rt.alloc(), &[BLACK_IMAGE, WHITE_IMAGE]).expect(&rt, "memory");
+    let recording = joined(&rt, rt.alloc(), &[BLACK, b"junk", WHITE]);
+    let images = joined(&rt, rt.alloc(), &[BLACK_IMAGE, WHITE_IMAGE]);
     for place in 0..images.len() {
-        let reader = Pieces::new(&recording, 4096, None);
-        let writer = Sink::new(1, Mishap::Fails(place));
-        let gaps: &[Gap] = if place < 12 { &[] } else { &[JUNK] };
-        let want = (
-            Err(SalvageFault::Output(place as u64)),
-            &images[..place],
-            gaps,
-        );
-        check_salvaged::<ImageText>(&rt, rt.alloc(), "a write", reader, writer, want);
+        check_failed_write(&rt, rt.alloc(), &recording, &images, place);
     }
+}
+
+/// That a salvage without text tells of the junk, off chunks of so many bytes, and writes nothing.
+fn check_without_text(rt: &impl Abort, alloc: Global, recording: &[u8], most: usize) {
+    let reader = Pieces::new(recording, most, None);
+    let writer = Sink::new(1, Mishap::Fails(0));
+    let ending = salvaged::<NoText>(rt, alloc, reader, writer);
+    check_ending(rt, "no text", &ending, (ended(2, 1), b"", &[JUNK]));
 }
 
 #[test]
 fn damage_is_told_of_without_text_with_ample_memory(rt: HostRuntime) {
-    let recording = joined(rt.alloc(), &[BLACK, b"junk", WHITE]).expect(&rt, "memory");
+    let recording = joined(&rt, rt.alloc(), &[BLACK, b"junk", WHITE]);
     for most in [1, 3, 4096] {
-        let reader = Pieces::new(&recording, most, None);
-        let writer = Sink::new(1, Mishap::Fails(0));
-        let want: Outcome<'_> = (ended(2, 1), b"", &[JUNK]);
-        check_salvaged::<NoText>(&rt, rt.alloc(), "no text", reader, writer, want);
+        check_without_text(&rt, rt.alloc(), &recording, most);
     }
 }
 
 /// Faults, and their texts.
-const TEXTS: [(SalvageFault, &str); 5] = [
+const TEXTS: &[(SalvageFault, &str)] = &[
     (SalvageFault::Io(3), "read failed"),
     (SalvageFault::Output(7), "output failed after 7 bytes"),
     (SalvageFault::NoMemory, "no memory"),
@@ -93,6 +119,6 @@ const TEXTS: [(SalvageFault, &str); 5] = [
 #[test]
 fn faults_have_their_texts(rt: HostRuntime) {
     for (fault, text) in TEXTS {
-        check_text(&rt, fault, text);
+        check_text(&rt, *fault, text);
     }
 }

@@ -1,4 +1,4 @@
-use crate::testing::{BLACK, BLACK_IMAGE, check_bytes, check_gaps, gap, joined};
+use crate::testing::{BLACK, BLACK_IMAGE, check, gap, joined};
 use ls_salvage::{Gap, SalvageFault, salvage_bytes};
 use std::alloc::Global;
 
@@ -11,9 +11,9 @@ fn rescue(alloc: Global, recording: &[u8]) -> Result<(Vec<u8>, Vec<Gap>), Salvag
 
 #[test]
 fn the_page_rescues_a_frame_with_ample_memory(rt: HostRuntime) {
-    let recording = joined(rt.alloc(), &[b"junk", BLACK]).expect(&rt, "memory");
+    let recording = joined(&rt, rt.alloc(), &[b"junk", BLACK]);
     let (images, gaps) = rescue(rt.alloc(), &recording).expect(&rt, "memory");
-    check_bytes(&rt, "the images", &images, BLACK_IMAGE);
+    check(&rt, "the images", &images.as_slice(), &BLACK_IMAGE);
     let junk = gap(0, 0, 4, ls_stream::StreamFault::NotSoi);
-    check_gaps(&rt, "the gap", &gaps, &[junk]);
+    check(&rt, "the gap", &gaps.as_slice(), &[junk].as_slice());
 }

@@ -3,30 +3,15 @@ use ls_salvage::{Gap, SalvageFault, Salvaged};
 use ls_stream::StreamFault;
 use ls_testing::{Mishap, Sink};
 use std::alloc::{AllocError, Global};
-use std::fmt::Display;
+use std::fmt::{Debug, Display};
 use std::io::Write;
 use std::process::Abort;
 
 /// How a salvage ended, what it wrote, and the gaps that it told.
 pub type Outcome<'a> = (Result<Salvaged, SalvageFault>, &'a [u8], &'a [Gap]);
 
-/// That a salvage ended so.
-pub fn check_outcome(rt: &impl Abort, case: &str, got: Outcome<'_>, want: Outcome<'_>) {
-    assert_eq!(rt; got, want, "{case}");
-}
-
-/// That something is so.
-pub fn check(rt: &impl Abort, case: &str, is: bool) {
-    assert!(rt; is, "{case}");
-}
-
-/// That bytes are these.
-pub fn check_bytes(rt: &impl Abort, case: &str, got: &[u8], want: &[u8]) {
-    assert_eq!(rt; got, want, "{case}");
-}
-
-/// That gaps are these.
-pub fn check_gaps(rt: &impl Abort, case: &str, got: &[Gap], want: &[Gap]) {
+/// That a value is the wanted one.
+pub fn check<T: PartialEq + Debug>(rt: &impl Abort, case: &str, got: &T, want: &T) {
     assert_eq!(rt; got, want, "{case}");
 }
 
@@ -34,15 +19,16 @@ pub fn check_gaps(rt: &impl Abort, case: &str, got: &[Gap], want: &[Gap]) {
 pub fn check_text<F: Display + Drop>(rt: &impl Abort, fault: F, text: &str) {
     let mut sink = Sink::new(4096, Mishap::Nothing);
     let written = write!(sink, "{fault}").is_ok();
-    assert_eq!(rt;
-        (written, sink.written()),
-        (true, text.as_bytes()),
-        "{text}"
-    );
+    let got = (written, sink.written());
+    check(rt, text, &got, &(true, text.as_bytes()));
 }
 
 /// These bytes, one after the other.
-pub fn joined(alloc: Global, parts: &[&[u8]]) -> Result<Vec<u8>, AllocError> {
+pub fn joined(rt: &impl Abort, alloc: Global, parts: &[&[u8]]) -> Vec<u8> {
+    try_joined(alloc, parts).expect(rt, "memory")
+}
+
+fn try_joined(alloc: Global, parts: &[&[u8]]) -> Result<Vec<u8>, AllocError> {
     let mut bytes = Vec::new(alloc);
     for part in parts {
         bytes.extend_from_slice(part)?;
