@@ -28,6 +28,10 @@ other_column row width j column count component h k e =
     let next : (row * width + j + 1) * count ≡ (row * width + j) * count + count = omega arith in
     absurd (omega arith)
 
+-- a row of the only component
+pub place_of_the_only : (start j count component : ℕ) → count ≡ 1 → component < count → (start + j) * count + component ≡ start + j
+place_of_the_only start j count component one low = ap (λ n. (start + j) * n + component) one ∙ omega arith
+
 pub other_row : (r row width j i count component : ℕ) → r < row → j < width → component < count
     → (r * width + j) * count + component ≢ (row * width + i) * count + component
 other_row r row width j i count component h k l e =

@@ -183,8 +183,27 @@ fn store_row<S: Place>(samples: &mut [S], line: &[u16], row: usize, shape: Shape
         → slice_index (S.numbers samples.new) k ≡ slice_index (S.numbers samples.old) k }
     ensures len { length (S.numbers samples.new) ≡ length (S.numbers samples.old) }
 {
+    if shape.components == 1 {
+        put_side_by_side(samples, line, row * shape.width, shape.width);
+        return;
+    }
     for column in 0..shape.width {
         let place = (row * shape.width + column) * shape.components + component;
         S::put(samples, place, line[column + 1]);
+    }
+}
+
+/// Puts so many samples, which stand in a line after its first place, into the places from `start` on, several at once.
+fn put_side_by_side<S: Place>(samples: &mut [S], line: &[u16], start: usize, count: usize)
+    requires line { count < length line.now }
+    requires fits { (k : ℕ) → slice_index line.now k ≤ S.most }
+    requires samples { start + count ≤ length (S.numbers samples.old) }
+    requires few { start + count < 2 ^ 32 }
+    ensures stored { (j : ℕ) → j < count → slice_index (S.numbers samples.new) (start + j) ≡ slice_index line.now (j + 1) }
+    ensures kept { (k : ℕ) → ((j : ℕ) → j < count → k ≢ start + j) → slice_index (S.numbers samples.new) k ≡ slice_index (S.numbers samples.old) k }
+    ensures len { length (S.numbers samples.new) ≡ length (S.numbers samples.old) }
+{
+    for column in 0..count {
+        S::put(samples, start + column, line[column + 1]);
     }
 }

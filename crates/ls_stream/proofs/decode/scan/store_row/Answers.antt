@@ -2,7 +2,7 @@ use Rattle.std.proofs.Common.{◌≡◌, ℕ, ◌+◌, ◌*◌, ◌<◌, length,
 use Rattle.std.proofs.Math.ListN.{set}
 use Rattle.std.proofs.lemmas.Bool.{cases_lt}
 use Rattle.std.proofs.lemmas.List.{get_or-set_same, get_or-set_other, length-set}
-use Rattle.ls_stream.proofs.StoringLemmas.{place_inside, steps_inside, other_column}
+use Rattle.ls_stream.proofs.StoringLemmas.{place_inside, place_of_the_only, steps_inside, other_column}
 use Rattle.ls_stream.proofs.decode.scan.store_row.Goals as goal
 
 pub overflow_mul-place : goal.overflow_mul-place
@@ -60,3 +60,8 @@ loop-column-preserved g c =
       ];
       kept = λ k h. ap (λ xs. get_or xs k 0) c.put.ensures ∙ get_or-set_other samples place k sample 0 (λ e. h column c.loop-column-test.true e) ∙ c.loop-column.invariant.kept k h;
     }
+
+pub returns-then-shape-eq1-clause-kept : goal.returns-then-shape-eq1-clause-kept
+returns-then-shape-eq1-clause-kept g c k elsewhere =
+    c.put_side_by_side.ensures.kept k
+    (λ j low same. elsewhere j low (same ∙ sym (place_of_the_only (c.args.row * c.args.shape.width) j c.args.shape.components c.args.component c.if-shape-eq1.true c.requires.component)))
