@@ -1,9 +1,9 @@
 ghost use Rattle.std.specs.Prelude.{◌≡◌, IfSome};
-ghost use Rattle.ls_queue.specs.View.Running.{IsSourceSeat, IsWorkerSeat, IsEnded, AreAllSources, AreAllWorkers, sources_of, workers_of};
+ghost use Rattle.ls_queue.specs.View.Running.{IsSourceSeat, IsWorkerSeat, IsCloser, IsEnded, AreAllSources, AreAllWorkers, sources_of, workers_of};
 
 use crate::testing::{check, one_box};
 use ls_pieces_tests::pixels::pixel_order;
-use ls_queue::{Ended, Queue, SourceSeat, WorkerSeat, open};
+use ls_queue::{Closer, Ended, Finished, Queue, SourceSeat, WorkerSeat, open};
 use ls_recorder::{Gate, Inbox, Moment, OpenGate, Order, Outbox, work};
 use std::alloc::Global;
 use std::sync::Wait;
@@ -59,19 +59,27 @@ fn two_pixels<R: Wait>(rt: &R, alloc: Global) -> Option<(Queue<Order>, WorkerSea
     ensures one { IfSome result (λ made. sources_of made.0 ≡ 1) }
 {
     let (queue, sources, workers, closer) = open::<Order, R>(rt, alloc, 1, 1, 3).ok()?;
+    let source = only_source(&queue, sources);
     let worker = only_worker(&queue, workers);
-    let end = put_two(rt, alloc, &queue, only_source(&queue, sources))?;
-    let mut ended = Vec::with_capacity(alloc, 1).ok()?;
-    ended.push_reserved(end);
-    let _finished = queue.finish(rt, closer, ended).ok()?;
+    let _finished = put_and_finish(rt, alloc, &queue, source, closer)?;
     Some((queue, worker))
 }
 
-/// Orders for a black and a white pixel. `None` if memory is refused.
-fn two_orders(alloc: Global) -> Option<(Order, Order)> {
-    let black = pixel_order(alloc, 0, 64)?;
-    let white = pixel_order(alloc, 255, 64)?;
-    Some((black, white))
+/// Puts a black and a white pixel, and finishes the queue. `None` if memory is refused.
+fn put_and_finish<R: Wait>(
+    rt: &R,
+    alloc: Global,
+    queue: &Queue<Order>,
+    source: SourceSeat<Order>,
+    closer: Closer<Order>,
+) -> Option<Finished<Order>>
+    requires source { IsSourceSeat queue.now source }
+    requires closer { IsCloser queue.now closer }
+{
+    let end = put_two(rt, alloc, queue, source)?;
+    let mut ended = Vec::with_capacity(alloc, 1).ok()?;
+    ended.push_reserved(end);
+    queue.finish(rt, closer, ended).ok()
 }
 
 /// Puts a black and a white pixel, and ends the source. `None` if memory is refused.
@@ -84,9 +92,8 @@ fn put_two<R: Wait>(
     requires { IsSourceSeat queue.now source }
     ensures { IfSome result (λ ended. IsEnded queue.now ended) }
 {
-    let (black, white) = two_orders(alloc)?;
-    let _first = queue.put(rt, &mut source, black);
-    let _second = queue.put(rt, &mut source, white);
+    let _first = queue.put(rt, &mut source, pixel_order(alloc, 0, 64)?);
+    let _second = queue.put(rt, &mut source, pixel_order(alloc, 255, 64)?);
     Some(queue.end(rt, source))
 }
 
