@@ -60,13 +60,8 @@ pub fn check(rt: &impl Abort, name: &str, right: Option<bool>, ample: bool) {
 /// That a fault has this text.
 pub fn check_text<F: Display + Drop>(rt: &impl Abort, fault: F, text: &str) {
     let mut sink = Sink::new(4096, Mishap::Nothing);
-    let written = write!(sink, "{fault}").is_ok();
-    check_written(rt, written, sink.written(), text);
-}
-
-/// That this text was written.
-fn check_written(rt: &impl Abort, written: bool, got: &[u8], text: &str) {
-    assert_eq!(rt; (written, got), (true, text.as_bytes()), "{text}");
+    let right = write!(sink, "{fault}").is_ok() && sink.written() == text.as_bytes();
+    check(rt, text, Some(right), true);
 }
 
 /// The ends of a box for one source and one worker. `None` if memory is refused.
