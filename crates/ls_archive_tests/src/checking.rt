@@ -22,17 +22,14 @@ fn check_outcome(rt: &impl Abort, name: &str, got: Outcome, want: Outcome, ample
     assert_eq!(rt; got, want, "{name}");
 }
 
-/// Checks what a reader gives by an index, by `check` or by so many workers, and looks at how that ends.
-fn check_checked<Rt: Threads + Abort + Sync>(
+/// How a check of what a reader gives by an index ended: by so many workers, or by `check` if there are none.
+fn outcome_of<Rt: Threads + Sync>(
     rt: &Rt,
     alloc: Global,
     workers: u8,
-    name: &str,
     index: Pieces<'_>,
     recording: Pieces<'_>,
-    want: Outcome,
-    ample: bool,
-) {
+) -> Outcome {
     let mut index = Counted::new(index);
     let mut recording = Counted::new(recording);
     let mut findings: Vec<Finding> = Vec::new(alloc);
@@ -50,13 +47,12 @@ fn check_checked<Rt: Threads + Abort + Sync>(
         check(alloc, &mut index, &mut recording, &mut findings)
     };
     let first = findings.as_slice().first().copied();
-    let got = (
+    (
         ended,
         first,
         Feed::failures(&index),
         Feed::failures(&recording),
-    );
-    check_outcome(rt, name, got, want, ample);
+    )
 }
 
 /// What a check came to.
@@ -104,7 +100,7 @@ type Case = (
     Option<(u64, Damage)>,
 );
 
-const CASES: [Case; 17] = [
+const CASES: &[Case] = &[
     ("nothing", b"", b"", Ok((0, 0, false)), None),
     ("sizes", SIZES, TWO_CODESTREAMS, Ok((2, 0, false)), None),
     ("sums", SUMS, TWO_CODESTREAMS, Ok((2, 0, false)), None),
@@ -202,22 +198,26 @@ const CASES: [Case; 17] = [
     ),
 ];
 
+/// That a check ends as it should.
+fn check_case<Rt: Threads + Abort + Sync>(
+    rt: &Rt,
+    alloc: Global,
+    workers: u8,
+    case: &Case,
+    ample: bool,
+) {
+    let (name, index, recording, result, first) = *case;
+    let index = Pieces::new(index, 7, None);
+    let recording = Pieces::new(recording, 5, None);
+    let got = outcome_of(rt, alloc, workers, index, recording);
+    let result = result.map(|(frames, damaged, more)| checked(frames, damaged, more));
+    let first = first.map(|(place, damage)| found(place, damage));
+    check_outcome(rt, name, got, (result, first, 0, 0), ample);
+}
+
 fn check_cases<Rt: Threads + Abort + Sync>(rt: &Rt, alloc: Global, workers: u8, ample: bool) {
-    for (name, index, recording, result, first) in CASES {
-        let index = Pieces::new(index, 7, None);
-        let recording = Pieces::new(recording, 5, None);
-        let result = result.map(|(frames, damaged, more)| checked(frames, damaged, more));
-        let first = first.map(|(place, damage)| found(place, damage));
-        check_checked(
-            rt,
-            alloc,
-            workers,
-            name,
-            index,
-            recording,
-            (result, first, 0, 0),
-            ample,
-        );
+    for case in CASES {
+        check_case(rt, alloc, workers, case, ample);
     }
 }
 
@@ -238,52 +238,67 @@ fn recordings_are_checked_by_several_or_memory_is_refused(rt: HostRuntime) {
     check_cases(&rt, rt.alloc(), 2, false);
 }
 
+/// That a check ends with the read of this number of the index, by no worker or by two.
+fn check_index_read<Rt: Threads + Abort + Sync>(rt: &Rt, alloc: Global, at: usize) {
+    let index = Pieces::new(SUMS, 1, Some(at));
+    let recording = Pieces::new(TWO_CODESTREAMS, 4096, None);
+    let got = outcome_of(rt, alloc, 2 * (at % 2) as u8, index, recording);
+    let want = (Err(CheckFault::IndexIo), None, 1, 0);
+    check_outcome(rt, "a read of the index", got, want, true);
+}
+
+/// That a check ends with the read of this number of the recording, by no worker or by two.
+fn check_recording_read<Rt: Threads + Abort + Sync>(rt: &Rt, alloc: Global, at: usize) {
+    let index = Pieces::new(SUMS, 4096, None);
+    let recording = Pieces::new(TWO_CODESTREAMS, 1, Some(at));
+    let got = outcome_of(rt, alloc, 2 * (at % 2) as u8, index, recording);
+    let want = (Err(CheckFault::Io), None, 0, 1);
+    check_outcome(rt, "a read of the recording", got, want, true);
+}
+
 #[test]
-fn failed_reads_end_a_check_with_ample_memory(rt: HostRuntime) {
+fn a_failed_read_of_the_index_ends_a_check_with_ample_memory(rt: HostRuntime) {
     for at in 0..SUMS.len() {
-        let index = Pieces::new(SUMS, 1, Some(at));
-        let recording = Pieces::new(TWO_CODESTREAMS, 4096, None);
-        let want = (Err(CheckFault::IndexIo), None, 1, 0);
-        check_checked(
-            &rt,
-            rt.alloc(),
-            2 * (at % 2) as u8,
-            "a read of the index",
-            index,
-            recording,
-            want,
-            true,
-        );
-    }
-    for at in 0..TWO_CODESTREAMS.len() {
-        let index = Pieces::new(SUMS, 4096, None);
-        let recording = Pieces::new(TWO_CODESTREAMS, 1, Some(at));
-        let want = (Err(CheckFault::Io), None, 0, 1);
-        check_checked(
-            &rt,
-            rt.alloc(),
-            2 * (at % 2) as u8,
-            "a read of the recording",
-            index,
-            recording,
-            want,
-            true,
-        );
+        check_index_read(&rt, rt.alloc(), at);
     }
 }
 
 #[test]
-fn damage_and_faults_have_their_texts(rt: HostRuntime) {
-    check_text(&rt, Damage::Truncated, "truncated");
-    check_text(&rt, Damage::Changed, "changed");
-    check_text(
-        &rt,
+fn a_failed_read_of_the_recording_ends_a_check_with_ample_memory(rt: HostRuntime) {
+    for at in 0..TWO_CODESTREAMS.len() {
+        check_recording_read(&rt, rt.alloc(), at);
+    }
+}
+
+/// Damages, and their texts.
+const DAMAGE_TEXTS: &[(Damage, &str)] = &[
+    (Damage::Truncated, "truncated"),
+    (Damage::Changed, "changed"),
+    (
         Damage::Fault(StreamFault::BadCode(0)),
         "bad code in component 0",
-    );
-    check_text(&rt, CheckFault::Line(3), "line 3: not of an index");
-    check_text(&rt, CheckFault::Io, "read failed");
-    check_text(&rt, CheckFault::IndexIo, "read failed");
-    check_text(&rt, CheckFault::NoMemory, "no memory");
-    check_text(&rt, CheckFault::TooMany, "too many frames");
+    ),
+];
+
+/// Faults of a check, and their texts.
+const FAULT_TEXTS: &[(CheckFault, &str)] = &[
+    (CheckFault::Line(3), "line 3: not of an index"),
+    (CheckFault::Io, "read failed"),
+    (CheckFault::IndexIo, "read failed"),
+    (CheckFault::NoMemory, "no memory"),
+    (CheckFault::TooMany, "too many frames"),
+];
+
+#[test]
+fn damages_have_their_texts(rt: HostRuntime) {
+    for (damage, text) in DAMAGE_TEXTS {
+        check_text(&rt, *damage, text);
+    }
+}
+
+#[test]
+fn faults_have_their_texts(rt: HostRuntime) {
+    for (fault, text) in FAULT_TEXTS {
+        check_text(&rt, *fault, text);
+    }
 }

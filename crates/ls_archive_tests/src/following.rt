@@ -10,16 +10,19 @@ const TWO_LINES: &[u8] = b"\
 0 0 28 gray 1 1 255 8 3 7 21 64 14c5eaab40e8fcaf165a37d64d027b1357eb15846597672e4e87ef4c04547aa1\n\
 1 28 28 gray 1 1 255 8 3 7 21 64 0efbec04d1400b04eceb24a245c12e080c3916e4fa2379af048299d12b0a0953\n";
 
-/// Writes a recording of two codestreams, each in pieces of at most so many bytes, and its index, and checks what of
-/// the index went out and why it broke off, if it did. The recording is whole in any case.
-fn check_following(
-    rt: &impl Abort,
-    alloc: Global,
-    most: usize,
+/// What went out of a recording, whether both its writes were answered so, and what of its index, and why that broke
+/// off, if it did.
+#[derive(Drop)]
+struct Followed {
+    written: (bool, bool),
+    recording: Sink,
     index: Sink,
-    want: (&[u8], Option<IndexFault>),
-    ample: bool,
-) {
+    broken: Option<IndexFault>,
+}
+
+/// Writes a recording of two codestreams, each in pieces of at most so many bytes, and its index. `None` if the index
+/// doesn't come back.
+fn follow(alloc: Global, most: usize, index: Sink) -> Option<Followed> {
     let follower = Follower::new(alloc, Counted::new(index));
     let recording = Counted::new(Sink::new(most, Mishap::Nothing));
     let mut writer = Indexing::new(recording, Some(follower));
@@ -27,21 +30,44 @@ fn check_following(
     let first = write_bytes(&mut writer, first).is_ok();
     let second = write_bytes(&mut writer, second).is_ok();
     let (recording, follower, broken) = writer.into_parts();
-    let recording = recording.into_inner();
-    assert!(rt; follower.is_some(), "pieces of {most}: no index");
-    let Some(follower) = follower else {
-        return;
-    };
-    let index = follower.into_inner().into_inner();
-    let refused = !ample && broken == Some(IndexFault::NoMemory);
-    let want = if refused && want.0.starts_with(index.written()) {
-        (index.written(), broken)
-    } else {
-        want
-    };
+    Some(Followed {
+        written: (first, second),
+        recording: recording.into_inner(),
+        index: follower?.into_inner().into_inner(),
+        broken,
+    })
+}
+
+/// What of an index goes out, and why it breaks off, if it does.
+type Outcome<'a> = (&'a [u8], Option<IndexFault>);
+
+/// That a recording in pieces of at most so many bytes is written whole, and of its index this.
+fn check_following(
+    rt: &impl Abort,
+    alloc: Global,
+    most: usize,
+    index: Sink,
+    want: Outcome<'_>,
+    ample: bool,
+) {
+    let followed = follow(alloc, most, index).expect(rt, "an index");
+    check_followed(rt, most, &followed, want, ample);
+}
+
+/// That a recording was written whole, and of its index this. Where memory may be refused it may say so.
+fn check_followed(
+    rt: &impl Abort,
+    most: usize,
+    followed: &Followed,
+    want: Outcome<'_>,
+    ample: bool,
+) {
+    let index = (followed.index.written(), followed.broken);
+    let refused = !ample && index.1 == Some(IndexFault::NoMemory) && want.0.starts_with(index.0);
+    let want = if refused { index } else { want };
     assert_eq!(rt;
-        (first, second, recording.written(), index.written(), broken),
-        (true, true, TWO_CODESTREAMS, want.0, want.1),
+        (followed.written, followed.recording.written(), index),
+        ((true, true), TWO_CODESTREAMS, want),
         "pieces of {most}"
     );
 }
@@ -63,11 +89,17 @@ fn an_index_follows_its_recording_or_memory_is_refused(rt: HostRuntime) {
     check_pieces(&rt, rt.alloc(), false);
 }
 
+/// That an index of which the write of this number fails breaks off there.
+fn check_failed_write(rt: &impl Abort, alloc: Global, call: usize) {
+    let index = Sink::new(1, Mishap::Fails(call));
+    let front = TWO_LINES.get(..call).unwrap_or(&[]);
+    let want = (front, Some(IndexFault::Output(call as u64)));
+    check_following(rt, alloc, 4096, index, want, true);
+}
+
 #[test]
 fn an_index_that_fails_leaves_the_recording_whole_with_ample_memory(rt: HostRuntime) {
-    for i in 0..TWO_LINES.len() {
-        let index = Sink::new(1, Mishap::Fails(i));
-        let want = (&TWO_LINES[..i], Some(IndexFault::Output(i as u64)));
-        check_following(&rt, rt.alloc(), 4096, index, want, true);
+    for call in 0..TWO_LINES.len() {
+        check_failed_write(&rt, rt.alloc(), call);
     }
 }

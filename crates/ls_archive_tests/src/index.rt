@@ -21,25 +21,32 @@ fn check_outcome(rt: &impl Abort, name: &str, got: Outcome<'_>, want: Outcome<'_
     assert_eq!(rt; got, want, "{name}");
 }
 
-/// Makes the index of what a reader gives, and checks how that ends.
-fn check_index(
-    rt: &impl Abort,
-    alloc: Global,
-    name: &str,
-    reader: Pieces<'_>,
-    writer: Sink,
-    sums: bool,
-    want: Outcome<'_>,
-    ample: bool,
-) {
+/// The making of an index: its answer, what it wrote to, and how many of its reader's and its writer's calls failed.
+#[derive(Drop)]
+struct Made {
+    answer: Result<u64, IndexFault>,
+    index: Sink,
+    reads: u64,
+    writes: u64,
+}
+
+impl Made {
+    fn outcome(&self) -> Outcome<'_> {
+        (self.answer, self.index.written(), self.reads, self.writes)
+    }
+}
+
+/// Makes the index of what a reader gives.
+fn make(alloc: Global, reader: Pieces<'_>, writer: Sink, sums: bool) -> Made {
     let mut reader = Counted::new(reader);
     let mut writer = Counted::new(writer);
-    let ended = write_index(alloc, &mut reader, &mut writer, sums);
-    let reads = Feed::failures(&reader);
-    let writes = Outlet::failures(&writer);
-    let sink = writer.into_inner();
-    let got = (ended, sink.written(), reads, writes);
-    check_outcome(rt, name, got, want, ample);
+    let answer = write_index(alloc, &mut reader, &mut writer, sums);
+    Made {
+        answer,
+        reads: Feed::failures(&reader),
+        writes: Outlet::failures(&writer),
+        index: writer.into_inner(),
+    }
 }
 
 /// What a recording is, its bytes, what the making of its index answers, and the index with sums and without. The sums
@@ -52,7 +59,7 @@ type Case = (
     &'static [u8],
 );
 
-const RECORDINGS: [Case; 8] = [
+const RECORDINGS: &[Case] = &[
     ("no codestream", b"", Ok(0), b"", b""),
     (
         "one codestream",
@@ -113,14 +120,19 @@ const RECORDINGS: [Case; 8] = [
     ),
 ];
 
+/// That the index of a recording is made as it should be, with sums or without.
+fn check_recording(rt: &impl Abort, alloc: Global, case: &Case, sums: bool, ample: bool) {
+    let (name, recording, result, with_sums, without) = *case;
+    let lines = if sums { with_sums } else { without };
+    let reader = Pieces::new(recording, 3, None);
+    let made = make(alloc, reader, Sink::new(2, Mishap::Nothing), sums);
+    check_outcome(rt, name, made.outcome(), (result, lines, 0, 0), ample);
+}
+
 fn check_recordings(rt: &impl Abort, alloc: Global, ample: bool) {
-    for (name, recording, result, with_sums, without) in RECORDINGS {
-        for (sums, lines) in [(true, with_sums), (false, without)] {
-            let reader = Pieces::new(recording, 3, None);
-            let writer = Sink::new(2, Mishap::Nothing);
-            let want = (result, lines, 0, 0);
-            check_index(rt, alloc, name, reader, writer, sums, want, ample);
-        }
+    for case in RECORDINGS {
+        check_recording(rt, alloc, case, true, ample);
+        check_recording(rt, alloc, case, false, ample);
     }
 }
 
@@ -148,11 +160,17 @@ fn check_in_memory(
     check_outcome(rt, name, got, (want.0, want.1, 0, 0), true);
 }
 
+/// That the index of a recording in memory is this one, with sums and without.
+fn check_case_in_memory(rt: &impl Abort, alloc: Global, case: &Case) {
+    let (name, recording, result, with_sums, without) = *case;
+    check_in_memory(rt, alloc, name, recording, true, (result, with_sums));
+    check_in_memory(rt, alloc, name, recording, false, (result, without));
+}
+
 #[test]
 fn recordings_in_memory_have_their_index_with_ample_memory(rt: HostRuntime) {
-    for (name, recording, result, with_sums, without) in RECORDINGS {
-        check_in_memory(&rt, rt.alloc(), name, recording, true, (result, with_sums));
-        check_in_memory(&rt, rt.alloc(), name, recording, false, (result, without));
+    for case in RECORDINGS {
+        check_case_in_memory(&rt, rt.alloc(), case);
     }
 }
 
@@ -176,46 +194,51 @@ fn index_of_front(len: usize) -> (Result<u64, IndexFault>, &'static [u8]) {
     }
 }
 
+/// That the index of so many of the first bytes of `TWO_CODESTREAMS` is made as it should be.
+fn check_front(rt: &impl Abort, alloc: Global, len: usize) {
+    let front = TWO_CODESTREAMS.get(..len).unwrap_or(&[]);
+    check_in_memory(rt, alloc, "a front", front, false, index_of_front(len));
+}
+
 #[test]
 fn recordings_that_break_off_are_truncated_with_ample_memory(rt: HostRuntime) {
     for len in 0..=TWO_CODESTREAMS.len() {
-        let front = &TWO_CODESTREAMS[..len];
-        let want = index_of_front(len);
-        check_in_memory(&rt, rt.alloc(), "a front", front, false, want);
+        check_front(&rt, rt.alloc(), len);
     }
+}
+
+/// That the index ends with the write of this number.
+fn check_failed_write(rt: &impl Abort, alloc: Global, call: usize) {
+    let reader = Pieces::new(TWO_CODESTREAMS, 4096, None);
+    let made = make(alloc, reader, Sink::new(1, Mishap::Fails(call)), false);
+    let lines = TWO_LINES.get(..call).unwrap_or(&[]);
+    let want = (Err(IndexFault::Output(call as u64)), lines, 0, 1);
+    check_outcome(rt, "a write", made.outcome(), want, true);
 }
 
 #[test]
 fn a_failed_write_ends_the_index_with_ample_memory(rt: HostRuntime) {
-    for i in 0..TWO_LINES.len() {
-        let reader = Pieces::new(TWO_CODESTREAMS, 4096, None);
-        let writer = Sink::new(1, Mishap::Fails(i));
-        let want = Err(IndexFault::Output(i as u64));
-        let want = (want, &TWO_LINES[..i], 0, 1);
-        check_index(
-            &rt,
-            rt.alloc(),
-            "a write",
-            reader,
-            writer,
-            false,
-            want,
-            true,
-        );
+    for call in 0..TWO_LINES.len() {
+        check_failed_write(&rt, rt.alloc(), call);
     }
+}
+
+/// That the index ends with the read of this number.
+fn check_failed_read(rt: &impl Abort, alloc: Global, call: usize) {
+    let reader = Pieces::new(TWO_CODESTREAMS, 1, Some(call));
+    let made = make(alloc, reader, Sink::new(4096, Mishap::Nothing), false);
+    let (number, lines) = if call < 28 {
+        (0, b"".as_slice())
+    } else {
+        (1, FIRST_LINE)
+    };
+    let want = (Err(IndexFault::Io(number)), lines, 1, 0);
+    check_outcome(rt, "a read", made.outcome(), want, true);
 }
 
 #[test]
 fn a_failed_read_ends_the_index_with_ample_memory(rt: HostRuntime) {
-    for i in 0..TWO_CODESTREAMS.len() {
-        let reader = Pieces::new(TWO_CODESTREAMS, 1, Some(i));
-        let writer = Sink::new(4096, Mishap::Nothing);
-        let (number, lines) = if i < 28 {
-            (0, b"".as_slice())
-        } else {
-            (1, FIRST_LINE)
-        };
-        let want = (Err(IndexFault::Io(number)), lines, 1, 0);
-        check_index(&rt, rt.alloc(), "a read", reader, writer, false, want, true);
+    for call in 0..TWO_CODESTREAMS.len() {
+        check_failed_read(&rt, rt.alloc(), call);
     }
 }

@@ -8,11 +8,8 @@ use std::process::Abort;
 pub fn check_text<F: Display + Drop>(rt: &impl Abort, fault: F, text: &str) {
     let mut sink = Sink::new(4096, Mishap::Nothing);
     let written = write!(sink, "{fault}").is_ok();
-    assert_eq!(rt;
-        (written, sink.written()),
-        (true, text.as_bytes()),
-        "{text}"
-    );
+    assert!(rt; written, "{text}");
+    check_bytes(rt, text, sink.written(), text.as_bytes());
 }
 
 /// That these bytes are the wanted ones.

@@ -23,21 +23,12 @@ fn check_outcome(rt: &impl Abort, name: &str, got: Outcome, want: Outcome, ample
     assert_eq!(rt; got, want, "{name}");
 }
 
-/// Compares what two readers give, and checks how that ends.
-fn check_verified(
-    rt: &impl Abort,
-    alloc: Global,
-    name: &str,
-    film: Pieces<'_>,
-    recording: Pieces<'_>,
-    want: Outcome,
-    ample: bool,
-) {
+/// How comparing what two readers give ended.
+fn outcome_of(alloc: Global, film: Pieces<'_>, recording: Pieces<'_>) -> Outcome {
     let mut film = Counted::new(film);
     let mut recording = Counted::new(recording);
     let ended = verify(alloc, &mut film, &mut recording);
-    let got = (ended, Feed::failures(&film), Feed::failures(&recording));
-    check_outcome(rt, name, got, want, ample);
+    (ended, Feed::failures(&film), Feed::failures(&recording))
 }
 
 /// What a film and a recording are, their bytes, and what comparing them answers.
@@ -48,7 +39,7 @@ type Case = (
     Result<Verdict, VerifyFault>,
 );
 
-const CASES: [Case; 18] = [
+const CASES: &[Case] = &[
     ("no frames", b"", b"", Ok(Verdict::Same(0))),
     ("three frames", FILM, FILM_CODESTREAMS, Ok(Verdict::Same(3))),
     (
@@ -151,11 +142,18 @@ const CASES: [Case; 18] = [
     ),
 ];
 
+/// That comparing what two readers give ends as it should.
+fn check_case(rt: &impl Abort, alloc: Global, case: &Case, ample: bool) {
+    let (name, film, recording, result) = *case;
+    let film = Pieces::new(film, 3, None);
+    let recording = Pieces::new(recording, 2, None);
+    let got = outcome_of(alloc, film, recording);
+    check_outcome(rt, name, got, (result, 0, 0), ample);
+}
+
 fn check_cases(rt: &impl Abort, alloc: Global, ample: bool) {
-    for (name, film, recording, result) in CASES {
-        let film = Pieces::new(film, 3, None);
-        let recording = Pieces::new(recording, 2, None);
-        check_verified(rt, alloc, name, film, recording, (result, 0, 0), ample);
+    for case in CASES {
+        check_case(rt, alloc, case, ample);
     }
 }
 
@@ -169,11 +167,17 @@ fn films_are_compared_or_memory_is_refused(rt: HostRuntime) {
     check_cases(&rt, rt.alloc(), false);
 }
 
+/// That comparing a film and a recording in memory answers as it should.
+fn check_in_memory(rt: &impl Abort, alloc: Global, case: &Case) {
+    let (name, film, recording, result) = *case;
+    let got = verify_bytes(alloc, film, recording);
+    check_outcome(rt, name, (got, 0, 0), (result, 0, 0), true);
+}
+
 #[test]
 fn films_in_memory_are_compared_with_ample_memory(rt: HostRuntime) {
-    for (name, film, recording, result) in CASES {
-        let got = verify_bytes(rt.alloc(), film, recording);
-        check_outcome(&rt, name, (got, 0, 0), (result, 0, 0), true);
+    for case in CASES {
+        check_in_memory(&rt, rt.alloc(), case);
     }
 }
 
@@ -188,33 +192,50 @@ fn end_of_front(len: usize) -> Result<Verdict, VerifyFault> {
     }
 }
 
+/// That comparing `TWO_IMAGES` with so many of the first bytes of `TWO_CODESTREAMS` answers as it should.
+fn check_front(rt: &impl Abort, alloc: Global, len: usize) {
+    let front = TWO_CODESTREAMS.get(..len).unwrap_or(&[]);
+    let got = verify_bytes(alloc, TWO_IMAGES, front);
+    check_outcome(rt, "a front", (got, 0, 0), (end_of_front(len), 0, 0), true);
+}
+
 #[test]
 fn recordings_that_break_off_are_told_from_short_ones_with_ample_memory(rt: HostRuntime) {
     for len in 0..=TWO_CODESTREAMS.len() {
-        let got = verify_bytes(rt.alloc(), TWO_IMAGES, &TWO_CODESTREAMS[..len]);
-        let want = (end_of_front(len), 0, 0);
-        check_outcome(&rt, "a front", (got, 0, 0), want, true);
+        check_front(&rt, rt.alloc(), len);
     }
+}
+
+/// That a comparison ends with the read of this number of the recording.
+fn check_recording_read(rt: &impl Abort, alloc: Global, call: usize) {
+    let film = Pieces::new(TWO_IMAGES, 4096, None);
+    let recording = Pieces::new(TWO_CODESTREAMS, 1, Some(call));
+    let got = outcome_of(alloc, film, recording);
+    let number = if call < 28 { 0 } else { 1 };
+    let want = (Err(VerifyFault::RecordingIo(number)), 0, 1);
+    check_outcome(rt, "a read", got, want, true);
 }
 
 #[test]
 fn a_failed_read_of_the_recording_ends_the_comparison_with_ample_memory(rt: HostRuntime) {
-    for i in 0..TWO_CODESTREAMS.len() {
-        let film = Pieces::new(TWO_IMAGES, 4096, None);
-        let recording = Pieces::new(TWO_CODESTREAMS, 1, Some(i));
-        let number = if i < 28 { 0 } else { 1 };
-        let want = (Err(VerifyFault::RecordingIo(number)), 0, 1);
-        check_verified(&rt, rt.alloc(), "a read", film, recording, want, true);
+    for call in 0..TWO_CODESTREAMS.len() {
+        check_recording_read(&rt, rt.alloc(), call);
     }
+}
+
+/// That a comparison ends with the read of this number of the film.
+fn check_film_read(rt: &impl Abort, alloc: Global, call: usize) {
+    let film = Pieces::new(TWO_IMAGES, 1, Some(call));
+    let recording = Pieces::new(TWO_CODESTREAMS, 4096, None);
+    let got = outcome_of(alloc, film, recording);
+    let number = if call < 12 { 0 } else { 1 };
+    let want = (Err(VerifyFault::Film(number, NetpbmFault::Io)), 1, 0);
+    check_outcome(rt, "a read", got, want, true);
 }
 
 #[test]
 fn a_failed_read_of_the_film_ends_the_comparison_with_ample_memory(rt: HostRuntime) {
-    for i in 0..TWO_IMAGES.len() {
-        let film = Pieces::new(TWO_IMAGES, 1, Some(i));
-        let recording = Pieces::new(TWO_CODESTREAMS, 4096, None);
-        let number = if i < 12 { 0 } else { 1 };
-        let want = (Err(VerifyFault::Film(number, NetpbmFault::Io)), 1, 0);
-        check_verified(&rt, rt.alloc(), "a read", film, recording, want, true);
+    for call in 0..TWO_IMAGES.len() {
+        check_film_read(&rt, rt.alloc(), call);
     }
 }

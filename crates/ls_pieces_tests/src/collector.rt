@@ -16,7 +16,7 @@ enum Call {
 }
 
 /// Calls of a collector of source 0 with a window of 2.
-const CALLS: [Call; 15] = [
+const CALLS: &[Call] = &[
     Call::Book(0, Some(0)),
     Call::Book(255, Some(1)),
     Call::Book(7, None),
@@ -52,13 +52,18 @@ fn is_right(alloc: Global, collector: &mut Collector, call: Call) -> Option<bool
 }
 
 /// Whether all calls answer what they should. `None` if memory is refused.
-fn are_right(alloc: Global) -> Option<bool> {
-    let mut collector = Collector::new(alloc, 0, 2).ok()?;
+fn all_are_right(alloc: Global, collector: &mut Collector) -> Option<bool> {
     let mut right = true;
     for call in CALLS {
-        right = is_right(alloc, &mut collector, call)? && right;
+        right = is_right(alloc, collector, *call)? && right;
     }
     Some(right)
+}
+
+/// Whether all calls of a new collector answer what they should. `None` if memory is refused.
+fn are_right(alloc: Global) -> Option<bool> {
+    let mut collector = Collector::new(alloc, 0, 2).ok()?;
+    all_are_right(alloc, &mut collector)
 }
 
 #[test]
@@ -72,7 +77,7 @@ fn pieces_go_out_in_order_or_memory_is_refused(rt: HostRuntime) {
 }
 
 /// Windows, and why there is no collector with them.
-const WINDOWS: [(usize, Option<CollectorFault>); 5] = [
+const WINDOWS: &[(usize, Option<CollectorFault>)] = &[
     (0, Some(CollectorFault::Window)),
     (1, None),
     (64, None),
@@ -80,14 +85,19 @@ const WINDOWS: [(usize, Option<CollectorFault>); 5] = [
     (usize::MAX, Some(CollectorFault::Window)),
 ];
 
+/// Whether a collector with this window is made, or is not for its reason.
+fn is_so(alloc: Global, window: usize, fault: Option<CollectorFault>, ample: bool) -> bool {
+    match Collector::new(alloc, 0, window) {
+        Ok(_) => fault.is_none(),
+        Err(CollectorFault::NoMemory) => !ample,
+        Err(found) => fault == Some(found),
+    }
+}
+
 fn check_windows(rt: &impl Abort, alloc: Global, ample: bool) {
     for (window, fault) in WINDOWS {
-        let got = match Collector::new(alloc, 0, window) {
-            Ok(_) => None,
-            Err(CollectorFault::NoMemory) if !ample => fault,
-            Err(found) => Some(found),
-        };
-        check(rt, "a window", Some(got == fault), ample);
+        let right = is_so(alloc, *window, *fault, ample);
+        check(rt, "a window", Some(right), ample);
     }
 }
 

@@ -4,14 +4,14 @@ use std::alloc::Global;
 use std::process::Abort;
 
 /// Samples and RESETs of two orders, and whether the orders are equal.
-const PAIRS: [(u16, u16, u16, u16, bool); 4] = [
+const PAIRS: &[(u16, u16, u16, u16, bool)] = &[
     (0, 64, 0, 64, true),
     (0, 64, 255, 64, false),
     (0, 64, 0, 32, false),
     (255, 32, 255, 32, true),
 ];
 
-fn are_alike(alloc: Global, pair: (u16, u16, u16, u16, bool)) -> Option<bool> {
+fn are_alike(alloc: Global, pair: &(u16, u16, u16, u16, bool)) -> Option<bool> {
     let one = pixel_order(alloc, pair.0, pair.1)?;
     let other = pixel_order(alloc, pair.2, pair.3)?;
     Some((one == other) == pair.4)

@@ -5,8 +5,10 @@ use ls_queue::Job;
 use std::alloc::Global;
 use std::process::Abort;
 
-/// Samples, RESETs, and the codestreams of these pixels up to 255.
-const PIXELS: [(u16, u16, &[u8]); 3] = [
+/// The sample and the RESET of a pixel up to 255, and its codestream.
+type Pixel = (u16, u16, &'static [u8]);
+
+const PIXELS: &[Pixel] = &[
     (
         0,
         64,
@@ -31,22 +33,26 @@ const PIXELS: [(u16, u16, &[u8]); 3] = [
     ),
 ];
 
-/// Whether the piece of a pixel, as job 5 of source 3, is this codestream; or else says whose job couldn't be done.
-fn is_coded(alloc: Global, pixel: (u16, u16, &[u8]), ample: bool) -> Option<bool> {
-    let (sample, reset, codestream) = pixel;
+/// Whether this is the piece of a pixel, as job 5 of source 3.
+fn is_piece_of(pixel: &Pixel, piece: &Coded) -> bool {
+    let (sample, reset, codestream) = *pixel;
+    piece.source() == 3
+        && piece.number() == 5
+        && piece.frame().samples() == [sample].as_slice()
+        && piece.presets().reset() == reset
+        && piece.bytes() == codestream
+}
+
+/// Whether the piece of a pixel, as job 5 of source 3, is as it should be; or else says whose job couldn't be done.
+fn is_coded(alloc: Global, pixel: &Pixel, ample: bool) -> Option<bool> {
+    let (sample, reset, _) = *pixel;
     let job = Job {
         source: 3,
         number: 5,
         item: pixel_order(alloc, sample, reset)?,
     };
     let right = match Coded::make(alloc, job) {
-        Ok(piece) => {
-            piece.source() == 3
-                && piece.number() == 5
-                && piece.frame().samples() == [sample].as_slice()
-                && piece.presets().reset() == reset
-                && piece.bytes() == codestream
-        }
+        Ok(piece) => is_piece_of(pixel, &piece),
         Err(uncoded) => !ample && uncoded.source == 3 && uncoded.number == 5,
     };
     Some(right)

@@ -67,7 +67,7 @@ const WITH_ANOTHER: &[u8] = b"\xff\xd8\
 \xff\xf7\x00\x0b\x08\x00\x01\x00\x01\x01\x01\x11\x00\
 \xff\xda\x00\x08\x01\x01\x00\x00\x00\x00\x80\xff\xd9A";
 
-const CASES: [Case<'static>; 6] = [
+const CASES: &[Case<'static>] = &[
     (b"", None, Mishap::Nothing, (Ok(0), b"", 0, 0)),
     (
         TWO_CODESTREAMS,
@@ -108,7 +108,7 @@ const CASES: [Case<'static>; 6] = [
 
 fn check_cases<Rt: Threads + Abort + Sync>(rt: &Rt, alloc: Global, ample: bool) {
     for workers in [1u8, 2, 16] {
-        for case in &CASES {
+        for case in CASES {
             check_case(rt, alloc, workers, case, ample);
         }
     }

@@ -2,7 +2,7 @@ use crate::testing::check_text;
 use ls_recorder::RecordFault;
 
 /// Faults, and their texts.
-const TEXTS: [(RecordFault, &str); 6] = [
+const TEXTS: &[(RecordFault, &str)] = &[
     (RecordFault::Sources, "sources"),
     (RecordFault::Workers, "workers"),
     (RecordFault::Capacity, "capacity"),
@@ -14,6 +14,6 @@ const TEXTS: [(RecordFault, &str); 6] = [
 #[test]
 fn faults_have_their_texts(rt: HostRuntime) {
     for (fault, text) in TEXTS {
-        check_text(&rt, fault, text);
+        check_text(&rt, *fault, text);
     }
 }

@@ -1,9 +1,12 @@
-use crate::testing::{DEFAULTS, check, check_text, first_seat};
+ghost use Rattle.std.specs.Prelude.{◌≡◌, [], IfSome};
+ghost use Rattle.ls_queue.specs.View.Running.{IsSourceSeat, items_put};
+
+use crate::testing::{DEFAULTS, check, check_text, first_seat, is_sent, one_box};
 use ls_frame::{Counted, NetpbmFault, PresetFault, Tuning};
 use ls_pieces_tests::pixels::pixel_piece;
-use ls_queue::open;
+use ls_queue::{Queue, SourceSeat, open};
 use ls_recorder::lane::lane;
-use ls_recorder::{Answer, LaneFault, Misfit, Order, Uncoded, boxes};
+use ls_recorder::{Answer, Inbox, LaneFault, Misfit, Order, Outbox, Uncoded};
 use ls_testing::films::{BLACK, FIRST_CODESTREAM, TWO_CODESTREAMS, TWO_IMAGES};
 use ls_testing::{Mishap, Pieces, Sink};
 use std::alloc::Global;
@@ -30,7 +33,7 @@ struct Case {
     written: &'static [u8],
 }
 
-const CASES: [Case; 11] = [
+const CASES: &[Case] = &[
     Case {
         film: b"",
         tuning: DEFAULTS,
@@ -171,30 +174,55 @@ fn answer_of(alloc: Global, sent: Sent) -> Option<Answer> {
     }
 }
 
-/// Whether a lane goes as it should. `None` if memory is refused.
-fn is_right<R: Threads + Wait + Sync>(rt: &R, alloc: Global, case: &Case) -> Option<bool> {
-    let (queue, seats, _workers, _closer) = match open::<Order, R>(rt, alloc, 1, 1, 8) {
-        Ok(opened) => opened,
-        Err(_) => return None,
-    };
-    let seat = first_seat(&queue, seats)?;
-    let (mut inboxes, mut outboxes) = boxes(rt, alloc, 1, 1, 8).ok()?;
-    let inbox = inboxes.pop()?;
-    let mut outbox = outboxes.pop()?;
-    for sent in case.answers {
-        let answer = answer_of(alloc, *sent)?;
-        if outbox.sources() == 0 || outbox.send(rt, 0, answer).is_err() {
+/// Whether these answers are sent. `None` if memory is refused.
+fn are_sent<R: Wait>(rt: &R, alloc: Global, outbox: &mut Outbox, answers: &[Sent]) -> Option<bool> {
+    for sent in answers {
+        if !is_sent(rt, outbox, 0, answer_of(alloc, *sent)?) {
             return Some(false);
         }
     }
-    drop(outbox);
+    Some(true)
+}
+
+/// A box in which these answers lie, and nobody is left to send more. `None` if memory is refused.
+fn box_with<R: Wait>(rt: &R, alloc: Global, answers: &[Sent]) -> Option<Inbox> {
+    let (inbox, mut outbox) = one_box(rt, alloc, 8)?;
+    if are_sent(rt, alloc, &mut outbox, answers)? {
+        Some(inbox)
+    } else {
+        None
+    }
+}
+
+/// A queue of one source, and its seat. `None` if memory is refused.
+fn queue_and_seat<R: Wait>(rt: &R, alloc: Global) -> Option<(Queue<Order>, SourceSeat<Order>)>
+    ensures seat { IfSome result (λ made. IsSourceSeat made.0 made.1) }
+    ensures new { IfSome result (λ made. items_put made.1 ≡ []) }
+{
+    let (queue, seats, _workers, _closer) = open::<Order, R>(rt, alloc, 1, 1, 8).ok()?;
+    let seat = first_seat(&queue, seats)?;
+    Some((queue, seat))
+}
+
+/// Whether a lane goes as it should, of the source of this seat, and with this box.
+fn ends_so<R: Threads + Wait + Sync>(
+    rt: &R,
+    alloc: Global,
+    queue: &Queue<Order>,
+    seat: SourceSeat<Order>,
+    inbox: Inbox,
+    case: &Case,
+) -> bool
+    requires seat { IsSourceSeat queue.now seat }
+    requires new { items_put seat ≡ [] }
+{
     let reader = Counted::new(Pieces::new(case.film, 3, None));
     let writer = Counted::new(Sink::new(5, case.mishap));
     let window = case.window.max(1).min(64);
     let end = lane(
         rt,
         alloc,
-        &queue,
+        queue,
         seat,
         inbox,
         window,
@@ -202,19 +230,27 @@ fn is_right<R: Threads + Wait + Sync>(rt: &R, alloc: Global, case: &Case) -> Opt
         reader,
         writer,
     );
-    let sink = end.writer.into_inner();
-    Some(end.result == case.result && end.ended.count == case.put && sink.written() == case.written)
+    end.result == case.result
+        && end.ended.count == case.put
+        && end.writer.get_ref().written() == case.written
+}
+
+/// Whether a lane goes as it should. `None` if memory is refused.
+fn is_right<R: Threads + Wait + Sync>(rt: &R, alloc: Global, case: &Case) -> Option<bool> {
+    let inbox = box_with(rt, alloc, case.answers)?;
+    let (queue, seat) = queue_and_seat(rt, alloc)?;
+    Some(ends_so(rt, alloc, &queue, seat, inbox, case))
 }
 
 #[test]
 fn a_lane_writes_what_it_read_or_says_where_it_stopped_with_ample_memory(rt: HostRuntime) {
-    for case in &CASES {
+    for case in CASES {
         check(&rt, "a lane", is_right(&rt, rt.alloc(), case), true);
     }
 }
 
 /// Faults, and their texts.
-const TEXTS: [(LaneFault, &str); 8] = [
+const TEXTS: &[(LaneFault, &str)] = &[
     (
         LaneFault::Input(3, NetpbmFault::BadMagic),
         "frame 3: bad magic",
@@ -234,6 +270,6 @@ const TEXTS: [(LaneFault, &str); 8] = [
 #[test]
 fn faults_have_their_texts(rt: HostRuntime) {
     for (fault, text) in TEXTS {
-        check_text(&rt, fault, text);
+        check_text(&rt, *fault, text);
     }
 }

@@ -2,9 +2,7 @@ ghost use Rattle.std.specs.Prelude.{◌≡◌, length, IfSome};
 
 use crate::testing::{DEFAULTS, MEANS, RUNS, RUNS_CODED, THREE, THREE_CODED, check};
 use ls_frame::{Counted, NetpbmFault, Tuning};
-use ls_recorder::{
-    Gate, LaneFault, Moment, Notice, OpenGate, RecordFault, Recording, Track, record,
-};
+use ls_recorder::{Gate, LaneFault, Moment, Notice, OpenGate, RecordFault, Track, record};
 use ls_testing::films::{ANNEX_H, BLACK, FIRST_CODESTREAM, TWO_CODESTREAMS, TWO_IMAGES};
 use ls_testing::{Mishap, Pieces, Sink};
 use std::alloc::Global;
@@ -42,64 +40,78 @@ fn beside(alloc: Global, first: Film, other: &'static [u8]) -> Option<Vec<Film>>
 /// How a lane ended, and what it wrote.
 type Outcome<'a> = (Result<u64, LaneFault>, &'a [u8]);
 
+/// How the lane of such a film ended.
+type FilmTrack = Track<Counted<Pieces<'static>>, Counted<Sink>>;
+
 /// Whether a track ended so. If memory may be refused, it may also say so, and have written the first bytes alone.
-fn ended(
-    track: Track<Counted<Pieces<'static>>, Counted<Sink>>,
-    want: Outcome<'_>,
-    ample: bool,
-) -> bool {
-    let sink = track.writer.into_inner();
-    let got = (track.result, sink.written());
+fn ended(track: &FilmTrack, want: &Outcome<'_>, ample: bool) -> bool {
+    let got = (track.result, track.writer.get_ref().written());
     let refused = got.0 == Err(LaneFault::NoMemory) || got.0 == Err(LaneFault::NotStarted);
-    got == want || !ample && refused && want.1.starts_with(got.1)
+    got == *want || !ample && refused && want.1.starts_with(got.1)
 }
 
-/// Whether recording these films ends so, and the account has these counts. `None` if memory is refused before.
-fn records<R: Threads + Wait + Sync>(
-    rt: &R,
-    alloc: Global,
-    films: Vec<Film>,
-    workers: usize,
-    window: usize,
-    want: [Outcome<'_>; 2],
-    ample: bool,
-) -> Option<bool>
-    requires { length films.items ≡ 2 }
-{
-    let recording = match record(rt, alloc, films, workers, 8, window, &OpenGate) {
-        Ok(recording) => recording,
-        Err((fault, _films)) => {
-            let refused = fault == RecordFault::NoMemory || fault == RecordFault::NotStarted;
-            return Some(!ample && refused);
-        }
-    };
-    let Recording {
-        mut tracks,
-        account,
-    } = recording;
-    let counts = [account.count(0), account.count(1)];
-    let second = tracks.pop()?;
-    let first = tracks.pop()?;
-    let counted = is_counted(&first, counts[0]) && is_counted(&second, counts[1]);
-    Some(counted && ended(first, want[0], ample) && ended(second, want[1], ample))
-}
-
-/// Whether the account counts a track's frames, if it was recorded whole.
-fn is_counted(track: &Track<Counted<Pieces<'static>>, Counted<Sink>>, count: u64) -> bool {
+/// Whether so many frames are counted of a track, if it was recorded whole.
+fn is_counted(track: &FilmTrack, count: u64) -> bool {
     match track.result {
         Ok(frames) => frames == count,
         Err(_) => true,
     }
 }
 
+/// Whether a track ended so, and so many frames are counted of it.
+fn is_right(track: Option<&FilmTrack>, count: u64, want: &Outcome<'_>, ample: bool) -> bool {
+    match track {
+        Some(track) => is_counted(track, count) && ended(track, want, ample),
+        None => false,
+    }
+}
+
+/// Whether two tracks ended so, and these are the counts of their frames.
+fn are_right(tracks: &[FilmTrack], counts: [u64; 2], want: &[Outcome<'_>; 2], ample: bool) -> bool {
+    tracks.len() == 2
+        && is_right(tracks.first(), counts[0], &want[0], ample)
+        && is_right(tracks.last(), counts[1], &want[1], ample)
+}
+
+/// Whether recording these films ends so, and the account has these counts. If memory may be refused, it may be before.
+fn records<R: Threads + Wait + Sync>(
+    rt: &R,
+    alloc: Global,
+    films: Vec<Film>,
+    workers: usize,
+    window: usize,
+    want: &[Outcome<'_>; 2],
+    ample: bool,
+) -> bool
+    requires { length films.items ≡ 2 }
+{
+    match record(rt, alloc, films, workers, 8, window, &OpenGate) {
+        Ok(recording) => {
+            let counts = [recording.account.count(0), recording.account.count(1)];
+            are_right(&recording.tracks, counts, want, ample)
+        }
+        Err((fault, _films)) => {
+            !ample && (fault == RecordFault::NoMemory || fault == RecordFault::NotStarted)
+        }
+    }
+}
+
+/// Whether two films are recorded by so many workers, with such a window. `None` if memory is refused.
+fn two_films<R: Threads + Wait + Sync>(
+    rt: &R,
+    alloc: Global,
+    means: &(usize, usize),
+    ample: bool,
+) -> Option<bool> {
+    let (workers, window) = *means;
+    let films = beside(alloc, film_of(THREE, 4096, None, Mishap::Nothing), RUNS)?;
+    let want = [(Ok(3), THREE_CODED), (Ok(2), RUNS_CODED)];
+    Some(records(rt, alloc, films, workers, window, &want, ample))
+}
+
 fn check_recordings<R: Threads + Wait + Sync + Abort>(rt: &R, alloc: Global, ample: bool) {
-    for (workers, window) in MEANS {
-        let first = film_of(THREE, 4096, None, Mishap::Nothing);
-        let want = [(Ok(3), THREE_CODED), (Ok(2), RUNS_CODED)];
-        let right = match beside(alloc, first, RUNS) {
-            Some(films) => records(rt, alloc, films, workers, window, want, ample),
-            None => None,
-        };
+    for means in MEANS {
+        let right = two_films(rt, alloc, means, ample);
         check(rt, "two films", right, ample);
     }
 }
@@ -122,15 +134,8 @@ fn ends_alone<R: Threads + Wait + Sync>(
     want: Outcome<'_>,
 ) -> Option<bool> {
     let films = beside(alloc, film, BLACK)?;
-    records(
-        rt,
-        alloc,
-        films,
-        2,
-        4,
-        [want, (Ok(1), FIRST_CODESTREAM)],
-        true,
-    )
+    let want = [want, (Ok(1), FIRST_CODESTREAM)];
+    Some(records(rt, alloc, films, 2, 4, &want, true))
 }
 
 #[test]
@@ -141,59 +146,77 @@ fn a_spoilt_film_ends_its_own_lane_with_ample_memory(rt: HostRuntime) {
     check(&rt, "a spoilt film", right, true);
 }
 
+/// Whether a lane that reads byte by byte ends at the read of this number. `None` if memory is refused.
+fn ends_at_read<R: Threads + Wait + Sync>(rt: &R, alloc: Global, call: u8) -> Option<bool> {
+    // Twelve of each image, and the end.
+    let before = call / 12;
+    let fault = LaneFault::Input(u64::from(before), NetpbmFault::Io);
+    let coded = TWO_CODESTREAMS.get(..28 * usize::from(before))?;
+    let film = film_of(TWO_IMAGES, 1, Some(usize::from(call)), Mishap::Nothing);
+    ends_alone(rt, alloc, film, (Err(fault), coded))
+}
+
 #[test]
 fn a_failed_read_ends_its_own_lane_with_ample_memory(rt: HostRuntime) {
-    // Byte by byte: twelve of each image, and the end.
     for call in 0..25 {
-        let before = call / 12;
-        let fault = LaneFault::Input(before as u64, NetpbmFault::Io);
-        let want = (Err(fault), &TWO_CODESTREAMS[..28 * before]);
-        let film = film_of(TWO_IMAGES, 1, Some(call), Mishap::Nothing);
-        let right = ends_alone(&rt, rt.alloc(), film, want);
+        let right = ends_at_read(&rt, rt.alloc(), call);
         check(&rt, "a failed read", right, true);
     }
+}
+
+/// Whether a lane that writes byte by byte ends at the write of this number. `None` if memory is refused.
+fn ends_at_write<R: Threads + Wait + Sync>(rt: &R, alloc: Global, call: usize) -> Option<bool> {
+    let coded = TWO_CODESTREAMS.get(..call)?;
+    let want = (Err(LaneFault::Output(call as u64)), coded);
+    let film = film_of(TWO_IMAGES, 1, None, Mishap::Fails(call));
+    ends_alone(rt, alloc, film, want)
 }
 
 #[test]
 fn a_failed_write_ends_its_own_lane_with_ample_memory(rt: HostRuntime) {
     for call in 0..56 {
-        let want = (
-            Err(LaneFault::Output(call as u64)),
-            &TWO_CODESTREAMS[..call],
-        );
-        let film = film_of(TWO_IMAGES, 1, None, Mishap::Fails(call));
-        let right = ends_alone(&rt, rt.alloc(), film, want);
+        let right = ends_at_write(&rt, rt.alloc(), call);
         check(&rt, "a failed write", right, true);
     }
+}
+
+#[test]
+fn a_failed_write_of_ten_bytes_ends_its_own_lane_with_ample_memory(rt: HostRuntime) {
     let want = (Err(LaneFault::Output(30)), &THREE_CODED[..30]);
     let film = film_of(THREE, 10, None, Mishap::Fails(3));
     let right = ends_alone(&rt, rt.alloc(), film, want);
     check(&rt, "the fourth write", right, true);
 }
 
-/// Numbers that a recording of one film can't be made with: workers, capacity, window.
-const BAD_RANGES: [(usize, usize, usize, RecordFault); 6] = [
-    (0, 0, 0, RecordFault::Workers),
-    (17, 1, 1, RecordFault::Workers),
-    (1, 0, 0, RecordFault::Capacity),
-    (1, 257, 1, RecordFault::Capacity),
-    (1, 1, 0, RecordFault::Window),
-    (1, 1, 65, RecordFault::Window),
+/// Films that a recording can't be made of, or numbers that it can't be made with: films, workers, capacity, window; and
+/// why not.
+type BadRange = (usize, usize, usize, usize, RecordFault);
+
+const BAD_RANGES: &[BadRange] = &[
+    (0, 0, 0, 0, RecordFault::Sources),
+    (17, 0, 0, 0, RecordFault::Sources),
+    (1, 0, 0, 0, RecordFault::Workers),
+    (1, 17, 1, 1, RecordFault::Workers),
+    (1, 1, 0, 0, RecordFault::Capacity),
+    (1, 1, 257, 1, RecordFault::Capacity),
+    (1, 1, 1, 0, RecordFault::Window),
+    (1, 1, 1, 65, RecordFault::Window),
 ];
 
-/// Whether a recording of so many films is refused with this fault, and the films come back.
-fn refuses<R: Threads + Wait + Sync>(
-    rt: &R,
-    alloc: Global,
-    count: usize,
-    numbers: (usize, usize, usize),
-    want: RecordFault,
-) -> Option<bool> {
+/// So many times this film, of which at most so many bytes are read and written a call. `None` if memory is refused.
+fn copies_of(alloc: Global, count: usize, film: &'static [u8], most: usize) -> Option<Vec<Film>> {
     let mut films: Vec<Film> = Vec::new(alloc);
     for _film in 0..count {
-        films.push(film_of(BLACK, 1, None, Mishap::Nothing)).ok()?;
+        films.push(film_of(film, most, None, Mishap::Nothing)).ok()?;
     }
-    match record(rt, alloc, films, numbers.0, numbers.1, numbers.2, &OpenGate) {
+    Some(films)
+}
+
+/// Whether a recording is refused for this reason, and the films come back. `None` if memory is refused.
+fn is_refused<R: Threads + Wait + Sync>(rt: &R, alloc: Global, range: &BadRange) -> Option<bool> {
+    let (count, workers, capacity, window, want) = *range;
+    let films = copies_of(alloc, count, BLACK, 1)?;
+    match record(rt, alloc, films, workers, capacity, window, &OpenGate) {
         Ok(_) => Some(false),
         Err((fault, films)) => Some(fault == want && films.len() == count),
     }
@@ -201,13 +224,8 @@ fn refuses<R: Threads + Wait + Sync>(
 
 #[test]
 fn numbers_out_of_range_are_refused_with_ample_memory(rt: HostRuntime) {
-    let none = refuses(&rt, rt.alloc(), 0, (0, 0, 0), RecordFault::Sources);
-    check(&rt, "no film", none, true);
-    let many = refuses(&rt, rt.alloc(), 17, (0, 0, 0), RecordFault::Sources);
-    check(&rt, "17 films", many, true);
-    for (workers, capacity, window, fault) in BAD_RANGES {
-        let numbers = (workers, capacity, window);
-        let right = refuses(&rt, rt.alloc(), 1, numbers, fault);
+    for range in BAD_RANGES {
+        let right = is_refused(&rt, rt.alloc(), range);
         check(&rt, "a range", right, true);
     }
 }
@@ -253,13 +271,19 @@ fn records_through<R: Threads + Wait + Sync, G: Gate>(
     window: usize,
     gate: &G,
 ) -> Option<bool> {
-    let mut films = Vec::with_capacity(alloc, 1).ok()?;
-    films.push_reserved(film_of(TWO_IMAGES, 4096, None, Mishap::Nothing));
-    let Ok(recording) = record(rt, alloc, films, 2, 8, window, gate) else {
-        return None;
-    };
-    let mut tracks = recording.tracks;
-    Some(ended(tracks.pop()?, (Ok(2), TWO_CODESTREAMS), true))
+    let films = copies_of(alloc, 1, TWO_IMAGES, 4096)?;
+    match record(rt, alloc, films, 2, 8, window, gate) {
+        Ok(recording) => Some(is_whole(&recording.tracks)),
+        Err(_) => None,
+    }
+}
+
+/// Whether the last of these tracks is that of two frames.
+fn is_whole(tracks: &[FilmTrack]) -> bool {
+    match tracks.last() {
+        Some(track) => ended(track, &(Ok(2), TWO_CODESTREAMS), true),
+        None => false,
+    }
 }
 
 #[test]

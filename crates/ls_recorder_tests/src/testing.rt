@@ -4,11 +4,13 @@ ghost use Rattle.ls_queue.specs.View.Running.{AreAllSources, IsSourceSeat, items
 
 use ls_frame::Tuning;
 use ls_queue::{Queue, SourceSeat};
-use ls_recorder::Order;
+use ls_recorder::{Answer, Inbox, Order, Outbox, boxes};
 use ls_testing::{Mishap, Sink};
+use std::alloc::Global;
 use std::fmt::Display;
 use std::io::Write;
 use std::process::Abort;
+use std::sync::Wait;
 
 /// Each parameter by default.
 pub const DEFAULTS: Tuning = Tuning {
@@ -47,23 +49,36 @@ pub const RUNS_CODED: &[u8] = b"\xff\xd8\
 \xff\xda\x00\x08\x01\x01\x00\x00\x00\x00\xe0\xbb\x00\xff\xd9";
 
 /// How many workers there are, and the window.
-pub const MEANS: [(usize, usize); 6] = [(1, 1), (1, 8), (2, 1), (2, 8), (4, 1), (4, 8)];
+pub const MEANS: &[(usize, usize)] = &[(1, 1), (1, 8), (2, 1), (2, 8), (4, 1), (4, 8)];
 
 /// That a check of this name went right. It wasn't made if memory was refused before, which isn't right if there was
 /// ample.
 pub fn check(rt: &impl Abort, name: &str, right: Option<bool>, ample: bool) {
-    assert_eq!(rt; right.unwrap_or(!ample), true, "{name}");
+    assert!(rt; right.unwrap_or(!ample), "{name}");
 }
 
 /// That a fault has this text.
 pub fn check_text<F: Display + Drop>(rt: &impl Abort, fault: F, text: &str) {
     let mut sink = Sink::new(4096, Mishap::Nothing);
-    let written = write!(sink, "{fault}").is_ok();
-    assert_eq!(rt;
-        (written, sink.written()),
-        (true, text.as_bytes()),
-        "{text}"
-    );
+    let right = write!(sink, "{fault}").is_ok() && sink.written() == text.as_bytes();
+    check(rt, text, Some(right), true);
+}
+
+/// The ends of a box for one source and one worker. `None` if memory is refused.
+pub fn one_box<R: Wait>(rt: &R, alloc: Global, window: usize) -> Option<(Inbox, Outbox)> {
+    let (mut inboxes, mut outboxes) = boxes(rt, alloc, 1, 1, window).ok()?;
+    let inbox = inboxes.pop()?;
+    let outbox = outboxes.pop()?;
+    if inboxes.is_empty() && outboxes.is_empty() && outbox.sources() == 1 {
+        Some((inbox, outbox))
+    } else {
+        None
+    }
+}
+
+/// Whether an answer goes into the box of this source.
+pub fn is_sent<R: Wait>(rt: &R, outbox: &mut Outbox, source: u8, answer: Answer) -> bool {
+    usize::from(source) < outbox.sources() && outbox.send(rt, source, answer).is_ok()
 }
 
 /// The seat of source 0, of the seats that a queue was opened with.

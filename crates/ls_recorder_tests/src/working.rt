@@ -1,10 +1,10 @@
 ghost use Rattle.std.specs.Prelude.{◌≡◌, IfSome};
-ghost use Rattle.ls_queue.specs.View.Running.{IsSourceSeat, IsWorkerSeat, IsEnded, AreAllSources, AreAllWorkers, sources_of, workers_of};
+ghost use Rattle.ls_queue.specs.View.Running.{IsSourceSeat, IsWorkerSeat, IsCloser, IsEnded, AreAllSources, AreAllWorkers, sources_of, workers_of};
 
-use crate::testing::check;
+use crate::testing::{check, one_box};
 use ls_pieces_tests::pixels::pixel_order;
-use ls_queue::{Ended, Queue, SourceSeat, WorkerSeat, open};
-use ls_recorder::{Gate, Inbox, Moment, OpenGate, Order, boxes, work};
+use ls_queue::{Closer, Ended, Finished, Queue, SourceSeat, WorkerSeat, open};
+use ls_recorder::{Gate, Inbox, Moment, OpenGate, Order, Outbox, work};
 use std::alloc::Global;
 use std::sync::Wait;
 use std::sync::atomic::{AtomicU64, Ordering};
@@ -59,12 +59,27 @@ fn two_pixels<R: Wait>(rt: &R, alloc: Global) -> Option<(Queue<Order>, WorkerSea
     ensures one { IfSome result (λ made. sources_of made.0 ≡ 1) }
 {
     let (queue, sources, workers, closer) = open::<Order, R>(rt, alloc, 1, 1, 3).ok()?;
+    let source = only_source(&queue, sources);
     let worker = only_worker(&queue, workers);
-    let end = put_two(rt, alloc, &queue, only_source(&queue, sources))?;
+    let _finished = put_and_finish(rt, alloc, &queue, source, closer)?;
+    Some((queue, worker))
+}
+
+/// Puts a black and a white pixel, and finishes the queue. `None` if memory is refused.
+fn put_and_finish<R: Wait>(
+    rt: &R,
+    alloc: Global,
+    queue: &Queue<Order>,
+    source: SourceSeat<Order>,
+    closer: Closer<Order>,
+) -> Option<Finished<Order>>
+    requires source { IsSourceSeat queue.now source }
+    requires closer { IsCloser queue.now closer }
+{
+    let end = put_two(rt, alloc, queue, source)?;
     let mut ended = Vec::with_capacity(alloc, 1).ok()?;
     ended.push_reserved(end);
-    let _finished = queue.finish(rt, closer, ended).ok()?;
-    Some((queue, worker))
+    queue.finish(rt, closer, ended).ok()
 }
 
 /// Puts a black and a white pixel, and ends the source. `None` if memory is refused.
@@ -82,24 +97,36 @@ fn put_two<R: Wait>(
     Some(queue.end(rt, source))
 }
 
-/// Whether a worker codes two pixels, one after the other, and counts them. `None` if memory is refused.
-fn two_pixels_are_coded<R: Wait>(rt: &R, alloc: Global) -> Option<bool> {
-    let (mut inboxes, mut outboxes) = boxes(rt, alloc, 1, 1, 2).ok()?;
-    let mut inbox = inboxes.pop()?;
-    let outbox = outboxes.pop()?;
+/// How many pixels a worker codes that is given two, and how many answers come back to it. `None` if memory is refused.
+fn code_two<R: Wait, G: Gate>(
+    rt: &R,
+    alloc: Global,
+    outbox: Outbox,
+    gate: &G,
+) -> Option<(u64, u64)> {
     let (queue, worker) = two_pixels(rt, alloc)?;
     if outbox.sources() == 0 {
-        return Some(false);
+        return None;
     }
+    let worked = work(rt, alloc, &queue, worker, outbox, gate);
+    Some((worked.coded, worked.undelivered))
+}
+
+/// Whether the pieces of both pixels come out of the box, and then nothing.
+fn both_come_out<R: Wait>(rt: &R, inbox: &mut Inbox) -> bool {
+    comes_out(rt, inbox, 0, 0) && comes_out(rt, inbox, 1, 255) && inbox.recv(rt).is_none()
+}
+
+/// Whether a worker codes two pixels, one after the other, and counts them. `None` if memory is refused.
+fn two_pixels_are_coded<R: Wait>(rt: &R, alloc: Global) -> Option<bool> {
+    let (mut inbox, outbox) = one_box(rt, alloc, 2)?;
     let gate = Counter {
         before: AtomicU64::new(0),
         after: AtomicU64::new(0),
     };
-    let worked = work(rt, alloc, &queue, worker, outbox, &gate);
-    let counts = (worked.coded, worked.undelivered) == (2, 0);
-    let passed = (gate.before.into_inner(), gate.after.into_inner()) == (2, 2);
-    let pieces = comes_out(rt, &mut inbox, 0, 0) && comes_out(rt, &mut inbox, 1, 255);
-    Some(counts && passed && pieces && inbox.recv(rt).is_none())
+    let counts = code_two(rt, alloc, outbox, &gate)?;
+    let passed = (gate.before.into_inner(), gate.after.into_inner());
+    Some(counts == (2, 0) && passed == (2, 2) && both_come_out(rt, &mut inbox))
 }
 
 #[test]
@@ -111,16 +138,10 @@ fn jobs_are_coded_and_answered_with_ample_memory(rt: HostRuntime) {
 /// Whether a worker codes two pixels whose lane is gone, and counts that both answers came back. `None` if memory is
 /// refused.
 fn two_pixels_come_back<R: Wait>(rt: &R, alloc: Global) -> Option<bool> {
-    let (mut inboxes, mut outboxes) = boxes(rt, alloc, 1, 1, 2).ok()?;
-    let inbox = inboxes.pop()?;
-    let outbox = outboxes.pop()?;
-    let (queue, worker) = two_pixels(rt, alloc)?;
-    if outbox.sources() == 0 {
-        return Some(false);
-    }
+    let (inbox, outbox) = one_box(rt, alloc, 2)?;
     drop(inbox);
-    let worked = work(rt, alloc, &queue, worker, outbox, &OpenGate);
-    Some((worked.coded, worked.undelivered) == (2, 2))
+    let counts = code_two(rt, alloc, outbox, &OpenGate)?;
+    Some(counts == (2, 2))
 }
 
 #[test]
