@@ -321,7 +321,7 @@ impl<'a> BitSource<'a> {
         self.end -= 8 * from;
     }
 
-    /// Un-stuffs bits, until there is no room for 32 more, or none are left.
+    /// Un-stuffs bits, until there is no room for 64 more, or none are left.
     fn fill(&mut self)
         requires { self.old.place < 8 }
         ensures bits { bits_in self.new ≡ bits_in self.old }
