@@ -4,6 +4,7 @@ pub mod FfLemmas
 pub mod GolombLaws
 pub mod GolombLemmas
 pub mod MaskLemmas
+pub mod OnesLemmas
 pub mod PackingLemmas
 pub mod PlainLemmas
 pub mod ShortWords

@@ -44,4 +44,4 @@ pub use room::{Room, take_room};
 pub use room_sink::RoomSink;
 pub use sink::BitSink;
 pub use slice_room::SliceRoom;
-pub use source::{BitPlace, BitSource, CodeFault};
+pub use source::{BitPlace, BitSource, CodeFault, InterruptedRun};

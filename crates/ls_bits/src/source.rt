@@ -1,5 +1,5 @@
 //! A source of the bits of stuffed bytes, of which some KiB are un-stuffed ahead of where they are read.
-ghost use Rattle.std.specs.Prelude.{◌≡◌, ◌+◌, ◌-◌, ◌*◌, ◌/◌, ◌^◌, ◌<◌, ◌≤◌, ◌⊎◌, [], ◌∷◌, ◌++◌, ℕ, Bool, List, true, length, take, drop, min, IfOk, IfErr, IfSome, IfNone, MatchResult, Ok, Err};
+ghost use Rattle.std.specs.Prelude.{◌≡◌, ◌+◌, ◌-◌, ◌*◌, ◌/◌, ◌^◌, ◌<◌, ◌≤◌, ◌⊎◌, [], ◌∷◌, ◌++◌, ℕ, Bool, List, true, false, length, slice_index, replicate, take, drop, min, IfOk, IfErr, IfSome, IfNone, MatchResult, Ok, Err};
 ghost use Rattle.ls_bits.specs.Bits.{bits_of, zeros as zero_bits, BeginsWith};
 ghost use Rattle.ls_bits.specs.Stuffing.{unstuff};
 ghost use Rattle.ls_bits.specs.Data.{IsData};
@@ -8,7 +8,7 @@ ghost use Rattle.ls_bits.specs.View.Plain.{bits_in, bits_at, IsAt};
 ghost use Rattle.ls_bits.specs.View.Taking.{ZerosFault};
 
 use crate::plain::{front_of, move_to_front, put_eight, put_four};
-use crate::stuffed::{Stuffed, joined, leading_zeros, low_bits, short_value};
+use crate::stuffed::{Stuffed, joined, leading_ones, leading_zeros, low_bits, short_value};
 use std::marker::Model;
 use thiserror::Error;
 
@@ -34,6 +34,17 @@ pub enum CodeFault {
 pub struct BitPlace {
     /// How many bits are before it.
     place: usize,
+}
+
+/// The bits of a run that a sample interrupts (T.87 A.7.1.2): ones, a 0, and a number.
+#[derive(Clone, Copy)]
+pub struct InterruptedRun {
+    /// How many bits 1 come first.
+    pub ones: u32,
+    /// The number after the 0.
+    pub rest: u32,
+    /// The place after them.
+    pub after: BitPlace,
 }
 
 /// The bits that are left of stuffed bytes.
@@ -171,6 +182,39 @@ impl<'a> BitSource<'a> {
             place: at.place + (zeros + 1 + k) as usize,
         };
         Some((value, after))
+    }
+
+    /// The bits at a place, as those of a run that a sample interrupts (T.87 A.7.1.2): ones, a 0, and a number in as many
+    /// bits as `widths` has for so many ones: for none, for one, and so on. None if it has no width for so many, or if
+    /// fewer than 57 bits are un-stuffed from there on.
+    ///
+    /// There are at most 32 widths, each at most 15.
+    #[inline(always)]
+    pub fn run_at(&self, at: BitPlace, widths: &[u32]) -> Option<InterruptedRun>
+        requires at { IsAt self.now at }
+        requires count { length widths.now ≤ 32 }
+        requires small { (k : ℕ) → slice_index widths.now k ≤ 15 }
+        ensures bits { IfSome result (λ run. bits_at self.now at
+            ≡ replicate run.ones true ++ false ∷ bits_of (slice_index widths.now run.ones) run.rest ++ bits_at self.now run.after) }
+        ensures ones { IfSome result (λ run. run.ones < length widths.now) }
+        ensures rest { IfSome result (λ run. run.rest < 2 ^ slice_index widths.now run.ones) }
+        ensures after { IfSome result (λ run. IsAt self.now run.after) }
+        ensures none { IfNone result ((self.now.end < at.place + 57) ⊎ BeginsWith (replicate (length widths.now) true) (bits_at self.now at)) }
+    {
+        if self.end < at.place + SEEN {
+            return None;
+        }
+        let front = front_of(&self.bytes, at.place);
+        let ones = leading_ones(front);
+        if ones as usize >= widths.len() {
+            return None;
+        }
+        let width = widths[ones as usize];
+        let rest = low_bits(front >> (63 - ones - width), width);
+        let after = BitPlace {
+            place: at.place + (ones + 1 + width) as usize,
+        };
+        Some(InterruptedRun { ones, rest, after })
     }
 
     #[inline(always)]

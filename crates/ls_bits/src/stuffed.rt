@@ -1,5 +1,5 @@
 //! Stuffed bytes, whose bits are taken 32 at a time: a word of bits, and after them the bytes that aren't taken in yet.
-ghost use Rattle.std.specs.Prelude.{◌≡◌, ◌+◌, ◌-◌, ◌*◌, ◌/◌, ◌%◌, ◌^◌, ◌<◌, ◌≤◌, ◌⊎◌, [], ◌++◌, length, take, min, IfSome, IfNone};
+ghost use Rattle.std.specs.Prelude.{◌≡◌, ◌+◌, ◌-◌, ◌*◌, ◌/◌, ◌%◌, ◌^◌, ◌<◌, ◌≤◌, ◌⊎◌, [], ◌∷◌, ◌++◌, true, false, replicate, length, take, min, IfSome, IfNone};
 ghost use Rattle.ls_bits.specs.Bits.{bits_of};
 ghost use Rattle.ls_bits.specs.Stuffing.{unstuff};
 ghost use Rattle.ls_bits.specs.Data.{IsData};
@@ -202,6 +202,14 @@ pub fn leading_zeros(word: u64, held: u32) -> u32
     ensures { LeadingZeros held word result }
 {
     (word << (64 - held)).leading_zeros()
+}
+
+/// How many ones are in front in `word`; 64 if all its bits are ones.
+pub fn leading_ones(word: u64) -> u32
+    ensures some { result < 64 → bits_of 64 word ≡ replicate result true ++ false ∷ bits_of (63 - result) word }
+    ensures all { 64 ≤ result → bits_of 64 word ≡ replicate 64 true }
+{
+    leading_zeros(!word, 64)
 }
 
 /// The lowest `held` bits of a word, and after them as many of another's highest as make 64.

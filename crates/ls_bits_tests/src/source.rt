@@ -1,5 +1,6 @@
 use crate::testing::{
-    Code, WORDS, Word, check, check_answer, check_bytes, check_few, check_left, source_of,
+    Code, WORDS, Word, check, check_answer, check_bytes, check_few, check_left, check_run,
+    source_of,
 };
 use ls_bits::CodeFault;
 use std::alloc::{AllocError, Global};
@@ -145,6 +146,36 @@ const FEW: &[Few] = &[
 fn a_word_of_few_zeros_is_taken_where_it_is_known_to_be_whole(rt: HostRuntime) {
     for (k, most, bytes, value, left) in FEW {
         check_few(&rt, *k, *most, bytes, *value, *left);
+    }
+}
+
+/// The widths of a run's number after no ones, after one, and so on; bytes; the ones and the number that are found; and
+/// how many bits are left then.
+type Run = (&'static [u32], &'static [u8], Option<(u32, u32)>, u64);
+
+const RUNS: &[Run] = &[
+    (&[0], &[0, 0, 0, 0, 0, 0, 0, 0], Some((0, 0)), 63),
+    (&[3, 0], &[0x50, 0, 0, 0, 0, 0, 0, 0], Some((0, 5)), 60),
+    (
+        &[3, 15],
+        &[0x95, 0x55, 0x40, 0, 0, 0, 0, 0],
+        Some((1, 0x2aaa)),
+        47,
+    ),
+    (&[3, 15], &[0xc0, 0, 0, 0, 0, 0, 0, 0], None, 64),
+    (
+        &[0; 32],
+        &[0xff, 0x7f, 0xff, 0x7f, 0x80, 0, 0, 0, 0],
+        Some((31, 0)),
+        38,
+    ),
+    (&[3], &[0x50, 0, 0, 0, 0, 0, 0], None, 56),
+];
+
+#[test]
+fn a_run_is_found_where_it_has_a_width_and_is_known_to_be_whole(rt: HostRuntime) {
+    for (widths, bytes, run, left) in RUNS {
+        check_run(&rt, widths, bytes, *run, *left);
     }
 }
 

@@ -1,5 +1,5 @@
 //! What the tests share: words and their bytes, and calls that meet what the sinks and the source require.
-ghost use Rattle.std.specs.Prelude.{◌≤◌, length};
+ghost use Rattle.std.specs.Prelude.{◌≤◌, ℕ, length, slice_index};
 ghost use Rattle.ls_bits.specs.Golomb.{IsGolomb};
 ghost use Rattle.ls_bits.specs.View.Room.{Fits};
 
@@ -98,6 +98,38 @@ pub fn check_few(rt: &impl Abort, k: u32, most: u32, bytes: &[u8], value: Option
     };
     let got = (none, found, source.left());
     check(rt, bytes, &got, &(Ok(0), value, left));
+}
+
+/// That the bits of a run are found so at the front of bytes, after their first bits were un-stuffed: its ones and its
+/// number; and that so many bits are left after it, or where none is found from the front on.
+pub fn check_run(
+    rt: &impl Abort,
+    widths: &[u32],
+    bytes: &[u8],
+    run: Option<(u32, u32)>,
+    left: u64,
+) {
+    assert!(rt; widths.len() <= 32);
+    check_widths(rt, widths);
+    let mut source = source_of(bytes);
+    let none = source.bits(0);
+    let found = match source.run_at(source.place(), widths) {
+        Some(run) => {
+            source.go_to(run.after);
+            Some((run.ones, run.rest))
+        }
+        None => None,
+    };
+    let got = (none, found, source.left());
+    check(rt, bytes, &got, &(Ok(0), run, left));
+}
+
+fn check_widths(rt: &impl Abort, widths: &[u32])
+    ensures { (k : ℕ) → slice_index widths.now k ≤ 15 }
+{
+    for width in widths {
+        assert!(rt; *width <= 15);
+    }
 }
 
 /// A code of words: k, glimit, qbpp.

@@ -15,5 +15,6 @@ pub mod RunLemmas
 pub mod SignedLemmas
 pub mod StateLemmas
 pub mod StatsLemmas
+pub mod SumLemmas
 pub mod SureLemmas
 pub mod WordLemmas

@@ -1,10 +1,11 @@
 -- A run, bit by bit.
-use Rattle.std.proofs.Common.{◌≡◌, ℕ, zero, suc, ◌+◌, ◌-◌, ◌^◌, ◌<◌, ◌≤◌, min, Bool, true, false, eqb, List, [], ◌∷◌, ◌++◌, replicate, refl, sym, ◌∙◌, ap, arith, inl, inr}
+use Rattle.std.proofs.Common.{◌≡◌, ℕ, zero, suc, ◌+◌, ◌-◌, ◌^◌, ◌<◌, ◌≤◌, min, Bool, true, false, eqb, List, [], ◌∷◌, ◌++◌, replicate, refl, sym, ◌∙◌, ap, subst, arith, inl, inr}
 use Rattle.std.proofs.lemmas.Bool.{cond-false, cases_lt, ne_eqb}
 use Rattle.ls_frame.specs.Parameters.{Parameters}
 use Rattle.ls_bits.specs.Bits.{bits_of}
-use Rattle.ls_coding.specs.declared.run.Tail.TheVariants.{LineFull, LinePart}
-use Rattle.ls_coding.specs.Runs.{order, run_of, Walk, walk, walked, tail_of, tail_bits, run_word, run_bits, index_at}
+use Rattle.ls_coding.specs.declared.run.RunWord.{RunWord}
+use Rattle.ls_coding.specs.declared.run.Tail.TheVariants.{LineFull, LinePart, Interrupted}
+use Rattle.ls_coding.specs.Runs.{order, samples_of_ones, run_of, Walk, walk, walked, tail_of, tail_bits, run_word, run_bits, index_at}
 use Rattle.ls_coding.specs.Events.{Event, run, run_index_after_events}
 use Rattle.ls_coding.specs.View.States.{Coding, state_of, run_after}
 use Rattle.ls_coding.proofs.RunLemmas.{at, further, some_samples, walk-more, walk-stop, walk-on, walked_one, walked_part}
@@ -87,3 +88,36 @@ joined p events rest interrupted =
     ∙ after_joined (state_of p events) rest interrupted
     ∙ ap (λ n. run_after (state_of p events) (run_of (n + rest) interrupted)) known
     ∙ state_of-run p events (run_of (samples + rest) interrupted)
+
+-- ---- bits 1 taken at once
+
+walked_ones : (ones index rest : ℕ) → index + ones ≤ 31 → rest < 2 ^ order (index + ones) → walked index (samples_of_ones ones index + rest) ≡ at ones (index + ones) rest
+unfolding samples_of_ones
+walked_ones zero index rest h few =
+    let same : index + 0 ≡ index = omega arith in
+    let none : 0 + rest ≡ rest = omega arith in
+    ap (walked index) none ∙ walked_part index rest (subst (λ n. rest < 2 ^ order n) same few) ∙ ap (λ n. at 0 n rest) (sym same)
+walked_ones (suc ones) index rest h few =
+    let next : min (index + 1) 31 ≡ index + 1 = omega arith in
+    let last : index + 1 + ones ≡ index + suc ones = omega arith in
+    let samples : ℕ = samples_of_ones ones (min (index + 1) 31) in
+    let enough : 2 ^ order index ≤ 2 ^ order index + samples + rest = omega arith in
+    let back : 2 ^ order index + samples + rest - 2 ^ order index ≡ samples + rest = omega arith in
+    let step : walked (min (index + 1) 31) (2 ^ order index + samples + rest - 2 ^ order index) ≡ at ones (index + suc ones) rest =
+    ap (walked (min (index + 1) 31)) back ∙ ap (λ n. walked n (samples_of_ones ones n + rest)) next
+    ∙ walked_ones ones (index + 1) rest (omega arith) (subst (λ n. rest < 2 ^ order n) (sym last) few)
+    ∙ ap (λ n. at ones n rest) last in
+    walked_on index (2 ^ order index + samples + rest) enough ∙ ap one_more step ∙ ap (λ n. at n (index + suc ones) rest) (add_one ones)
+
+pub word_of_ones : (ones index rest : ℕ) → index + ones ≤ 31 → rest < 2 ^ order (index + ones)
+    → run_word index (run_of (samples_of_ones ones index + rest) true) ≡ record { ones = ones; tail = Interrupted (order (index + ones)) rest }
+unfolding run_word
+word_of_ones ones index rest h few =
+    ap (λ (w : Walk). let word : RunWord = record { ones = w.ones; tail = tail_of true w } in word) (walked_ones ones index rest h few)
+
+pub after_ones : (s : Coding) (ones index rest count : ℕ) → index ≡ s.run_index + ones → count ≡ samples_of_ones ones s.run_index + rest → s.run_index + ones ≤ 31
+    → rest < 2 ^ order (s.run_index + ones) → made s.parameters s.contexts s.ri_type_0 s.ri_type_1 index true ≡ run_after s (run_of count true)
+after_ones s ones index rest count e f h few =
+    let at_end : (walked s.run_index count).index ≡ s.run_index + ones =
+    ap (λ n. (walked s.run_index n).index) f ∙ ap (λ (w : Walk). w.index) (walked_ones ones s.run_index rest h few) in
+    ap (λ i. made s.parameters s.contexts s.ri_type_0 s.ri_type_1 i true) (e ∙ sym at_end)

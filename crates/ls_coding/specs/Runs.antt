@@ -16,6 +16,11 @@ order index = slice_index run_orders index
 abbrev pub last_index : ℕ
 last_index = 31
 
+-- how many samples so many bits 1 stand for, from a RUNindex on (A.7.1.2)
+unfoldable pub samples_of_ones : ℕ → ℕ → ℕ
+samples_of_ones zero index = 0
+samples_of_ones (suc ones) index = 2 ^ order index + samples_of_ones ones (min (index + 1) last_index)
+
 -- a run: how many samples equal the one before them, and whether a sample interrupts it before the line's end
 pub record Run : Type 0 where
   pub count : ℕ

@@ -1,6 +1,6 @@
 //! Runs of equal samples (T.87 A.7.1).
-ghost use Rattle.std.specs.Prelude.{◌≡◌, ◌^◌, ◌≤◌};
-ghost use Rattle.ls_coding.specs.Runs.{order, walked};
+ghost use Rattle.std.specs.Prelude.{◌≡◌, ℕ, ◌+◌, ◌-◌, ◌^◌, ◌<◌, ◌≤◌, length, slice_index};
+ghost use Rattle.ls_coding.specs.Runs.{order, samples_of_ones, walked};
 
 /// The bits of a run (A.7.1.2): `ones` bits 1, each for 2^J samples at the RUNindex where it stands, and then its tail.
 #[derive(Clone, Copy, Debug, PartialEq, Eq)]
@@ -32,12 +32,31 @@ pub fn order(index: u32) -> u32
     RUN_ORDERS[index as usize]
 }
 
+/// J at a RUNindex and at each one after it.
+pub fn orders_from(index: u32) -> &'static [u32]
+    requires { index ≤ 31 }
+    ensures value { (k : ℕ) → slice_index result.now k ≡ order (index + k) }
+    ensures small { (k : ℕ) → slice_index result.now k ≤ 15 }
+    ensures count { length result.now ≡ 32 - index }
+{
+    &RUN_ORDERS[index as usize..]
+}
+
 /// How many samples a bit 1 stands for at a RUNindex.
 pub fn samples_of_one(index: u32) -> u32
     requires { index ≤ 31 }
     ensures { result ≡ 2 ^ order index }
 {
     1 << order(index)
+}
+
+/// How many samples so many bits 1 stand for that raise a RUNindex to at most 31.
+pub fn samples_of_ones(index: u32, ones: u32) -> u32
+    requires { index + ones ≤ 31 }
+    ensures value { result ≡ samples_of_ones ones index }
+    ensures small { result < 2 ^ 20 }
+{
+    SAMPLES_BEFORE[(index + ones) as usize] - SAMPLES_BEFORE[index as usize]
 }
 
 /// How far the bits 1 of a run come: how many they are, RUNindex after them, and the samples that are left.
@@ -76,7 +95,13 @@ pub fn walk(index: u32, count: u32) -> Walked
 }
 
 /// J (A.2.1): at each RUNindex a bit 1 stands for 2^J samples.
-const RUN_ORDERS: [u32; 32] = [
+static RUN_ORDERS: [u32; 32] = [
     0, 0, 0, 0, 1, 1, 1, 1, 2, 2, 2, 2, 3, 3, 3, 3, 4, 4, 5, 5, 6, 6, 7, 7, 8, 9, 10, 11, 12, 13,
     14, 15,
+];
+
+/// For how many samples the bits 1 stand that raise RUNindex from 0 to each one.
+const SAMPLES_BEFORE: [u32; 32] = [
+    0, 1, 2, 3, 4, 6, 8, 10, 12, 16, 20, 24, 28, 36, 44, 52, 60, 76, 92, 124, 156, 220, 284, 412,
+    540, 796, 1308, 2332, 4380, 8476, 16668, 33052,
 ];

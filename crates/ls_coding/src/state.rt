@@ -1,11 +1,11 @@
 //! What a scan is coded and read by, an event at a time (T.87 A.2.1 to A.7).
-ghost use Rattle.std.specs.Prelude.{◌≡◌, ◌+◌, ◌-◌, ◌*◌, ◌/◌, ◌^◌, ◌<◌, ◌≤◌, ◌++◌, ◌∷◌, [], List, length, min, ℕ, true, false, not, IsTrue, IfOk, IfErr};
+ghost use Rattle.std.specs.Prelude.{◌≡◌, ◌+◌, ◌-◌, ◌*◌, ◌/◌, ◌^◌, ◌<◌, ◌≤◌, ◌++◌, ◌∷◌, [], List, length, slice_index, min, ℕ, true, false, not, IsTrue, IfOk, IfErr, IfSome, IfNone};
 ghost use Rattle.ls_frame.specs.Parameters.{qbpp_of, limit_of};
 ghost use Rattle.ls_bits.specs.Golomb.{IsGolomb, most_value};
 ghost use Rattle.ls_coding.specs.Samples.{AreSamples, Interrupts};
 ghost use Rattle.ls_coding.specs.Contexts.{is_run};
 ghost use Rattle.ls_coding.specs.View.SignedContexts.{signed_context};
-ghost use Rattle.ls_coding.specs.Runs.{order, run_of, run_word, word_bits, tail_of, TailFits};
+ghost use Rattle.ls_coding.specs.Runs.{order, samples_of_ones, run_of, run_word, word_bits, tail_of, TailFits};
 ghost use Rattle.ls_coding.specs.Interruptions.{ri_type_of, interruption_error};
 ghost use Rattle.ls_coding.specs.Events.{Event, run, golomb_bits};
 ghost use Rattle.ls_coding.specs.View.States.{Coding, state_of, context_in, regular_error_in, regular_word_in, interruption_word_in, regular_after, run_after, interruption_after, IsRegularEvent, IsInterruptionEvent};
@@ -20,7 +20,9 @@ use crate::counters::Counters;
 use crate::mirrored::{Mirrored, mirror};
 use crate::neighbours::Neighbours;
 use crate::plan::Plan;
-use crate::run::{RunWord, Tail, Walked, order, samples_of_one, walk};
+use crate::run::{
+    RunWord, Tail, Walked, order, orders_from, samples_of_one, samples_of_ones, walk,
+};
 use crate::word::Word;
 use ls_bits::CodeFault;
 use ls_frame::Presets;
@@ -296,6 +298,49 @@ impl State {
         }
         self.interrupted = true;
         Ok(())
+    }
+
+    /// J at this RUNindex and at each one after it, up to 31 (A.2.1): after so many bits 1 a run's bit 0 has so many bits
+    /// after it. Changes nothing and cannot fail.
+    #[inline(always)]
+    pub fn break_widths(&self) -> &'static [u32]
+        ensures value { (k : ℕ) → slice_index result.now k ≡ order (self.now.run_index + k) }
+        ensures small { (k : ℕ) → slice_index result.now k ≤ 15 }
+        ensures count { length result.now ≡ 32 - self.now.run_index }
+        ensures within { self.now.run_index ≤ 31 }
+    {
+        orders_from(self.run_index)
+    }
+
+    /// Takes the whole of a run that a sample interrupts (A.7.1.2): its bits 1, and the number after its bit 0, with `left`
+    /// samples left in the line. How many samples it has; the one that interrupts it comes next (`interrupted` is true).
+    /// The state is then as `accept_one` for each bit 1 and `accept_break` leave it.
+    ///
+    /// Requires no more bits 1 than raise RUNindex to 31; `rest` below 2^J at the RUNindex that they raise it to, so a
+    /// number of the bits that `break_widths` says; and that `interrupted` is false. None exactly if the run would have
+    /// `left` samples or more, which leaves no sample to interrupt it; the state is then unchanged.
+    #[inline(always)]
+    pub fn accept_run(&mut self, ones: u32, rest: u32, left: u32) -> Option<u32>
+        requires uninterrupted { self.old.interrupted ≡ false }
+        requires ones { self.old.run_index + ones ≤ 31 }
+        requires rest { rest < 2 ^ order (self.old.run_index + ones) }
+        ensures count { IfSome result (λ count. count ≡ samples_of_ones ones self.old.run_index + rest) }
+        ensures short { IfSome result (λ count. count < left) }
+        ensures word { IfSome result (λ count. run_word self.old.run_index (run_of count true)
+            ≡ record { ones = ones; tail = Tail.Interrupted (order (self.old.run_index + ones)) rest }) }
+        ensures state { IfSome result (λ count. self.new ≡ run_after self.old (run_of count true)) }
+        ensures events { (events : List Event) → self.old ≡ state_of self.old.parameters events
+            → IfSome result (λ count. self.new ≡ state_of self.old.parameters (events ++ run (run_of count true) ∷ [])) }
+        ensures none { IfNone result (left ≤ samples_of_ones ones self.old.run_index + rest) }
+        ensures unchanged { IfNone result (self.new ≡ self.old) }
+    {
+        let count = samples_of_ones(self.run_index, ones) + rest;
+        if count >= left {
+            return None;
+        }
+        self.run_index += ones;
+        self.interrupted = true;
+        Some(count)
     }
 
     /// By which code the word of the sample that interrupts a run is read, and what its value then stands for (A.7.2).

@@ -95,6 +95,23 @@ fn the_end_of_a_run_leaves_a_sample_to_interrupt_it(rt: HostRuntime) {
     }
 }
 
+/// A run's bits 1, the number after its bit 0, and how many samples it has.
+const WHOLE_RUNS: &[(u32, u32, u32)] = &[(0, 0, 0), (4, 1, 5), (9, 3, 19), (31, 32767, 65819)];
+
+#[test]
+fn a_whole_run_leaves_a_sample_to_interrupt_it(rt: HostRuntime) {
+    for (ones, rest, count) in WHOLE_RUNS {
+        let mut state = fresh();
+        let (ones, rest, count) = (*ones, *rest, *count);
+        let got = accept_whole_run(&rt, &mut state, ones, rest, count);
+        check(&rt, got.is_none() && !state.interrupted());
+        check_number(&rt, state.run_index(), 0);
+        let got = accept_whole_run(&rt, &mut state, ones, rest, count + 1);
+        check(&rt, got == Some(count) && state.interrupted());
+        check_number(&rt, state.run_index(), ones);
+    }
+}
+
 #[test]
 fn a_value_that_no_sample_of_regular_mode_has_is_refused(rt: HostRuntime) {
     let mut state = fresh();

@@ -161,6 +161,21 @@ pub fn accept_break(
     state.accept_break(rest, left)
 }
 
+/// Of a run of so many bits 1, with this number after its bit 0.
+pub fn accept_whole_run(
+    rt: &impl Abort,
+    state: &mut State,
+    ones: u32,
+    rest: u32,
+    left: u32,
+) -> Option<u32> {
+    check(rt, !state.interrupted());
+    let widths = state.break_widths();
+    check(rt, (ones as usize) < widths.len());
+    check(rt, rest < 1 << widths[ones as usize]);
+    state.accept_run(ones, rest, left)
+}
+
 pub fn code_interruption(rt: &impl Abort, state: &mut State, around: Around, sample: u16) -> Word {
     let neighbours = neighbours_of(around);
     check_samples(rt, state, &neighbours);

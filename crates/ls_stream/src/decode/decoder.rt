@@ -1,5 +1,5 @@
 //! A scan that is being read: its bits, as the events of its rows (T.87 Annex A).
-ghost use Rattle.std.specs.Prelude.{◌≡◌, ◌<◌, ◌≤◌, ◌++◌, [], ℕ, Bool, List, true, false, length, min, IfOk, IfErr};
+ghost use Rattle.std.specs.Prelude.{◌≡◌, ◌<◌, ◌≤◌, ◌++◌, [], ℕ, Bool, List, true, false, length, min, IfOk, IfErr, IfSome, IfNone};
 ghost use Rattle.ls_frame.specs.Parameters.{qbpp_of, limit_of};
 ghost use Rattle.ls_bits.specs.View.Plain.{bits_in, bits_at, IsAt};
 ghost use Rattle.ls_coding.specs.Samples.{AreSamples, Interrupts};
@@ -167,6 +167,49 @@ impl<'a, 'b> Decoder<'a, 'b> {
     /// Reads a run, with `left` samples left in the line (A.7.1). The bits that are left begin with those of no other
     /// run that ends in the line; of none if this fails.
     pub fn decode_run(&mut self, left: u32) -> Result<FoundRun, CodeFault>
+        requires some { 0 < left }
+        requires uninterrupted { self.old.state.interrupted ≡ false }
+        ensures within { IfOk result (λ run. EndsInLine left run.count run.interrupted) }
+        ensures bits { IfOk result (λ run. self.old.bits
+            ≡ run_bits self.old.state.run_index (run_of run.count run.interrupted) ++ self.new.bits) }
+        ensures state { IfOk result (λ run. self.new.state ≡ run_after self.old.state (run_of run.count run.interrupted)) }
+        ensures only { IfOk result (λ run. (count : ℕ) (interrupted : Bool) (rest : List Bool) → EndsInLine left count interrupted
+            → self.old.bits ≡ run_bits self.old.state.run_index (run_of count interrupted) ++ rest
+            → (count ≡ run.count) × (interrupted ≡ run.interrupted) × (rest ≡ self.new.bits)) }
+        ensures none { IfErr result (λ fault. (count : ℕ) (interrupted : Bool) (rest : List Bool) → EndsInLine left count interrupted
+            → self.old.bits ≡ run_bits self.old.state.run_index (run_of count interrupted) ++ rest → ⊥) }
+        ensures fault { IfErr result (λ fault. BreaksRun self.old.state.run_index left self.old.bits fault) }
+    {
+        if let Some(count) = self.decode_short_run(left) {
+            return Ok(FoundRun {
+                count,
+                interrupted: true,
+            });
+        }
+        self.decode_any_run(left)
+    }
+
+    /// Reads a run that a sample interrupts if it is short: its bits are seen at once, and stand for fewer samples than
+    /// `left`. How many samples it has. Else nothing is read.
+    #[inline(always)]
+    fn decode_short_run(&mut self, left: u32) -> Option<u32>
+        requires uninterrupted { self.old.state.interrupted ≡ false }
+        ensures short { IfSome result (λ count. count < left) }
+        ensures bits { IfSome result (λ count. self.old.bits ≡ run_bits self.old.state.run_index (run_of count true) ++ self.new.bits) }
+        ensures state { IfSome result (λ count. self.new.state ≡ run_after self.old.state (run_of count true)) }
+        ensures none { IfNone result (self.new ≡ self.old) }
+    {
+        let at = self.source.place();
+        let run = self.source.run_at(at, self.state.break_widths())?;
+        let count = self.state.accept_run(run.ones, run.rest, left)?;
+        self.source.go_to(run.after);
+        Some(count)
+    }
+
+    /// `decode_run` of any run, bit by bit.
+    #[cold]
+    #[inline(never)]
+    fn decode_any_run(&mut self, left: u32) -> Result<FoundRun, CodeFault>
         requires some { 0 < left }
         requires uninterrupted { self.old.state.interrupted ≡ false }
         ensures within { IfOk result (λ run. EndsInLine left run.count run.interrupted) }

@@ -6,7 +6,7 @@ use Rattle.ls_bits.specs.declared.source.CodeFault.{CodeFault}
 use Rattle.ls_bits.specs.View.Plain.{bits_in}
 use Rattle.ls_stream.specs.View.BitFaults.{BreaksRun}
 use Rattle.ls_stream.proofs.RunReadingLemmas.{IsInRun}
-use Rattle.ls_stream.proofs.decode.decoder.Decoder.decode_run.Given as goal
+use Rattle.ls_stream.proofs.decode.decoder.Decoder.decode_any_run.Given as goal
 
 abbrev pub invariant-ones : goal.invariant-ones
 invariant-ones l = record {
