@@ -26,8 +26,9 @@
 //! interrupts it by `code_interruption`.
 //!
 //! Reading goes the same way: `plan_regular` says by which code the next word is read, and `accept_regular` which
-//! sample has its value; a run is read by `accept_one`, `break_width` and `accept_break`, the sample that interrupts it
-//! by `plan_interruption` and `accept_interruption`. A reading call that is refused leaves the state unchanged.
+//! sample has its value; a run is read by `accept_one`, `break_width` and `accept_break`, or at once by `break_widths` and
+//! `accept_run`, and the sample that interrupts it by `plan_interruption` and `accept_interruption`. A reading call that
+//! is refused leaves the state unchanged.
 //!
 //! The samples and neighbours that are handed to a state are at most MAXVAL. What the samples say of one of them by
 //! themselves may be found ahead (`mirror`), a line at a time, and handed to `code_regular_at`. A reader knows only the

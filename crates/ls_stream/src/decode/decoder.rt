@@ -186,7 +186,9 @@ impl<'a, 'b> Decoder<'a, 'b> {
                 interrupted: true,
             });
         }
-        self.decode_any_run(left)
+        // Taken apart and put together, so that a short run needn't go through memory as this one does.
+        let run = self.decode_any_run(left)?;
+        Ok(run)
     }
 
     /// Reads a run that a sample interrupts if it is short: its bits are seen at once, and stand for fewer samples than
