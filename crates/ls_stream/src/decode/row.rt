@@ -14,6 +14,9 @@ use ls_frame::Presets;
 /// For how many samples the line above is looked at ahead. Those after a long run would be looked at in vain.
 const BLOCK: usize = 64;
 
+/// For how many after a run that passed over the end of its block, since where one run is others are.
+const SHORT_BLOCK: usize = 16;
+
 /// How far a row is read: up to which column, the sample to the left of it, and the place of the next bit. These are in
 /// registers from sample to sample.
 #[derive(Clone, Copy)]
@@ -39,10 +42,13 @@ pub fn decode_row(
 {
     let mut half_contexts = [0; BLOCK];
     let mut column = 0;
+    let mut size = BLOCK;
     'columns: while column < width {
-        let count = BLOCK.min(width - column);
+        let count = size.min(width - column);
         find_half_contexts(decoder.presets(), above, &mut half_contexts, column, count);
+        let end = column + count;
         column = decode_block(decoder, above, line, &half_contexts[..count], width, column)?;
+        size = if column > end { SHORT_BLOCK } else { BLOCK };
     }
     Ok(())
 }
