@@ -394,14 +394,9 @@ small_more maxval place x line small h inside k =
 
 pub small_repeated : (maxval column end : ℕ) (line new : List ℕ) → ((k : ℕ) → get_or line k 0 ≤ maxval) → AreRepeated line column end new → (k : ℕ) → get_or new k 0 ≤ maxval
 small_repeated maxval column end line new small repeated k =
-    elim (cases_lt column k) [
-      | inl later ↦ elim (cases_lt end k) [
-        | inl past ↦ subst (λ v. v ≤ maxval) (sym (repeated.after k past)) (small k)
-        | inr inside ↦
-            let back : k ≡ k - 1 + 1 = omega arith in
-            subst (λ v. v ≤ maxval) (sym (ap (λ n. get_or new n 0) back ∙ repeated.inside (k - 1) (omega arith) (omega arith))) (small column)
-      ]
-      | inr earlier ↦ subst (λ v. v ≤ maxval) (sym (repeated.before k earlier)) (small k)
+    elim (repeated.others k) [
+      | inl same ↦ subst (λ v. v ≤ maxval) (sym same) (small k)
+      | inr left ↦ subst (λ v. v ≤ maxval) (sym left) (small column)
     ]
 
 pub longer_by_run : (column end : ℕ) (line new : List ℕ) → AreRepeated line column end new → IsLonger line new column

@@ -1,5 +1,5 @@
 -- How the planes that bits may be of grow fewer while the bits are read: until one plane is left, or none.
-use Rattle.std.specs.Prelude.{◌≡◌, ◌↔◌, ℕ, ◌+◌, ◌-◌, ◌*◌, ◌<◌, ◌≤◌, Bool, true, false, List, [], ◌++◌, length, slice_index, slice_index_or, ℤ, pos}
+use Rattle.std.specs.Prelude.{◌≡◌, ◌⊎◌, ◌↔◌, ℕ, ◌+◌, ◌-◌, ◌*◌, ◌<◌, ◌≤◌, Bool, true, false, List, [], ◌++◌, length, slice_index, slice_index_or, ℤ, pos}
 use Rattle.ls_frame.specs.Parameters.{Parameters}
 use Rattle.ls_coding.specs.View.SignedContexts.{half_context}
 use Rattle.ls_coding.specs.View.States.{Coding}
@@ -115,12 +115,12 @@ pub record RowsMayBeRead (plane : Plane) (height row count component : ℕ) (sam
 
 -- ---- the calls on the way
 
--- what is left of a column stands in each column from it up to `end`, and the rest is as it was
+-- what is left of a column stands in each column from it up to `end`, and each other place is as it was, or has it too
 pub record AreRepeated (old : List ℕ) (column end : ℕ) (new : List ℕ) : Type 0 where
   pub whole : length new ≡ length old
   pub inside : (c : ℕ) → column ≤ c → c < end → slice_index new (c + 1) ≡ slice_index old column
   pub before : (k : ℕ) → k ≤ column → slice_index new k ≡ slice_index old k
-  pub after : (k : ℕ) → end < k → slice_index new k ≡ slice_index old k
+  pub others : (k : ℕ) → (slice_index new k ≡ slice_index old k) ⊎ (slice_index new k ≡ slice_index old column)
 
 -- what the line above says of the context of a column's sample
 abbrev pub half_context_in : Parameters → List ℕ → ℕ → ℤ

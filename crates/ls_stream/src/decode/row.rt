@@ -1,5 +1,5 @@
 //! A row of a plane, from left to right, out of its bits (T.87 Annex A).
-ghost use Rattle.std.specs.Prelude.{◌≡◌, ◌+◌, ◌<◌, ◌≤◌, true, false, length, slice_index, IfOk, IfErr};
+ghost use Rattle.std.specs.Prelude.{◌≡◌, ◌+◌, ◌<◌, ◌≤◌, ℕ, true, false, length, slice_index, IfOk, IfErr};
 ghost use Rattle.ls_bits.specs.View.Plain.{bits_at, IsAt};
 ghost use Rattle.ls_coding.specs.Contexts.{is_run};
 ghost use Rattle.ls_stream.specs.View.LineBuffers.{neighbours_in, ArePadded};
@@ -190,14 +190,34 @@ fn decode_run_span(
     Ok(end + 1)
 }
 
-/// Writes what is left of a column into each column from it up to `end`.
+/// Writes what is left of a column into each column from it up to `end`: sixteen at once, and so past `end` too, if the
+/// line goes on so far.
 fn repeat_left(line: &mut [u16], column: usize, end: usize)
     requires order { column ≤ end }
     requires inside { end < length line.old }
     ensures { AreRepeated line.old column end line.new }
 {
     let value = line[column];
-    for place in column + 1..end + 1 {
-        line[place] = value;
+    if end + 16 > line.len() {
+        for place in column + 1..end + 1 {
+            line[place] = value;
+        }
+        return;
     }
+    let mut place = column + 1;
+    'sixteens: while place <= end {
+        put_sixteen(line, place, value);
+        place += 16;
+    }
+}
+
+/// Writes a sample into sixteen places.
+fn put_sixteen(line: &mut [u16], start: usize, value: u16)
+    requires { start + 16 ≤ length line.old }
+    ensures whole { length line.new ≡ length line.old }
+    ensures inside { (k : ℕ) → start ≤ k → k < start + 16 → slice_index line.new k ≡ value }
+    ensures before { (k : ℕ) → k < start → slice_index line.new k ≡ slice_index line.old k }
+    ensures after { (k : ℕ) → start + 16 ≤ k → slice_index line.new k ≡ slice_index line.old k }
+{
+    line[start..start + 16].copy_from_slice(&[value; 16]);
 }
