@@ -97,29 +97,28 @@ where
 
 /// The names of what is made of the films, if these are no more than 16 and none is given twice; or says why not, and
 /// gives the status.
-fn names_once<E: Outlet>(
+fn names_once<'a, E: Outlet>(
     alloc: Global,
-    asked: &Asked<'_>,
+    asked: &Asked<'a>,
     console: &mut Console<'_, E>,
-) -> Result<Names, u8> {
-    let files = asked.files.as_slice();
-    if files.len() > MOST_FILES {
+) -> Result<Vec<Names<'a>>, u8> {
+    if asked.files.len() > MOST_FILES {
         return Err(misused(console, b"jlsrec: at most 16 files\n"));
     }
     let Ok(names) = names_of(alloc, asked) else {
         return Err(no_memory(console));
     };
-    match name_twice(files, &names, asked.report) {
+    match name_twice(&names, asked.report) {
         Some(name) => Err(given_twice(name, console)),
         None => Ok(names),
     }
 }
 
 /// The first name that is given twice: of a film, or else of the report.
-fn name_twice<'a>(files: &[&'a str], names: &Names, report: Option<&'a str>) -> Option<&'a str> {
-    match named_twice(files, names) {
+fn name_twice<'a>(names: &[Names<'a>], report: Option<&'a str>) -> Option<&'a str> {
+    match named_twice(names) {
         Some(file) => Some(file),
-        None => named_as_report(files, names, report),
+        None => named_as_report(names, report),
     }
 }
 
@@ -129,7 +128,7 @@ fn record_named<'a, R, O, W, E>(
     opener: O,
     asked: &'a Asked<'a>,
     tuning: Tuning,
-    names: &'a Names,
+    names: &'a [Names<'a>],
     output: &mut Counted<W>,
     console: &mut Console<'_, E>,
 ) -> u8
@@ -157,15 +156,7 @@ where
         Ok(films) => record_opened(rt, films, asked, watch.as_ref(), console),
         Err(AllocError) => return no_memory(console),
     };
-    let status = say_ended(
-        alloc,
-        asked,
-        names,
-        watch.as_ref(),
-        recorded,
-        output,
-        console,
-    );
+    let status = say_ended(alloc, names, watch.as_ref(), recorded, output, console);
     match (report, &watch) {
         (Some(report), Some(watch)) => {
             let workers = usize::from(asked.workers);
@@ -182,8 +173,8 @@ fn written_through<'a, O: Opens + Drop>(
     tuning: Tuning,
 ) -> Result<Vec<(Reader<'a, O>, Writer<'a, O>, Tuning)>, AllocError> {
     let mut all = Vec::new(alloc);
-    for (reader, recording) in films {
-        all.push((reader, writer_of(alloc, recording), tuning))?;
+    for film in films {
+        all.push((film.reader, writer_of(alloc, film.recording), tuning))?;
     }
     Ok(all)
 }
@@ -215,8 +206,7 @@ where
 /// Says what came of each film, unless that was told while it was watched; answers the status.
 fn say_ended<'a, R, O, W, E>(
     alloc: Global,
-    asked: &Asked<'a>,
-    names: &Names,
+    names: &[Names<'_>],
     watch: Option<&Watch<'_, R>>,
     recorded: Recorded<Reader<'a, O>, Writer<'a, O>>,
     output: &mut Counted<W>,
@@ -232,15 +222,7 @@ where
     if let Some(watch) = watch {
         watch.told(&mut told);
     }
-    say_recorded(
-        alloc,
-        &asked.files,
-        &names.indexes,
-        recorded,
-        &told,
-        output,
-        console,
-    )
+    say_recorded(alloc, names, recorded, &told, output, console)
 }
 
 /// Records films, watched if there is who watches them; and says how far they are if that is asked for.

@@ -6,58 +6,60 @@ use ls_files::{Identity, Opens, Place, Source, Spot};
 use std::alloc::{AllocError, Global};
 use std::rt::Files;
 
-/// The names of what is made for films, film by film, and what is said of each film on a terminal once its pipe is
-/// open.
+/// How a film is called, and what is made for it, and what is said of it on a terminal once its pipe is open.
 #[derive(Drop)]
-pub struct Names {
-    pub recordings: Vec<String>,
-    /// The indexes, if any are wanted.
-    pub indexes: Vec<String>,
-    pub notices: Vec<String>,
+pub struct Names<'a> {
+    pub file: &'a str,
+    pub recording: String,
+    /// Of the recording's index, if one is wanted.
+    pub index: Option<String>,
+    pub notice: String,
 }
 
 /// A film that is given: which file it is, where its name stands, and where its recording and the index of that are to
 /// be made.
 #[derive(Clone, Copy)]
 pub struct Given<'a> {
-    pub file: &'a str,
+    pub names: &'a Names<'a>,
     pub identity: Option<Identity>,
     pub spot: Option<Spot<'a>>,
     pub place: Place<'a>,
     pub index: Option<Place<'a>>,
 }
 
-/// The names of what is made for each film, and what is said of it.
-pub fn names_of(alloc: Global, asked: &Asked<'_>) -> Result<Names, AllocError> {
-    let files = asked.files.as_slice();
-    let recordings = recording_names(alloc, files, asked.into)?;
-    let mut indexes = Vec::new(alloc);
-    if asked.index {
-        for recording in &recordings {
-            indexes.push(format!(in alloc; "{recording}.index")?)?;
-        }
-    }
-    let notices = notices(alloc, files)?;
-    Ok(Names {
-        recordings,
-        indexes,
-        notices,
-    })
-}
-
-/// The name of each film's recording.
-fn recording_names(
-    alloc: Global,
-    files: &[&str],
-    into: Option<&str>,
-) -> Result<Vec<String>, AllocError> {
+/// The names of each film.
+pub fn names_of<'a>(alloc: Global, asked: &Asked<'a>) -> Result<Vec<Names<'a>>, AllocError> {
     let mut names = Vec::new(alloc);
-    for file in files {
-        names.push(recording_name(alloc, file, into)?)?;
+    for file in &asked.files {
+        names.push(film_names(alloc, *file, asked.into, asked.index)?)?;
     }
     Ok(names)
 }
 
+/// The names of a film.
+fn film_names<'a>(
+    alloc: Global,
+    file: &'a str,
+    into: Option<&str>,
+    is_indexed: bool,
+) -> Result<Names<'a>, AllocError> {
+    let recording = recording_name(alloc, file, into)?;
+    let index = if is_indexed {
+        Some(format!(in alloc; "{recording}.index")?)
+    } else {
+        None
+    };
+    // It goes over the line in its place that may be shown by then.
+    let notice = format!(in alloc; "{CLEARED}jlsrec: {file}: opened")?;
+    Ok(Names {
+        file,
+        recording,
+        index,
+        notice,
+    })
+}
+
+/// The name of a film's recording.
 fn recording_name(alloc: Global, file: &str, into: Option<&str>) -> Result<String, AllocError> {
     match into {
         None => format!(in alloc; "{file}.jls"),
@@ -69,20 +71,10 @@ fn recording_name(alloc: Global, file: &str, into: Option<&str>) -> Result<Strin
     }
 }
 
-/// What is said of each film on a terminal once its pipe is open: over the line in its place that may be shown by then.
-fn notices(alloc: Global, files: &[&str]) -> Result<Vec<String>, AllocError> {
-    let mut notices = Vec::new(alloc);
-    for file in files {
-        notices.push(format!(in alloc; "{CLEARED}jlsrec: {file}: opened")?)?;
-    }
-    Ok(notices)
-}
-
 /// Which files the films are, and what stands where their recordings are to be made.
 pub fn look_at<'a, R, O>(
     rt: &R,
-    files: &[&'a str],
-    names: &'a Names,
+    names: &'a [Names<'a>],
     sources: &[Source<'a, O>],
 ) -> Result<Vec<Given<'a>>, AllocError>
 where
@@ -90,66 +82,68 @@ where
     O: Opens,
 {
     let mut given = Vec::new(rt.alloc());
-    for ((file, name), source) in files.iter().zip(&names.recordings).zip(sources) {
-        let index = names.indexes.get(given.len());
-        given.push(given_of(rt, *file, name, index, source))?;
+    for (film, source) in names.iter().zip(sources) {
+        given.push(given_of(rt, film, source))?;
     }
     Ok(given)
 }
 
-/// The same, of one film, whose recording and index are to be called so.
-fn given_of<'a, R, O>(
-    rt: &R,
-    file: &'a str,
-    name: &'a String,
-    index: Option<&'a String>,
-    source: &Source<'a, O>,
-) -> Given<'a>
+/// The same, of one film.
+fn given_of<'a, R, O>(rt: &R, names: &'a Names<'a>, source: &Source<'a, O>) -> Given<'a>
 where
     R: Files,
     O: Opens,
 {
+    let index = match &names.index {
+        Some(index) => Some(Place::of(rt, index.as_str())),
+        None => None,
+    };
     Given {
-        file,
+        names,
         identity: source.identity(),
-        spot: Spot::of(rt, file),
-        place: Place::of(rt, name.as_str()),
-        index: index.map(|index| Place::of(rt, index.as_str())),
+        spot: Spot::of(rt, names.file),
+        place: Place::of(rt, names.recording.as_str()),
+        index,
     }
 }
 
 /// The first name that is given twice, or is the name of another film's recording or of an index, or has a recording of
 /// a name with another's.
-pub fn named_twice<'a>(files: &[&'a str], names: &Names) -> Option<&'a str> {
-    let recordings = &names.recordings;
-    for (place, (file, recording)) in files.iter().zip(recordings).enumerate() {
-        for (other, (name, made)) in files.iter().zip(recordings).enumerate() {
-            if place != other && (file == name || *file == made.as_str() || recording == made) {
-                return Some(*file);
+pub fn named_twice<'a>(names: &[Names<'a>]) -> Option<&'a str> {
+    for (place, film) in names.iter().enumerate() {
+        for (other, one) in names.iter().enumerate() {
+            if is_index_of(film.file, one) || (place != other && are_named_alike(film, one)) {
+                return Some(film.file);
             }
-        }
-        if names.indexes.iter().any(|index| index.as_str() == *file) {
-            return Some(*file);
         }
     }
     None
 }
 
-/// The report's name, if it is that of a film, of a recording or of an index.
-pub fn named_as_report<'a>(
-    files: &[&str],
-    names: &Names,
-    report: Option<&'a str>,
-) -> Option<&'a str> {
-    let report = report?;
-    if files.iter().any(|file| *file == report)
-        || names.recordings.iter().any(|name| name.as_str() == report)
-        || names.indexes.iter().any(|name| name.as_str() == report)
-    {
-        Some(report)
-    } else {
-        None
+/// Whether the index of a film is to be called so.
+fn is_index_of(name: &str, film: &Names<'_>) -> bool {
+    match &film.index {
+        Some(index) => index.as_str() == name,
+        None => false,
     }
+}
+
+/// Whether a film has the name of another or of its recording, or their recordings have one name.
+fn are_named_alike(film: &Names<'_>, other: &Names<'_>) -> bool {
+    film.file == other.file
+        || film.file == other.recording.as_str()
+        || film.recording == other.recording
+}
+
+/// The report's name, if it is that of a film, of a recording or of an index.
+pub fn named_as_report<'a>(names: &[Names<'_>], report: Option<&'a str>) -> Option<&'a str> {
+    let report = report?;
+    for film in names {
+        if film.file == report || film.recording.as_str() == report || is_index_of(report, film) {
+            return Some(report);
+        }
+    }
+    None
 }
 
 /// The first film whose recording or index would be one file with another's, or that is another's recording or an
@@ -161,7 +155,7 @@ pub fn written_twice<'a>(given: &[Given<'a>], replace: bool) -> Option<&'a str> 
                 || meets_index(film, one, replace)
                 || (place != other && are_one(film, one))
             {
-                return Some(film.file);
+                return Some(film.names.file);
             }
         }
     }

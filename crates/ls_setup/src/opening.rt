@@ -15,7 +15,19 @@ pub struct Recording<'a, O: Opens> {
 }
 
 /// A film: what it is read by, and its recording.
-pub type Film<'a, O> = (Reader<'a, O>, Recording<'a, O>);
+#[derive(Drop)]
+pub struct Film<'a, O: Opens> {
+    pub reader: Reader<'a, O>,
+    pub recording: Recording<'a, O>,
+}
+
+/// A film that is opened, and whose recording's file is made, but that isn't read by way of a buffer yet.
+#[derive(Drop)]
+struct Made<'a, O: Opens> {
+    names: &'a Names<'a>,
+    source: Source<'a, O>,
+    recording: Recording<'a, O>,
+}
 
 /// Where a report goes: its file, and how that is called.
 #[derive(Drop)]
@@ -37,7 +49,7 @@ pub fn open_films<'a, R, O, E>(
     rt: &R,
     opener: O,
     asked: &Asked<'a>,
-    names: &'a Names,
+    names: &'a [Names<'a>],
     console: &mut Console<'_, E>,
 ) -> Result<Opened<'a, O>, u8>
 where
@@ -45,9 +57,9 @@ where
     O: Opens<File = R::File> + Copy,
     E: Outlet,
 {
-    let sources = open_sources(rt, opener, asked.files.as_slice(), console)?;
-    let (report, recordings) = make_files(rt, opener, asked, names, &sources, console)?;
-    let films = films_of(rt.alloc(), asked, names, sources, recordings, console)?;
+    let sources = open_sources(rt, opener, names, console)?;
+    let (report, made) = make_files(rt, opener, asked, names, sources, console)?;
+    let films = films_of(rt.alloc(), made, console)?;
     Ok(Opened { films, report })
 }
 
@@ -57,30 +69,30 @@ fn make_files<'a, R, O, E>(
     rt: &R,
     opener: O,
     asked: &Asked<'a>,
-    names: &'a Names,
-    sources: &[Source<'a, O>],
+    names: &'a [Names<'a>],
+    sources: Vec<Source<'a, O>>,
     console: &mut Console<'_, E>,
-) -> Result<(Option<Report<'a, O>>, Vec<Recording<'a, O>>), u8>
+) -> Result<(Option<Report<'a, O>>, Vec<Made<'a, O>>), u8>
 where
     R: Files + AllocGlobal,
     O: Opens<File = R::File> + Copy,
     E: Outlet,
 {
-    let given = given_once(rt, asked, names, sources, console)?;
+    let given = given_once(rt, asked.replace, names, &sources, console)?;
     let report = match asked.report {
         Some(path) => Some(make_report(rt, opener, path, &given, asked.replace, console)?),
         None => None,
     };
-    let recordings = make_recordings(rt, opener, &given, asked.replace, console)?;
-    Ok((report, recordings))
+    let made = make_recordings(rt, opener, &given, sources, asked.replace, console)?;
+    Ok((report, made))
 }
 
 /// What the films are and where their recordings are to be made, if none is given twice; or says so, and gives the
 /// status.
 fn given_once<'a, R, O, E>(
     rt: &R,
-    asked: &Asked<'a>,
-    names: &'a Names,
+    replace: bool,
+    names: &'a [Names<'a>],
     sources: &[Source<'a, O>],
     console: &mut Console<'_, E>,
 ) -> Result<Vec<Given<'a>>, u8>
@@ -89,10 +101,10 @@ where
     O: Opens,
     E: Outlet,
 {
-    let Ok(given) = look_at(rt, asked.files.as_slice(), names, sources) else {
+    let Ok(given) = look_at(rt, names, sources) else {
         return Err(no_memory(console));
     };
-    match written_twice(&given, asked.replace) {
+    match written_twice(&given, replace) {
         Some(file) => Err(given_twice(file, console)),
         None => Ok(given),
     }
@@ -101,41 +113,54 @@ where
 /// The films: each is read by way of a buffer. Or gives the status, if memory is refused.
 fn films_of<'a, O, E>(
     alloc: Global,
-    asked: &Asked<'a>,
-    names: &'a Names,
-    sources: Vec<Source<'a, O>>,
-    recordings: Vec<Recording<'a, O>>,
+    made: Vec<Made<'a, O>>,
     console: &mut Console<'_, E>,
 ) -> Result<Vec<Film<'a, O>>, u8>
 where
     O: Opens + Copy,
     E: Outlet,
 {
-    let readers = buffered_sources(alloc, &asked.files, sources, &names.notices, console)?;
-    match joined(alloc, readers, recordings) {
-        Ok(films) => Ok(films),
-        Err(AllocError) => Err(no_memory(console)),
-    }
-}
-
-/// Each film's reader and recording together.
-fn joined<'a, O: Opens + Drop>(
-    alloc: Global,
-    readers: Vec<Reader<'a, O>>,
-    recordings: Vec<Recording<'a, O>>,
-) -> Result<Vec<Film<'a, O>>, AllocError> {
     let mut films = Vec::new(alloc);
-    for (reader, recording) in readers.into_iter().zip(recordings) {
-        films.push((reader, recording))?;
+    for made in made {
+        let film = film_of(alloc, made, console)?;
+        if films.push(film).is_err() {
+            return Err(no_memory(console));
+        }
     }
     Ok(films)
+}
+
+/// The same, of one film; says who is waited for.
+fn film_of<'a, O, E>(
+    alloc: Global,
+    made: Made<'a, O>,
+    console: &mut Console<'_, E>,
+) -> Result<Film<'a, O>, u8>
+where
+    O: Opens + Copy,
+    E: Outlet,
+{
+    let Made {
+        names,
+        mut source,
+        recording,
+    } = made;
+    if source.is_awaited() && console.is_terminal() {
+        source.announce(names.notice.as_str());
+        let file = names.file;
+        console.say(format_args!("{file}: waiting for what writes to it"));
+    }
+    match buffered(alloc, names.file, source, console) {
+        Ok(reader) => Ok(Film { reader, recording }),
+        Err(status) => Err(status),
+    }
 }
 
 /// Opens the films; or says of the first that can't be opened, and gives the status.
 fn open_sources<'a, R, O, E>(
     rt: &R,
     opener: O,
-    files: &[&'a str],
+    names: &[Names<'a>],
     console: &mut Console<'_, E>,
 ) -> Result<Vec<Source<'a, O>>, u8>
 where
@@ -144,15 +169,15 @@ where
     E: Outlet,
 {
     let mut sources = Vec::new(rt.alloc());
-    for file in files {
-        match Source::of(rt, opener, *file) {
+    for film in names {
+        match Source::of(rt, opener, film.file) {
             Ok(source) => {
                 if sources.push(source).is_err() {
                     return Err(no_memory(console));
                 }
             }
             Err(fault) => {
-                console.say_unopened(*file, &fault);
+                console.say_unopened(film.file, &fault);
                 return Err(FAILED);
             }
         }
@@ -188,22 +213,29 @@ fn make_recordings<'a, R, O, E>(
     rt: &R,
     opener: O,
     given: &[Given<'a>],
+    sources: Vec<Source<'a, O>>,
     replace: bool,
     console: &mut Console<'_, E>,
-) -> Result<Vec<Recording<'a, O>>, u8>
+) -> Result<Vec<Made<'a, O>>, u8>
 where
     R: Files + AllocGlobal,
     O: Opens<File = R::File> + Copy,
     E: Outlet,
 {
-    let mut recordings = Vec::new(rt.alloc());
-    for film in given {
+    let mut all = Vec::new(rt.alloc());
+    for (film, source) in given.iter().zip(sources) {
         let recording = make_recording(rt, opener, film, given, replace, console)?;
-        if recordings.push(recording).is_err() {
+        let names = film.names;
+        let made = Made {
+            names,
+            source,
+            recording,
+        };
+        if all.push(made).is_err() {
             return Err(no_memory(console));
         }
     }
-    Ok(recordings)
+    Ok(all)
 }
 
 /// The same, of one film among those that are given.
@@ -257,48 +289,6 @@ where
             Err(FAILED)
         }
     }
-}
-
-/// Reads each film by way of a buffer, and says who is waited for.
-fn buffered_sources<'a, O, E>(
-    alloc: Global,
-    files: &[&'a str],
-    sources: Vec<Source<'a, O>>,
-    notices: &'a [String],
-    console: &mut Console<'_, E>,
-) -> Result<Vec<Reader<'a, O>>, u8>
-where
-    O: Opens + Copy,
-    E: Outlet,
-{
-    let mut readers = Vec::new(alloc);
-    for ((file, notice), source) in files.iter().zip(notices).zip(sources) {
-        let reader = buffered_source(alloc, *file, notice, source, console)?;
-        if readers.push(reader).is_err() {
-            return Err(no_memory(console));
-        }
-    }
-    Ok(readers)
-}
-
-/// The same, of one film.
-fn buffered_source<'a, O, E>(
-    alloc: Global,
-    file: &'a str,
-    notice: &'a String,
-    source: Source<'a, O>,
-    console: &mut Console<'_, E>,
-) -> Result<Reader<'a, O>, u8>
-where
-    O: Opens + Copy,
-    E: Outlet,
-{
-    let mut source = source;
-    if source.is_awaited() && console.is_terminal() {
-        source.announce(notice.as_str());
-        console.say(format_args!("{file}: waiting for what writes to it"));
-    }
-    buffered(alloc, file, source, console)
 }
 
 /// Says that a film, or the file of a recording, is given twice.

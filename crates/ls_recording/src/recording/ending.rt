@@ -8,14 +8,14 @@ use ls_console::{
 use ls_files::{Opens, Target};
 use ls_frame::{Counted, Failed, Outlet};
 use ls_recorder::{LaneFault, Track};
+use ls_setup::Names;
 use std::alloc::{AllocError, Global};
 use std::io::Write;
 
 /// Says what came of each film, or why nothing did; answers the status.
 pub fn say_recorded<O, W, E>(
     alloc: Global,
-    files: &[&str],
-    indexes: &[String],
+    names: &[Names<'_>],
     recorded: Recorded<Reader<'_, O>, Writer<'_, O>>,
     told: &[bool],
     output: &mut Counted<W>,
@@ -27,15 +27,7 @@ where
     E: Outlet,
 {
     match recorded {
-        Ok(recording) => say_tracks(
-            alloc,
-            files,
-            indexes,
-            recording.tracks,
-            told,
-            output,
-            console,
-        ),
+        Ok(recording) => say_tracks(alloc, names, recording.tracks, told, output, console),
         Err((fault, _films)) => {
             console.say(fault);
             FAILED
@@ -55,8 +47,7 @@ struct Ended<'a, O: Opens> {
 /// other film how many frames were recorded; answers the status.
 fn say_tracks<O, W, E>(
     alloc: Global,
-    files: &[&str],
-    indexes: &[String],
+    names: &[Names<'_>],
     tracks: Vec<FilmTrack<'_, O>>,
     told: &[bool],
     output: &mut Counted<W>,
@@ -67,10 +58,10 @@ where
     W: Write,
     E: Outlet,
 {
-    let Ok(recordings) = end_tracks(alloc, files, indexes, tracks, told, console) else {
+    let Ok(recordings) = end_tracks(alloc, names, tracks, told, console) else {
         return no_memory(console);
     };
-    let status = say_counts(alloc, files, &recordings, output, console);
+    let status = say_counts(alloc, names, &recordings, output, console);
     release(recordings);
     status
 }
@@ -78,8 +69,7 @@ where
 /// Syncs each recording, and says of each film whose recording stopped why it did, unless that was told.
 fn end_tracks<'a, O, E>(
     alloc: Global,
-    files: &[&str],
-    indexes: &[String],
+    names: &[Names<'_>],
     tracks: Vec<FilmTrack<'a, O>>,
     told: &[bool],
     console: &mut Console<'_, E>,
@@ -89,10 +79,9 @@ where
     E: Outlet,
 {
     let mut recordings = Vec::new(alloc);
-    for (file, track) in files.iter().zip(tracks) {
-        let number = recordings.len();
-        let index = indexes.get(number).map(String::as_str);
-        recordings.push(say_end(*file, index, track, is_told(told, number), console))?;
+    for (film, track) in names.iter().zip(tracks) {
+        let was_told = is_told(told, recordings.len());
+        recordings.push(say_end(film, track, was_told, console))?;
     }
     Ok(recordings)
 }
@@ -117,8 +106,7 @@ fn is_told(told: &[bool], film: usize) -> bool {
 
 /// Brings what was written of a film onto the disk, and says why its recording stopped, if it did and that wasn't told.
 fn say_end<'a, O, E>(
-    file: &str,
-    index_file: Option<&str>,
+    names: &Names<'_>,
     track: FilmTrack<'a, O>,
     was_told: bool,
     console: &mut Console<'_, E>,
@@ -127,6 +115,7 @@ where
     O: Opens + Copy,
     E: Outlet,
 {
+    let file = names.file;
     let Track {
         reader,
         writer,
@@ -152,13 +141,13 @@ where
     Ended {
         frames,
         target,
-        index: say_index(index_file, follower, broken, console),
+        index: say_index(&names.index, follower, broken, console),
     }
 }
 
 /// Brings the index of a recording onto the disk, if it has one, and says why it isn't whole, if it isn't.
 fn say_index<'a, O, E>(
-    path: Option<&str>,
+    path: &Option<String>,
     follower: Option<Follower<Counted<Target<'a, O>>>>,
     broken: Option<IndexFault>,
     console: &mut Console<'_, E>,
@@ -171,7 +160,7 @@ where
         return None;
     };
     let broken = broken.map(|fault| (fault, cause_of_index(fault)));
-    Some(say_index_end(path, follower.into_inner(), broken, console))
+    Some(say_index_end(path.as_str(), follower.into_inner(), broken, console))
 }
 
 /// What it comes of that an index broke off.
@@ -194,7 +183,7 @@ fn cause_of(fault: LaneFault) -> Cause {
 /// Says how many frames each recording has that is whole; answers the status of all.
 fn say_counts<O, W, E>(
     alloc: Global,
-    files: &[&str],
+    names: &[Names<'_>],
     recordings: &[Ended<'_, O>],
     output: &mut Counted<W>,
     console: &mut Console<'_, E>,
@@ -205,10 +194,10 @@ where
     E: Outlet,
 {
     let mut status = DONE;
-    for (file, recording) in files.iter().zip(recordings) {
+    for (film, recording) in names.iter().zip(recordings) {
         match recording.frames {
             Some(frames) => {
-                let said = say_count(alloc, *file, frames, output, console);
+                let said = say_count(alloc, film.file, frames, output, console);
                 if said != DONE {
                     return said;
                 }
