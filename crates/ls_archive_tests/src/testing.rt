@@ -1,21 +1,72 @@
 //! Checks and codestreams for the tests.
+use ls_salvage::{Gap, SalvageFault, Salvaged};
+use ls_stream::StreamFault;
 use ls_testing::{Mishap, Sink};
-use std::fmt::Display;
+use std::alloc::{AllocError, Global};
+use std::fmt::{Debug, Display};
 use std::io::Write;
 use std::process::Abort;
+
+/// How a salvage ended, what it wrote, and the gaps that it told.
+pub type Outcome<'a> = (Result<Salvaged, SalvageFault>, &'a [u8], &'a [Gap]);
+
+/// That a value is the wanted one.
+pub fn check<T: PartialEq + Debug>(rt: &impl Abort, case: &str, got: &T, want: &T) {
+    assert_eq!(rt; got, want, "{case}");
+}
 
 /// That a fault has this text.
 pub fn check_text<F: Display + Drop>(rt: &impl Abort, fault: F, text: &str) {
     let mut sink = Sink::new(4096, Mishap::Nothing);
     let written = write!(sink, "{fault}").is_ok();
-    assert!(rt; written, "{text}");
-    check_bytes(rt, text, sink.written(), text.as_bytes());
+    let got = (written, sink.written());
+    check(rt, text, &got, &(true, text.as_bytes()));
 }
 
 /// That these bytes are the wanted ones.
 pub fn check_bytes(rt: &impl Abort, case: &str, got: &[u8], want: &[u8]) {
-    assert_eq!(rt; got, want, "{case}");
+    check(rt, case, &got, &want);
 }
+
+/// These bytes, one after the other.
+pub fn joined(rt: &impl Abort, alloc: Global, parts: &[&[u8]]) -> Vec<u8> {
+    try_joined(alloc, parts).expect(rt, "memory")
+}
+
+fn try_joined(alloc: Global, parts: &[&[u8]]) -> Result<Vec<u8>, AllocError> {
+    let mut bytes = Vec::new(alloc);
+    for part in parts {
+        bytes.extend_from_slice(part)?;
+    }
+    Ok(bytes)
+}
+
+/// A gap: how many frames and bytes stand before it, how many bytes it has, and why.
+pub fn gap(frame: u64, place: u64, count: u64, fault: StreamFault) -> Gap {
+    Gap {
+        frame,
+        place,
+        count,
+        fault,
+    }
+}
+
+/// How a salvage ends that wrote so many frames and told of so many gaps.
+pub fn ended(frames: u64, gaps: u64) -> Result<Salvaged, SalvageFault> {
+    Ok(Salvaged { frames, gaps })
+}
+
+/// A black sample up to 255 as a codestream of 28 bytes, and as an image.
+pub const BLACK: &[u8] = ls_testing::films::FIRST_CODESTREAM;
+
+pub const BLACK_IMAGE: &[u8] = ls_testing::films::BLACK;
+
+/// The same with a white one.
+pub const WHITE: &[u8] = b"\xff\xd8\
+\xff\xf7\x00\x0b\x08\x00\x01\x00\x01\x01\x01\x11\x00\
+\xff\xda\x00\x08\x01\x01\x00\x00\x00\x00\x40\xff\xd9";
+
+pub const WHITE_IMAGE: &[u8] = b"P5\n1 1\n255\n\xff";
 
 /// A black pixel in colour, then a gray sample of 1 up to 1, and one of 65535 up to that: codestreams of 56, 43 and 29
 /// bytes.

@@ -1,5 +1,5 @@
+use crate::pixels::pixel_piece;
 use crate::testing::{check, is_sent, one_box};
-use ls_pieces_tests::pixels::pixel_piece;
 use ls_recorder::{Inbox, Outbox, RecordFault, Uncoded, boxes};
 use std::alloc::Global;
 use std::process::Abort;

@@ -1,9 +1,9 @@
 ghost use Rattle.std.specs.Prelude.{◌≡◌, [], IfSome};
 ghost use Rattle.ls_queue.specs.View.Running.{IsSourceSeat, items_put};
 
+use crate::pixels::pixel_piece;
 use crate::testing::{DEFAULTS, check, check_text, first_seat, is_sent, one_box};
 use ls_frame::{Counted, NetpbmFault, PresetFault, Tuning};
-use ls_pieces_tests::pixels::pixel_piece;
 use ls_queue::{Queue, SourceSeat, open};
 use ls_recorder::lane::lane;
 use ls_recorder::{Answer, Inbox, LaneFault, Misfit, Order, Outbox, Uncoded};

@@ -1,9 +1,11 @@
-//! The tests of `ls_recorder`, through what it makes public.
+//! The tests of `ls_pieces`, `ls_recorder` and `ls_roundtrip`, through what they make public.
 //!
 //! They stand in a crate of their own because a crate's tests are proved together with the whole crate, and
 //! `ls_recorder` takes the longest.
 #![tactic(auto)]
 
+#[cfg(test)]
+mod collector;
 #[cfg(test)]
 mod delivery;
 #[cfg(test)]
@@ -11,9 +13,21 @@ mod faults;
 #[cfg(test)]
 mod lane;
 #[cfg(test)]
+mod orders;
+#[cfg(test)]
 mod page;
 #[cfg(test)]
+mod pieces;
+#[cfg(test)]
+mod pieces_page;
+#[cfg(test)]
+mod pixels;
+#[cfg(test)]
 mod recording;
+#[cfg(test)]
+mod round_trip_page;
+#[cfg(test)]
+mod round_trips;
 #[cfg(test)]
 mod testing;
 #[cfg(test)]

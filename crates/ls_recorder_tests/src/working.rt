@@ -1,8 +1,8 @@
 ghost use Rattle.std.specs.Prelude.{◌≡◌, IfSome};
 ghost use Rattle.ls_queue.specs.View.Running.{IsSourceSeat, IsWorkerSeat, IsCloser, IsEnded, AreAllSources, AreAllWorkers, sources_of, workers_of};
 
+use crate::pixels::pixel_order;
 use crate::testing::{check, one_box};
-use ls_pieces_tests::pixels::pixel_order;
 use ls_queue::{Closer, Ended, Finished, Queue, SourceSeat, WorkerSeat, open};
 use ls_recorder::{Gate, Inbox, Moment, OpenGate, Order, Outbox, work};
 use std::alloc::Global;

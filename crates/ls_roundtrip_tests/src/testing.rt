@@ -1,9 +1,0 @@
-//! Checks, for the tests.
-
-use std::process::Abort;
-
-/// That a check of this name went right. It wasn't made if memory was refused before, which isn't right if there was
-/// ample.
-pub fn check(rt: &impl Abort, name: &str, right: Option<bool>, ample: bool) {
-    assert_eq!(rt; right.unwrap_or(!ample), true, "{name}");
-}
