@@ -21,6 +21,3 @@ returns-clause-lawful c =
     let there = replay_fault-none c.args.sources c.args.capacity c.args.steps.now none in
     subst (IsReplay c.args.sources c.args.capacity c.args.steps.now) (sym (c.in_ok-replies.ensures ∙ ap (λ q. replies_of q c.args.steps.now) c.in_ok-queue.ensures.1))
     (replies_of-replay c.args.sources c.args.capacity c.args.steps.now there.1)
-
-pub returns-in_err-_room-clause-fault : goal.returns-in_err-_room-clause-fault
-returns-in_err-_room-clause-fault g c = search rules

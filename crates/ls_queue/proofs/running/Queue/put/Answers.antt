@@ -6,8 +6,5 @@ pub send_as-requires-clause-rule : goal.send_as-requires-clause-rule
 send_as-requires-clause-rule g c =
     job_sent _ _ _ _ _ _ _ _ (c.loop.invariant.known ∙ c.requires.known) c.requires.count c.loop.invariant.message
 
-pub returns-then-number-lt7-clause-put : goal.returns-then-number-lt7-clause-put
-returns-then-number-lt7-clause-put g c = search rules
-
 pub loop-init : goal.loop-init
 loop-init g c = search rules

@@ -1,4 +1,4 @@
-use Rattle.std.proofs.Common.{◌∙◌, ◌<◌, ap, subst, rules}
+use Rattle.std.proofs.Common.{◌∙◌, ◌<◌, ap, subst}
 use Rattle.crossbeam_channel.specs.Claims.{view}
 use Rattle.ls_queue.specs.declared.views.Message.{Message}
 use Rattle.ls_queue.specs.declared.views.Message.TheVariants as message
@@ -24,6 +24,3 @@ returns-in-Ok-Job-clause-taken g c =
           ∙ ap (λ (v : View g.row.T.Denot). jobs_in_first (with_job v.takes c.in-Ok-Job.job)) was,
       subst (λ (v : View g.row.T.Denot). c.in-Ok-Job.job.source < v.sources) was rule.1,
     )
-
-pub returns-then-this-clause-taken : goal.returns-then-this-clause-taken
-returns-then-this-clause-taken g c = search rules
