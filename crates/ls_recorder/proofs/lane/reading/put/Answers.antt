@@ -1,4 +1,4 @@
-use Rattle.std.proofs.Common.{[], ◌∷◌, ◌++◌, sym, ap, ◌∙◌}
+use Rattle.std.proofs.Common.{[], ◌∷◌, ◌++◌, sym, ap, ◌∙◌, rules}
 use Rattle.ls_queue.specs.View.Running.{items_put}
 use Rattle.ls_recorder.proofs.lane.reading.put.Goals as goal
 
@@ -9,3 +9,6 @@ returns-clause-same g c =
 
 pub returns-clause-put : goal.returns-clause-put
 returns-clause-put g c = c.put_booked.ensures.put
+
+pub put_booked-requires-clause-booked : goal.put_booked-requires-clause-booked
+put_booked-requires-clause-booked g c = search rules
