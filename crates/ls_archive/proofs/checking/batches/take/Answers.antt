@@ -24,3 +24,10 @@ loop-number-preserved g c =
       index_reads = search rules;
       reads = search rules;
     }
+
+pub returns-in-Err-clause-batch : goal.returns-in-Err-clause-batch
+returns-in-Err-clause-batch g c = record {
+  mid = _;
+  taken = c.loop-number.invariant.taken;
+  after = c.in-Err.ensures.after;
+}
