@@ -1,7 +1,8 @@
 -- Reduced errors, and the samples that have them.
-use Rattle.std.proofs.Common.{◌≡◌, ℕ, ◌+◌, ◌/◌, ◌<◌, ◌≤◌, Bool, true, false, cond, ℤ, pos, neg_ℤ, ◌+ℤ◌, ◌-ℤ◌, ◌≤ℤ◌, ◌<ℤ◌, refl, sym, ◌∙◌, ap, subst, arith}
+use Rattle.std.proofs.Common.{◌≡◌, ℕ, ◌+◌, ◌-◌, ◌/◌, ◌<◌, ◌≤◌, Bool, true, false, cond, ℤ, pos, neg_ℤ, ◌+ℤ◌, ◌-ℤ◌, ◌≤ℤ◌, ◌<ℤ◌, refl, sym, ◌∙◌, ap, subst, arith}
 use Rattle.std.specs.Prelude.{int_le, int_lt}
-use Rattle.std.proofs.lemmas.Int.{ints}
+use Rattle.std.specs.Int.{int_max, int_min}
+use Rattle.std.proofs.lemmas.Int.{ints, clamps}
 use Rattle.ls_frame.specs.Parameters.{Parameters, range_of}
 use mir.Syntax.{w32}
 use mir.Val.{to_z, of_z}
@@ -10,7 +11,7 @@ use Rattle.ls_coding.specs.declared.neighbours.Neighbours.{Neighbours}
 use Rattle.ls_coding.specs.Samples.{AreSamples, Interrupts}
 use Rattle.ls_coding.specs.Contexts.{signed}
 use Rattle.ls_coding.specs.Interruptions.{ri_type_of, interruption_negative, interruption_prediction, interruption_error}
-use Rattle.ls_coding.specs.Errors.{IsReduced, reduced, error_of}
+use Rattle.ls_coding.specs.Errors.{median, IsReduced, reduced, error_of}
 use Rattle.ls_coding.proofs.StatsLemmas.{choose, le_true, le_false, lt_true, lt_false, mean_through}
 
 -- d is e, or a RANGE away from it
@@ -199,3 +200,17 @@ interruption_prediction_small maxval n h = choose (ri_type_of n) n.a n.b (λ v. 
 pub interrupting_error : (p : Parameters) (n : Neighbours) (sample : ℕ) → AreSamples p.maxval n → Interrupts p.maxval n.a sample → ri_type_of n ≡ true → interruption_error p n sample ≡ pos 0 → ⊥
 interrupting_error p n sample h k ri_type e =
     k.other (error_of-zero p (interruption_prediction n) sample (interruption_negative n) (interruption_prediction_small p.maxval n h) k.within e ∙ cond-true (ri_type_of n) n.a n.b ri_type)
+
+-- ---- the median by two numbers of the line above
+
+pub median_is : (a b c d : ℕ) → int_max (int_min (pos a +ℤ pos (b - c)) (pos b)) (pos a -ℤ pos (c - b)) ≡ pos (median (record { a = a; b = b; c = c; d = d }))
+median_is a b c d = grind (arith, ints, clamps)
+
+pub passed : (z : ℤ) (n : ℕ) → z ≡ pos n → n ≤ 65535 → to_z w32 (of_z w32 z) ≡ pos n
+passed z n e h = ap (λ x. to_z w32 (of_z w32 x)) e ∙ mean_through (pos n) (omega (arith, ints)) (omega (arith, ints))
+
+pub min_same : (x y p q : ℤ) → x ≡ p → y ≡ q → int_min x y ≡ int_min p q
+min_same x y p q e f = ap (λ z. int_min z y) e ∙ ap (int_min p) f
+
+pub max_same : (x y p q : ℤ) → x ≡ p → y ≡ q → int_max x y ≡ int_max p q
+max_same x y p q e f = ap (λ z. int_max z y) e ∙ ap (int_max p) f

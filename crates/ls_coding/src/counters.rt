@@ -4,7 +4,7 @@ ghost use Rattle.ls_frame.specs.Parameters.{range_of, qbpp_of};
 ghost use Rattle.ls_bits.specs.Golomb.{IsGolomb, most_value};
 ghost use Rattle.ls_coding.specs.Samples.{AreSamples, Interrupts};
 ghost use Rattle.ls_coding.specs.Contexts.{context_of};
-ghost use Rattle.ls_coding.specs.Errors.{IsReduced, error_of, is_inverted, mapped_error};
+ghost use Rattle.ls_coding.specs.Errors.{median, IsReduced, error_of, is_inverted, mapped_error};
 ghost use Rattle.ls_coding.specs.Events.{regular_word, interruption_word};
 ghost use Rattle.ls_coding.specs.Numbers.{golomb_parameter};
 ghost use Rattle.ls_coding.specs.Stats.{first_a, first_stats, stats_step};
@@ -115,10 +115,11 @@ impl Counters {
 
     /// What the word of a sample of regular mode is read by.
     #[tactic(auto, unfolding(crate::specs::View::Plans::regular_plan_by))]
-    pub fn plan(&self, context: Context, neighbours: &Neighbours) -> Plan
+    pub fn plan(&self, context: Context, middle: u32, neighbours: &Neighbours) -> Plan
         requires number { context.number ≡ (context_of self.now.presets neighbours.now).number }
         requires negative { context.negative ≡ (context_of self.now.presets neighbours.now).negative }
         requires within { context.number < 365 }
+        requires middle { middle ≡ median neighbours.now }
         requires samples { AreSamples self.now.presets.maxval neighbours.now }
         requires sound { IsSound self.now }
         ensures plan { let context = context_of self.now.presets neighbours.now in
@@ -133,7 +134,7 @@ impl Counters {
             glimit: self.limit,
             number,
             negative: context.negative,
-            prediction: predicted(self.presets, context.negative, self.c[number], neighbours),
+            prediction: predicted(self.presets, context.negative, self.c[number], middle),
         }
     }
 

@@ -3,23 +3,23 @@ ghost use Rattle.std.specs.Prelude.{◌≡◌, ◌+◌, ◌-◌, ◌*◌, ◌/�
 ghost use Rattle.ls_frame.specs.Parameters.{range_of};
 ghost use Rattle.ls_coding.specs.Numbers.{golomb_parameter, clamped};
 ghost use Rattle.ls_coding.specs.Contexts.{signed};
-ghost use Rattle.ls_coding.specs.Samples.{AreSamples};
 ghost use Rattle.ls_coding.specs.Errors.{median, predicted, reduced, error_of, IsReduced, is_inverted, mapped_error};
 ghost use Rattle.ls_coding.specs.View.Mirrors.{mirrored_error};
+ghost use Rattle.ls_coding.specs.declared.neighbours.Neighbours.{Neighbours};
 
 use crate::neighbours::Neighbours;
 use ls_frame::Presets;
 
-/// The prediction of a sample, corrected by its context's C (A.4.1, A.4.2).
-pub fn predicted(presets: Presets, negative: bool, bias: i32, neighbours: &Neighbours) -> u16
-    requires samples { AreSamples presets.maxval neighbours.now }
+/// The prediction of a sample, corrected by its context's C (A.4.1, A.4.2); `middle` is the median of its neighbours.
+pub fn predicted(presets: Presets, negative: bool, bias: i32, middle: u32) -> u16
+    requires middle { middle ≤ presets.maxval }
     requires low { neg_ℤ (pos 128) ≤ℤ bias }
     requires high { bias ≤ℤ pos 127 }
-    ensures value { pos result ≡ predicted presets negative bias neighbours.now }
+    ensures value { (neighbours : Neighbours) → middle ≡ median neighbours → pos result ≡ predicted presets negative bias neighbours }
     ensures within { result ≤ presets.maxval }
 {
     let correction = signed(negative, bias);
-    clamped(i32::from(median(neighbours)) + correction, presets.maxval())
+    clamped(middle as i32 + correction, presets.maxval())
 }
 
 /// The reduced error of a sample for a prediction (A.4.3, A.4.5).
@@ -228,6 +228,17 @@ pub fn median(neighbours: &Neighbours) -> u16
     } else {
         low + (high - neighbours.c)
     }
+}
+
+/// The median of a sample's neighbours (A.4.1) by two numbers of the line above, which may be found before Ra is known:
+/// how much Rb is over Rc (`rise`) and how much Rc is over Rb (`fall`), each 0 if it isn't.
+///
+/// Any numbers will do. Allocates nothing and cannot fail.
+pub fn median_by(a: u16, b: u16, rise: u16, fall: u16) -> u32
+    ensures { (c d : ℕ) → rise ≡ b - c → fall ≡ c - b → result ≡ median (record { a = a; b = b; c = c; d = d }) }
+{
+    let most = (i32::from(a) + i32::from(rise)).min(i32::from(b));
+    most.max(i32::from(a) - i32::from(fall)) as u32
 }
 
 /// `number`, or the bound of 0 to `greatest` that it is past.

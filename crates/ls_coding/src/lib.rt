@@ -33,7 +33,8 @@
 //! The samples and neighbours that are handed to a state are at most MAXVAL. What the samples say of one of them by
 //! themselves may be found ahead (`mirror`), a line at a time, and handed to `code_regular_at`. A reader knows only the
 //! line above so far: it may find that line's part of each context ahead (`half_context`), and at each sample the rest
-//! (`whole_context`, by a table, `Regions`) for `plan_regular_at`. Only the making of that table allocates.
+//! (`whole_context`, by a table, `Regions`) for `plan_regular_at`; and so the two differences by which `median_by` finds
+//! the median. Only the making of that table allocates.
 //!
 //! In reading order: `neighbours` (the samples around one, and the mode that they call for), `state` (all calls),
 //! `word`, `plan`, `run` (what they answer), `mirrored` (what may be found ahead), `counters` (the counters of all
@@ -57,6 +58,7 @@ mod update;
 pub mod word;
 
 pub use context::{half_context, signed_context};
+pub use error::median_by;
 pub use mirrored::{Mirrored, mirror};
 pub use neighbours::{Mode, Neighbours, mode_of};
 pub use plan::Plan;

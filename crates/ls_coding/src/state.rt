@@ -4,6 +4,7 @@ ghost use Rattle.ls_frame.specs.Parameters.{qbpp_of, limit_of};
 ghost use Rattle.ls_bits.specs.Golomb.{IsGolomb, most_value};
 ghost use Rattle.ls_coding.specs.Samples.{AreSamples, Interrupts};
 ghost use Rattle.ls_coding.specs.Contexts.{is_run};
+ghost use Rattle.ls_coding.specs.Errors.{median};
 ghost use Rattle.ls_coding.specs.View.SignedContexts.{signed_context};
 ghost use Rattle.ls_coding.specs.Runs.{order, samples_of_ones, run_of, run_word, word_bits, tail_of, TailFits};
 ghost use Rattle.ls_coding.specs.Interruptions.{ri_type_of, interruption_error};
@@ -17,6 +18,7 @@ ghost use Rattle.ls_coding.specs.declared.neighbours.Neighbours.{Neighbours};
 
 use crate::context::{context_of_signed, signed_context};
 use crate::counters::Counters;
+use crate::error::median;
 use crate::mirrored::{Mirrored, mirror};
 use crate::neighbours::Neighbours;
 use crate::plan::Plan;
@@ -121,7 +123,7 @@ impl State {
     ///
     /// Requires what `code_regular` does of the neighbours and of `interrupted`. Changes nothing and cannot fail.
     ///
-    /// The plain form, of one sample by itself. The decoder itself finds the context in two parts and uses
+    /// The plain form, of one sample by itself. The decoder itself finds context and median in two parts each and uses
     /// `plan_regular_at`.
     pub fn plan_regular(&self, neighbours: &Neighbours) -> Plan
         requires samples { AreSamples self.now.parameters.maxval neighbours.now }
@@ -134,13 +136,15 @@ impl State {
         ensures word { (sample : ℕ) → IsReadBy result (regular_word_in self.now neighbours.now sample) }
     {
         let context = signed_context(&self.counters.presets, neighbours);
-        self.plan_regular_at(context, neighbours)
+        self.plan_regular_at(context, u32::from(median(neighbours)), neighbours)
     }
 
-    /// `plan_regular` of a sample whose context was found before: `context` is what `signed_context` answers for this
-    /// scan's presets and these neighbours, or `whole_context`. All else is as there.
-    pub fn plan_regular_at(&self, context: i16, neighbours: &Neighbours) -> Plan
+    /// `plan_regular` of a sample whose context was found before, and the median of its neighbours (A.4.1): `context` is
+    /// what `signed_context` answers for this scan's presets and these neighbours, or `whole_context`; `middle` is what
+    /// `median_by` answers. All else is as there.
+    pub fn plan_regular_at(&self, context: i16, middle: u32, neighbours: &Neighbours) -> Plan
         requires context { context ≡ signed_context self.now.parameters neighbours.now }
+        requires middle { middle ≡ median neighbours.now }
         requires samples { AreSamples self.now.parameters.maxval neighbours.now }
         requires regular { is_run neighbours.now ≡ false }
         requires uninterrupted { self.now.interrupted ≡ false }
@@ -150,7 +154,8 @@ impl State {
         ensures golomb { IsGolomb result.k result.glimit (qbpp_of self.now.parameters.maxval) }
         ensures word { (sample : ℕ) → IsReadBy result (regular_word_in self.now neighbours.now sample) }
     {
-        self.counters.plan(context_of_signed(context), neighbours)
+        self.counters
+            .plan(context_of_signed(context), middle, neighbours)
     }
 
     /// The one sample of regular mode whose word has this value, MErrval; the state is then as if it had been coded.

@@ -1,5 +1,5 @@
 -- How the planes that bits may be of grow fewer while the bits are read: until one plane is left, or none.
-use Rattle.std.specs.Prelude.{◌≡◌, ◌⊎◌, ◌↔◌, ℕ, ◌+◌, ◌-◌, ◌*◌, ◌<◌, ◌≤◌, Bool, true, false, List, [], ◌++◌, length, slice_index, slice_index_or, ℤ, pos}
+use Rattle.std.specs.Prelude.{◌≡◌, ◌⊎◌, ◌↔◌, ℕ, ◌+◌, ◌-◌, ◌*◌, ◌<◌, ◌≤◌, Bool, true, false, List, [], ◌++◌, length, slice_index, slice_index_or, pos}
 use Rattle.ls_frame.specs.Parameters.{Parameters}
 use Rattle.ls_coding.specs.View.SignedContexts.{half_context}
 use Rattle.ls_coding.specs.View.States.{Coding}
@@ -12,6 +12,8 @@ use Rattle.ls_bits.specs.declared.source.CodeFault.{CodeFault}
 use Rattle.ls_bits.specs.declared.source.CodeFault.TheVariants.{OutOfBits, NotCanonical}
 use Rattle.ls_stream.specs.declared.faults.StreamFault.{StreamFault}
 use Rattle.ls_stream.specs.declared.faults.StreamFault.TheVariants as stream
+use Rattle.ls_stream.specs.declared.decode.row.Above.{Above}
+use Rattle.ls_stream.specs.declared.decode.row.FromAbove.{FromAbove}
 use Rattle.ls_stream.specs.declared.decode.scan.ScanFault.{ScanFault}
 use Rattle.ls_stream.specs.declared.decode.scan.ScanFault.TheVariants.{Code, LeftoverBits}
 use Rattle.ls_stream.specs.View.FirstFaults.{BreakInPlane, HaveLeftoverBits}
@@ -122,13 +124,23 @@ pub record AreRepeated (old : List ℕ) (column end : ℕ) (new : List ℕ) : Ty
   pub before : (k : ℕ) → k ≤ column → slice_index new k ≡ slice_index old k
   pub others : (k : ℕ) → (slice_index new k ≡ slice_index old k) ⊎ (slice_index new k ≡ slice_index old column)
 
--- what the line above says of the context of a column's sample
-abbrev pub half_context_in : Parameters → List ℕ → ℕ → ℤ
-half_context_in p above j = half_context p (slice_index above (j + 1)) (slice_index above j) (slice_index above (j + 2))
+-- what the line above says of a column's sample: half of its context, and how much Rb is over Rc, or under it
+pub record IsAbove (p : Parameters) (above : List ℕ) (j : ℕ) (from : FromAbove) : Type 0 where
+  pub half_is : from.half ≡ half_context p (slice_index above (j + 1)) (slice_index above j) (slice_index above (j + 2))
+  pub rise_is : from.rise ≡ slice_index above (j + 1) - slice_index above j
+  pub fall_is : from.fall ≡ slice_index above j - slice_index above (j + 1)
 
--- and of those of so many columns from one on
-abbrev pub AreHalfContexts : Parameters → ℕ → ℕ → List ℕ → List ℤ → Type 0
-AreHalfContexts p start count above half_contexts = (i : ℕ) → i < count → slice_index_or half_contexts i (pos 0) ≡ half_context_in p above (start + i)
+-- what a block of it has in a place
+abbrev pub from_above : Above → ℕ → FromAbove
+from_above block place = record {
+  half = slice_index_or block.halves place (pos 0);
+  rise = slice_index block.rises place;
+  fall = slice_index block.falls place;
+}
+
+-- the block is of the samples from a column up to another
+abbrev pub AreAbove : Parameters → ℕ → ℕ → List ℕ → Above → Type 0
+AreAbove p start end above block = (j : ℕ) → start ≤ j → j < end → IsAbove p above j (from_above block (j - start))
 
 -- a run of so many samples, with so many left in the line: one that ends with the line has all of them, one that is interrupted fewer
 pub record EndsInLine (left count : ℕ) (interrupted : Bool) : Type 0 where

@@ -4,6 +4,7 @@ ghost use Rattle.ls_frame.specs.Parameters.{qbpp_of, limit_of};
 ghost use Rattle.ls_bits.specs.View.Plain.{bits_in, bits_at, IsAt};
 ghost use Rattle.ls_coding.specs.Samples.{AreSamples, Interrupts};
 ghost use Rattle.ls_coding.specs.Contexts.{is_zero, is_run};
+ghost use Rattle.ls_coding.specs.Errors.{median};
 ghost use Rattle.ls_coding.specs.View.SignedContexts.{signed_context, half_context};
 ghost use Rattle.ls_coding.specs.Interruptions.{ri_type_of, interruption_error};
 ghost use Rattle.ls_coding.specs.Runs.{run_of, run_bits};
@@ -123,18 +124,20 @@ impl<'a, 'b> Decoder<'a, 'b> {
         whole_context(self.regions, half, neighbours.a, neighbours.c)
     }
 
-    /// Reads a sample of regular mode, whose context is known, from a place on, and goes to the place after it; where the
-    /// decoder itself stands says nothing then. The bits from there on begin with the word of no other sample; of none if
-    /// this fails.
+    /// Reads a sample of regular mode, whose context and median are known, from a place on, and goes to the place after
+    /// it; where the decoder itself stands says nothing then. The bits from there on begin with the word of no other
+    /// sample; of none if this fails.
     #[inline(always)]
     pub fn decode_sample(
         &mut self,
         at: &mut BitPlace,
         context: i16,
+        middle: u32,
         neighbours: &Neighbours,
     ) -> Result<u16, CodeFault>
         requires at { IsAt self.old.source at.old }
         requires context { context ≡ signed_context self.old.state.parameters neighbours.now }
+        requires middle { middle ≡ median neighbours.now }
         requires samples { AreSamples self.old.state.parameters.maxval neighbours.now }
         requires regular { is_run neighbours.now ≡ false }
         requires uninterrupted { self.old.state.interrupted ≡ false }
@@ -152,7 +155,7 @@ impl<'a, 'b> Decoder<'a, 'b> {
             → ⊥) }
         ensures fault { IfErr result (λ fault. BreaksSample self.old.state neighbours.now (bits_at self.old.source at.old) fault) }
     {
-        let plan = self.state.plan_regular_at(context, neighbours);
+        let plan = self.state.plan_regular_at(context, middle, neighbours);
         let k = plan.k();
         if let Some((value, after)) = self.source.few_at(*at, k, self.sure.of(k)) {
             *at = after;

@@ -1,14 +1,14 @@
 //! A row of a plane, from left to right, out of its bits (T.87 Annex A).
-ghost use Rattle.std.specs.Prelude.{◌≡◌, ◌+◌, ◌<◌, ◌≤◌, ℕ, true, false, length, slice_index, IfOk, IfErr};
+ghost use Rattle.std.specs.Prelude.{◌≡◌, ◌+◌, ◌-◌, ◌<◌, ◌≤◌, ℕ, true, false, length, slice_index, IfOk, IfErr};
 ghost use Rattle.ls_bits.specs.View.Plain.{bits_at, IsAt};
 ghost use Rattle.ls_coding.specs.Contexts.{is_run};
 ghost use Rattle.ls_stream.specs.View.LineBuffers.{neighbours_in, ArePadded};
-ghost use Rattle.ls_stream.specs.View.Decoding.{place, ReadsOn, ReadsNoFurther, AreRepeated, AreHalfContexts, half_context_in};
+ghost use Rattle.ls_stream.specs.View.Decoding.{place, ReadsOn, ReadsNoFurther, AreRepeated, AreAbove, from_above, IsAbove};
 
 use crate::decode::decoder::Decoder;
 use crate::lines::{neighbours_in, neighbours_of};
 use ls_bits::{BitPlace, CodeFault};
-use ls_coding::half_context;
+use ls_coding::{half_context, median_by};
 use ls_frame::Presets;
 
 /// For how many samples the line above is looked at ahead. Those after a long run would be looked at in vain.
@@ -16,6 +16,25 @@ const BLOCK: usize = 64;
 
 /// For how many after a run that passed over the end of its block, since where one run is others are.
 const SHORT_BLOCK: usize = 16;
+
+/// What the line above says of the samples of a block, each part by itself, so that they are found side by side.
+#[derive(Drop)]
+pub struct Above {
+    /// The halves of their contexts.
+    pub halves: [i16; BLOCK],
+    /// How much Rb is over Rc, or 0.
+    pub rises: [u16; BLOCK],
+    /// How much Rc is over Rb, or 0.
+    pub falls: [u16; BLOCK],
+}
+
+/// The same of one sample.
+#[derive(Clone, Copy)]
+pub struct FromAbove {
+    pub half: i16,
+    pub rise: u16,
+    pub fall: u16,
+}
 
 /// How far a row is read: up to which column, the sample to the left of it, and the place of the next bit. These are in
 /// registers from sample to sample.
@@ -40,57 +59,65 @@ pub fn decode_row(
         (place 0 line.old decoder.old.state decoder.old.bits) (place width line.new decoder.new.state decoder.new.bits)) }
     ensures stops { IfErr result (λ fault. ReadsNoFurther width above.now (place 0 line.old decoder.old.state decoder.old.bits) fault) }
 {
-    let mut half_contexts = [0; BLOCK];
+    let mut block = Above {
+        halves: [0; BLOCK],
+        rises: [0; BLOCK],
+        falls: [0; BLOCK],
+    };
     let mut column = 0;
     let mut size = BLOCK;
     'columns: while column < width {
-        let count = size.min(width - column);
-        find_half_contexts(decoder.presets(), above, &mut half_contexts, column, count);
-        let end = column + count;
-        column = decode_block(decoder, above, line, &half_contexts[..count], width, column)?;
+        let end = (column + size).min(width);
+        look_above(decoder.presets(), above, &mut block, column, end);
+        column = decode_block(decoder, above, line, &block, width, column, end)?;
         size = if column > end { SHORT_BLOCK } else { BLOCK };
     }
     Ok(())
 }
 
-/// Finds the half contexts of so many samples from column `start` on, by the line above.
-fn find_half_contexts(
-    presets: &Presets,
-    above: &[u16],
-    half_contexts: &mut [i16],
-    start: usize,
-    count: usize,
-)
-    requires above { start + count + 2 ≤ length above.now }
-    requires count { count ≤ length half_contexts.old }
-    ensures found { AreHalfContexts presets.now start count above.now half_contexts.new }
-    ensures len { length half_contexts.new ≡ length half_contexts.old }
+/// Finds what the line above says of the samples from column `start` up to `end`.
+fn look_above(presets: &Presets, above: &[u16], block: &mut Above, start: usize, end: usize)
+    requires above { end + 2 ≤ length above.now }
+    requires short { end ≤ start + 64 }
+    ensures { AreAbove presets.now start end above.now block.new }
 {
-    for number in 0..count {
-        let column = start + number;
-        half_contexts[number] = half_context(
-            presets,
-            above[column + 1],
-            above[column],
-            above[column + 2],
-        );
+    for column in start..end {
+        let b = above[column + 1];
+        let c = above[column];
+        block.halves[column - start] = half_context(presets, b, c, above[column + 2]);
+        block.rises[column - start] = b.saturating_sub(c);
+        block.falls[column - start] = c.saturating_sub(b);
     }
 }
 
-/// Reads the spans that begin at the columns from `start` on of which these are the half contexts, and answers the
-/// column after them.
+/// What a block has in a place.
+fn from_above(block: &Above, place: usize) -> FromAbove
+    requires { place < 64 }
+    ensures { result ≡ from_above block.now place }
+{
+    FromAbove {
+        half: block.halves[place],
+        rise: block.rises[place],
+        fall: block.falls[place],
+    }
+}
+
+/// Reads the spans that begin at the columns from `start` up to `end`, which a block is of, and answers the column after
+/// them.
 fn decode_block(
     decoder: &mut Decoder,
     above: &[u16],
     line: &mut [u16],
-    half_contexts: &[i16],
+    block: &Above,
     width: usize,
     start: usize,
+    end: usize,
 ) -> Result<usize, CodeFault>
     requires lines { ArePadded decoder.old.state.parameters.maxval width above.now line.old }
-    requires half_contexts { AreHalfContexts decoder.old.state.parameters start (length half_contexts.now) above.now half_contexts.now }
-    requires some { 0 < length half_contexts.now }
-    requires inside { start + length half_contexts.now ≤ width }
+    requires block { AreAbove decoder.old.state.parameters start end above.now block.now }
+    requires short { end ≤ start + 64 }
+    requires some { start < end }
+    requires inside { end ≤ width }
     requires narrow { width ≤ 65535 }
     requires uninterrupted { decoder.old.state.interrupted ≡ false }
     ensures next { IfOk result (λ next. (start < next) × (next ≤ width)) }
@@ -103,28 +130,28 @@ fn decode_block(
         left: line[start],
         bits: decoder.place(),
     };
-    'spans: while reached.column - start < half_contexts.len() {
-        let half = half_contexts[reached.column - start];
-        reached = decode_span(decoder, reached, half, above, line, width)?;
+    'spans: while reached.column < end {
+        let from = from_above(block, reached.column - start);
+        reached = decode_span(decoder, reached, from, above, line, width)?;
     }
     decoder.go_to(reached.bits);
     Ok(reached.column)
 }
 
-/// Reads the span that begins where the row is read up to, and says how far it is read then; `half` is the column's half
-/// context. Where the decoder itself stands before and after says nothing.
+/// Reads the span that begins where the row is read up to, and says how far it is read then; `from` is what the line
+/// above says of the column. Where the decoder itself stands before and after says nothing.
 #[inline(always)]
 fn decode_span(
     decoder: &mut Decoder,
     reached: Reached,
-    half: i16,
+    from: FromAbove,
     above: &[u16],
     line: &mut [u16],
     width: usize,
 ) -> Result<Reached, CodeFault>
     requires bits { IsAt decoder.old.source reached.bits }
     requires left { reached.left ≡ slice_index line.old reached.column }
-    requires half { half ≡ half_context_in decoder.old.state.parameters above.now reached.column }
+    requires from { IsAbove decoder.old.state.parameters above.now reached.column from }
     requires lines { ArePadded decoder.old.state.parameters.maxval width above.now line.old }
     requires inside { reached.column < width }
     requires narrow { width ≤ 65535 }
@@ -141,9 +168,10 @@ fn decode_span(
     let column = reached.column;
     let mut bits = reached.bits;
     let neighbours = neighbours_of(reached.left, above, column);
-    let context = decoder.context_of(half, &neighbours);
+    let context = decoder.context_of(from.half, &neighbours);
     if context != 0 {
-        let sample = decoder.decode_sample(&mut bits, context, &neighbours)?;
+        let middle = median_by(neighbours.a, neighbours.b, from.rise, from.fall);
+        let sample = decoder.decode_sample(&mut bits, context, middle, &neighbours)?;
         line[column + 1] = sample;
         return Ok(Reached {
             column: column + 1,

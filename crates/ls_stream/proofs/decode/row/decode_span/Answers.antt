@@ -1,8 +1,9 @@
-use Rattle.std.proofs.Common.{◌≡◌, ℕ, ◌+◌, ◌<◌, false, length, get_or, sym, ◌∙◌, ap, subst, arith}
+use Rattle.std.proofs.Common.{◌≡◌, ℕ, ◌+◌, ◌-◌, ◌<◌, false, length, get_or, sym, ◌∙◌, ap, subst, arith}
 use Rattle.std.proofs.Math.ListN.{set}
 use Rattle.std.proofs.lemmas.List.{get_or-set_same, length-set}
 use Rattle.ls_frame.specs.Parameters.{Parameters}
 use Rattle.ls_bits.specs.View.Plain.{bits_at}
+use Rattle.ls_coding.specs.declared.neighbours.Neighbours.{Neighbours}
 use Rattle.ls_coding.specs.Contexts.{is_run}
 use Rattle.ls_coding.specs.View.States.{Coding}
 use Rattle.ls_stream.specs.View.LineBuffers.{ArePadded}
@@ -11,6 +12,12 @@ use Rattle.std.proofs.lemmas.Result.{err_from_is_err_and}
 use Rattle.ls_stream.proofs.RowBreakLemmas.{sample_malformed, sample_later}
 use Rattle.ls_stream.proofs.DecodingLemmas.{sample_read, no_sample, is_longer, small_more}
 use Rattle.ls_stream.proofs.decode.row.decode_span.Goals as goal
+
+pub decode_sample-requires-clause-middle : goal.decode_sample-requires-clause-middle
+decode_sample-requires-clause-middle c =
+    let n : Neighbours = c.neighbours_of-neighbours.result in
+    let same = c.neighbours_of-neighbours.ensures c.args.line.now c.requires.left in
+    c.median_by-middle.ensures n.c n.d (c.requires.from.rise_is ∙ sym (ap (λ (m : Neighbours). m.b - m.c) same)) (c.requires.from.fall_is ∙ sym (ap (λ (m : Neighbours). m.c - m.b) same))
 
 pub returns-in_err-sample-clause-stops : goal.returns-in_err-sample-clause-stops
 returns-in_err-sample-clause-stops c =
