@@ -1,0 +1,5 @@
+use Rattle.std.proofs.Common.{rules}
+use Rattle.ls_film.proofs.coding.code_bytes.Goals as goal
+
+pub returns-clause-completes : goal.returns-clause-completes
+returns-clause-completes c = search rules
