@@ -1,4 +1,4 @@
-use Rattle.std.proofs.Common.{◌≡◌, ℤ, pos, ap, sym, subst, ◌∙◌, arith}
+use Rattle.std.proofs.Common.{◌≡◌, ℤ, pos, ap, sym, subst, ◌∙◌, arith, rules}
 use Rattle.std.proofs.lemmas.Bool.{false≢true}
 use mir.Syntax.{w32}
 use mir.Val.{to_z, of_z}
@@ -39,3 +39,9 @@ returns-clause-ok c =
       only = λ other within same. c.sample_of-sample.ensures.only other within
           (c.unmapped_error-error.ensures.only (error_of c.args.self.now.presets c.args.negative (pos c.args.prediction) other) (ap (λ l. mapped_error l (error_of c.args.self.now.presets c.args.negative (pos c.args.prediction) other)) inverted ∙ same) ∙ sym passed);
     }
+
+pub returns-then-not-is_reduced-clause-sound : goal.returns-then-not-is_reduced-clause-sound
+returns-then-not-is_reduced-clause-sound c = search rules
+
+pub returns-then-not-is_reduced-clause-unchanged : goal.returns-then-not-is_reduced-clause-unchanged
+returns-then-not-is_reduced-clause-unchanged g c = search rules

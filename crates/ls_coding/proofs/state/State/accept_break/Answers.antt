@@ -1,4 +1,4 @@
-use Rattle.std.proofs.Common.{◌^◌, ◌<◌, true, sym, ap, subst, ◌∙◌}
+use Rattle.std.proofs.Common.{◌^◌, ◌<◌, true, sym, ap, subst, ◌∙◌, rules}
 use Rattle.ls_coding.specs.Runs.{order, run_of}
 use Rattle.ls_coding.specs.View.States.{Coding, run_after}
 use Rattle.ls_coding.specs.contracts.state.State as state
@@ -12,3 +12,6 @@ returns-clause-state c =
 
 pub returns-clause-events : goal.returns-clause-events
 returns-clause-events c events same = state_after_run c.args.self.now _ _ (returns-clause-state c) events same
+
+pub returns-clause-ok : goal.returns-clause-ok
+returns-clause-ok c = search rules

@@ -1,4 +1,4 @@
-use Rattle.std.proofs.Common.{◌≡◌, ◌+◌, ◌^◌, ◌<◌, ◌≤◌, true, refl, sym, ap, subst, ◌∙◌, arith}
+use Rattle.std.proofs.Common.{◌≡◌, ◌+◌, ◌^◌, ◌<◌, ◌≤◌, true, refl, sym, ap, subst, ◌∙◌, arith, rules}
 use Rattle.ls_coding.specs.Runs.{order, samples_of_ones, run_of, run_word}
 use Rattle.ls_coding.specs.View.States.{Coding, run_after}
 use Rattle.ls_coding.specs.contracts.state.State as state
@@ -32,3 +32,6 @@ returns-clause-state c =
 
 pub returns-clause-events : goal.returns-clause-events
 returns-clause-events c events same = state_after_run c.args.self.now _ _ (returns-clause-state c) events same
+
+pub returns-clause-short : goal.returns-clause-short
+returns-clause-short c = search rules
