@@ -1,0 +1,12 @@
+use Rattle.std.proofs.Common.{rules, arith}
+use Rattle.std.proofs.lemmas.Grind.{common_steps}
+use Rattle.ls_c.proofs.request.rows_of.Goals as goal
+
+pub returns-then-count-from-clause-exactly : goal.returns-then-count-from-clause-exactly
+returns-then-count-from-clause-exactly c = grind (arith, common_steps)
+
+pub returns-clause-exactly : goal.returns-clause-exactly
+returns-clause-exactly c = grind (arith, common_steps)
+
+pub returns-clause-stride : goal.returns-clause-stride
+returns-clause-stride c = search rules
