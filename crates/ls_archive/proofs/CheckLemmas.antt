@@ -6,8 +6,7 @@ use Rattle.ls_film.specs.Film.{most_frames}
 use Rattle.ls_frame.specs.declared.frame.Kind.{Kind}
 use Rattle.ls_frame.specs.Picture.{Picture}
 use Rattle.ls_frame.specs.Parameters.{Parameters}
-use Rattle.ls_frame.specs.View.Known.{Tells, Gave, WasAtEnd, TakesUntil, known}
-use Rattle.ls_frame.proofs.KnownLemmas.{known-consumed}
+use Rattle.ls_frame.specs.View.Known.{Tells, Gave, WasAtEnd, known}
 use Rattle.ls_stream.specs.declared.faults.StreamFault.{StreamFault}
 use Rattle.ls_stream.specs.Grammar.{Spells}
 use Rattle.ls_stream.specs.View.Reading.{Take}
@@ -22,26 +21,6 @@ use Rattle.ls_archive.specs.View.Checks.{FindsMore, GaveAtMost, HasLooked, HasCh
 use Rattle.ls_archive.specs.View.Entries.{IsEntry}
 
 -- ---- reading
-
--- bytes that were taken up to a mark, after those before
-pub given_on : (mark most : ℕ) (first old new : Option (List ℕ)) (bytes after : List ℕ) (last : ℕ) → (Tells first → Tells old × (known first ≡ bytes ++ known old))
-    → TakesUntil mark most old new bytes after last → Tells first → Tells new × (known first ≡ after ++ known new)
-given_on mark most first old new bytes after last read taken told =
-    let before = read told in
-    let given = known-consumed old new (taken.run ++ last ∷ []) before.0 taken.given in (
-      given.0,
-      before.1 ∙ ap (λ bs. bytes ++ bs) given.1 ∙ sym (append_assoc bytes (taken.run ++ last ∷ []) (known new)) ∙ ap (λ bs. bs ++ known new) (sym taken.appended),
-    )
-
--- they are as many as there was room for, or fewer
-pub given_few : (mark most : ℕ) (old new : Option (List ℕ)) (bytes after : List ℕ) (last : ℕ) → TakesUntil mark most old new bytes after last
-    → (length after ≤ length bytes + most) × (length bytes < length after)
-given_few mark most old new bytes after last taken =
-    let few = taken.few in
-    let size = ap length taken.appended in (
-      omega (arith, few, size, length-append bytes (taken.run ++ last ∷ []), length-append taken.run (last ∷ [])),
-      omega (arith, size, length-append bytes (taken.run ++ last ∷ []), length-append taken.run (last ∷ [])),
-    )
 
 -- so many bytes were given, or all that were left
 pub gave_at_most : (old new : Option (List ℕ)) (most : ℕ) (bytes : List ℕ) → (Tells old → Tells new × (known old ≡ bytes ++ known new)) → length bytes ≤ most
@@ -105,26 +84,6 @@ same_entry a b bytes kind width height precision parameters =
     ∙ ap (λ (x : ℕ). made b.bytes b.kind b.width x a.precision a.parameters) height
     ∙ ap (λ (x : ℕ). made b.bytes b.kind b.width b.height x a.parameters) precision
     ∙ ap (λ (x : Parameters). made b.bytes b.kind b.width b.height b.precision x) parameters
-
-pub one_entry : (a b : Entry) → IsEntry a → IsEntry b → a.bytes ≡ b.bytes → a ≡ b
-one_entry a b is other bytes =
-    let o : is.outline ≡ other.outline = (same_read is.outline other.outline [] [] (sym is.complete ∙ ap outline_of bytes ∙ other.complete)).0 in
-    same_entry a b bytes
-    (sym is.says.kind ∙ ap (λ (o : Outline). o.header.kind) o ∙ other.says.kind)
-    (sym is.says.width ∙ ap (λ (o : Outline). o.header.width) o ∙ other.says.width)
-    (sym is.says.height ∙ ap (λ (o : Outline). o.header.height) o ∙ other.says.height)
-    (sym is.says.precision ∙ ap (λ (o : Outline). o.header.precision) o ∙ other.says.precision)
-    (sym is.says.parameters ∙ ap (λ (o : Outline). o.parameters) o ∙ other.says.parameters)
-
--- a good one has its line
-by_sums : (n offset : ℕ) (e : Entry) (text : List ℕ) (sums : Bool) → text ≡ line sums n offset e → (text ≡ line true n offset e) ⊎ (text ≡ line false n offset e)
-by_sums n offset e text true is = inl is
-by_sums n offset e text false is = inr is
-
-pub good_line : (n offset : ℕ) (e : Entry) (text bytes : List ℕ) → IsEntry e → e.bytes ≡ bytes → HasLine n offset text bytes → (text ≡ line true n offset e) ⊎ (text ≡ line false n offset e)
-good_line n offset e text bytes is bytes_are has =
-    let same : has.entry ≡ e = one_entry has.entry e has.is_entry is (has.bytes_are ∙ sym bytes_are) in
-    by_sums n offset e text has.sums (has.text_is ∙ ap (line has.sums n offset) same)
 
 pub has_line : (n offset : ℕ) (e : Entry) (text bytes : List ℕ) → IsEntry e → e.bytes ≡ bytes → (text ≡ line true n offset e) ⊎ (text ≡ line false n offset e)
     → HasLine n offset text bytes
@@ -288,9 +247,3 @@ pub begins-with : (n offset : ℕ) (mid index' : Option (List ℕ)) (l : Line) �
 begins-with n offset mid index' l is gave told =
     let read = gave told in
     (l, known index', read.2 ∙ ap (λ s. s ++ known index') (sym read.3), is)
-
--- what a text that was read is the beginning of has bytes
-pub some_read : (mid index' : Option (List ℕ)) (text : List ℕ) → 0 < length text → Gave mid index' (λ read. text ≡ read) → Tells mid → 0 < length (known mid)
-some_read mid index' text some gave told =
-    let read = gave told in
-    omega (arith, some, ap length read.2, length-append read.1 (known index'), ap length read.3)

@@ -14,8 +14,8 @@ use Rattle.ls_frame.specs.View.Known.{Tells, TakesUntil, known}
 use Rattle.ls_frame.proofs.KnownLemmas.{known-consumed}
 use Rattle.ls_stream.specs.Grammar.{most_bytes}
 use Rattle.ls_film.specs.Listing.{column}
-use Rattle.ls_archive.specs.View.Checking.{Line, HasNoLineFeed, beginning, IsLine}
-use Rattle.ls_archive.specs.View.Checks.{IsFrontLine, BeginsOtherwise}
+use Rattle.ls_archive.specs.View.Checking.{HasNoLineFeed, beginning}
+use Rattle.ls_archive.specs.View.Checks.{IsFrontLine}
 use Rattle.ls_archive.proofs.LineLemmas.{head_or, all-append, same_first}
 
 -- ---- up to the first LF
@@ -69,20 +69,6 @@ front-ended old mid before text one gave end same told front rest begins none fe
     let whole : front ++ 10 ∷ rest ≡ before ++ [] = sym (append_assoc front (10 ∷ []) rest) ∙ sym begins ∙ all ∙ sym (append-nil before) in
     let size : length front + suc (length rest) ≡ length before + 0 = sym (length-append front (10 ∷ rest)) ∙ ap length whole ∙ length-append before [] in
     absurd (no_feed_before front before rest [] one whole (omega (arith, size)))
-
--- the first line isn't the line n: nor do the bytes begin with that
-pub begins-otherwise : (n offset : ℕ) (bytes text : List ℕ) → 0 < length bytes → IsFrontLine bytes text
-    → ((size : ℕ) (rest : List ℕ) → size ≤ most_bytes → text ≡ (beginning n offset size ++ rest) ++ codes "\n" → ⊥) → BeginsOtherwise n offset bytes
-begins-otherwise n offset bytes text some is_front none = (
-  some,
-  λ line.
-      let l : Line = line.0 in
-      let is : IsLine n offset l = line.3 in
-      let front = beginning n offset l.size ++ is.rest in
-      let begins : bytes ≡ (front ++ codes "\n") ++ line.1 = line.2 ∙ ap (λ s. s ++ line.1) is.text_is in
-      let size : length l.text ≡ length front + 1 = ap length is.text_is ∙ length-append front (10 ∷ []) in
-      none l.size is.rest is.few (is_front front line.1 begins is.one (omega (arith, size, is.short))),
-)
 
 -- ---- up to the first blank
 

@@ -1,14 +1,12 @@
 -- A line is the bytes up to LF.
-use Rattle.std.proofs.Common.{◌≡◌, ◌≢◌, ◌⊎◌, inl, inr, ◌<◌, ◌≤◌, ℕ, Bool, true, false, List, [], ◌∷◌, ◌++◌, length, drop, Option, if◌then◌else◌, nat_lt, rules, refl, sym, ap, subst, ◌∙◌, arith, append_assoc, length-append, codes}
+use Rattle.std.proofs.Common.{◌≡◌, ◌≢◌, ◌⊎◌, inl, inr, ◌<◌, ℕ, Bool, true, false, List, [], ◌∷◌, ◌++◌, length, drop, Option, if◌then◌else◌, nat_lt, rules, refl, sym, ap, ◌∙◌, arith, append_assoc, length-append}
 use Rattle.std.specs.List.{AllByRecursion}
-use Rattle.ls_film.proofs.FilmLemmas.{all-more}
 use Rattle.ls_frame.specs.View.Known.{TakesUntil}
 use Rattle.ls_stream.specs.declared.faults.StreamFault.{StreamFault}
 use Rattle.ls_stream.specs.declared.faults.StreamFault.TheVariants as stream
-use Rattle.ls_stream.specs.Grammar.{most_bytes}
 use Rattle.ls_stream.specs.View.Outlines.{IsFirstFault}
 use Rattle.ls_archive.specs.declared.checking.Damage.TheVariants.{Truncated, Changed}
-use Rattle.ls_archive.specs.View.Checking.{Line, HasNoLineFeed, beginning, IsLine, HasLine, IsDamage}
+use Rattle.ls_archive.specs.View.Checking.{Line, HasNoLineFeed, HasLine, IsDamage}
 use Rattle.ls_archive.specs.View.Checks.{IsOneLine}
 
 pub all-append : {A : Type 0} (P : A → Type 0) (xs ys : List A) → AllByRecursion P xs → AllByRecursion P ys → AllByRecursion P (xs ++ ys)
@@ -32,10 +30,6 @@ taken_line most last old new before after taken one = record {
   one = all-append (λ byte. byte ≢ 10) before taken.run one taken.unmarked;
 }
 
--- and without LF, if its last byte isn't LF
-pub no_feed : (text : List ℕ) (line : IsOneLine text) → line.last ≢ 10 → HasNoLineFeed text
-no_feed text line other = subst HasNoLineFeed (sym line.text_is) (all-more (λ byte. byte ≢ 10) line.first line.last line.one other)
-
 unfoldable pub head_or : ℕ → List ℕ → ℕ
 head_or other [] = other
 head_or other (x ∷ xs) = x
@@ -50,16 +44,6 @@ same_first (c ∷ a) (d ∷ b) x y same =
     let first : c ≡ d = ap (head_or 0) same in
     let later : a ++ x ∷ [] ≡ b ++ y ∷ [] = ap (drop 1) same in
     ap (λ e. e ∷ a) first ∙ ap (λ s. d ∷ s) (same_first a b x y later)
-
-pub is_line : (n offset size : ℕ) (text rest : List ℕ) → size ≤ most_bytes → IsOneLine text → length text ≤ 1024 → text ≡ (beginning n offset size ++ rest) ++ codes "\n"
-    → IsLine n offset (record { text = text; size = size })
-is_line n offset size text rest few line short is = record {
-  few = few;
-  rest = rest;
-  text_is = is;
-  one = subst HasNoLineFeed (same_first line.first (beginning n offset size ++ rest) line.last 10 (sym line.text_is ∙ is)) line.one;
-  short = short;
-}
 
 -- what is wrong with bytes that don't have their line
 pub damage_by : (n offset : ℕ) (l : Line) (bytes : List ℕ) → (HasLine n offset l.text bytes → ⊥) → (short : Bool) → short ≡ nat_lt (length bytes) l.size

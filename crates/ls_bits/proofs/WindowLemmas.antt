@@ -168,11 +168,6 @@ one-taken word held count after_ff rest (found within e) h =
     ap (λ bits. bits ++ unstuff_from (byte_bits after_ff) rest) e
     ∙ append_assoc (zeros count) (true ∷ bits_of (held - (count + 1)) word) (unstuff_from (byte_bits after_ff) rest)
 
-pub all-taken : (word held count : ℕ) (after_ff : Bool) (rest : List ℕ) → LeadingZeros held word count → held ≤ count
-    → bits_left word held after_ff rest ≡ zeros held ++ bits_left word 0 after_ff rest
-all-taken word held count after_ff rest (found within e) h = absurd (omega arith)
-all-taken word held count after_ff rest (none all e) h = ap (λ bits. bits ++ unstuff_from (byte_bits after_ff) rest) e
-
 pub four_in_after : (word held value : ℕ) (after_ff : Bool) (bytes : List ℕ) → after_ff ≡ false → 4 ≤ length bytes → IsWindow held after_ff bytes
     → (get_or bytes 0 0 ≡ 255 → ⊥) → (get_or bytes 1 0 ≡ 255 → ⊥) → (get_or bytes 2 0 ≡ 255 → ⊥) → (get_or bytes 3 0 ≡ 255 → ⊥) → held ≤ 31
     → value ≡ ((get_or bytes 0 0 * 256 + get_or bytes 1 0) * 256 + get_or bytes 2 0) * 256 + get_or bytes 3 0

@@ -1,6 +1,5 @@
 -- What decoding answers, put together from what its steps do.
-use Rattle.std.proofs.Common.{◌≡◌, ◌≢◌, ◌⊎◌, ℕ, ◌*◌, ◌<◌, ◌≤◌, List, [], ◌∷◌, ◌++◌, length, take, None, Some, inl, inr, refl, sym, ◌∙◌, ap, subst, arith}
-use Rattle.std.specs.List.{AllByRecursion}
+use Rattle.std.proofs.Common.{◌≡◌, ◌≢◌, ◌⊎◌, ℕ, ◌*◌, ◌<◌, ◌≤◌, List, [], ◌++◌, length, take, None, Some, inl, inr, refl, sym, ◌∙◌, ap, subst, arith}
 use Rattle.std.proofs.lemmas.Bool.Decides.{nat_tests}
 use Rattle.ls_frame.specs.Picture.{Picture, IsFrame}
 use Rattle.ls_stream.specs.declared.faults.StreamFault.{StreamFault}
@@ -150,7 +149,3 @@ unopened most bytes old form used fault r (at_fault first e other is none says f
     (stopped most bytes old old form used fault first (λ front rest f same_bytes s. absurd (none front rest f same_bytes s)) (inr is) (λ memory. absurd (other memory)) (λ _. refl) (same refl) says unused formless)
 
 -- ---- the samples of a frame of 8 bits
-
-pub all_narrow : (maxval most : ℕ) (samples : List ℕ) → maxval ≤ most → AllByRecursion (λ sample. sample ≤ maxval) samples → AllByRecursion (λ sample. sample ≤ most) samples
-all_narrow maxval most [] below all = all
-all_narrow maxval most (sample ∷ samples) below all = (omega (arith, below, all.0), all_narrow maxval most samples below all.1)

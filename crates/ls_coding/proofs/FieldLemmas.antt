@@ -195,13 +195,6 @@ pub counts_sound_at : (ri_type : Bool) (reset bound : ℕ) (a n : List ℕ) (b c
 counts_sound_at true reset bound a n b c nn sound = sound.ri_type_1
 counts_sound_at false reset bound a n b c nn sound = sound.ri_type_0
 
--- A of a regular context, in the code's numbers
-pub stats_sum : (reset maxval : ℕ) (s : Stats) → AreSound reset (error_bound maxval) s → reset ≤ 65535 → maxval ≤ 65535 → s.a < 2 ^ 31
-stats_sum reset maxval s sound few wide =
-    let bound : error_bound maxval ≤ 32768 = omega arith in
-    let product : s.n * error_bound maxval ≤ 65535 * 32768 = mul-le s.n (error_bound maxval) 65535 32768 (omega (arith, sound.few)) bound in
-    omega (arith, sound.sum)
-
 -- A, if N is at most 65535
 pub counts_sum : (reset maxval : ℕ) (s : Counts) → AreSoundCounts reset (error_bound maxval) s → maxval ≤ 65535 → s.a ≤ s.n * 32768
 counts_sum reset maxval s sound wide =

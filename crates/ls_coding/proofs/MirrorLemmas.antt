@@ -1,14 +1,13 @@
 -- A sample's error, from what it and its prediction are counted down from MAXVAL.
-use Rattle.std.proofs.Common.{◌≡◌, ℕ, suc, ◌-◌, ◌≤◌, Bool, true, false, cond, List, ℤ, pos, negsuc, neg_ℤ, ◌+ℤ◌, ◌-ℤ◌, refl, ◌∙◌, ap, arith}
-use Rattle.std.specs.Prelude.{int_lt, max, unsigned_abs, ◌==◌}
+use Rattle.std.proofs.Common.{◌≡◌, ℕ, ◌-◌, ◌≤◌, Bool, true, false, cond, List, ℤ, pos, neg_ℤ, ◌+ℤ◌, ◌-ℤ◌, refl, ◌∙◌, ap, arith}
+use Rattle.std.specs.Prelude.{int_lt, max, ◌==◌}
 use Rattle.std.proofs.Math.ListN.{set}
 use Rattle.std.proofs.lemmas.Int.{ints}
-use Rattle.std.proofs.lemmas.Bool.{ne_eqb}
 use Rattle.ls_frame.specs.Parameters.{Parameters, range_of}
 use Rattle.ls_coding.specs.declared.neighbours.Neighbours.{Neighbours}
 use Rattle.ls_coding.specs.declared.mirrored.Mirrored.{Mirrored}
 use Rattle.ls_coding.specs.Numbers.{clamped}
-use Rattle.ls_coding.specs.Contexts.{context_of, signed, is_zero}
+use Rattle.ls_coding.specs.Contexts.{context_of, signed}
 use Rattle.ls_coding.specs.Errors.{median, reduced}
 use Rattle.ls_coding.specs.Stats.{Stats, stats_step}
 use Rattle.ls_coding.specs.Events.{regular_error_of, regular_word}
@@ -88,7 +87,3 @@ may_code s n sample one uninterrupted h = record {
   within = omega (arith, h.sample_is, image_small s.parameters.maxval sample (context_of s.parameters n).negative h.within);
   uninterrupted = uninterrupted;
 }
-
-pub zero_size : (z : ℤ) → (unsigned_abs z == 0) ≡ is_zero z
-zero_size (pos n) = refl
-zero_size (negsuc n) = ne_eqb (suc n) 0 (λ e. absurd (omega arith))

@@ -44,7 +44,7 @@ pub fn half_context(presets: &Presets, b: u16, c: u16, d: u16) -> i16
 }
 
 /// A context: its number, 0 to 364, and whether SIGN is -1.
-#[derive(Clone, Copy, Debug, PartialEq, Eq)]
+#[derive(Clone, Copy)]
 pub struct Context {
     pub number: usize,
     pub negative: bool,

@@ -60,7 +60,7 @@ pub fn samples_of_ones(index: u32, ones: u32) -> u32
 }
 
 /// How far the bits 1 of a run come: how many they are, RUNindex after them, and the samples that are left.
-#[derive(Clone, Copy, Debug, PartialEq, Eq)]
+#[derive(Clone, Copy)]
 pub struct Walked {
     pub ones: u32,
     pub index: u32,

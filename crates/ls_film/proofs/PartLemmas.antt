@@ -4,7 +4,7 @@ use Rattle.std.proofs.Common.{Bool, true, false, None, Some, ◌≡◌, ◌⊎�
 use Rattle.std.proofs.KnownBytes.{Appends-nil}
 use Rattle.std.proofs.lemmas.List.{length_push, length-append, length-drop, take_at, drop_at}
 use Rattle.ls_frame.specs.Picture.{Picture}
-use Rattle.ls_frame.specs.View.Known.{Tells, Gave, WasAtEnd, known}
+use Rattle.ls_frame.specs.View.Known.{Tells, Gave, known}
 use Rattle.ls_stream.specs.declared.next.NextFault.{NextFault}
 use Rattle.ls_stream.specs.declared.next.NextFault.TheVariants as next_fault
 use Rattle.ls_stream.specs.declared.faults.StreamFault.TheVariants as stream
@@ -12,7 +12,6 @@ use Rattle.ls_stream.specs.Grammar.{Spells, most_bytes}
 use Rattle.ls_stream.specs.View.Extents.{IsNext}
 use Rattle.std.specs.Io.KnownBytes.{Appends}
 use Rattle.ls_film.specs.Showing.{show}
-use Rattle.ls_film.specs.View.Engine.{Completes, HasRun}
 use Rattle.ls_stream.proofs.ExtentLaws.{next_is}
 use Rattle.ls_film.specs.Film.{most_frames, IsFilm}
 use Rattle.ls_film.specs.View.Playing.{BreaksBy, Stops}
@@ -36,9 +35,6 @@ passed_more (first ∷ streams) codestream rest passed next =
     sym (append_assoc (joined streams) codestream rest) ∙ ap (λ s. s ++ rest) (sym (joined_more streams codestream)) in
     (subst (IsNext first) same passed.0, passed_more streams codestream rest passed.1 next)
 
-pub passed-none : (read : Option (List ℕ)) → GavePassed read read 0
-passed-none read = λ told. (told, [], refl, ([], refl, refl, tt))
-
 pub passed-more : (read mid new : Option (List ℕ)) (n : ℕ) (codestream : List ℕ) → GavePassed read mid n → Gave mid new (λ bytes. (codestream ≡ bytes) × IsNext bytes (known new))
     → GavePassed read new (n + 1)
 passed-more read mid new n codestream passed next = λ told.
@@ -56,18 +52,6 @@ passed-more read mid new n codestream passed next = λ told.
         passed_more streams one.1 (known new) before one.3.1,
       ),
     )
-
--- the end of the input
-pub passed-end : (read mid new : Option (List ℕ)) (n : ℕ) → GavePassed read mid n → WasAtEnd mid new → GavePassed read new n × (Tells read → known new ≡ [])
-passed-end read mid new n passed end = (
-  λ told. let front = passed told in let none = end front.0 in (
-    none.0,
-    front.1,
-    front.2 ∙ ap (λ s. front.1 ++ s) (none.1 ∙ sym none.2),
-    (front.3.0, front.3.1, front.3.2, subst (ArePassed front.3.0) (none.1 ∙ sym none.2) front.3.3),
-  ),
-  λ told. (end (passed told).0).2,
-)
 
 -- a fault of the next one
 pub stops-passing : (read mid new : Option (List ℕ)) (m count : ℕ) (fault : NextFault) → m < count → GavePassed read mid m
@@ -90,22 +74,6 @@ too-large-breaks mid new fault is large complete told = (
 )
 
 -- ---- what is shown
-
-pub shows-run : (read read' written written' : Option (List ℕ)) (n bytes : ℕ) → HasRun Spells show read read' written written' n bytes → ShowsNext read read' written written' n
-shows-run read read' written written' n bytes run = record { frames = run.frames; count = run.count; lawful = run.lawful; gave = run.gave; wrote = run.wrote }
-
-pub shows-all : (read read' written written' : Option (List ℕ)) (n : ℕ) → Completes Spells show read read' written written' n
-    → ShowsNext read read' written written' n × (Tells read → known read' ≡ [])
-shows-all read read' written written' n run = (
-  record {
-    frames = run.frames;
-    count = run.count;
-    lawful = run.lawful;
-    gave = λ told. let gave = run.gave told in (gave.0, known read, sym (append-nil (known read)) ∙ ap (λ s. known read ++ s) (sym gave.1), gave.2);
-    wrote = run.wrote;
-  },
-  λ told. (run.gave told).1,
-)
 
 -- a recording that ends before a part lacks it
 lacks_all : (first m : ℕ) (last : Option ℕ) → m < first → IfSome last (λ n. (first ≤ n) × (n < most_frames)) → LacksPart first last m

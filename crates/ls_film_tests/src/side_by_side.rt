@@ -1,3 +1,4 @@
+use crate::testing::check;
 use ls_film::PlayFault;
 use ls_frame::{Counted, Feed, Outlet};
 use ls_player::play_by;
@@ -23,7 +24,7 @@ fn check_outcome(rt: &impl Abort, got: Outcome<'_>, want: Outcome<'_>, ample: bo
     } else {
         want
     };
-    assert_eq!(rt; got, want, "a recording that is played by several");
+    check(rt, "a recording that is played by several", &got, &want);
 }
 
 /// A recording's bytes, where a read of it fails, what befalls its writer, and how its playing ends.

@@ -1,10 +1,9 @@
 -- The front of bytes past marks that are followed by a byte below a limit.
-use Rattle.std.proofs.Common.{◌≡◌, ◌≢◌, inl, inr, ℕ, suc, ◌+◌, ◌-◌, ◌<◌, ◌≤◌, List, [], ◌∷◌, ◌++◌, length, take, drop, get_or, slice_range, Option, None, Some, sym, ap, subst, ◌∙◌, arith, take-append-drop, drop-drop, length-take, length-drop, length-append}
+use Rattle.std.proofs.Common.{◌≡◌, inl, inr, ℕ, suc, ◌+◌, ◌-◌, ◌<◌, ◌≤◌, List, [], ◌∷◌, ◌++◌, length, take, drop, get_or, slice_range, None, Some, sym, ap, subst, ◌∙◌, arith, take-append-drop, drop-drop, length-take, length-drop}
 use Rattle.std.proofs.lemmas.List.{take-append-le, drop-take, drop_more, take_more, take_all, get_or-take, get_or-drop}
 use Rattle.std.proofs.lemmas.Bool.{cases_lt, eq-eqb}
-use Rattle.std.specs.List.{AllByRecursion}
 use Rattle.memchr.specs.Find.{IsFirstByte, Nowhere, Passes, is_byte}
-use Rattle.ls_frame.specs.View.Known.{TakesUntil, TakesPast, ArePassed}
+use Rattle.ls_frame.specs.View.Known.{TakesPast, ArePassed}
 
 -- ---- as far as they are passed
 
@@ -104,15 +103,3 @@ chunk-one mark limit most bytes start end byte before after some within any firs
     }
 
 -- ---- past no mark
-
-unmarked-run : (mark last : ℕ) (run : List ℕ) → ArePassed mark 0 (run ++ last ∷ []) → AllByRecursion (λ byte. byte ≢ mark) run
-unmarked-run mark last [] passed = tt
-unmarked-run mark last (byte ∷ run) passed = (
-  λ is. let never = passed 0 (omega (arith, length-append run (last ∷ []))) is in absurd (omega (arith, never)),
-  unmarked-run mark last run (λ k less is. passed (suc k) (omega (arith, less)) is),
-)
-
--- no byte is below 0
-pub taken-until : (mark most : ℕ) (old new : Option (List ℕ)) (before after : List ℕ) (last : ℕ) → TakesPast mark 0 most old new before after last → TakesUntil mark most old new before after last
-taken-until mark most old new before after last taken =
-    record { run = taken.run; appended = taken.appended; given = taken.given; unmarked = unmarked-run mark last taken.run taken.passed; few = taken.few }

@@ -1,5 +1,5 @@
 -- Samples in the bytes of a raster.
-use Rattle.std.proofs.Common.{◌≡◌, ℕ, zero, suc, ◌+◌, ◌-◌, ◌*◌, ◌/◌, ◌%◌, ◌&&◌, cond, leb, get_or, set, ◌⊎◌, inl, inr, Ok, Err, take, ◌<◌, ◌≤◌, Bool, true, false, List, [], ◌∷◌, ◌++◌, length, drop, refl, sym, ap, ◌∙◌, min, arith, append_assoc, append-nil}
+use Rattle.std.proofs.Common.{◌≡◌, ℕ, zero, suc, ◌+◌, ◌-◌, ◌*◌, ◌/◌, ◌%◌, ◌&&◌, cond, leb, get_or, set, ◌⊎◌, inl, inr, Ok, Err, take, ◌<◌, ◌≤◌, Bool, true, false, List, [], ◌∷◌, ◌++◌, length, drop, refl, sym, ap, ◌∙◌, arith, append_assoc, append-nil}
 use Rattle.std.proofs.lemmas.List.{drop-drop, length-drop, length-take, length-take-le, length-append, get_or-take, take_more_set}
 use Rattle.std.proofs.lemmas.Bool.{and_parts, and_from, leb-true}
 use Rattle.std.specs.List.{AllByRecursion}
@@ -128,10 +128,6 @@ chunk-size false bytes = omega arith
 chunk-size true [] = refl
 chunk-size true (a ∷ []) = refl
 chunk-size true (a ∷ b ∷ bytes) = let more = chunk-size true bytes in omega arith
-
-pub chunk-order : (wide : Bool) (left chunk held : ℕ) → 0 < left → sample_size wide ≤ chunk → held ≤ 1 → (wide ≡ false → held ≡ 0) → held < min (byte_count wide left) chunk
-chunk-order false left chunk held more some few narrow = let none = narrow refl in omega arith
-chunk-order true left chunk held more some few narrow = omega arith
 
 pub chunk-few : (wide : Bool) (left here begun filled : ℕ) → byte_count wide here + begun ≡ filled → filled ≤ byte_count wide left → here ≤ left
 chunk-few false left here begun filled all within = omega arith

@@ -5,7 +5,6 @@ use Rattle.ls_frame.specs.Canonical.{canonical}
 use Rattle.ls_frame.specs.Picture.{Picture, IsFrame}
 use Rattle.ls_frame.specs.View.Devices.{count_after}
 use Rattle.ls_frame.specs.View.Known.{Gave}
-use Rattle.ls_stream.specs.declared.faults.StreamFault.{StreamFault}
 use Rattle.ls_stream.specs.declared.faults.StreamFault.TheVariants as stream
 use Rattle.ls_stream.specs.Grammar.{Spells}
 use Rattle.ls_film.specs.Film.{most_frames}
@@ -13,12 +12,12 @@ use Rattle.ls_film.specs.Showing.{show}
 use Rattle.ls_film.specs.declared.playing.PlayFault.{PlayFault}
 use Rattle.ls_film.specs.declared.playing.PlayFault.TheVariants as play
 use Rattle.ls_film.specs.View.Engine.{HasRun}
-use Rattle.ls_film.specs.View.Playing.{stream_fault, blames_reader}
+use Rattle.ls_film.specs.View.Playing.{blames_reader}
 use Rattle.ls_film.proofs.EngineLemmas.{HasRun-none, HasRun-more, HasRun-output, HasRun-most}
 use Rattle.ls_film.proofs.PlayLemmas.{stream-stops, io-stops}
 use Rattle.ls_player.specs.declared.ahead.Untaken.{Untaken}
 use Rattle.ls_player.specs.declared.ahead.Untaken.TheVariants.{Stream, Io}
-use Rattle.ls_player.specs.View.Ahead.{IsUnread, is_io}
+use Rattle.ls_player.specs.View.Ahead.{IsUnread}
 use Rattle.ls_player.specs.View.Playing.{StopsAhead, StopsImage, HasReadAhead, fault_of}
 use Rattle.ls_player.proofs.JobLemmas.{show-more}
 
@@ -57,25 +56,9 @@ module _ (read place begun written : Option (List ℕ)) (n bytes : ℕ) (run : H
 
 -- ---- reads that failed
 
--- a fault of decoding is none of the reader's device
-is-no-read : (n : ℕ) (fault : StreamFault) → blames_reader (stream_fault n fault) ≡ false
-is-no-read n stream.Truncated = refl
-is-no-read n stream.NotSoi = refl
-is-no-read n stream.BadSegment = refl
-is-no-read n (stream.Unsupported what) = refl
-is-no-read n (stream.BadPresets fault) = refl
-is-no-read n stream.TooLarge = refl
-is-no-read n (stream.BadCode component) = refl
-is-no-read n (stream.LeftoverBits component) = refl
-is-no-read n stream.NoMemory = refl
-
 pub reads-ahead : (failed : Bool) (old new : ℕ) (fault : PlayFault) → blames_reader fault ≡ false → new ≡ count_after failed old → HasReadAhead old new fault
 reads-ahead true old new fault unread is = inr is
 reads-ahead false old new fault unread is = inl (is ∙ ap (λ b. count_after b old) (sym unread))
-
-pub reads-at : (failed : Bool) (old new n : ℕ) (fault : Untaken) → (is_io fault ≡ true → failed ≡ true) → new ≡ count_after failed old → HasReadAhead old new (fault_of n fault)
-reads-at failed old new n (Stream fault) io is = reads-ahead failed old new (stream_fault n fault) (is-no-read n fault) is
-reads-at failed old new n Io io is = inl (is ∙ ap (λ b. count_after b old) (io refl))
 
 -- no read of bytes in memory fails
 pub none-failed : (fault : PlayFault) → HasReadAhead 0 0 fault → 0 ≡ count_after (blames_reader fault) 0

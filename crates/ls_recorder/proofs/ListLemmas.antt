@@ -1,5 +1,5 @@
 -- Lists that grow at their ends, and lists beside one another.
-use Rattle.std.proofs.Common.{◌≡◌, List, [], ◌∷◌, ◌++◌, length, refl, sym, ap, subst, ◌∙◌, arith, append_assoc, append-nil}
+use Rattle.std.proofs.Common.{◌≡◌, List, [], ◌∷◌, ◌++◌, length, refl, sym, ap, ◌∙◌, arith, append_assoc}
 use Rattle.std.specs.List.{AllZip}
 
 -- two lists beside each other grow by an element each
@@ -13,16 +13,10 @@ zip-more R (u ∷ us) (v ∷ vs) x y all last = (all.0, zip-more R us vs x y all
 abbrev pub ZippedSoFar : {A B : Type 0} → (A → B → Type 0) → List A → List A → List B → Type 0
 ZippedSoFar {A} R all left zs = (done : List A) × (done ++ left ≡ all) × AllZip R done zs
 
-pub zipped-none : {A B : Type 0} (R : A → B → Type 0) (all : List A) (zs : List B) → zs ≡ [] → ZippedSoFar R all all zs
-zipped-none R all zs none = ([], refl, subst (AllZip R []) (sym none) tt)
-
 pub zipped-more : {A B : Type 0} (R : A → B → Type 0) (all left rest : List A) (zs : List B) (x : A) (z : B) → ZippedSoFar R all left zs → left ≡ x ∷ rest → R x z
     → ZippedSoFar R all rest (zs ++ z ∷ [])
 zipped-more R all left rest zs x z before first last =
     (before.0 ++ x ∷ [], append_assoc before.0 (x ∷ []) rest ∙ ap (λ l. before.0 ++ l) (sym first) ∙ before.1, zip-more R before.0 zs x z before.2 last)
-
-pub zipped-all : {A B : Type 0} (R : A → B → Type 0) (all left : List A) (zs : List B) → ZippedSoFar R all left zs → left ≡ [] → AllZip R all zs
-zipped-all R all left zs before none = subst (λ l. AllZip R l zs) (sym (append-nil before.0) ∙ ap (λ l. before.0 ++ l) (sym none) ∙ before.1) before.2
 
 -- three lists beside one another
 pub zip-through : {A B C : Type 0} (R : A → B → Type 0) (S : B → C → Type 0) (xs : List A) (ys : List B) (zs : List C) → AllZip R xs ys → AllZip S ys zs

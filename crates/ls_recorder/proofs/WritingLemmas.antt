@@ -2,7 +2,6 @@
 use Rattle.std.proofs.Common.{◌≡◌, ℕ, zero, suc, ◌+◌, ◌-◌, ◌<◌, ◌≤◌, ◌==◌, ◌||◌, not, nat_lt, nat_le, Bool, true, false, cond, List, [], ◌∷◌, ◌++◌, length, map, take, Option, Some, None, refl, sym, ap, subst, ◌∙◌, arith, append_assoc, append-nil}
 use Rattle.std.specs.List.{slice_get}
 use Rattle.std.specs.Io.KnownBytes.{Appends}
-use Rattle.std.proofs.KnownBytes.{Appends-nil}
 use Rattle.std.proofs.lemmas.Bool.{leb-false, lt-leb, le-leb, ltb-false}
 use Rattle.std.proofs.lemmas.List.{length-append, length-map, length_push, map-append, take-append-le}
 use Rattle.ls_film.specs.Coding.{file}
@@ -19,8 +18,8 @@ use Rattle.ls_recorder.specs.declared.lane.LaneFault.TheVariants as fault
 use Rattle.ls_recorder.specs.declared.lane.writing.Halt.{Halt}
 use Rattle.ls_recorder.specs.declared.lane.writing.Halt.TheVariants as halt
 use Rattle.ls_recorder.specs.View.Lanes.{WroteFront, WroteFewer, WrotePart, orders_in, IsWriting, IsMisfit, StopsWriting}
-use Rattle.ls_recorder.specs.View.Halves.{orders_taken, Books, IsAhead, RefusesPiece, HaltsWriting}
-use Rattle.ls_recorder.proofs.LaneLemmas.{file-append, take-front, writes-fewer, writes-front, Books as BooksOne}
+use Rattle.ls_recorder.specs.View.Halves.{orders_taken, IsAhead, RefusesPiece, HaltsWriting}
+use Rattle.ls_recorder.proofs.LaneLemmas.{file-append, take-front, writes-fewer, writes-front}
 
 -- ---- orders that are taken
 
@@ -29,10 +28,6 @@ orders-more seat seat' j more = ap (map (λ (k : Job Ordered). k.item)) more ∙
 
 pub orders-many : (seat : WorkerSeat Ordered) → length (orders_taken seat) ≡ length (jobs_taken seat)
 orders-many seat = length-map (jobs_taken seat) (λ (k : Job Ordered). k.item)
-
--- nothing is written yet
-pub IsWriting-none : (items : List Ordered) (start : Option (List ℕ)) (c : Collection) → items ≡ [] → orders_in c ≡ [] → IsWriting items start start c 0
-IsWriting-none items start c none empty = record { done = []; items_are = none ∙ sym empty; wrote = Appends-nil start; bytes_are = refl }
 
 -- all is written
 none-left : (slots : List Slot) → length slots ≤ 0 → map (λ (slot : Slot). slot.order) slots ≡ []
@@ -43,33 +38,6 @@ pub wrote-all : (items : List Ordered) (start now : Option (List ℕ)) (c : Coll
 wrote-all items start now c bytes writing none =
     let all : items ≡ writing.done = writing.items_are ∙ ap (λ l. writing.done ++ l) (none-left c.slots none) ∙ append-nil writing.done in
     rw all writing.wrote
-
--- an order is booked behind those that wait
-pub books-order : (seat seat' : WorkerSeat Ordered) (c c' : Collection) (j : Job Ordered) → jobs_taken seat' ≡ jobs_taken seat ++ j ∷ [] → BooksOne c c' j.item → length c.slots < length c'.slots → Books seat c seat' c'
-books-order seat seat' c c' j more one larger = record {
-  waits = λ start now bytes writing. record {
-    done = writing.done;
-    items_are = orders-more seat seat' j more ∙ ap (λ l. l ++ j.item ∷ []) writing.items_are ∙ append_assoc writing.done (orders_in c) (j.item ∷ []) ∙ ap (λ l. writing.done ++ l) (sym one.orders);
-    wrote = writing.wrote;
-    bytes_are = writing.bytes_are;
-  };
-  first = one.first;
-  more = omega (arith, larger);
-}
-
-pub books-none : (seat seat' : WorkerSeat Ordered) (c : Collection) → jobs_taken seat' ≡ jobs_taken seat → Books seat c seat' c
-books-none seat seat' c same = record {
-  waits = λ start now bytes writing. rw (ap (map (λ (k : Job Ordered). k.item)) same) writing;
-  first = refl;
-  more = omega arith;
-}
-
-pub books-both : (s s' s'' : WorkerSeat Ordered) (c c' c'' : Collection) → Books s c s' c' → Books s' c' s'' c'' → Books s c s'' c''
-books-both s s' s'' c c' c'' one two = record {
-  waits = λ start now bytes writing. two.waits start now bytes (one.waits start now bytes writing);
-  first = two.first ∙ one.first;
-  more = omega (arith, one.more, two.more);
-}
 
 -- ---- more orders after it stopped
 
@@ -217,9 +185,6 @@ memory-is-no-misfit m is = let clash : ⊥ = cc in clash
 
 pub lost-is-no-misfit : (m : Cause) → fault.Lost ≡ fault.Misfit m → ⊥
 lost-is-no-misfit m is = let clash : ⊥ = cc in clash
-
-pub many-is-no-misfit : (m : Cause) → fault.TooMany ≡ fault.Misfit m → ⊥
-many-is-no-misfit m is = let clash : ⊥ = cc in clash
 
 same-misfit : (a b : Cause) → fault.Misfit a ≡ fault.Misfit b → a ≡ b
 same-misfit a b is = cc

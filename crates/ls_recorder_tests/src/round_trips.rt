@@ -1,4 +1,4 @@
-use crate::testing::check;
+use crate::testing::{DEFAULTS, check};
 use ls_frame::Tuning;
 use ls_recorder::{OpenGate, Sizes};
 use ls_roundtrip::{PlayedBack, record_and_play};
@@ -20,14 +20,6 @@ fn comes_back(
     let played = (played_back.played, played_back.shown.as_slice()) == (Ok(frames), film);
     recorded && (played || !ample) || !ample && played_back.recorded.is_err()
 }
-
-/// Each parameter by default.
-const DEFAULTS: Tuning = Tuning {
-    t1: 0,
-    t2: 0,
-    t3: 0,
-    reset: 0,
-};
 
 /// How many workers there are, the window, and how many players.
 const MEANS: [(usize, usize, u8); 6] = [

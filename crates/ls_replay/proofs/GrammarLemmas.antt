@@ -67,10 +67,6 @@ and-right false b e = cc
 never : (word : List ℕ) (c : ℕ) → is_none (c ∷ word) ≡ true → ⊥
 never word c e = grind (arith, nat_tests)
 
-is_none-true : (word : List ℕ) → is_none word ≡ true → word ≡ []
-is_none-true [] e = refl
-is_none-true (c ∷ word) e = absurd (grind (arith, nat_tests))
-
 is_none-false : (word : List ℕ) → is_none word ≡ false → 0 < length word
 is_none-false word e = grind (arith, nat_tests)
 

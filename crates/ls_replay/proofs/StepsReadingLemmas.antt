@@ -52,13 +52,6 @@ number_of-large most n word digits same large =
     let no : nat_le (decimal_value word) most ≡ false = grind (arith, nat_tests) in
     elim (not (is_none word) && list_all is_digit word) as (λ b. (if b && nat_le (decimal_value word) most then Some (decimal_value word) else None) ≡ None) [ true ↦ ap (λ b. if b then Some (decimal_value word) else None) no | false ↦ refl ]
 
-pub number_of-other : (most : ℕ) (word : List ℕ) → list_all is_digit word ≡ false → number_of most word ≡ None
-number_of-other most word other =
-    elim (not (is_none word)) as (λ b. (if b && list_all is_digit word && nat_le (decimal_value word) most then Some (decimal_value word) else None) ≡ None) [
-      | true ↦ ap (λ b. if b && nat_le (decimal_value word) most then Some (decimal_value word) else None) other
-      | false ↦ refl
-    ]
-
 pub number_of-some : (most n : ℕ) (word : List ℕ) → 0 < length word → list_all is_digit word ≡ true → decimal_value word ≡ n → n ≤ most → number_of most word ≡ Some n
 number_of-some most n word some digits same within =
     let there : is_none word ≡ false = grind (arith, nat_tests) in
@@ -81,17 +74,8 @@ pub with_front-with_front : (front back : List Step) (rest : Result (List Step) 
 with_front-with_front front back (Ok more) = ap Ok (sym (append_assoc front back more))
 with_front-with_front front back (Err n) = refl
 
--- a line more
-pub steps_from-blank : (all : Result (List Step) ℕ) (steps : List Step) (n : ℕ) (text : List ℕ) (lines : List (List ℕ)) → all ≡ with_front steps (steps_from n (text ∷ lines)) → line.Blank ≡ line_of text
-    → all ≡ with_front steps (steps_from (n + 1) lines)
-steps_from-blank all steps n text lines same blank = same ∙ ap (λ l. with_front steps (after_line n l (steps_from (n + 1) lines))) (sym blank)
-
 pub steps_from-step : (all : Result (List Step) ℕ) (steps after : List Step) (n : ℕ) (text : List ℕ) (lines : List (List ℕ)) (step : Step) → all ≡ with_front steps (steps_from n (text ∷ lines))
     → line.Step step ≡ line_of text → after ≡ steps ++ step ∷ [] → all ≡ with_front after (steps_from (n + 1) lines)
 steps_from-step all steps after n text lines step same says grown =
     same ∙ ap (λ l. with_front steps (after_line n l (steps_from (n + 1) lines))) (sym says)
     ∙ with_front-with_front steps (step ∷ []) (steps_from (n + 1) lines) ∙ ap (λ front. with_front front (steps_from (n + 1) lines)) (sym grown)
-
-pub steps_from-other : (all : Result (List Step) ℕ) (steps : List Step) (n : ℕ) (text : List ℕ) (lines : List (List ℕ)) → all ≡ with_front steps (steps_from n (text ∷ lines)) → line.Other ≡ line_of text
-    → all ≡ Err n
-steps_from-other all steps n text lines same other = same ∙ ap (λ l. with_front steps (after_line n l (steps_from (n + 1) lines))) (sym other)

@@ -51,7 +51,7 @@ pub enum TextFault {
 }
 
 /// What a line of a steps file is.
-#[derive(Clone, Copy, Debug, Drop, PartialEq, Eq)]
+#[derive(Clone, Copy, Drop)]
 enum Line {
     /// It has no words.
     Blank,

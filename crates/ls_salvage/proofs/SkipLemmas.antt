@@ -9,7 +9,6 @@ use Rattle.ls_salvage.specs.declared.starts.Matched.{Matched}
 use Rattle.ls_salvage.specs.declared.starts.Matched.TheVariants.{Nothing, SoiBegun, Soi, SoiAndFf}
 use Rattle.ls_salvage.specs.Starts.{may_follow_soi, is_start, to_start}
 use Rattle.ls_salvage.specs.View.Skipping.{held, GoesOn, FoundStart, IsPassing, HasSkipped}
-use Rattle.ls_salvage.specs.View.Ends.{most_place}
 use Rattle.ls_salvage.proofs.StartLemmas.{to_start-none, to_start-here}
 
 -- ---- bytes that begin no start
@@ -242,11 +241,3 @@ given_end matched count old mid new passed end = λ told.
         far = omega (arith, before.count_is, far, held_start matched);
       }),
     )
-
-pub given_most : (matched : Matched) (count : ℕ) (old mid : Option (List ℕ)) → HasGivenPassed matched count old mid → most_place ≤ count → Tells old → most_place ≤ length (known old)
-given_most matched count old mid passed most told =
-    let before = (passed told).1 in
-    omega (arith, before.count_is, most, ap length before.split, length-append before.passed (held matched ++ known mid), length-append (held matched) (known mid))
-
-pub none_passed : (old : Option (List ℕ)) → HasGivenPassed Nothing 0 old old
-none_passed old = λ told. (told, record { passed = []; split = refl; count_is = omega arith; far = omega arith })

@@ -44,11 +44,6 @@ both_along : {X Y : Type 0} (then : Y → Left) (r : Result X StreamFault) (f : 
 both_along then (Ok x) f g next = next x
 both_along then (Err fault) f g next = λ e. ap (λ d. failed {X = List ℕ} d) e
 
--- the extent begins with it
-first_along : {X : Type 0} (after : X → Left) (r : Result X StreamFault) → IsAlong after r (r >>= after)
-first_along after (Ok x) = refl
-first_along after (Err fault) = λ e. ap (λ d. failed {X = List ℕ} d) e
-
 -- a step that wants no byte
 IsNoByte : {X : Type 0} → Result X StreamFault → Type 0
 IsNoByte r = r ≡ Err Truncated → ⊥

@@ -1,16 +1,12 @@
 -- The contexts of a row, kept as numbers with a sign.
-use Rattle.std.proofs.Common.{◌≡◌, ℕ, zero, suc, ◌+◌, ◌<◌, ◌≤◌, true, false, ℤ, pos, negsuc, List, length, get_or, refl, sym, ◌∙◌, ap, subst, inl, inr, arith}
+use Rattle.std.proofs.Common.{◌≡◌, ℕ, zero, suc, ◌+◌, ◌<◌, ◌≤◌, false, ℤ, pos, negsuc, List, length, get_or, refl, sym, ◌∙◌, subst, inl, inr, arith}
 use Rattle.std.proofs.Math.ListN.{set}
 use Rattle.std.proofs.lemmas.Bool.{cases_lt, ne_eqb}
 use Rattle.std.proofs.lemmas.List.{get_or-set_same, get_or-set_other}
 use mir.Syntax.{w16}
-use mir.Val.{to_z, of_z}
-use Rattle.ls_frame.specs.Parameters.{Parameters}
+use mir.Val.{of_z}
 use Rattle.ls_coding.specs.declared.neighbours.Neighbours.{Neighbours}
 use Rattle.ls_coding.specs.Contexts.{is_zero, is_run}
-use Rattle.ls_coding.specs.View.SignedContexts.{signed_context}
-use Rattle.ls_coding.proofs.SignedLemmas.{through_16}
-use Rattle.ls_coding.proofs.ContextLemmas.{signed_range}
 
 -- one place more of which something holds
 pub set_more : (xs : List ℤ) (start k : ℕ) (x : ℤ) (P : ℕ → ℤ → Type 0) → k < length xs → P k x → ((j : ℕ) → start ≤ j → j < k → P j (get_or xs j (pos 0)))
@@ -32,9 +28,3 @@ other_bits (negsuc n) h = refl
 
 pub regular_by : (n : Neighbours) (z : ℤ) → is_zero z ≡ is_run n → (of_z w16 z ≡ 0 → ⊥) → is_run n ≡ false
 regular_by n z mode h = sym mode ∙ other_bits z h
-
-pub run_by : (p : Parameters) (n : Neighbours) (z : ℤ) → z ≡ signed_context p n → is_zero z ≡ is_run n → of_z w16 z ≡ 0 → is_run n ≡ true
-run_by p n z number mode h =
-    let range = signed_range p n in
-    let none : signed_context p n ≡ pos 0 = sym (through_16 (signed_context p n) range.0 range.1) ∙ ap (λ x. to_z w16 (of_z w16 x)) (sym number) ∙ ap (to_z w16) h in
-    sym mode ∙ ap is_zero (number ∙ none)

@@ -407,9 +407,6 @@ pub same_on : (maxval width : ℕ) (above : List ℕ) (one two three : Place) �
 same_on maxval width above one two three f g plane i row more rest =
     (λ m. (g plane i row more rest).0 ((f plane i row more rest).0 m), λ m. (f plane i row more rest).1 ((g plane i row more rest).1 m))
 
-pub none_on : (maxval width : ℕ) (above : List ℕ) (one two : Place) → AreSamePlanes maxval width above one two → IsNoPlane maxval width above two → IsNoPlane maxval width above one
-none_on maxval width above one two f none plane i row more rest m = none plane i row more rest ((f plane i row more rest).0 m)
-
 -- half of a context, handed on as it is
 pub half_passed : (p : Parameters) (b c d : ℕ) (z : ℤ) → z ≡ half_context p b c d → to_z w16 (of_z w16 z) ≡ half_context p b c d
 half_passed p b c d z e =

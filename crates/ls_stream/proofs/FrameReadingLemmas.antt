@@ -27,7 +27,7 @@ use Rattle.ls_stream.specs.Components.{component_of, component_plane, plane_of}
 use Rattle.ls_stream.specs.Grammar.{IsCoded, Spells, most_bytes}
 use Rattle.ls_stream.specs.View.FirstFaults.{BreaksData, IsPlaneData}
 use Rattle.ls_stream.specs.View.Reading.{◌>>=◌, Take, Gives, opening_at, next_scan_at, end_at}
-use Rattle.ls_stream.specs.View.Outlines.{scans_at, outline_at, ids_in, data_at, after_data, ScansStop, Outline, AreDataOf, IsOutlineOf, fault_of, of_all, outline_of}
+use Rattle.ls_stream.specs.View.Outlines.{scans_at, outline_at, ids_in, data_at, after_data, ScansStop, Outline, AreDataOf, IsOutlineOf, of_all, outline_of}
 use Rattle.ls_stream.specs.View.Decoding.{scan_in, AreScansOf, NoScans, picture}
 use Rattle.ls_stream.proofs.FrameLemmas.{samples_small, some_components, plane_length, plane_small}
 use Rattle.ls_stream.proofs.ScanReadingLemmas.{component_at, is_sample_plane}
@@ -611,10 +611,6 @@ no_fault f frame =
     ∙ cond-false _ _ _ (ne_eqb f.maxval 0 (λ e. absurd (omega (arith, frame.some_maxval))))
     ∙ ap (option_map SampleTooLarge) (none_found f.maxval f.samples (samples_small f frame))
 
-pub err_by : {A E : Type 0} (r : Result A E) (P : E → Type 0) → ((fault : E) → P fault) → IfErr r P
-err_by (Ok x) P f = tt
-err_by (Err fault) P f = f fault
-
 -- ---- what is at the front of bytes
 
 pub bytes_take : (n : ℕ) (bytes : List ℕ) → AreBytes bytes → AreBytes (take n bytes)
@@ -685,9 +681,6 @@ same_left bytes o other left rest e f =
 either_way : (test : Bool) → (if test then NoMemory else NoMemory) ≡ NoMemory
 either_way true = refl
 either_way false = refl
-
-pub no_memory_kept : (bytes : List ℕ) → fault_of bytes NoMemory ≡ NoMemory
-no_memory_kept bytes = either_way (nat_lt most_bytes (length bytes))
 
 -- samples that were written back whole into the vector that they are lent from
 pub written_back : (len : ℕ) (new items : List ℕ) → length new ≡ len → take len (new ++ drop (length new) items) ≡ new

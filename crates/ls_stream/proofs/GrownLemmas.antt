@@ -51,9 +51,6 @@ pub same_grown : {X Y : Type 0} (then : Y → Y) (r : Result X StreamFault) (f g
 same_grown then (Ok x) f g next = next x
 same_grown then (Err fault) f g next = inr refl
 
-pub done_grown : {X : Type 0} (add : X → X) (x : X) → IsGrown add (Ok x) (Ok (add x))
-done_grown add x = inr refl
-
 -- a value and what is left
 abbrev pub left_more : {X : Type 0} → List ℕ → X × List ℕ → X × List ℕ
 left_more more found = (found.0, found.1 ++ more)

@@ -92,9 +92,6 @@ read_on-none awaited.DataCode = refl
 
 -- ---- SOI
 
-not_truncated : (fault : StreamFault) → Type 0
-not_truncated fault = fault ≡ Truncated → ⊥
-
 no_soi : NotSoi ≡ Truncated → ⊥
 no_soi e = cc
 

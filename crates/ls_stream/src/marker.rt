@@ -3,7 +3,7 @@ ghost use Rattle.std.specs.Prelude.{◌≡◌};
 ghost use Rattle.ls_stream.specs.Markers.{code_of, is_application, marker_of};
 
 /// The markers that a reader of codestreams meets. Each is FF and a code.
-#[derive(Clone, Copy, Debug, PartialEq, Eq)]
+#[derive(Clone, Copy, PartialEq, Eq)]
 pub enum Marker {
     /// SOI: code `0xD8`.
     StartOfImage,

@@ -48,7 +48,7 @@ impl<'a, 'b> Model for Decoder<'a, 'b> {
 }
 
 /// A run that was read: how many samples it has, and whether a sample interrupts it before the line's end.
-#[derive(Clone, Copy, Debug, PartialEq, Eq)]
+#[derive(Clone, Copy)]
 pub struct FoundRun {
     pub count: u32,
     pub interrupted: bool,

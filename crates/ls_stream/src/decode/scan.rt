@@ -19,7 +19,7 @@ use ls_coding::{Regions, State, SureZeros};
 use ls_frame::{Place, Presets};
 
 /// Why a scan's data isn't that of a plane.
-#[derive(Clone, Copy, Debug, PartialEq, Eq)]
+#[derive(Clone, Copy)]
 pub enum ScanFault {
     /// The bits break off, or go on as those of no plane do.
     Code(CodeFault),
