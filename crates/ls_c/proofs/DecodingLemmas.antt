@@ -147,5 +147,3 @@ unopened most bytes old form used fault r (too_large e has shallow longer says n
 unopened most bytes old form used fault r (at_fault first e other is none says formless) unused =
     subst (λ (x : Refusal). IsDecoding most bytes old old form used fault (number_of x)) (sym e)
     (stopped most bytes old old form used fault first (λ front rest f same_bytes s. absurd (none front rest f same_bytes s)) (inr is) (λ memory. absurd (other memory)) (λ _. refl) (same refl) says unused formless)
-
--- ---- the samples of a frame of 8 bits
