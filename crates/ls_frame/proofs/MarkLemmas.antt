@@ -101,5 +101,3 @@ chunk-one mark limit most bytes start end byte before after some within any firs
       passed = passed-byte mark limit byte;
       few = any;
     }
-
--- ---- past no mark
