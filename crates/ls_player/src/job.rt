@@ -65,7 +65,7 @@ impl<T> Job<T> {
 }
 
 /// Decodes a job's codestream, and makes of its frame what is to be made.
-pub fn work<T: Drop, M: Making<T>>(alloc: Global, job: &mut Job<T>)
+pub(crate) fn work<T: Drop, M: Making<T>>(alloc: Global, job: &mut Job<T>)
     ensures bytes { job.new.bytes ≡ job.old.bytes }
     ensures made { IsMade M.made job.new }
 {
