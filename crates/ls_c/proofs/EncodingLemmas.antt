@@ -1,17 +1,21 @@
 -- What encoding answers, put together from what its steps do.
-use Rattle.std.proofs.Common.{◌≡◌, ◌≢◌, ◌⊎◌, ℕ, ◌*◌, ◌<◌, ◌≤◌, Bool, true, false, List, ◌++◌, length, take, drop, Ok, Err, None, Some, OnOk, OnErr, IfErr, inl, inr, refl, sym, ◌∙◌, ap, subst, arith}
-use Rattle.std.specs.Prelude.{Option, Result, ◌&&◌, ◌||◌, ◌==◌, nat_le}
+use Rattle.std.proofs.Common.{◌≡◌, ◌≢◌, ◌⊎◌, ℕ, ◌*◌, ◌<◌, ◌≤◌, Bool, true, false, List, ◌++◌, length, take, drop, Ok, Err, None, Some, OnOk, OnErr, IfErr, inl, inr, refl, sym, ◌∙◌, ap, subst, le-leb, arith}
+use Rattle.std.specs.Prelude.{Option, Result, ◌&&◌, ◌||◌, ◌==◌, nat_le, nat_lt}
+use Rattle.std.specs.List.{position}
+use Rattle.std.proofs.lemmas.Bool.{lt-leb}
 use Rattle.std.proofs.lemmas.Grind.{common_steps}
 use Rattle.ls_frame.specs.declared.presets.PresetFault.{PresetFault}
-use Rattle.ls_frame.specs.Picture.{Picture, IsFrame, components, sample_count, most_samples}
+use Rattle.ls_frame.specs.Picture.{Picture, IsFormed, IsFrame, components, sample_count, most_samples}
 use Rattle.ls_frame.specs.Parameters.{Parameters, preset_fault}
+use Rattle.ls_frame.proofs.SampleLemmas.{whole_frame}
 use Rattle.ls_stream.specs.declared.faults.StreamFault.TheVariants as stream
 use Rattle.ls_stream.specs.Grammar.{Spells}
 use Rattle.ls_stream.specs.Layout.{codestream}
+use Rattle.ls_stream.proofs.FrameLemmas.{none_found, samples_small}
 use Rattle.ls_c.specs.declared.form.JlsrecForm.{JlsrecForm}
 use Rattle.ls_c.specs.declared.refusal.Refusal.{Refusal}
 use Rattle.ls_c.specs.declared.refusal.Refusal.TheVariants as refusal
-use Rattle.ls_c.specs.Forms.{unless_met, or_next, preset_refusal, form_refusal, rows_refusal, request_refusal, coding_refusal, encode_refusal, picture_in, parameters, row_of, stride_of, kind_of, is_sixteen_bits, reach_of, rows_of}
+use Rattle.ls_c.specs.Forms.{is_none, unless_met, or_next, preset_refusal, form_refusal, rows_refusal, request_refusal, coding_refusal, encode_refusal, picture_in, parameters, row_of, stride_of, kind_of, is_sixteen_bits, reach_of, rows_of}
 use Rattle.ls_c.specs.Refusals.{number_of, status_of, status_by}
 use Rattle.ls_c.specs.Calls.{IsEncoding}
 use Rattle.ls_c.specs.declared.request.Request.{Request}
@@ -105,6 +109,30 @@ pub record IsCoding (f : Picture) (p : Parameters) (old new : List ℕ) (written
   pub kept : OnErr result (new ≡ old)
   pub need : result ≡ Err refusal.NoRoom → (written ≡ length (codestream f p)) × (length old < written)
   pub none : IfErr result (λ (refused : Refusal). (refused ≡ refusal.NoRoom) ⊎ (written ≡ 0))
+
+-- ---- what a picture is refused with
+
+pub frame_refusal : (f : Picture) (p : Parameters) (room : ℕ) → IsFrame f → coding_refusal f p room ≡ unless_met (nat_le (length (codestream f p)) room) refusal.NoRoom None
+frame_refusal f p room frame =
+    ap (λ found. unless_met (is_none found) refusal.SampleTooLarge (unless_met (nat_le (length (codestream f p)) room) refusal.NoRoom None))
+    (none_found f.maxval f.samples (samples_small f frame))
+
+-- and where the codestream fits, and where it doesn't
+pub room : (f : Picture) (p : Parameters) (old : List ℕ) → length (codestream f p) ≤ length old → unless_met (nat_le (length (codestream f p)) (length old)) refusal.NoRoom None ≡ None
+room f p old fits = ap (λ met. unless_met met refusal.NoRoom None) (le-leb (length (codestream f p)) (length old) fits)
+
+pub no_room : (f : Picture) (p : Parameters) (old : List ℕ) → length old < length (codestream f p) → unless_met (nat_le (length (codestream f p)) (length old)) refusal.NoRoom None ≡ Some refusal.NoRoom
+no_room f p old short = ap (λ met. unless_met met refusal.NoRoom None) (lt-leb (length (codestream f p)) (length old) short)
+
+over_by : (f : Picture) (next : Option Refusal) (found : Option ℕ) → IsFormed f → (IsFrame f → ⊥) → position (λ sample. nat_lt f.maxval sample) f.samples ≡ found
+    → unless_met (is_none found) refusal.SampleTooLarge next ≡ Some refusal.SampleTooLarge
+over_by f next None formed over e = absurd (over (whole_frame f formed e))
+over_by f next (Some place) formed over e = refl
+
+pub over_refusal : (f : Picture) (p : Parameters) (room : ℕ) → IsFormed f → (IsFrame f → ⊥) → coding_refusal f p room ≡ Some refusal.SampleTooLarge
+over_refusal f p room formed over = over_by f _ _ formed over refl
+
+-- ---- what is answered
 
 take_front : (front rest : List ℕ) → take (length front) (front ++ rest) ≡ front
 take_front front rest = grind (arith, common_steps)

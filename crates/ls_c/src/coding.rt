@@ -10,7 +10,7 @@ ghost use Rattle.ls_stream.specs.Grammar.{most_bytes};
 ghost use Rattle.ls_stream.specs.Faults.{BeginsWithOpening};
 ghost use Rattle.ls_stream.specs.View.Outlines.{IsFirstFault};
 ghost use Rattle.ls_stream.specs.View.Openings.{picture_of};
-ghost use Rattle.ls_c.specs.Forms.{unless_met, coding_refusal, no_form};
+ghost use Rattle.ls_c.specs.Forms.{coding_refusal, no_form};
 ghost use Rattle.ls_c.specs.Refusals.{status_by, status_of, details_of, no_details};
 ghost use Rattle.ls_c.specs.Calls.{IsEncoding, IsDecoding, IsUnopened, HaveForm, SaysForm, form_by, laid};
 ghost use Rattle.ls_c.specs.Requests.{shaped};
@@ -18,10 +18,14 @@ ghost use Rattle.ls_c.specs.Requests.{shaped};
 use crate::form::{JlsrecFault, JlsrecForm, details_of, form_by, no_details, no_form};
 use crate::refusal::{NO_MEMORY, Refusal};
 use crate::request::{Request, Shape, adjacent, joined, request_of};
-use ls_frame::{FrameView, Place, Presets, Samples};
+use ls_frame::{FrameView, PictureView, Place, Presets, Samples};
 use ls_stream::laws::codestreams_spell_their_frames;
-use ls_stream::{Lines, Opening, Regions, StreamFault, encode_into, encode_view, view_bound};
+use ls_stream::{Lines, Opening, Regions, StreamFault, encode_into, encode_picture, picture_bound};
 use std::alloc::Global;
+
+/// The most bytes of a block that malloc hands out again once it is freed. A larger one comes from the system page by
+/// page each time (with glibc), which takes longer than to look at all samples before they are coded.
+const MOST_HANDED_OUT_AGAIN: u64 = 1 << 25;
 
 /// Encodes samples of 16 bits.
 pub fn encode_words(
@@ -97,7 +101,8 @@ pub fn encode_bytes(
     )
 }
 
-/// Encodes the samples of a picture to the front of `bytes`, and says how many bytes that needs.
+/// Encodes the samples of a picture to the front of `bytes`, and says how many bytes that needs: in memory of its own, so
+/// that they are looked at while they are coded, unless that takes too much of it.
 fn encode_joined(
     alloc: Global,
     shape: Shape,
@@ -126,38 +131,49 @@ fn encode_joined(
     ensures none { IfErr result (λ refused. (refused ≡ Refusal.NoRoom) ⊎ (written.new ≡ 0)) }
 {
     codestreams_spell_their_frames();
+    let picture = PictureView::from_parts(
+        shape.kind,
+        shape.width,
+        shape.height,
+        shape.maxval,
+        samples,
+    );
+    let bound = picture_bound(&picture, presets);
+    if bound <= MOST_HANDED_OUT_AGAIN || bound > bytes.len() as u64 {
+        return encode_apart(alloc, &picture, presets, bytes, written);
+    }
     let made = FrameView::new(shape.kind, shape.width, shape.height, shape.maxval, samples);
     let Ok(frame) = made else {
         return Err(Refusal::SampleTooLarge);
     };
-    if view_bound(&frame, presets) > bytes.len() as u64 {
-        return encode_apart(alloc, &frame, presets, bytes, written);
-    }
     let mut lines = Lines::new(alloc, shape.width)?;
     *written = encode_into(&frame, presets, &mut lines, bytes);
     Ok(())
 }
 
-/// Encodes a frame in memory of its own, since `bytes` have less room than any frame of its form may need.
+/// Encodes a picture in memory of its own, and copies its codestream once all samples were seen to be at most maxval.
 fn encode_apart(
     alloc: Global,
-    frame: &FrameView,
+    picture: &PictureView,
     presets: &Presets,
     bytes: &mut [u8],
     written: &mut usize,
 ) -> Result<(), Refusal>
-    requires maxval { presets.now.maxval ≡ frame.now.maxval }
+    requires maxval { presets.now.maxval ≡ picture.now.maxval }
     requires nothing { written.old ≡ 0 }
     ensures exactly { (result ≡ Err (Refusal.Stream StreamFault.NoMemory))
-        ⊎ (status_of result ≡ status_by (unless_met (nat_le (length (codestream frame.now presets.now)) (length bytes.old)) Refusal.NoRoom None)) }
-    ensures done { OnOk result (bytes.new ≡ codestream frame.now presets.now ++ drop written.new bytes.old) }
-    ensures written { OnOk result (written.new ≡ length (codestream frame.now presets.now)) }
+        ⊎ (status_of result ≡ status_by (coding_refusal picture.now presets.now (length bytes.old))) }
+    ensures frame { OnOk result (IsFrame picture.now) }
+    ensures done { OnOk result (bytes.new ≡ codestream picture.now presets.now ++ drop written.new bytes.old) }
+    ensures written { OnOk result (written.new ≡ length (codestream picture.now presets.now)) }
     ensures kept { OnErr result (bytes.new ≡ bytes.old) }
     ensures need { result ≡ Err Refusal.NoRoom
-        → (written.new ≡ length (codestream frame.now presets.now)) × (length bytes.old < written.new) }
+        → (written.new ≡ length (codestream picture.now presets.now)) × (length bytes.old < written.new) }
     ensures none { IfErr result (λ refused. (refused ≡ Refusal.NoRoom) ⊎ (written.new ≡ 0)) }
 {
-    let codestream = encode_view(alloc, frame, presets)?;
+    let Some(codestream) = encode_picture(alloc, picture, presets)? else {
+        return Err(Refusal::SampleTooLarge);
+    };
     let count = codestream.len();
     *written = count;
     if count > bytes.len() {

@@ -1,8 +1,9 @@
--- Samples within maxval.
+-- Samples within maxval, and pictures of such.
 use Rattle.std.proofs.Common.{◌≡◌, ◌==◌, ◌&&◌, ℕ, suc, zero, ◌+◌, ◌<◌, ◌≤◌, ◌∙◌, sym, ap, Bool, true, false, cond, not, List, [], ◌∷◌, length, None, Some, refl, arith, nat_lt, fold, max, drop, get_or}
 use lib.Pointwise.{pointwise}
 use Rattle.std.specs.List.{position, prefix_len, AllByRecursion}
 use Rattle.std.proofs.lemmas.Bool.{ltb-false, ltb-true, le-ltb}
+use Rattle.ls_frame.specs.Picture.{Picture, IsFormed, IsFrame}
 
 abbrev front : ℕ → List ℕ → ℕ
 front m xs = prefix_len (λ s. not (nat_lt m s)) xs
@@ -42,6 +43,20 @@ not_found false i h = refl
 
 pub none_above_greatest : (m : ℕ) (xs : List ℕ) → fold max 0 xs ≤ m → position (λ s. nat_lt m s) xs ≡ None
 none_above_greatest m xs h = not_found _ _ (le-ltb _ _ (within_greatest m xs 0 h).1)
+
+-- a picture that only a sample can keep from being a frame is one where no sample is found over maxval
+pub whole_frame : (f : Picture) → IsFormed f → position (λ s. nat_lt f.maxval s) f.samples ≡ None → IsFrame f
+whole_frame f formed none = record {
+  some_width = formed.some_width;
+  width = formed.width;
+  some_height = formed.some_height;
+  height = formed.height;
+  some_maxval = formed.some_maxval;
+  maxval = formed.maxval;
+  few = formed.few;
+  count = formed.count;
+  each = none_above f.maxval f.samples none;
+}
 
 joined_and : (s e p : Bool) → (s && (e && p)) ≡ ((s && e) && p)
 joined_and true e p = refl

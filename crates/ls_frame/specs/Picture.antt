@@ -31,6 +31,17 @@ most_samples = 2 ^ 28
 abbrev pub greatest : ℕ
 greatest = 65535
 
+-- A picture that only a sample over maxval can keep from being a frame.
+pub record IsFormed (f : Picture) : Type 0 where
+  pub some_width : 0 < f.width
+  pub width : f.width ≤ greatest
+  pub some_height : 0 < f.height
+  pub height : f.height ≤ greatest
+  pub some_maxval : 0 < f.maxval
+  pub maxval : f.maxval ≤ greatest
+  pub few : sample_count f.kind f.width f.height ≤ most_samples
+  pub count : length f.samples ≡ sample_count f.kind f.width f.height
+
 -- A frame is a picture with at least one sample and not too many, one for each place, each at most maxval.
 pub record IsFrame (f : Picture) : Type 0 where
   pub some_width : 0 < f.width

@@ -178,20 +178,22 @@ impl Frame {
         ensures { result ≡ self.now }
     {
         FrameView {
-            kind: self.kind,
-            width: self.width,
-            height: self.height,
-            maxval: self.maxval,
-            samples: Samples::Words(self.samples.as_slice()),
+            picture: PictureView::from_parts(
+                self.kind,
+                self.width,
+                self.height,
+                self.maxval,
+                Samples::Words(self.samples.as_slice()),
+            ),
         }
     }
 }
 
-/// A frame whose samples stand in memory of its maker's.
+/// A picture whose samples stand in memory of its maker's and may be over maxval. But for that it is a frame.
 ///
 /// Samples go as a `Frame`'s do.
 #[derive(Debug, Drop)]
-pub struct FrameView<'a> {
+pub struct PictureView<'a> {
     kind: Kind,
     width: u16,
     height: u16,
@@ -199,15 +201,144 @@ pub struct FrameView<'a> {
     samples: Samples<'a>,
 }
 
-impl<'a> Model for FrameView<'a> {
-    ghost use Rattle.ls_frame.specs.Picture.{Picture, IsFrame};
+impl<'a> Model for PictureView<'a> {
+    ghost use Rattle.ls_frame.specs.Picture.{Picture, IsFormed};
     ghost use Rattle.ls_frame.specs.View.Numbers.{numbers};
 
     ghost Value = { Picture };
 
     ghost view = { λ f. record { kind = f.kind; width = f.width; height = f.height; maxval = f.maxval; samples = numbers f.samples } };
 
-    ghost invariant = { λ f. IsFrame (record { kind = f.kind; width = f.width; height = f.height; maxval = f.maxval; samples = numbers f.samples }) };
+    ghost invariant = { λ f. IsFormed (record { kind = f.kind; width = f.width; height = f.height; maxval = f.maxval; samples = numbers f.samples }) };
+}
+
+impl<'a> PictureView<'a> {
+    ghost use Rattle.ls_frame.specs.Picture.{Picture, IsFormed};
+
+    /// A picture of this kind, size and maxval over these samples, at none of which it looks. If more than a sample over
+    /// maxval keeps it from being a frame, the first fault in `FrameFault`'s order is answered.
+    pub fn new(
+        kind: Kind,
+        width: u16,
+        height: u16,
+        maxval: u16,
+        samples: Samples<'a>,
+    ) -> Result<PictureView<'a>, FrameFault>
+        ensures exactly { let picture : Picture = record {
+          kind = kind;
+          width = width;
+          height = height;
+          maxval = maxval;
+          samples = numbers samples.entry;
+        } in
+            MatchResult result
+            (λ f. IsFormed picture × (f ≡ picture))
+            (λ fault. (IsFormed picture → ⊥) × (frame_fault picture ≡ Some fault)) }
+    {
+        if width == 0 || height == 0 {
+            return Err(FrameFault::ZeroSize);
+        }
+        let count = sample_count(kind, width, height);
+        if count > MOST_SAMPLES {
+            return Err(FrameFault::TooManySamples);
+        }
+        if samples.len() as u64 != count {
+            return Err(FrameFault::WrongCount);
+        }
+        if maxval == 0 {
+            return Err(FrameFault::ZeroMaxval);
+        }
+        Ok(PictureView::from_parts(kind, width, height, maxval, samples))
+    }
+
+    /// A picture of parts that make a frame if no sample is over maxval. It looks at no sample.
+    pub fn from_parts(
+        kind: Kind,
+        width: u16,
+        height: u16,
+        maxval: u16,
+        samples: Samples<'a>,
+    ) -> PictureView<'a>
+        requires { let picture : Picture = record {
+          kind = kind;
+          width = width;
+          height = height;
+          maxval = maxval;
+          samples = numbers samples;
+        } in IsFormed picture }
+        ensures { let picture : Picture = record {
+          kind = kind;
+          width = width;
+          height = height;
+          maxval = maxval;
+          samples = numbers samples.entry;
+        } in result ≡ picture }
+    {
+        PictureView {
+            kind,
+            width,
+            height,
+            maxval,
+            samples,
+        }
+    }
+
+    /// Gray or colour.
+    pub fn kind(&self) -> Kind
+        ensures value { result ≡ self.now.kind }
+        ensures lawful { IsFormed self.now }
+    {
+        self.kind
+    }
+
+    /// Pixels in a row, 1 to 65535.
+    pub fn width(&self) -> u16
+        ensures value { result ≡ self.now.width }
+        ensures lawful { IsFormed self.now }
+    {
+        self.width
+    }
+
+    /// Rows, 1 to 65535.
+    pub fn height(&self) -> u16
+        ensures value { result ≡ self.now.height }
+        ensures lawful { IsFormed self.now }
+    {
+        self.height
+    }
+
+    /// The greatest value that a sample of a frame may have, 1 to 65535.
+    pub fn maxval(&self) -> u16
+        ensures value { result ≡ self.now.maxval }
+        ensures some { 0 < result }
+        ensures lawful { IsFormed self.now }
+    {
+        self.maxval
+    }
+
+    /// The samples.
+    pub fn samples(&self) -> Samples<'a>
+        ensures value { numbers result ≡ self.now.samples }
+        ensures lawful { IsFormed self.now }
+    {
+        self.samples
+    }
+}
+
+/// A frame whose samples stand in memory of its maker's: a picture none of whose samples is over maxval.
+#[derive(Debug, Drop)]
+pub struct FrameView<'a> {
+    picture: PictureView<'a>,
+}
+
+impl<'a> Model for FrameView<'a> {
+    ghost use Rattle.ls_frame.specs.Picture.{Picture, IsFrame};
+
+    ghost Value = { Picture };
+
+    ghost view = { λ f. f.picture };
+
+    ghost invariant = { λ f. IsFrame f.picture };
 }
 
 impl<'a> FrameView<'a> {
@@ -234,29 +365,14 @@ impl<'a> FrameView<'a> {
             (λ fault. frame_fault picture ≡ Some fault) }
         ensures lawful { IfOk result (λ f. IsFrame f) }
     {
-        if width == 0 || height == 0 {
-            return Err(FrameFault::ZeroSize);
+        let picture = match PictureView::new(kind, width, height, maxval, samples) {
+            Ok(picture) => picture,
+            Err(fault) => return Err(fault),
+        };
+        match samples.first_above(maxval) {
+            Some(place) => Err(FrameFault::SampleTooLarge(place)),
+            None => Ok(FrameView { picture }),
         }
-        let count = sample_count(kind, width, height);
-        if count > MOST_SAMPLES {
-            return Err(FrameFault::TooManySamples);
-        }
-        if samples.len() as u64 != count {
-            return Err(FrameFault::WrongCount);
-        }
-        if maxval == 0 {
-            return Err(FrameFault::ZeroMaxval);
-        }
-        if let Some(place) = samples.first_above(maxval) {
-            return Err(FrameFault::SampleTooLarge(place));
-        }
-        Ok(FrameView {
-            kind,
-            width,
-            height,
-            maxval,
-            samples,
-        })
     }
 
     /// Gray or colour.
@@ -264,7 +380,7 @@ impl<'a> FrameView<'a> {
         ensures value { result ≡ self.now.kind }
         ensures lawful { IsFrame self.now }
     {
-        self.kind
+        self.picture.kind
     }
 
     /// Pixels in a row, 1 to 65535.
@@ -272,7 +388,7 @@ impl<'a> FrameView<'a> {
         ensures value { result ≡ self.now.width }
         ensures lawful { IsFrame self.now }
     {
-        self.width
+        self.picture.width
     }
 
     /// Rows, 1 to 65535.
@@ -280,7 +396,7 @@ impl<'a> FrameView<'a> {
         ensures value { result ≡ self.now.height }
         ensures lawful { IsFrame self.now }
     {
-        self.height
+        self.picture.height
     }
 
     /// The greatest value that a sample may have, 1 to 65535.
@@ -289,7 +405,7 @@ impl<'a> FrameView<'a> {
         ensures some { 0 < result }
         ensures lawful { IsFrame self.now }
     {
-        self.maxval
+        self.picture.maxval
     }
 
     /// The samples.
@@ -297,7 +413,15 @@ impl<'a> FrameView<'a> {
         ensures value { numbers result ≡ self.now.samples }
         ensures lawful { IsFrame self.now }
     {
-        self.samples
+        self.picture.samples
+    }
+
+    /// The same, for calls that take a picture.
+    pub fn picture(&self) -> &PictureView<'a>
+        ensures value { result.now ≡ self.now }
+        ensures lawful { IsFrame self.now }
+    {
+        &self.picture
     }
 }
 

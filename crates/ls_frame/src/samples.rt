@@ -33,7 +33,7 @@ impl<'a> Samples<'a> {
     }
 
     /// The place of the first over `maxval`.
-    pub(crate) fn first_above(self, maxval: u16) -> Option<usize>
+    pub fn first_above(self, maxval: u16) -> Option<usize>
         ensures { result ≡ position (λ sample. nat_lt maxval sample) (numbers self.entry) }
     {
         match self {

@@ -1,5 +1,5 @@
 use crate::testing::{Parts, check, check_items, check_samples, frame_of, parts_of};
-use ls_frame::{Frame, FrameFault, FrameView, Kind, Samples};
+use ls_frame::{Frame, FrameFault, FrameView, Kind, PictureView, Samples};
 use std::alloc::{AllocError, Global};
 use std::process::Abort;
 
@@ -44,11 +44,17 @@ fn check_refused(rt: &impl Abort, alloc: Global, i: usize, refused: &Refused<'_>
     check_items(rt, "the samples", i, &returned, samples);
 }
 
-/// That parts make no view either, for the same reason.
+/// That parts make no view either, for the same reason, and no picture, unless it is only a sample.
 fn check_view_refused(rt: &impl Abort, i: usize, refused: &Refused<'_>) {
     let ((kind, width, height, maxval, samples), want) = *refused;
     let made = FrameView::new(kind, width, height, maxval, Samples::Words(samples));
     check(rt, "a view's fault", i, &made.err(), &Some(want));
+    let made = PictureView::new(kind, width, height, maxval, Samples::Words(samples));
+    let want = match want {
+        FrameFault::SampleTooLarge(_) => None,
+        fault => Some(fault),
+    };
+    check(rt, "a picture's fault", i, &made.err(), &want);
 }
 
 #[test]
@@ -75,6 +81,17 @@ fn check_parts(rt: &impl Abort, i: usize, frame: &Frame, parts: &Parts<'_>) {
     check(rt, "the view's kind, size and maxval", i, &got, &want);
     let want = Samples::Words(samples);
     check_samples(rt, "its samples", i, view.samples(), want);
+    let picture = view.picture();
+    let got = (
+        picture.kind(),
+        picture.width(),
+        picture.height(),
+        picture.maxval(),
+    );
+    let want = (kind, width, height, maxval);
+    check(rt, "the picture's kind, size and maxval", i, &got, &want);
+    let want = Samples::Words(samples);
+    check_samples(rt, "the picture's samples", i, picture.samples(), want);
 }
 
 #[test]

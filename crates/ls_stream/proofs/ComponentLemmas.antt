@@ -18,6 +18,11 @@ unfolding component_of
 sample_at samples width height count component i j some e h k =
     get_or-map-range_with_len (λ n. get_or samples (n * count + component) 0) 0 (length samples / count) (i * width + j) (i * width + j) 0 (omega (arith, places samples width height count some e, place_inside width height i j h k)) (omega arith)
 
+pub all_samples : (samples : List ℕ) (width height count component : ℕ) → 1 ≤ count → length samples ≡ width * height * count → length (component_plane width count component samples).samples ≡ width * height
+unfolding component_of
+all_samples samples width height count component some e =
+    length-map-range_with_len (λ n. get_or samples (n * count + component) 0) 0 (length samples / count) ∙ places samples width height count some e
+
 pub has_row : (samples : List ℕ) (width height count component i : ℕ) → 1 ≤ count → length samples ≡ width * height * count → i < height → HasRow (component_plane width count component samples) i
 unfolding component_of
 has_row samples width height count component i some e h =

@@ -1,13 +1,18 @@
--- What a frame's planes keep to.
-use Rattle.std.proofs.Common.{◌≡◌, ℕ, ◌+◌, ◌*◌, ◌/◌, ◌<◌, ◌≤◌, ◌++◌, [], Bool, List, length, get_or, sym, ◌∙◌, ap, subst, append-nil, inl, inr, arith, mul-div_cancel}
-use Rattle.std.proofs.lemmas.Bool.{cases_lt}
+-- What a picture's planes keep to, and a frame's.
+use Rattle.std.proofs.Common.{◌≡◌, ℕ, suc, ◌+◌, ◌*◌, ◌/◌, ◌%◌, ◌<◌, ◌≤◌, ◌++◌, [], ◌∷◌, Bool, true, false, Option, Some, None, is_some, nat_lt, List, length, get_or, not, sym, ◌∙◌, ap, subst, append-nil, inl, inr, true≢false, arith, mul-div_cancel}
+use Rattle.std.specs.List.{AllByRecursion, position, position_or_len}
+use Rattle.std.proofs.Math.Nat.{mod-lt, div-lt_iff_lt-mul}
+use Rattle.std.proofs.lemmas.Nat.{div-add-mod'}
+use Rattle.std.proofs.lemmas.Bool.{cases_lt, le-ltb, cond-false}
 use Rattle.std.proofs.lemmas.List.{get_or_past}
+use Rattle.std.proofs.lemmas.List.Sums.{prefix_len_stops}
 use Rattle.std.proofs.lemmas.List.Elements.{All-from_recursion}
 use Rattle.std.proofs.lemmas.List.FromFn.{length-map-range_with_len, get_or-map-range_with_len}
 use Rattle.ls_frame.specs.declared.frame.Kind.{Kind}
 use Rattle.ls_frame.specs.declared.frame.Kind.TheVariants.{Gray, Color}
-use Rattle.ls_frame.specs.Picture.{Picture, IsFrame, components}
+use Rattle.ls_frame.specs.Picture.{Picture, IsFormed, IsFrame, components}
 use Rattle.ls_frame.specs.Parameters.{Parameters, limit_of}
+use Rattle.ls_frame.proofs.SampleLemmas.{none_above, whole_frame}
 use Rattle.ls_bits.specs.View.Room.{Fits}
 use Rattle.ls_coding.specs.View.States.{Coding, state_of}
 use Rattle.ls_stream.specs.Planes.{Plane, rows_from, spans, plane_bits}
@@ -17,13 +22,49 @@ use Rattle.ls_stream.specs.Components.{component_of, component_plane, plane_of}
 use Rattle.ls_stream.specs.View.Shapes.{IsShapeOf}
 use Rattle.ls_stream.proofs.CodedLemmas.{plane_from, parameters_of}
 
+pub formed : (f : Picture) → IsFrame f → IsFormed f
+formed f frame = record {
+  some_width = frame.some_width;
+  width = frame.width;
+  some_height = frame.some_height;
+  height = frame.height;
+  some_maxval = frame.some_maxval;
+  maxval = frame.maxval;
+  few = frame.few;
+  count = frame.count;
+}
+
 -- each sample is at most maxval, and what isn't there is 0
-pub samples_small : (f : Picture) → IsFrame f → (k : ℕ) → get_or f.samples k 0 ≤ f.maxval
-samples_small f frame k =
-    elim (cases_lt k (length f.samples)) [
-      | inl inside ↦ All-from_recursion (λ sample. sample ≤ f.maxval) f.samples frame.each k 0 inside
-      | inr far ↦ let none : get_or f.samples k 0 ≡ 0 = get_or_past f.samples k 0 (omega arith) in omega arith
+small_at : (maxval : ℕ) (samples : List ℕ) → AllByRecursion (λ sample. sample ≤ maxval) samples → (k : ℕ) → get_or samples k 0 ≤ maxval
+small_at maxval samples each k =
+    elim (cases_lt k (length samples)) [
+      | inl inside ↦ All-from_recursion (λ sample. sample ≤ maxval) samples each k 0 inside
+      | inr far ↦ let none : get_or samples k 0 ≡ 0 = get_or_past samples k 0 (omega arith) in omega arith
     ]
+
+pub samples_small : (f : Picture) → IsFrame f → (k : ℕ) → get_or f.samples k 0 ≤ f.maxval
+samples_small f frame = small_at f.maxval f.samples frame.each
+
+-- where each is at most maxval, none is found over it
+pub none_found : (maxval : ℕ) (samples : List ℕ) → ((k : ℕ) → get_or samples k 0 ≤ maxval) → position (λ sample. nat_lt maxval sample) samples ≡ None
+none_found maxval samples small =
+    let least : ℕ = position_or_len (λ sample. nat_lt maxval sample) samples in
+    elim (cases_lt least (length samples)) [
+      | inl short ↦
+          absurd (true≢false (sym (ap not (le-ltb maxval (get_or samples least 0) (small least))) ∙ prefix_len_stops (λ sample. not (nat_lt maxval sample)) samples 0 short))
+      | inr long ↦ cond-false _ _ _ (le-ltb least (length samples) long)
+    ]
+
+-- where no sample is found over maxval, none is
+pub none_over : (maxval : ℕ) (samples : List ℕ) (found : Option ℕ) → found ≡ position (λ sample. nat_lt maxval sample) samples → is_some found ≡ false
+    → (k : ℕ) → get_or samples k 0 ≤ maxval
+none_over maxval samples None e not_some = small_at maxval samples (none_above maxval samples (sym e))
+none_over maxval samples (Some place) e not_some = absurd (true≢false not_some)
+
+-- and where one is, it is
+pub one_over : (maxval : ℕ) (samples : List ℕ) (found : Option ℕ) → found ≡ position (λ sample. nat_lt maxval sample) samples → is_some found ≡ true
+    → ((k : ℕ) → get_or samples k 0 ≤ maxval) → ⊥
+one_over maxval samples found e some small = true≢false (sym some ∙ ap is_some (e ∙ none_found maxval samples small))
 
 pub some_components : (kind : Kind) → 1 ≤ components kind
 some_components Gray = omega arith
@@ -33,45 +74,41 @@ pub few_components : (kind : Kind) → components kind ≤ 3
 few_components Gray = omega arith
 few_components Color = omega arith
 
--- a frame's planes have its rows
-pub plane_length : (f : Picture) → IsFrame f → (component : ℕ) → length (plane_of f component).samples ≡ f.width * f.height
+-- a picture's planes have its rows
+pub plane_length : (f : Picture) → IsFormed f → (component : ℕ) → length (plane_of f component).samples ≡ f.width * f.height
 unfolding component_of
-plane_length f frame component =
+plane_length f is component =
     let some : 0 < components f.kind = omega (arith, some_components f.kind) in
     length-map-range_with_len _ 0 (length f.samples / components f.kind)
-    ∙ ap (λ n. n / components f.kind) frame.count ∙ mul-div_cancel (f.width * f.height) some
+    ∙ ap (λ n. n / components f.kind) is.count ∙ mul-div_cancel (f.width * f.height) some
 
-pub plane_rows : (f : Picture) → IsFrame f → (component : ℕ) → spans (plane_of f component) ≡ rows_from (plane_of f component) f.height 0
+pub plane_rows : (f : Picture) → IsFormed f → (component : ℕ) → spans (plane_of f component) ≡ rows_from (plane_of f component) f.height 0
 unfolding spans
-plane_rows f frame component =
-    let some : 0 < f.width = frame.some_width in
+plane_rows f is component =
+    let some : 0 < f.width = is.some_width in
     let turned : f.width * f.height ≡ f.height * f.width = omega arith in
     ap (λ n. rows_from (plane_of f component) n 0)
-    (ap (λ n. n / f.width) (plane_length f frame component ∙ turned) ∙ mul-div_cancel f.height some)
+    (ap (λ n. n / f.width) (plane_length f is component ∙ turned) ∙ mul-div_cancel f.height some)
 
 -- the bits of all rows, put from a scan's start on, are the plane's
-pub all_rows : (p : Parameters) (f : Picture) → IsFrame f → (component : ℕ) (bits : List Bool) (s : Coding)
+pub all_rows : (p : Parameters) (f : Picture) → IsFormed f → (component : ℕ) (bits : List Bool) (s : Coding)
     → all_from (plane_of f component) bits s [] ≡ all_from (plane_of f component) [] (state_of p []) (rows_from (plane_of f component) f.height 0 ++ [])
     → bits ≡ plane_bits p (plane_of f component)
 unfolding bits_from
-all_rows p f frame component bits s e =
+all_rows p f is component bits s e =
     sym (append-nil bits) ∙ e
-    ∙ ap (λ xs. bits_from (plane_of f component) xs (state_of p [])) (append-nil (rows_from (plane_of f component) f.height 0) ∙ sym (plane_rows f frame component))
+    ∙ ap (λ xs. bits_from (plane_of f component) xs (state_of p [])) (append-nil (rows_from (plane_of f component) f.height 0) ∙ sym (plane_rows f is component))
     ∙ sym (plane_from p (plane_of f component))
 
--- ---- the same, of a frame's shape and its samples
+-- ---- the same, of a picture's shape and its samples
 
 pub length_of : (f : Picture) (shape : Shape) (samples : List ℕ) → IsShapeOf f shape → samples ≡ f.samples → length samples ≡ shape.height * (shape.width * shape.components)
 length_of f shape samples is same =
     let turned : f.width * f.height * components f.kind ≡ f.height * (f.width * components f.kind) = omega arith in
-    ap length same ∙ is.frame.count ∙ turned
+    ap length same ∙ is.formed.count ∙ turned
     ∙ ap (λ h. h * (f.width * components f.kind)) (sym is.height)
     ∙ ap (λ w. shape.height * (w * components f.kind)) (sym is.width)
     ∙ ap (λ n. shape.height * (shape.width * n)) (sym is.count)
-
-pub small_of : (f : Picture) (samples : List ℕ) (p : Parameters) (s : Coding) → IsFrame f → samples ≡ f.samples → s ≡ state_of p [] → p.maxval ≡ f.maxval → (k : ℕ) → get_or samples k 0 ≤ s.parameters.maxval
-small_of f samples p s frame same e maxval k =
-    omega (arith, samples_small f frame k, ap (λ xs. get_or xs k 0) same, ap (λ (t : Coding). t.parameters.maxval) e, ap (λ (q : Parameters). q.maxval) (parameters_of p []))
 
 -- the most bits of a plane
 abbrev pub most : ℕ → ℕ → ℕ → ℕ
@@ -104,13 +141,62 @@ bits_of f shape samples p s after component bits new is samples_are e none rows 
     let same : plane ≡ plane_of f component =
     ap (λ w. component_plane w shape.components component samples) is.width ∙ ap (λ n. component_plane f.width n component samples) is.count
     ∙ ap (component_plane f.width (components f.kind) component) samples_are in
-    all_rows p f is.frame component new after
+    all_rows p f is.formed component new after
     (subst (λ (q : Plane). all_from q new after [] ≡ all_from q [] (state_of p []) (rows_from q f.height 0 ++ [])) same
     (rows ∙ ap (λ (x : List Bool). all_from plane x s (rows_from plane shape.height 0 ++ [])) none
     ∙ ap (λ (t : Coding). all_from plane [] t (rows_from plane shape.height 0 ++ [])) e
     ∙ ap (λ h. all_from plane [] (state_of p []) (rows_from plane h 0 ++ [])) is.height))
 
+pub within_of : (f : Picture) (shape : Shape) (samples : List ℕ) (p : Parameters) (s : Coding) (component : ℕ) → IsShapeOf f shape → samples ≡ f.samples → s ≡ state_of p [] → p.maxval ≡ f.maxval
+    → ((k : ℕ) → get_or (component_plane shape.width shape.components component samples).samples k 0 ≤ s.parameters.maxval)
+    → (k : ℕ) → get_or (plane_of f component).samples k 0 ≤ f.maxval
+within_of f shape samples p s component is same e maxval within k =
+    omega (
+      arith,
+      within k,
+      ap (λ n. get_or (component_of n component samples) k 0) is.count,
+      ap (λ xs. get_or (component_of (components f.kind) component xs) k 0) same,
+      ap (λ (t : Coding). t.parameters.maxval) e,
+      ap (λ (q : Parameters). q.maxval) (parameters_of p []),
+    )
+
+pub small_of : (f : Picture) (samples : List ℕ) (p : Parameters) (s : Coding) → IsFrame f → samples ≡ f.samples → s ≡ state_of p [] → p.maxval ≡ f.maxval → (k : ℕ) → get_or samples k 0 ≤ s.parameters.maxval
+small_of f samples p s frame same e maxval k =
+    omega (arith, samples_small f frame k, ap (λ xs. get_or xs k 0) same, ap (λ (t : Coding). t.parameters.maxval) e, ap (λ (q : Parameters). q.maxval) (parameters_of p []))
+
 -- ---- planes
+
+-- a sample of a picture stands in a plane
+sample_in_plane : (f : Picture) → IsFormed f → (k : ℕ) → k < length f.samples
+    → get_or f.samples k 0 ≡ get_or (plane_of f (k % components f.kind)).samples (k / components f.kind) 0
+unfolding component_of
+sample_in_plane f is k inside =
+    let count : ℕ = components f.kind in
+    let some : 0 < count = omega (arith, some_components f.kind) in
+    let split : k / count * count + k % count ≡ k = div-add-mod' k count in
+    let places : length f.samples / count ≡ f.width * f.height = ap (λ n. n / count) is.count ∙ mul-div_cancel (f.width * f.height) some in
+    let pixel : k / count < f.width * f.height = (div-lt_iff_lt-mul some).1 (omega (arith, is.count)) in
+    ap (λ n. get_or f.samples n 0) (sym split)
+    ∙ sym (get_or-map-range_with_len (λ n. get_or f.samples (n * count + k % count) 0) 0 (length f.samples / count) (k / count) (k / count) 0 (omega arith) (omega arith))
+
+-- one plane more is seen to be of samples within maxval
+pub one_more_plane : (f : Picture) (maxval count component : ℕ) → component ≡ count → ((i : ℕ) → i < count → (k : ℕ) → get_or (plane_of f i).samples k 0 ≤ maxval)
+    → ((k : ℕ) → get_or (plane_of f component).samples k 0 ≤ maxval) → (i : ℕ) → i < count + 1 → (k : ℕ) → get_or (plane_of f i).samples k 0 ≤ maxval
+one_more_plane f maxval count component e before here i inside =
+    elim (cases_lt i count) [
+      | inl earlier ↦ before i earlier
+      | inr last ↦ let same : component ≡ i = omega arith in subst (λ n. (k : ℕ) → get_or (plane_of f n).samples k 0 ≤ maxval) same here
+    ]
+
+-- a picture whose planes are of samples within maxval is a frame
+pub frame_of_planes : (f : Picture) → IsFormed f → ((component : ℕ) → component < components f.kind → (k : ℕ) → get_or (plane_of f component).samples k 0 ≤ f.maxval) → IsFrame f
+frame_of_planes f is within =
+    let some : 0 < components f.kind = omega (arith, some_components f.kind) in
+    whole_frame f is (none_found f.maxval f.samples (λ k.
+    elim (cases_lt k (length f.samples)) [
+      | inl inside ↦ omega (arith, sample_in_plane f is k inside, within (k % components f.kind) (mod-lt k some) (k / components f.kind))
+      | inr far ↦ let none : get_or f.samples k 0 ≡ 0 = get_or_past f.samples k 0 (omega arith) in omega arith
+    ]))
 
 -- each sample of a plane is at most maxval
 pub plane_small : (f : Picture) → IsFrame f → (component k : ℕ) → get_or (plane_of f component).samples k 0 ≤ f.maxval

@@ -29,7 +29,7 @@ use Rattle.ls_stream.specs.View.FirstFaults.{BreaksData, IsPlaneData}
 use Rattle.ls_stream.specs.View.Reading.{◌>>=◌, Take, Gives, opening_at, next_scan_at, end_at}
 use Rattle.ls_stream.specs.View.Outlines.{scans_at, outline_at, ids_in, data_at, after_data, ScansStop, Outline, AreDataOf, IsOutlineOf, of_all, outline_of}
 use Rattle.ls_stream.specs.View.Decoding.{scan_in, AreScansOf, NoScans, picture}
-use Rattle.ls_stream.proofs.FrameLemmas.{samples_small, some_components, plane_length, plane_small}
+use Rattle.ls_stream.proofs.FrameLemmas.{formed, samples_small, none_found, some_components, plane_length, plane_small}
 use Rattle.ls_stream.proofs.ScanReadingLemmas.{component_at, is_sample_plane}
 use Rattle.ls_stream.proofs.StepLemmas.{step_ok, step_is, same_ok}
 
@@ -334,7 +334,7 @@ turned a b = omega arith
 pub plane_is : (f : Picture) (maxval width height i : ℕ) → IsFrame f → maxval ≡ f.maxval → width ≡ f.width → height ≡ f.height → IsSamplePlane maxval width height (plane_of f i)
 plane_is f maxval width height i frame e g h = record {
   width_is = sym g;
-  count = plane_length f frame i ∙ turned f.width f.height ∙ ap (λ n. n * f.width) (sym h) ∙ ap (λ n. height * n) (sym g);
+  count = plane_length f (formed f frame) i ∙ turned f.width f.height ∙ ap (λ n. n * f.width) (sym h) ∙ ap (λ n. height * n) (sym g);
   small = λ k. omega (arith, plane_small f frame i k, e);
 }
 
@@ -592,15 +592,6 @@ is_frame header p samples some_width width some_height height legal few count sm
   count = count ∙ ap (λ n. n * components header.kind) (turned header.height header.width);
   each = each_small p.maxval samples small;
 }
-
-none_found : (maxval : ℕ) (samples : List ℕ) → ((k : ℕ) → get_or samples k 0 ≤ maxval) → position (λ sample. nat_lt maxval sample) samples ≡ None
-none_found maxval samples small =
-    let least : ℕ = position_or_len (λ sample. nat_lt maxval sample) samples in
-    elim (cases_lt least (length samples)) [
-      | inl short ↦
-          absurd (true≢false (sym (ap not (le-ltb maxval (get_or samples least 0) (small least))) ∙ prefix_len_stops (λ sample. not (nat_lt maxval sample)) samples 0 short))
-      | inr long ↦ cond-false _ _ _ (le-ltb least (length samples) long)
-    ]
 
 pub no_fault : (f : Picture) → IsFrame f → frame_fault f ≡ None
 no_fault f frame =

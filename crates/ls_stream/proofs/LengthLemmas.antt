@@ -2,7 +2,7 @@
 use Rattle.std.proofs.Common.{◌≡◌, ℕ, zero, suc, ◌+◌, ◌*◌, ◌/◌, ◌^◌, ◌<◌, ◌≤◌, ◌++◌, [], ◌∷◌, Bool, true, false, cond, length, map, flat_map, refl, ◌∙◌, ap, length-append, div-mul-le_self, arith}
 use Rattle.std.proofs.lemmas.Nat.{mul-le}
 use Rattle.std.specs.List.{range_with_len}
-use Rattle.ls_frame.specs.Picture.{Picture, IsFrame, components}
+use Rattle.ls_frame.specs.Picture.{Picture, IsFrame, components, sample_count, most_samples}
 use Rattle.ls_frame.specs.Parameters.{Parameters, IsLegal, qbpp_of, limit_of}
 use Rattle.ls_coding.proofs.WordLemmas.{qbpp_are, limit_small}
 use Rattle.ls_bits.specs.Stuffing.{stuff}
@@ -14,7 +14,7 @@ use Rattle.ls_stream.specs.Components.{plane_of}
 use Rattle.ls_stream.specs.Grammar.{presets, miscellaneous_bytes}
 use Rattle.ls_stream.specs.Layout.{written_component, written_header, needs_presets, written_presets, presets_length, codestream, scan_of, scans_up_to, scan_bound, bound}
 use Rattle.ls_stream.proofs.CostLemmas.{plane_bits_short}
-use Rattle.ls_stream.proofs.FrameLemmas.{plane_length, plane_small, few_components}
+use Rattle.ls_stream.proofs.FrameLemmas.{formed, plane_length, plane_small, few_components}
 use Rattle.ls_stream.proofs.LayoutLemmas.{stuffed_short, codestream_is, room_is}
 
 most_by : (test : Bool) → cond test 15 0 ≤ 15
@@ -46,7 +46,7 @@ scan_length f p component frame legal same =
     let bits = plane_bits p (plane_of f component) in
     let few : length bits ≤ limit_of p.maxval * length (plane_of f component).samples =
     plane_bits_short p (plane_of f component) legal frame.some_width (λ k. omega (arith, plane_small f frame component k)) in
-    let most : length bits ≤ limit_of p.maxval * (f.width * f.height) = omega (arith, ap (λ n. limit_of p.maxval * n) (plane_length f frame component)) in
+    let most : length bits ≤ limit_of p.maxval * (f.width * f.height) = omega (arith, ap (λ n. limit_of p.maxval * n) (plane_length f (formed f frame) component)) in
     omega (arith, stuffed_short [] (stuff bits) bits (limit_of p.maxval * (f.width * f.height)) refl most)
 
 scans_length : (f : Picture) (p : Parameters) (from count : ℕ) → IsFrame f → IsLegal p → p.maxval ≡ f.maxval → length (flat_map (scan_of f p) (range_with_len from count)) ≤ count * (10 + scan_bound f p)
@@ -78,14 +78,14 @@ within_bound f p frame legal same =
     )
 
 -- LIMIT bits for each of all samples, seven to a byte, and a byte more for each component
-pub bound_small : (f : Picture) (p : Parameters) → IsFrame f → IsLegal p → bound f p < 2 ^ 32
-bound_small f p frame legal =
+pub bound_small : (f : Picture) (p : Parameters) → sample_count f.kind f.width f.height ≤ most_samples → IsLegal p → bound f p < 2 ^ 32
+bound_small f p samples_few legal =
     let count = components f.kind in
     let limit = limit_of p.maxval in
     let bits = limit * (f.width * f.height) in
     let small : limit ≤ 64 = limit_most p legal in
     let all : count * bits ≡ limit * (f.width * f.height * count) = omega arith in
-    let few : limit * (f.width * f.height * count) ≤ 64 * 2 ^ 28 = mul-le limit (f.width * f.height * count) 64 (2 ^ 28) small frame.few in
+    let few : limit * (f.width * f.height * count) ≤ 64 * 2 ^ 28 = mul-le limit (f.width * f.height * count) 64 (2 ^ 28) small samples_few in
     let sevenths : count * (bits / 7 * 7) ≤ count * bits = mul-le count (bits / 7 * 7) count bits (omega arith) (div-mul-le_self bits 7) in
     let split : count * (10 + (bits / 7 + 1)) ≡ 11 * count + count * (bits / 7) = omega arith in
     let turned : count * (bits / 7 * 7) ≡ 7 * (count * (bits / 7)) = omega arith in

@@ -176,14 +176,32 @@ row_small maxval stride start samples row whole same small k =
       | inr far ↦ let none : get_or row k 0 ≡ 0 = get_or_past row k 0 (omega arith) in omega arith
     ]
 
--- the line above, and one that was filled from a row of samples
-pub padded : (maxval width count component start : ℕ) (samples row above_buffer buffer : List ℕ) → 1 ≤ width → length above_buffer ≡ width + 2 → length buffer ≡ width + 2
+-- the same, where the row is of samples that are
+pub small_line : (maxval width count component start : ℕ) (samples row above_buffer buffer : List ℕ) → 1 ≤ width → length buffer ≡ width + 2
     → ((k : ℕ) → get_or above_buffer k 0 ≤ maxval) → length row ≡ width * count → ((k : ℕ) → k < width * count → get_or row k 0 ≡ get_or samples (start + k) 0)
     → ((k : ℕ) → get_or samples k 0 ≤ maxval) → get_or buffer 0 0 ≡ get_or above_buffer 1 0 → ((k : ℕ) → k < width → get_or buffer (k + 1) 0 ≡ get_or row (k * count + component) 0)
-    → get_or buffer (width + 1) 0 ≡ get_or buffer width 0 → ArePadded maxval width above_buffer buffer
-padded maxval width count component start samples row above_buffer buffer some above_length line_length above_small row_length same small first middle last = record {
-  above_length = above_length;
-  line_length = line_length;
-  above_small = above_small;
-  line_small = filled_small maxval width count component above_buffer buffer row some line_length above_small (row_small maxval (width * count) start samples row row_length same small) first middle last;
-}
+    → get_or buffer (width + 1) 0 ≡ get_or buffer width 0 → (k : ℕ) → get_or buffer k 0 ≤ maxval
+small_line maxval width count component start samples row above_buffer buffer some line_length above_small row_length same small first middle last =
+    filled_small maxval width count component above_buffer buffer row some line_length above_small (row_small maxval (width * count) start samples row row_length same small) first middle last
+
+-- the samples of one row more are seen to be within
+pub one_more_seen : (plane : Plane) (maxval i : ℕ) (line : List ℕ) → ((k : ℕ) → k < i * plane.width → get_or plane.samples k 0 ≤ maxval)
+    → ((k : ℕ) → k < plane.width → get_or line (k + 1) 0 ≡ at plane i k) → ((k : ℕ) → get_or line k 0 ≤ maxval)
+    → (k : ℕ) → k < (i + 1) * plane.width → get_or plane.samples k 0 ≤ maxval
+one_more_seen plane maxval i line seen middle small k h =
+    elim (cases_lt k (i * plane.width)) [
+      | inl before ↦ seen k before
+      | inr here ↦
+          let place : i * plane.width + (k - i * plane.width) ≡ k = omega arith in
+          let inside : k - i * plane.width < plane.width = omega arith in
+          omega (arith, middle (k - i * plane.width) inside, small (k - i * plane.width + 1), ap (λ n. get_or plane.samples n 0) place)
+    ]
+
+-- those of all rows
+pub all_seen : (plane : Plane) (maxval height : ℕ) → length plane.samples ≡ plane.width * height → ((k : ℕ) → k < height * plane.width → get_or plane.samples k 0 ≤ maxval)
+    → (k : ℕ) → get_or plane.samples k 0 ≤ maxval
+all_seen plane maxval height whole seen k =
+    elim (cases_lt k (height * plane.width)) [
+      | inl inside ↦ seen k inside
+      | inr far ↦ let none : get_or plane.samples k 0 ≡ 0 = get_or_past plane.samples k 0 (omega arith) in omega arith
+    ]

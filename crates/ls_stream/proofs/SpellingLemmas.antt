@@ -173,7 +173,7 @@ unfolding codestream
 spells kept f p frame legal same = record {
   frame = frame;
   are_bytes = codestream_bytes_are f p frame (fields p legal);
-  short = omega (arith, within_bound f p frame legal same, bound_small f p frame legal);
+  short = omega (arith, within_bound f p frame legal same, bound_small f p frame.few legal);
   codestream = layout f p;
   spelled = refl;
   parameters = p;

@@ -3,9 +3,9 @@ mod coder;
 mod row;
 mod scan;
 
-ghost use Rattle.std.specs.Prelude.{◌≡◌, ◌+◌, ◌-◌, ◌*◌, ◌/◌, ◌^◌, ◌<◌, ◌≤◌, ◌++◌, List, length, take, drop, map, flat_map, IfOk, vec_len, vec_capacity, if◌then◌else◌};
+ghost use Rattle.std.specs.Prelude.{◌≡◌, ◌+◌, ◌-◌, ◌*◌, ◌/◌, ◌^◌, ◌<◌, ◌≤◌, ◌++◌, true, false, List, length, take, drop, map, flat_map, IfOk, IfSome, MatchOption, vec_len, vec_capacity, if◌then◌else◌};
 ghost use Rattle.std.specs.List.{range_with_len};
-ghost use Rattle.ls_frame.specs.Picture.{components};
+ghost use Rattle.ls_frame.specs.Picture.{IsFormed, IsFrame, components};
 ghost use Rattle.ls_frame.specs.Parameters.{limit_of, default_parameters};
 ghost use Rattle.ls_stream.specs.Layout.{codestream, scans_up_to, headers_length, scan_bound, bound};
 
@@ -15,7 +15,7 @@ use crate::segments::write::{
     presets_length, put_frame_header, put_marker, put_presets_if_needed, put_scan_header,
 };
 use ls_bits::{Room, SliceRoom};
-use ls_frame::{Frame, FrameView, Presets};
+use ls_frame::{Frame, FrameView, PictureView, Presets};
 use scan::put_scan;
 use std::alloc::{AllocError, Global};
 
@@ -57,11 +57,33 @@ pub fn encode_view(
     ensures short { IfOk result (λ bytes. length bytes.items < 2 ^ 32) }
     ensures capacity { IfOk result (λ bytes. vec_capacity bytes ≡ bound frame.now presets.now) }
 {
-    let capacity = view_bound(frame, presets) as usize;
+    match encode_picture(alloc, frame.picture(), presets)? {
+        Some(bytes) => Ok(bytes),
+        None => unreachable!(),
+    }
+}
+
+/// As `encode_view`, of a picture that may be no frame: `None` exactly if a sample is over maxval. Each row is looked at
+/// when it is coded, so that the samples come off memory once.
+pub fn encode_picture(
+    alloc: Global,
+    picture: &PictureView,
+    presets: &Presets,
+) -> Result<Option<Vec<u8>>, AllocError>
+    requires maxval { presets.now.maxval ≡ picture.now.maxval }
+    ensures exactly { IfOk result (λ coded. MatchOption coded (IsFormed picture.now × (IsFrame picture.now → ⊥))
+        (λ bytes. IsFrame picture.now × (bytes.items ≡ codestream picture.now presets.now))) }
+    ensures short { IfOk result (λ coded. IfSome coded (λ bytes. length bytes.items < 2 ^ 32)) }
+    ensures capacity { IfOk result (λ coded. IfSome coded (λ bytes. vec_capacity bytes ≡ bound picture.now presets.now)) }
+{
+    let capacity = picture_bound(picture, presets) as usize;
     let mut bytes = Vec::with_capacity(alloc, capacity)?;
-    let mut lines = Lines::new(alloc, frame.width())?;
-    put_codestream(frame, presets, &mut lines, &mut bytes);
-    Ok(bytes)
+    let mut lines = Lines::new(alloc, picture.width())?;
+    if put_codestream(picture, presets, &mut lines, &mut bytes) {
+        Ok(Some(bytes))
+    } else {
+        Ok(None)
+    }
 }
 
 /// The codestream of a frame, written after the bytes that the vector has. The vector comes back with the capacity that
@@ -78,7 +100,7 @@ pub fn encode_within(frame: &Frame, presets: &Presets, lines: &mut Lines, bytes:
     ensures lines { lines.new ≡ lines.old }
 {
     let mut bytes = bytes;
-    put_codestream(&frame.view(), presets, lines, &mut bytes);
+    let _frame = put_codestream(frame.view().picture(), presets, lines, &mut bytes);
     bytes
 }
 
@@ -101,25 +123,34 @@ pub fn encode_into(
     ensures lines { lines.new ≡ lines.old }
 {
     let mut room = SliceRoom::new(bytes);
-    put_codestream(frame, presets, lines, &mut room);
+    let _frame = put_codestream(frame.picture(), presets, lines, &mut room);
     room.len()
 }
 
-/// Puts the codestream of a frame into a room, after the bytes that it has.
-fn put_codestream<R: Room>(frame: &FrameView, presets: &Presets, lines: &mut Lines, bytes: &mut R)
-    requires maxval { presets.now.maxval ≡ frame.now.maxval }
-    requires width { frame.now.width ≤ lines.old }
-    requires room { length (R.items bytes.old) + bound frame.now presets.now ≤ R.capacity bytes.old }
-    ensures bytes { R.items bytes.new ≡ R.items bytes.old ++ codestream frame.now presets.now }
+/// Puts the codestream of a picture into a room, after the bytes that it has, if the picture is a frame. Where a sample
+/// is over maxval it answers false, and what was put is none.
+fn put_codestream<R: Room>(
+    picture: &PictureView,
+    presets: &Presets,
+    lines: &mut Lines,
+    bytes: &mut R,
+) -> bool
+    requires maxval { presets.now.maxval ≡ picture.now.maxval }
+    requires width { picture.now.width ≤ lines.old }
+    requires room { length (R.items bytes.old) + bound picture.now presets.now ≤ R.capacity bytes.old }
+    ensures within { result ≡ true → IsFrame picture.now }
+    ensures over { result ≡ false → IsFrame picture.now → ⊥ }
+    ensures bytes { result ≡ true → R.items bytes.new ≡ R.items bytes.old ++ codestream picture.now presets.now }
     ensures capacity { R.capacity bytes.new ≡ R.capacity bytes.old }
     ensures grown { R.Grown bytes.old bytes.new }
     ensures lines { lines.new ≡ lines.old }
 {
     put_marker(bytes, Marker::StartOfImage);
-    put_frame_header(bytes, frame);
+    put_frame_header(bytes, picture);
     put_presets_if_needed(bytes, presets);
-    put_scans(frame, presets, lines, bytes);
+    let frame = put_scans(picture, presets, lines, bytes);
     put_marker(bytes, Marker::EndOfImage);
+    frame
 }
 
 /// The most bytes that the codestream of a frame may have, fewer than 2^32: those of all headers and, for each
@@ -142,46 +173,67 @@ pub fn view_bound(frame: &FrameView, presets: &Presets) -> u64
     ensures enough { length (codestream frame.now presets.now) ≤ result }
     ensures small { result < 2 ^ 32 }
 {
-    prove!(presets.maxval() == frame.maxval());
-    let count = u64::from(frame.kind().components());
-    headers_length(frame, presets) + count * scan_bound(frame, presets)
+    picture_bound(frame.picture(), presets)
+}
+
+/// As `view_bound`, of a picture: the most bytes that its codestream may have if it is a frame.
+pub fn picture_bound(picture: &PictureView, presets: &Presets) -> u64
+    requires maxval { presets.now.maxval ≡ picture.now.maxval }
+    ensures value { result ≡ bound picture.now presets.now }
+    ensures enough { IsFrame picture.now → length (codestream picture.now presets.now) ≤ result }
+    ensures small { result < 2 ^ 32 }
+{
+    prove!(presets.maxval() == picture.maxval());
+    let count = u64::from(picture.kind().components());
+    headers_length(picture, presets) + count * scan_bound(picture, presets)
 }
 
 /// The bytes of a codestream that aren't data: SOI, the frame header, preset parameters where they are written, a scan
 /// header for each component, EOI.
 #[tactic(auto, unfolding(crate::specs::Layout::headers_length))]
-fn headers_length(frame: &FrameView, presets: &Presets) -> u64
-    ensures value { result ≡ headers_length frame.now presets.now }
+fn headers_length(picture: &PictureView, presets: &Presets) -> u64
+    ensures value { result ≡ headers_length picture.now presets.now }
     ensures small { result ≤ 68 }
 {
-    let count = u64::from(frame.kind().components());
+    let count = u64::from(picture.kind().components());
     2 + (10 + 3 * count) + presets_length(presets) + 10 * count + 2
 }
 
 /// The most bytes of a scan's data.
-fn scan_bound(frame: &FrameView, presets: &Presets) -> u64
-    requires maxval { presets.now.maxval ≡ frame.now.maxval }
-    ensures value { result ≡ scan_bound frame.now presets.now }
+fn scan_bound(picture: &PictureView, presets: &Presets) -> u64
+    requires maxval { presets.now.maxval ≡ picture.now.maxval }
+    ensures value { result ≡ scan_bound picture.now presets.now }
     ensures small { result ≤ 2 ^ 42 }
 {
-    let samples = u64::from(frame.width()) * u64::from(frame.height());
+    let samples = u64::from(picture.width()) * u64::from(picture.height());
     u64::from(presets.limit()) * samples / 7 + 1
 }
 
-/// A scan header and its data for each component.
-fn put_scans<R: Room>(frame: &FrameView, presets: &Presets, lines: &mut Lines, bytes: &mut R)
-    requires maxval { presets.now.maxval ≡ frame.now.maxval }
-    requires width { frame.now.width ≤ lines.old }
-    requires room { length (R.items bytes.old) + components frame.now.kind * (10 + scan_bound frame.now presets.now) + 2
+/// A scan header and its data for each component, up to the first that has a sample over maxval.
+fn put_scans<R: Room>(
+    picture: &PictureView,
+    presets: &Presets,
+    lines: &mut Lines,
+    bytes: &mut R,
+) -> bool
+    requires maxval { presets.now.maxval ≡ picture.now.maxval }
+    requires width { picture.now.width ≤ lines.old }
+    requires room { length (R.items bytes.old) + components picture.now.kind * (10 + scan_bound picture.now presets.now) + 2
         ≤ R.capacity bytes.old }
-    ensures bytes { R.items bytes.new ≡ R.items bytes.old ++ scans_up_to frame.now presets.now (components frame.now.kind) }
+    ensures within { result ≡ true → IsFrame picture.now }
+    ensures over { result ≡ false → IsFrame picture.now → ⊥ }
+    ensures bytes { result ≡ true
+        → R.items bytes.new ≡ R.items bytes.old ++ scans_up_to picture.now presets.now (components picture.now.kind) }
     ensures room { length (R.items bytes.new) + 2 ≤ R.capacity bytes.new }
     ensures capacity { R.capacity bytes.new ≡ R.capacity bytes.old }
     ensures grown { R.Grown bytes.old bytes.new }
     ensures lines { lines.new ≡ lines.old }
 {
-    for component in 0..frame.kind().components() {
+    for component in 0..picture.kind().components() {
         put_scan_header(bytes, component + 1);
-        put_scan(frame, presets, lines, bytes, usize::from(component));
+        if !put_scan(picture, presets, lines, bytes, usize::from(component)) {
+            return false;
+        }
     }
+    true
 }

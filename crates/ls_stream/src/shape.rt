@@ -1,8 +1,8 @@
-//! Where a frame's samples stand: rows from the top, and in a row pixel by pixel.
+//! Where a picture's samples stand: rows from the top, and in a row pixel by pixel.
 ghost use Rattle.std.specs.Prelude.{◌≡◌};
 ghost use Rattle.ls_stream.specs.View.Shapes.{IsShapeOf};
 
-use ls_frame::FrameView;
+use ls_frame::PictureView;
 
 /// How many pixels a row has, how many rows there are, and how many components.
 #[derive(Clone, Copy)]
@@ -12,13 +12,13 @@ pub struct Shape {
     pub components: usize,
 }
 
-/// The shape of a frame.
-pub fn shape_of(frame: &FrameView) -> Shape
-    ensures { IsShapeOf frame.now result }
+/// The shape of a picture.
+pub fn shape_of(picture: &PictureView) -> Shape
+    ensures { IsShapeOf picture.now result }
 {
     Shape {
-        width: usize::from(frame.width()),
-        height: usize::from(frame.height()),
-        components: usize::from(frame.kind().components()),
+        width: usize::from(picture.width()),
+        height: usize::from(picture.height()),
+        components: usize::from(picture.kind().components()),
     }
 }

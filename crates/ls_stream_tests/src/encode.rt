@@ -5,10 +5,10 @@ use crate::testing::{
     Chance, PICTURES, Parts, Picture, Shape, Sum, check_bytes, check_number, check_sum,
     drawn_frame, encode_tuned, frame_of, frame_of_parts, longest_line,
 };
-use ls_frame::{Frame, Kind, Presets};
+use ls_frame::{Frame, Kind, PictureView, Presets, Samples};
 use ls_stream::{
-    Lines, code_bound, encode_frame, encode_into, encode_view, encode_with, encode_within,
-    view_bound,
+    Lines, code_bound, encode_frame, encode_into, encode_picture, encode_view, encode_with,
+    encode_within, picture_bound, view_bound,
 };
 use std::alloc::{AllocError, Global};
 use std::process::Abort;
@@ -62,8 +62,14 @@ fn check_codestream(
     check_coded(rt, alloc, "by default", &frame, want)?;
     let explicit = encode_with(alloc, &frame, &presets)?;
     check_bytes(rt, "explicit", &explicit, want);
-    let viewed = encode_view(alloc, &frame.view(), &presets)?;
+    let view = frame.view();
+    let viewed = encode_view(alloc, &view, &presets)?;
     check_bytes(rt, "of a view", &viewed, want);
+    let pictured = encode_picture(alloc, view.picture(), &presets)?;
+    let pictured = pictured.unwrap_or(Vec::new(alloc));
+    check_bytes(rt, "of a picture", &pictured, want);
+    let picture = picture_bound(view.picture(), &presets);
+    check_number(rt, "bound of a picture", picture, bound);
     check_number(rt, "bound", code_bound(&frame, &presets), bound);
     Ok(())
 }
@@ -74,6 +80,42 @@ fn frames_have_these_codestreams_and_bounds_with_ample_memory(
 ) -> Result<(), AllocError> {
     for (parts, want, bound) in CODESTREAMS {
         check_codestream(&rt, rt.alloc(), parts, want, *bound)?;
+    }
+    Ok(())
+}
+
+/// That a picture of twelve samples, the one at this place 8 and the others 7, has a codestream by maxval 8, and none by
+/// maxval 7.
+fn check_sample_over_maxval(
+    rt: &impl Abort,
+    alloc: Global,
+    kind: Kind,
+    width: u16,
+    height: u16,
+    place: usize,
+) -> Result<(), AllocError> {
+    let mut samples = [7u16; 12];
+    if let Some(sample) = samples.get_mut(place) {
+        *sample = 8;
+    }
+    for (maxval, codestreams) in [(7, 0), (8, 1)] {
+        let made = PictureView::new(kind, width, height, maxval, Samples::Words(&samples));
+        let picture = made.expect(rt, "a picture");
+        let presets = Presets::default_of(picture.maxval());
+        let coded = encode_picture(alloc, &picture, &presets)?;
+        let coded = u64::from(coded.is_some());
+        check_number(rt, "codestreams", coded, codestreams);
+    }
+    Ok(())
+}
+
+#[test]
+fn a_picture_with_a_sample_over_maxval_has_no_codestream(
+    rt: HostRuntime,
+) -> Result<(), AllocError> {
+    for place in 0..12 {
+        check_sample_over_maxval(&rt, rt.alloc(), Kind::Gray, 4, 3, place)?;
+        check_sample_over_maxval(&rt, rt.alloc(), Kind::Color, 2, 2, place)?;
     }
     Ok(())
 }

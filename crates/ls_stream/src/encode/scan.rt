@@ -1,6 +1,6 @@
 //! The scan of one component: the rows of its plane, coded and stuffed (T.87 Annex A).
-ghost use Rattle.std.specs.Prelude.{◌≡◌, ◌+◌, ◌*◌, ◌/◌, ◌^◌, ◌<◌, ◌≤◌, ◌++◌, ℕ, false, [], List, length, slice_index, vec_len};
-ghost use Rattle.ls_frame.specs.Picture.{components};
+ghost use Rattle.std.specs.Prelude.{◌≡◌, ◌+◌, ◌*◌, ◌/◌, ◌^◌, ◌<◌, ◌≤◌, ◌++◌, ℕ, true, false, [], List, length, slice_index, vec_len};
+ghost use Rattle.ls_frame.specs.Picture.{IsFrame, components};
 ghost use Rattle.ls_frame.specs.Parameters.{limit_of};
 ghost use Rattle.ls_frame.specs.View.Numbers.{numbers};
 ghost use Rattle.ls_bits.specs.View.Room.{Fits};
@@ -18,74 +18,82 @@ use crate::lines::{clear, fill_line};
 use crate::shape::{Shape, shape_of};
 use ls_bits::{Room, take_room};
 use ls_coding::State;
-use ls_frame::{FrameView, Presets, Samples};
+use ls_frame::{PictureView, Presets, Samples};
 
-/// Codes the scan of a component, after the bytes that a room has, into places that it has.
+/// Codes the scan of a component, after the bytes that a room has, into places that it has. At a sample of the component
+/// that is over maxval it ends and answers false.
 pub fn put_scan<R: Room>(
-    frame: &FrameView,
+    picture: &PictureView,
     presets: &Presets,
     lines: &mut Lines,
     bytes: &mut R,
     component: usize,
-)
-    requires maxval { presets.now.maxval ≡ frame.now.maxval }
-    requires width { frame.now.width ≤ lines.old }
-    requires component { component < components frame.now.kind }
-    requires room { length (R.items bytes.old) + scan_bound frame.now presets.now ≤ R.capacity bytes.old }
-    ensures bytes { R.items bytes.new ≡ R.items bytes.old ++ stuff (plane_bits presets.now (plane_of frame.now component)) }
-    ensures short { length (R.items bytes.new) ≤ length (R.items bytes.old) + scan_bound frame.now presets.now }
+) -> bool
+    requires maxval { presets.now.maxval ≡ picture.now.maxval }
+    requires width { picture.now.width ≤ lines.old }
+    requires component { component < components picture.now.kind }
+    requires room { length (R.items bytes.old) + scan_bound picture.now presets.now ≤ R.capacity bytes.old }
+    ensures within { result ≡ true → (k : ℕ) → slice_index (plane_of picture.now component).samples k ≤ picture.now.maxval }
+    ensures over { result ≡ false → IsFrame picture.now → ⊥ }
+    ensures bytes { result ≡ true → R.items bytes.new ≡ R.items bytes.old ++ stuff (plane_bits presets.now (plane_of picture.now component)) }
+    ensures short { length (R.items bytes.new) ≤ length (R.items bytes.old) + scan_bound picture.now presets.now }
     ensures capacity { R.capacity bytes.new ≡ R.capacity bytes.old }
     ensures grown { R.Grown bytes.old bytes.new }
     ensures lines { lines.new ≡ lines.old }
 {
     let mut state = State::new(presets);
     let mut coder = Coder::new(presets, &mut state, take_room(bytes));
-    code_plane(
+    let within = code_plane(
         &mut coder,
-        frame,
+        picture,
         &mut lines.above,
         &mut lines.line,
         component,
     );
     *bytes = coder.finish();
+    within
 }
 
-/// Codes a component's plane, at a scan's start; `above` and `line` are room for what a row is coded by.
+/// Codes a component's plane, at a scan's start, up to a sample that is over maxval; `above` and `line` are room for
+/// what a row is coded by.
 fn code_plane<R: Room>(
     coder: &mut Coder<R>,
-    frame: &FrameView,
+    picture: &PictureView,
     above: &mut Vec<u16>,
     line: &mut Vec<u16>,
     component: usize,
-)
-    requires maxval { coder.old.state.parameters.maxval ≡ frame.now.maxval }
-    requires above { frame.now.width + 2 ≤ vec_len above.old }
-    requires line { frame.now.width + 2 ≤ vec_len line.old }
-    requires component { component < components frame.now.kind }
+) -> bool
+    requires maxval { coder.old.state.parameters.maxval ≡ picture.now.maxval }
+    requires above { picture.now.width + 2 ≤ vec_len above.old }
+    requires line { picture.now.width + 2 ≤ vec_len line.old }
+    requires component { component < components picture.now.kind }
     requires state { coder.old.state ≡ state_of coder.old.state.parameters [] }
     requires empty { coder.old.bits ≡ [] }
-    requires room { Fits (limit_of coder.old.state.parameters.maxval * (frame.now.width * frame.now.height)) coder.old.capacity_left }
-    ensures bits { coder.new.bits ≡ plane_bits coder.old.state.parameters (plane_of frame.now component) }
-    ensures cost { length coder.new.bits ≤ limit_of coder.old.state.parameters.maxval * (frame.now.width * frame.now.height) }
+    requires room { Fits (limit_of coder.old.state.parameters.maxval * (picture.now.width * picture.now.height)) coder.old.capacity_left }
+    ensures within { result ≡ true → (k : ℕ) → slice_index (plane_of picture.now component).samples k ≤ picture.now.maxval }
+    ensures over { result ≡ false → IsFrame picture.now → ⊥ }
+    ensures bits { result ≡ true → coder.new.bits ≡ plane_bits coder.old.state.parameters (plane_of picture.now component) }
+    ensures cost { length coder.new.bits ≤ limit_of coder.old.state.parameters.maxval * (picture.now.width * picture.now.height) }
     ensures front { coder.new.front ≡ coder.old.front }
     ensures room { coder.new.capacity_left ≡ coder.old.capacity_left }
     ensures grown { R.Grown coder.old.room coder.new.room }
     ensures above { vec_len above.new ≡ vec_len above.old }
     ensures line { vec_len line.new ≡ vec_len line.old }
 {
-    let shape = shape_of(frame);
+    let shape = shape_of(picture);
     let places = shape.width + 2;
     code_rows(
         coder,
         &mut above[..places],
         &mut line[..places],
-        frame.samples(),
+        picture.samples(),
         shape,
         component,
-    );
+    )
 }
 
-/// Codes the rows of one component; `above` and `line` are room for what a row is coded by.
+/// Codes the rows of one component; `above` and `line` are room for what a row is coded by. Before a row with a sample
+/// over maxval it ends and answers false. A row is looked at when it is in the cache.
 fn code_rows<R: Room>(
     coder: &mut Coder<R>,
     above: &mut [u16],
@@ -93,18 +101,20 @@ fn code_rows<R: Room>(
     samples: Samples,
     shape: Shape,
     component: usize,
-)
+) -> bool
     requires above { length above.old ≡ shape.width + 2 }
     requires line { length line.old ≡ shape.width + 2 }
     requires some { 1 ≤ shape.width }
     requires narrow { shape.width ≤ 65535 }
     requires samples { length (numbers samples) ≡ shape.height * (shape.width * shape.components) }
-    requires small { (k : ℕ) → slice_index (numbers samples) k ≤ coder.old.state.parameters.maxval }
     requires component { component < shape.components }
     requires few { shape.width * shape.components < 2 ^ 32 }
     requires uninterrupted { coder.old.state.interrupted ≡ false }
     requires room { Fits (length coder.old.bits + limit_of coder.old.state.parameters.maxval * (shape.width * shape.height)) coder.old.capacity_left }
-    ensures rows { let plane = component_plane shape.width shape.components component (numbers samples.entry) in (more : List Span)
+    ensures within { result ≡ true → (k : ℕ)
+        → slice_index (component_plane shape.width shape.components component (numbers samples.entry)).samples k ≤ coder.old.state.parameters.maxval }
+    ensures over { result ≡ false → ((k : ℕ) → slice_index (numbers samples.entry) k ≤ coder.old.state.parameters.maxval) → ⊥ }
+    ensures rows { let plane = component_plane shape.width shape.components component (numbers samples.entry) in result ≡ true → (more : List Span)
         → all_from plane coder.new.bits coder.new.state more
         ≡ all_from plane coder.old.bits coder.old.state (rows_from plane shape.height 0 ++ more) }
     ensures cost { length coder.new.bits ≤ length coder.old.bits + limit_of coder.old.state.parameters.maxval * (shape.width * shape.height) }
@@ -112,6 +122,7 @@ fn code_rows<R: Room>(
     ensures room { coder.new.capacity_left ≡ coder.old.capacity_left }
     ensures grown { R.Grown coder.old.room coder.new.room }
 {
+    let maxval = coder.presets().maxval();
     clear(above);
     for row in 0..shape.height {
         let pixels = row_of(samples, row, shape.height, shape.width * shape.components);
@@ -123,9 +134,13 @@ fn code_rows<R: Room>(
             shape.components,
             component,
         );
+        if Samples::Words(line).first_above(maxval).is_some() {
+            return false;
+        }
         code_row(coder, above, line, shape.width);
         above.copy_from_slice(line);
     }
+    true
 }
 
 /// A row of samples, of `height` rows of `stride` samples each.

@@ -13,7 +13,7 @@ use crate::marker::Marker;
 use crate::segments::{SAMPLED_ONE_BY_ONE, greatest_maxval};
 use byteorder::{BigEndian, ByteOrder};
 use ls_bits::Room;
-use ls_frame::{FrameView, Presets};
+use ls_frame::{PictureView, Presets};
 
 /// A marker.
 pub fn put_marker<R: Room>(bytes: &mut R, marker: Marker)
@@ -30,20 +30,20 @@ pub fn put_marker<R: Room>(bytes: &mut R, marker: Marker)
 /// The frame header: the bits of a sample (P), the lines, the samples of a line, and the components, numbered from 1
 /// (SOF55; T.87 C.2.2).
 #[tactic(auto, unfolding(crate::specs::Segments::header_contents))]
-pub fn put_frame_header<R: Room>(bytes: &mut R, frame: &FrameView)
-    requires room { length (R.items bytes.old) + (10 + 3 * components frame.now.kind) ≤ R.capacity bytes.old }
+pub fn put_frame_header<R: Room>(bytes: &mut R, picture: &PictureView)
+    requires room { length (R.items bytes.old) + (10 + 3 * components picture.now.kind) ≤ R.capacity bytes.old }
     ensures bytes { R.items bytes.new
-        ≡ R.items bytes.old ++ segment Marker.StartOfFrame (header_contents (written_header frame.now)) }
-    ensures len { length (R.items bytes.new) ≡ length (R.items bytes.old) + (10 + 3 * components frame.now.kind) }
+        ≡ R.items bytes.old ++ segment Marker.StartOfFrame (header_contents (written_header picture.now)) }
+    ensures len { length (R.items bytes.new) ≡ length (R.items bytes.old) + (10 + 3 * components picture.now.kind) }
     ensures capacity { R.capacity bytes.new ≡ R.capacity bytes.old }
     ensures grown { R.Grown bytes.old bytes.new }
 {
-    let count = frame.kind().components();
+    let count = picture.kind().components();
     put_marker(bytes, Marker::StartOfFrame);
     put_field(bytes, 8 + 3 * u16::from(count));
-    bytes.put_byte(precision(frame));
-    put_field(bytes, frame.height());
-    put_field(bytes, frame.width());
+    bytes.put_byte(precision(picture));
+    put_field(bytes, picture.height());
+    put_field(bytes, picture.width());
     bytes.put_byte(count);
     put_components(bytes, count);
 }
@@ -100,11 +100,11 @@ fn put_field<R: Room>(bytes: &mut R, field: u16)
     bytes.put_byte(two[1]);
 }
 
-/// P: the bits of a frame's samples.
-fn precision(frame: &FrameView) -> u8
-    ensures { result ≡ bpp_of frame.now.maxval }
+/// P: the bits of a picture's samples.
+fn precision(picture: &PictureView) -> u8
+    ensures { result ≡ bpp_of picture.now.maxval }
 {
-    Presets::default_of(frame.maxval()).bpp() as u8
+    Presets::default_of(picture.maxval()).bpp() as u8
 }
 
 /// Components, numbered from 1, with their sampling factors.

@@ -1,22 +1,10 @@
-use Rattle.std.proofs.Common.{◌≡◌, None, arith, nat_lt, position}
-use Rattle.ls_frame.specs.View.Numbers.{numbers}
-use Rattle.ls_frame.proofs.SampleLemmas.{none_above}
+use Rattle.std.proofs.Common.{◌∙◌, sym, subst}
+use Rattle.ls_frame.specs.Picture.{IsFrame}
+use Rattle.ls_frame.proofs.SampleLemmas.{whole_frame}
 use Rattle.ls_frame.proofs.frame.FrameView.new.Goals as goal
 
 pub invariant_of-result : goal.invariant_of-result
-invariant_of-result c =
-    let unfound : position (λ s. nat_lt c.args.maxval s) (numbers c.args.samples) ≡ None = cc in
-    record {
-      some_width = omega arith;
-      width = omega arith;
-      some_height = omega arith;
-      height = omega arith;
-      some_maxval = omega arith;
-      maxval = omega arith;
-      few = omega arith;
-      count = omega arith;
-      each = none_above c.args.maxval (numbers c.args.samples) unfound;
-    }
+invariant_of-result c = subst IsFrame (sym c.in-Ok.ensures.exactly.1) (whole_frame _ c.in-Ok.ensures.exactly.0 (sym c.first_above.ensures ∙ c.in-None.is))
 
-pub returns-clause-lawful : goal.returns-clause-lawful
-returns-clause-lawful c = invariant_of-result c
+pub returns-in-None-clause-lawful : goal.returns-in-None-clause-lawful
+returns-in-None-clause-lawful c = invariant_of-result c

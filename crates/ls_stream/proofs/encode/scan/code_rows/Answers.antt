@@ -7,8 +7,9 @@ use Rattle.ls_stream.specs.Planes.{Plane, Span, at, row_spans, rows_from}
 use Rattle.ls_stream.specs.View.Coded.{all_from}
 use Rattle.ls_stream.specs.Components.{component_plane}
 use Rattle.ls_stream.specs.View.LineBuffers.{HoldsLine, ArePadded}
-use Rattle.ls_stream.proofs.ComponentLemmas.{sample_at, has_row}
-use Rattle.ls_stream.proofs.LineLemmas.{filled, padded, held_lines}
+use Rattle.ls_stream.proofs.ComponentLemmas.{sample_at, has_row, all_samples}
+use Rattle.ls_stream.proofs.FrameLemmas.{none_over, one_over}
+use Rattle.ls_stream.proofs.LineLemmas.{filled, small_line, one_more_seen, all_seen, held_lines}
 use Rattle.ls_stream.proofs.SpanLemmas.{row_from-start, rows_from-next}
 use Rattle.ls_stream.proofs.RowLemmas.{spent}
 use Rattle.ls_stream.proofs.encode.scan.code_rows.Goals as goal
@@ -16,9 +17,14 @@ use Rattle.ls_stream.proofs.encode.scan.code_rows.Goals as goal
 pub code_row-requires-clause-lines : goal.code_row-requires-clause-lines
 code_row-requires-clause-lines g c =
     subst (λ (p : Parameters). ArePadded p.maxval c.args.shape.width c.loop-row.above c.fill_line.new.line) (sym c.loop-row.invariant.parameters)
-    (padded c.args.coder.now.state.parameters.maxval c.args.shape.width c.args.shape.components c.args.component (c.loop-row.row * (c.args.shape.width * c.args.shape.components)) (numbers c.args.samples) (numbers c.row_of-pixels.result) _ _ c.requires.some
-    c.loop-row.invariant.above_length (omega (arith, c.fill_line.auto.line, c.loop-row.invariant.line_length)) c.loop-row.invariant.small c.row_of-pixels.ensures.len c.row_of-pixels.ensures.samples c.requires.small
-    c.fill_line.ensures.left c.fill_line.ensures.samples c.fill_line.ensures.right)
+    (record {
+      above_length = c.loop-row.invariant.above_length;
+      line_length = omega (arith, c.fill_line.auto.line, c.loop-row.invariant.line_length);
+      above_small = c.loop-row.invariant.small;
+      line_small =
+          let maxval : c.maxval-maxval.result ≡ c.args.coder.now.state.parameters.maxval = c.maxval-maxval.ensures.value ∙ ap (λ (p : Parameters). p.maxval) c.presets.ensures in
+          subst (λ n. (k : ℕ) → get_or c.fill_line.new.line k 0 ≤ n) maxval (none_over c.maxval-maxval.result c.fill_line.new.line c.first_above.result c.first_above.ensures (sym c.is_some.ensures ∙ c.if-is_some.false));
+    })
 
 pub code_row-requires-clause-room : goal.code_row-requires-clause-room
 code_row-requires-clause-room g c =
@@ -40,9 +46,9 @@ loop-row-preserved g c =
     let maxval = c.args.coder.now.state.parameters.maxval in
     let limit = limit_of maxval in
     let line_length : length c.fill_line.new.line ≡ c.args.shape.width + 2 = omega (arith, c.fill_line.auto.line, c.loop-row.invariant.line_length) in
-    let pads = padded maxval c.args.shape.width c.args.shape.components c.args.component (row * (c.args.shape.width * c.args.shape.components)) samples (numbers c.row_of-pixels.result) _ _ c.requires.some
-    c.loop-row.invariant.above_length line_length c.loop-row.invariant.small c.row_of-pixels.ensures.len c.row_of-pixels.ensures.samples c.requires.small
-    c.fill_line.ensures.left c.fill_line.ensures.samples c.fill_line.ensures.right in
+    let small : (k : ℕ) → get_or c.fill_line.new.line k 0 ≤ maxval =
+    subst (λ n. (k : ℕ) → get_or c.fill_line.new.line k 0 ≤ n) (c.maxval-maxval.ensures.value ∙ ap (λ (p : Parameters). p.maxval) c.presets.ensures)
+    (none_over c.maxval-maxval.result c.fill_line.new.line c.first_above.result c.first_above.ensures (sym c.is_some.ensures ∙ c.if-is_some.false)) in
     let middle : (k : ℕ) → k < c.args.shape.width → get_or c.fill_line.new.line (k + 1) 0 ≡ at plane row k =
     λ k h. c.fill_line.ensures.samples k h
     ∙ c.row_of-pixels.ensures.samples (k * c.args.shape.components + c.args.component) (omega (arith, mul-add-lt k c.args.shape.components c.args.component c.args.shape.width h c.requires.component))
@@ -60,7 +66,8 @@ loop-row-preserved g c =
           ∙ ap (λ (xs : List Span). all_from plane c.loop-row.coder.bits c.loop-row.coder.state (xs ++ more)) (sym (rows_from-next plane c.args.shape.height row inside))
           ∙ c.loop-row.invariant.rows more;
       held = λ k h. ap (λ xs. get_or xs k 0) c.copy_from_slice.ensures.after ∙ subst (λ i. HoldsLine plane i c.fill_line.new.line) next held k h;
-      small = λ k. subst (λ xs. get_or xs k 0 ≤ maxval) (sym c.copy_from_slice.ensures.after) (pads.line_small k);
+      seen = one_more_seen plane maxval row c.fill_line.new.line c.loop-row.invariant.seen middle small;
+      small = λ k. subst (λ xs. get_or xs k 0 ≤ maxval) (sym c.copy_from_slice.ensures.after) (small k);
       above_length = omega (arith, ap length c.copy_from_slice.ensures.after);
       line_length = line_length;
       cost =
@@ -75,3 +82,22 @@ loop-row-preserved g c =
       room = c.code_row.ensures.room ∙ c.loop-row.invariant.room;
       grown = g.met.R.Room.grown_twice _ _ _ c.loop-row.invariant.grown c.code_row.ensures.grown;
     }
+
+pub returns-then-is_some-clause-over : goal.returns-then-is_some-clause-over
+returns-then-is_some-clause-over g c answer small =
+    let maxval : c.maxval-maxval.result ≡ c.args.coder.now.state.parameters.maxval = c.maxval-maxval.ensures.value ∙ ap (λ (p : Parameters). p.maxval) c.presets.ensures in
+    one_over c.maxval-maxval.result c.fill_line.new.line c.first_above.result c.first_above.ensures (sym c.is_some.ensures ∙ c.if-is_some.true)
+    (subst (λ n. (k : ℕ) → get_or c.fill_line.new.line k 0 ≤ n) (sym maxval)
+    (small_line c.args.coder.now.state.parameters.maxval c.args.shape.width c.args.shape.components c.args.component (c.loop-row.row * (c.args.shape.width * c.args.shape.components)) (numbers c.args.samples) (numbers c.row_of-pixels.result) _ _ c.requires.some
+    (omega (arith, c.fill_line.auto.line, c.loop-row.invariant.line_length)) c.loop-row.invariant.small c.row_of-pixels.ensures.len c.row_of-pixels.ensures.samples small
+    c.fill_line.ensures.left c.fill_line.ensures.samples c.fill_line.ensures.right))
+
+pub returns-clause-within : goal.returns-clause-within
+returns-clause-within g c answer =
+    let samples = numbers c.args.samples in
+    let some : 1 ≤ c.args.shape.components = omega arith in
+    let whole : length samples ≡ c.args.shape.width * c.args.shape.height * c.args.shape.components = omega (arith, c.requires.samples) in
+    let rows : c.loop-row.row ≡ c.args.shape.height = omega arith in
+    let plane : Plane = component_plane c.args.shape.width c.args.shape.components c.args.component samples in
+    all_seen plane c.args.coder.now.state.parameters.maxval c.args.shape.height (all_samples samples c.args.shape.width c.args.shape.height c.args.shape.components c.args.component some whole)
+    (subst (λ n. (k : ℕ) → k < n * c.args.shape.width → get_or plane.samples k 0 ≤ c.args.coder.now.state.parameters.maxval) rows c.loop-row.invariant.seen)

@@ -1,4 +1,4 @@
-use Rattle.std.proofs.Common.{◌≡◌, ◌+◌, ◌-◌, ◌*◌, ◌≤◌, ◌++◌, ℕ, false, List, length, get_or}
+use Rattle.std.proofs.Common.{◌≡◌, ◌+◌, ◌-◌, ◌*◌, ◌<◌, ◌≤◌, ◌++◌, ℕ, false, List, length, get_or}
 use Rattle.ls_frame.specs.View.Numbers.{numbers}
 use Rattle.ls_frame.specs.Parameters.{limit_of}
 use Rattle.ls_stream.specs.Planes.{Span, rows_from}
@@ -12,6 +12,7 @@ invariant-loop-row g l = record {
   rows : (more : List Span) → all_from (component_plane l.shape.width l.shape.components l.component (numbers l.samples)) l.coder.bits l.coder.state (rows_from (component_plane l.shape.width l.shape.components l.component (numbers l.samples)) (l.shape.height - l.row) l.row ++ more)
       ≡ all_from (component_plane l.shape.width l.shape.components l.component (numbers l.samples)) l.fn.coder.bits l.fn.coder.state (rows_from (component_plane l.shape.width l.shape.components l.component (numbers l.samples)) l.shape.height 0 ++ more);
   held : HoldsLine (component_plane l.shape.width l.shape.components l.component (numbers l.samples)) l.row l.above;
+  seen : (k : ℕ) → k < l.row * l.shape.width → get_or (component_plane l.shape.width l.shape.components l.component (numbers l.samples)).samples k 0 ≤ l.fn.coder.state.parameters.maxval;
   small : (k : ℕ) → get_or l.above k 0 ≤ l.fn.coder.state.parameters.maxval;
   above_length : length l.above ≡ l.shape.width + 2;
   line_length : length l.line ≡ l.shape.width + 2;

@@ -4,7 +4,7 @@ use Rattle.ls_frame.specs.Picture.{components}
 use Rattle.ls_stream.specs.Layout.{codestream, headers_length, bound}
 use Rattle.ls_stream.proofs.FrameLemmas.{few_components}
 use Rattle.ls_stream.proofs.LengthLemmas.{within_bound, bound_small}
-use Rattle.ls_stream.proofs.encode.view_bound.Goals as goal
+use Rattle.ls_stream.proofs.encode.picture_bound.Goals as goal
 
 pub overflow_add-result : goal.overflow_add-result
 overflow_add-result c =
@@ -16,14 +16,14 @@ pub returns-clause-value : goal.returns-clause-value
 unfolding bound
 returns-clause-value c =
     ap (λ n. n + c.from-count.result * c.scan_bound.result) c.headers_length.ensures.value
-    ∙ ap (λ n. headers_length c.args.frame.now c.args.presets.now + n * c.scan_bound.result) (c.from-count.ensures ∙ c.components.ensures ∙ ap components c.kind.ensures.value)
-    ∙ ap (λ n. headers_length c.args.frame.now c.args.presets.now + components c.args.frame.now.kind * n) c.scan_bound.ensures.value
+    ∙ ap (λ n. headers_length c.args.picture.now c.args.presets.now + n * c.scan_bound.result) (c.from-count.ensures ∙ c.components.ensures ∙ ap components c.kind.ensures.value)
+    ∙ ap (λ n. headers_length c.args.picture.now c.args.presets.now + components c.args.picture.now.kind * n) c.scan_bound.ensures.value
 
 pub returns-clause-enough : goal.returns-clause-enough
-returns-clause-enough c =
-    subst (λ n. length (codestream c.args.frame.now c.args.presets.now) ≤ n) (sym (returns-clause-value c))
-    (within_bound c.args.frame.now c.args.presets.now c.kind.ensures.lawful c.maxval.ensures.legal c.requires.maxval)
+returns-clause-enough c frame =
+    subst (λ n. length (codestream c.args.picture.now c.args.presets.now) ≤ n) (sym (returns-clause-value c))
+    (within_bound c.args.picture.now c.args.presets.now frame c.maxval.ensures.legal c.requires.maxval)
 
 pub returns-clause-small : goal.returns-clause-small
 returns-clause-small c =
-    subst (λ n. n < 2 ^ 32) (sym (returns-clause-value c)) (bound_small c.args.frame.now c.args.presets.now c.kind.ensures.lawful c.maxval.ensures.legal)
+    subst (λ n. n < 2 ^ 32) (sym (returns-clause-value c)) (bound_small c.args.picture.now c.args.presets.now c.kind.ensures.lawful.few c.maxval.ensures.legal)
