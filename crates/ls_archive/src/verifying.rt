@@ -13,11 +13,12 @@ ghost use Rattle.ls_archive.specs.View.Verifying.{Finds, Stops, GaveNext, IsComp
 
 use crate::faults::VerifyFault;
 use ls_film::MOST_FRAMES;
+use ls_film::playing::Unread;
 use ls_frame::laws::{
     bytes_break_or_hold_an_image, images_have_one_frame, no_image_begins_another,
 };
 use ls_frame::{Feed, Frame, next_frame};
-use ls_player::ahead::{Ahead, Untaken, next_made};
+use ls_player::ahead::{Ahead, next_made};
 use ls_player::job::Frames;
 use ls_stream::laws::{no_codestream_begins_another, one_frame_each};
 use ls_stream::{NextFault, StreamFault, decode_frame, next_stream};
@@ -177,8 +178,8 @@ fn next_coded_by<Rt: Threads + Sync, R: Feed>(
 {
     match next_made::<Frame, Frames, Rt, R>(ahead, rt, alloc, workers, recording) {
         Ok(next) => Ok(next),
-        Err(Untaken::Stream(fault)) => Err(VerifyFault::of_recording(number, fault)),
-        Err(Untaken::Io) => Err(VerifyFault::RecordingIo(number)),
+        Err(Unread::Stream(fault)) => Err(VerifyFault::of_recording(number, fault)),
+        Err(Unread::Io) => Err(VerifyFault::RecordingIo(number)),
     }
 }
 

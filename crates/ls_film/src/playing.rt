@@ -46,7 +46,7 @@ pub enum PlayFault {
 
 impl PlayFault {
     /// What the engine's end over codestreams is to a recording.
-    pub(crate) fn of(stopped: Stopped<Unread>) -> PlayFault
+    pub fn of(stopped: Stopped<Unread>) -> PlayFault
         ensures { result ≡ play_fault stopped }
     {
         match stopped {
@@ -128,8 +128,8 @@ pub fn play_bytes(alloc: Global, recording: &[u8]) -> (Vec<u8>, Result<u64, Play
 }
 
 /// Why the next codestream gives no frame.
-#[derive(Drop)]
-pub(crate) enum Unread {
+#[derive(Clone, Copy, Drop)]
+pub enum Unread {
     /// It can't be decoded, or memory was refused for it.
     Stream(StreamFault),
     /// A read failed.

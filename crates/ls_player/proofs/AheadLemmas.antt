@@ -8,7 +8,7 @@ use Rattle.ls_stream.specs.declared.next.NextFault.{NextFault}
 use Rattle.ls_stream.specs.declared.next.NextFault.TheVariants as next
 use Rattle.ls_player.specs.declared.ahead.Ahead.{Ahead}
 use Rattle.ls_player.specs.declared.ahead.After.TheVariants.{More, End, Fault}
-use Rattle.ls_player.specs.declared.ahead.Untaken.TheVariants.{Stream}
+use Rattle.ls_film.specs.declared.playing.Unread.TheVariants.{Stream}
 use Rattle.ls_player.specs.declared.job.Job.{Job}
 use Rattle.ls_player.specs.View.Jobs.{IsTaken, IsMadeOf, IsFaultOf, IsMade}
 use Rattle.ls_player.specs.View.Batches.{AreTaken, IsUntaken, ComesAfter, IsBatch, codestreams_of}

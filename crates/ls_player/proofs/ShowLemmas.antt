@@ -5,20 +5,20 @@ use Rattle.ls_frame.specs.Canonical.{canonical}
 use Rattle.ls_frame.specs.Picture.{Picture, IsFrame}
 use Rattle.ls_frame.specs.View.Devices.{count_after}
 use Rattle.ls_frame.specs.View.Known.{Gave}
-use Rattle.ls_stream.specs.declared.faults.StreamFault.TheVariants as stream
 use Rattle.ls_stream.specs.Grammar.{Spells}
 use Rattle.ls_film.specs.Film.{most_frames}
 use Rattle.ls_film.specs.Showing.{show}
 use Rattle.ls_film.specs.declared.playing.PlayFault.{PlayFault}
 use Rattle.ls_film.specs.declared.playing.PlayFault.TheVariants as play
 use Rattle.ls_film.specs.View.Engine.{HasRun}
-use Rattle.ls_film.specs.View.Playing.{blames_reader}
+use Rattle.ls_film.specs.View.Playing.{blames_reader, play_fault}
 use Rattle.ls_film.proofs.EngineLemmas.{HasRun-none, HasRun-more, HasRun-output, HasRun-most}
 use Rattle.ls_film.proofs.PlayLemmas.{stream-stops, io-stops}
-use Rattle.ls_player.specs.declared.ahead.Untaken.{Untaken}
-use Rattle.ls_player.specs.declared.ahead.Untaken.TheVariants.{Stream, Io}
+use Rattle.ls_film.specs.declared.engine.Stopped.TheVariants.{Input}
+use Rattle.ls_film.specs.declared.playing.Unread.{Unread}
+use Rattle.ls_film.specs.declared.playing.Unread.TheVariants.{Stream, Io}
 use Rattle.ls_player.specs.View.Ahead.{IsUnread}
-use Rattle.ls_player.specs.View.Playing.{StopsAhead, StopsImage, HasReadAhead, fault_of}
+use Rattle.ls_player.specs.View.Playing.{StopsAhead, StopsImage, HasReadAhead}
 use Rattle.ls_player.proofs.JobLemmas.{show-more}
 
 pub run-none : (read written : Option (List ℕ)) → HasRun Spells show read read written written 0 0
@@ -26,7 +26,7 @@ run-none read written = HasRun-none Spells show read written refl
 
 module _ (read place begun written : Option (List ℕ)) (n bytes : ℕ) (run : HasRun Spells show read place begun written n bytes) where
   -- the next codestream gives nothing
-  pub stops-at : (fault : Untaken) → IsUnread place fault → StopsAhead read begun written (fault_of n fault)
+  pub stops-at : (fault : Unread) → IsUnread place fault → StopsAhead read begun written (play_fault (Input n fault))
   stops-at (Stream fault) (inl memory) = (place, stream-stops read place begun written place n bytes fault run (inl memory.0))
   stops-at (Stream fault) (inr breaks) = (place, stream-stops read place begun written place n bytes fault run (inr breaks))
   stops-at Io why = (place, io-stops read place begun written place n bytes run)

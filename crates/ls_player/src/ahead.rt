@@ -2,11 +2,13 @@
 ghost use Rattle.std.specs.Prelude.{◌≡◌, ◌<◌, ◌≤◌, ◌^◌, [], length, Option, List, ℕ, IfOk, IfErr, IfNone, true, false};
 ghost use Rattle.std.specs.List.{AllByRecursion};
 ghost use Rattle.ls_frame.specs.View.Devices.{count_after};
+ghost use Rattle.ls_film.specs.View.Playing.{is_io};
 ghost use Rattle.ls_player.specs.View.Jobs.{IsMade};
 ghost use Rattle.ls_player.specs.View.Batches.{IsBatch, codestreams_of, failed_after, IsFull};
-ghost use Rattle.ls_player.specs.View.Ahead.{IsAhead, GivesNext, cause_of, is_io};
+ghost use Rattle.ls_player.specs.View.Ahead.{IsAhead, GivesNext, cause_of};
 
 use crate::job::{Job, Making, work};
+use ls_film::playing::Unread;
 use ls_frame::Feed;
 use ls_stream::{NextFault, StreamFault, next_stream};
 use std::alloc::Global;
@@ -29,15 +31,6 @@ pub enum After {
 pub struct Ahead<T> {
     pub jobs: Vec<Job<T>>,
     pub after: After,
-}
-
-/// Why the next codestream gives nothing.
-#[derive(Clone, Copy)]
-pub enum Untaken {
-    /// It can't be decoded, or memory was refused for it.
-    Stream(StreamFault),
-    /// A read failed.
-    Io,
 }
 
 /// A thread is worth its start for so many bytes of codestreams.
@@ -66,7 +59,7 @@ pub fn next_made<T: Send + Drop, M: Making<T>, Rt: Threads + Sync, R: Feed>(
     alloc: Global,
     workers: usize,
     reader: &mut R,
-) -> Result<Option<T>, Untaken>
+) -> Result<Option<T>, Unread>
     requires some { 0 < workers }
     requires few { workers ≤ 2 ^ 32 }
     ensures next { (place : Option (List ℕ)) → IsAhead M.made place (R.remaining reader.old) ahead.old
@@ -91,7 +84,7 @@ pub fn next_made<T: Send + Drop, M: Making<T>, Rt: Threads + Sync, R: Feed>(
     } = job;
     match made {
         Ok(made) => Ok(Some(made)),
-        Err(fault) => Err(Untaken::Stream(fault)),
+        Err(fault) => Err(Unread::Stream(fault)),
     }
 }
 
@@ -206,12 +199,12 @@ pub fn threads_worth(bytes: usize, workers: usize) -> usize
 }
 
 /// What it is that the next codestream can't be taken.
-fn cause_of(fault: NextFault) -> Untaken
+fn cause_of(fault: NextFault) -> Unread
     ensures { result ≡ cause_of fault }
 {
     match fault {
-        NextFault::TooLarge => Untaken::Stream(StreamFault::TooLarge),
-        NextFault::Io => Untaken::Io,
-        NextFault::NoMemory => Untaken::Stream(StreamFault::NoMemory),
+        NextFault::TooLarge => Unread::Stream(StreamFault::TooLarge),
+        NextFault::Io => Unread::Io,
+        NextFault::NoMemory => Unread::Stream(StreamFault::NoMemory),
     }
 }

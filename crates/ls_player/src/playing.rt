@@ -11,13 +11,13 @@ ghost use Rattle.ls_film.specs.Coding.{file};
 ghost use Rattle.ls_film.specs.Showing.{show};
 ghost use Rattle.ls_film.specs.View.Engine.{Completes};
 ghost use Rattle.ls_film.specs.View.Playing.{Stops, blames_reader, blames_writer, IsShownOf, IsOutOfMemory, IsCodable, frames_of};
-ghost use Rattle.ls_player.specs.View.Playing.{StopsAhead, StopsImage, HasReadAhead, failed_writer, fault_of};
+ghost use Rattle.ls_player.specs.View.Playing.{StopsAhead, StopsImage, HasReadAhead, failed_writer};
 
-use crate::ahead::{Ahead, Untaken, next_made};
+use crate::ahead::{Ahead, next_made};
 use crate::job::Images;
+use ls_film::engine::Stopped;
 use ls_film::{MOST_FRAMES, PlayFault};
 use ls_frame::{Counted, Feed, Outlet, write_bytes};
-use ls_stream::StreamFault;
 use ls_stream::laws::{
     codestreams_spell_their_frames, no_codestream_begins_another, one_frame_each,
 };
@@ -106,21 +106,20 @@ fn show_all<Rt: Threads + Sync, R: Feed, W: Outlet>(
 {
     let mut ahead = Ahead::new(alloc);
     let mut written = 0;
-    for number in 0..MOST_FRAMES {
+    for number in 0..MOST_FRAMES + 1 {
         let image = match next_made::<Vec<u8>, Images, Rt, R>(
             &mut ahead, rt, alloc, workers, reader,
         ) {
             Ok(Some(image)) => image,
             Ok(None) => return Ok(number),
-            Err(fault) => return Err(fault_of(number, fault)),
+            Err(fault) => return Err(PlayFault::of(Stopped::Input(number, fault))),
         };
+        if number == MOST_FRAMES {
+            return Err(PlayFault::TooMuch);
+        }
         written = write_image(writer, &image, written)?;
     }
-    match next_made::<Vec<u8>, Images, Rt, R>(&mut ahead, rt, alloc, workers, reader) {
-        Ok(Some(_)) => Err(PlayFault::TooMuch),
-        Ok(None) => Ok(MOST_FRAMES),
-        Err(fault) => Err(fault_of(MOST_FRAMES, fault)),
-    }
+    unreachable!()
 }
 
 /// Writes an image after the `written` bytes of those before it, and says how many there are then.
@@ -134,16 +133,5 @@ fn write_image<W: Outlet>(writer: &mut W, image: &[u8], written: u64) -> Result<
     match write_bytes(writer, image) {
         Ok(()) => Ok(written + image.len() as u64),
         Err(fault) => Err(PlayFault::Output(written + fault.written as u64)),
-    }
-}
-
-/// What it is to a recording that the codestream of this number gives nothing.
-fn fault_of(number: u64, fault: Untaken) -> PlayFault
-    ensures { result ≡ fault_of number fault }
-{
-    match fault {
-        Untaken::Stream(StreamFault::NoMemory) => PlayFault::NoMemory,
-        Untaken::Stream(fault) => PlayFault::Stream(number, fault),
-        Untaken::Io => PlayFault::Io(number),
     }
 }

@@ -1,5 +1,5 @@
 -- What a picture's planes keep to, and a frame's.
-use Rattle.std.proofs.Common.{◌≡◌, ℕ, suc, ◌+◌, ◌*◌, ◌/◌, ◌%◌, ◌<◌, ◌≤◌, ◌++◌, [], ◌∷◌, Bool, true, false, Option, Some, None, is_some, nat_lt, List, length, get_or, not, sym, ◌∙◌, ap, subst, append-nil, inl, inr, true≢false, arith, mul-div_cancel}
+use Rattle.std.proofs.Common.{◌≡◌, ℕ, ◌+◌, ◌*◌, ◌/◌, ◌%◌, ◌<◌, ◌≤◌, ◌++◌, [], Bool, true, false, Option, Some, None, is_some, nat_lt, List, length, get_or, not, sym, ◌∙◌, ap, subst, append-nil, inl, inr, true≢false, arith, mul-div_cancel}
 use Rattle.std.specs.List.{AllByRecursion, position, position_or_len}
 use Rattle.std.proofs.Math.Nat.{mod-lt, div-lt_iff_lt-mul}
 use Rattle.std.proofs.lemmas.Nat.{div-add-mod'}

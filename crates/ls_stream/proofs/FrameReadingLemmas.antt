@@ -1,8 +1,7 @@
 -- What is read of a codestream's scans, one after the other, and of the frame that they say.
 use Rattle.std.proofs.Common.{◌≡◌, ◌≢◌, ℕ, zero, suc, ◌+◌, ◌-◌, ◌*◌, ◌/◌, ◌%◌, ◌<◌, ◌≤◌, List, [], ◌∷◌, ◌++◌, Result, Ok, Err, length, length-append, length-drop, take, drop, take-append-drop, get_or, inl, inr, refl, sym, ◌∙◌, ap, subst, append_assoc, true≢false, eq-eqb, eqb, arith}
-use Rattle.std.specs.Prelude.{is_ok, IfOk, IfErr, if◌then◌else◌, Bool, true, false, not, ◌||◌, nat_lt, None, option_map}
-use Rattle.std.specs.List.{AllByRecursion, position, position_or_len}
-use Rattle.std.proofs.lemmas.List.Sums.{prefix_len_stops}
+use Rattle.std.specs.Prelude.{is_ok, IfOk, IfErr, if◌then◌else◌, Bool, true, false, not, ◌||◌, None, option_map}
+use Rattle.std.specs.List.{AllByRecursion}
 use Rattle.std.proofs.Math.Seq.{take-append_seam}
 use Rattle.std.proofs.Math.Nat.{mod-lt, div-lt_iff_lt-mul}
 use Rattle.std.proofs.lemmas.Bool.{cases_lt, le-ltb, cond-false, ne_eqb}

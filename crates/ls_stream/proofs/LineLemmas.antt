@@ -5,7 +5,7 @@ use Rattle.std.proofs.lemmas.Nat.{mul-le}
 use Rattle.std.proofs.lemmas.List.{get_or-replicate, get_or-take, get_or-drop, get_or_append_left, get_or-append_right, get_or_past, length-take-le}
 use Rattle.ls_coding.specs.declared.neighbours.Neighbours.{Neighbours}
 use Rattle.ls_stream.specs.Planes.{Plane, at, around, left, above, above_left, above_right}
-use Rattle.ls_stream.specs.View.LineBuffers.{row_of, line_of, neighbours_in, AreLines, ArePadded, HoldsLine}
+use Rattle.ls_stream.specs.View.LineBuffers.{row_of, line_of, neighbours_in, AreLines, HoldsLine}
 
 -- the plane has a whole row i
 abbrev pub HasRow : Plane → ℕ → Type 0

@@ -4,9 +4,7 @@ use Rattle.std.specs.Io.KnownBytes.{Appends}
 use Rattle.ls_frame.specs.View.Devices.{count_after}
 use Rattle.ls_film.specs.declared.playing.PlayFault.{PlayFault}
 use Rattle.ls_film.specs.declared.playing.PlayFault.TheVariants as play
-use Rattle.ls_film.specs.View.Playing.{Stops, blames_reader, blames_writer, stream_fault}
-use Rattle.ls_player.specs.declared.ahead.Untaken.{Untaken}
-use Rattle.ls_player.specs.declared.ahead.Untaken.TheVariants.{Stream, Io}
+use Rattle.ls_film.specs.View.Playing.{Stops, blames_reader, blames_writer}
 
 -- What playing one codestream after the other says of this fault, but for the reader's place: it may be further on.
 abbrev pub StopsAhead : Option (List ℕ) → Option (List ℕ) → Option (List ℕ) → PlayFault → Type 0
@@ -20,11 +18,6 @@ HasReadAhead failed failed' fault = (failed' ≡ count_after (blames_reader faul
 abbrev pub failed_writer : {X : Type 0} → Result X PlayFault → Bool
 failed_writer (Ok x) = false
 failed_writer (Err fault) = blames_writer fault
-
--- what it is to a recording that the codestream of this number gives nothing
-abbrev pub fault_of : ℕ → Untaken → PlayFault
-fault_of number (Stream fault) = stream_fault number fault
-fault_of number Io = play.Io number
 
 -- what an end at an image that is written after so many bytes says: its first bytes went out
 abbrev pub StopsImage : Option (List ℕ) → Option (List ℕ) → ℕ → List ℕ → PlayFault → Type 0

@@ -1,4 +1,3 @@
-use Rattle.std.proofs.Common.{sym}
 use Rattle.ls_frame.proofs.SampleLemmas.{compared_on, compared_all}
 use Rattle.ls_frame.proofs.samples.are_same.Goals as goal
 

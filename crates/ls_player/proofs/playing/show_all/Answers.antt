@@ -2,9 +2,7 @@ use Rattle.std.proofs.Common.{◌≡◌, length, rules, sym, ap, subst, arith, r
 use Rattle.std.specs.Io.KnownBytes.{Appends}
 use Rattle.std.proofs.lemmas.Result.{err_from_is_err_and}
 use Rattle.ls_stream.specs.Grammar.{Spells}
-use Rattle.ls_film.specs.Film.{most_frames}
 use Rattle.ls_film.specs.Showing.{show}
-use Rattle.ls_film.specs.View.Engine.{HasRun}
 use Rattle.ls_film.proofs.EngineLemmas.{HasRun-completes}
 use Rattle.ls_player.proofs.AheadLemmas.{ahead-none}
 use Rattle.ls_player.proofs.ShowLemmas.{run-none, run-more, stops-at, stops-in, stops-most}
@@ -15,6 +13,7 @@ loop-number-init g c = record {
   place = g.R.Read.remaining c.args.reader.now;
   run = run-none (g.R.Read.remaining c.args.reader.now) (g.W.Write.contents c.args.writer.now);
   ahead = ahead-none _ (g.R.Read.remaining c.args.reader.now) (g.R.Read.remaining c.args.reader.now) c.new-ahead.result c.new-ahead.ensures.jobs c.new-ahead.ensures.after;
+  few = omega arith;
   small = omega arith;
   reads = rw c.new-ahead.ensures.after refl;
   writes = refl;
@@ -38,6 +37,7 @@ loop-number-preserved g c =
           (run-more (g.R.Read.remaining c.args.reader.now) i.place (g.W.Write.contents c.args.writer.now) (g.W.Write.contents c.loop-number.writer) c.loop-number.number c.loop-number.written i.run
           next.0 next.2 next.3 (g.W.Write.contents c.write_image.new.writer) c.in-Ok-Some.image.items (omega arith) next.4.0 wrote);
       ahead = next.1;
+      few = omega (arith, i.few);
       small = omega (arith, i.small, c.in_ok-written.ensures.count, size, next.4.1);
       reads = c.in-Ok-Some.ensures.reads (g.R.Feed.failed_reads c.args.reader.now) i.reads;
       writes = search rules;
@@ -52,7 +52,7 @@ returns-in-Ok-None-clause-completes g c =
 pub returns-in-Err-clause-stops : goal.returns-in-Err-clause-stops
 returns-in-Err-clause-stops g c =
     let i = c.loop-number.invariant in
-    rw c.fault_of.ensures (stops-at _ i.place _ _ c.loop-number.number c.loop-number.written i.run c.in-Err.fault (c.in-Err.ensures.next i.place i.ahead))
+    rw c.of.ensures (stops-at _ i.place _ _ c.loop-number.number c.loop-number.written i.run c.in-Err.fault (c.in-Err.ensures.next i.place i.ahead))
 
 pub returns-in_err-written-clause-stops : goal.returns-in_err-written-clause-stops
 returns-in_err-written-clause-stops g c =
@@ -62,23 +62,8 @@ returns-in_err-written-clause-stops g c =
     rw (p.1, p.2)
     (stops-in _ i.place _ _ c.loop-number.number c.loop-number.written i.run next.0 next.2 next.3 (g.W.Write.contents c.write_image.new.writer) c.in-Ok-Some.image.items _ (omega arith) next.4.0 (rw (sym c.deref.ensures.value) c.in_err-written.ensures.stops))
 
-pub returns-in-Ok-Some-next_made-clause-stops : goal.returns-in-Ok-Some-next_made-clause-stops
-returns-in-Ok-Some-next_made-clause-stops g c =
+pub returns-then-number-eq-MOST_FRAMES-clause-stops : goal.returns-then-number-eq-MOST_FRAMES-clause-stops
+returns-then-number-eq-MOST_FRAMES-clause-stops g c =
     let i = c.loop-number.invariant in
-    let next = rw c.in-Ok-Some-next_made.field-0-is at (c.in-Ok-Some-next_made.ensures.next i.place i.ahead) in
+    let next = rw c.in-Ok-Some.field-0-is at (c.in-Ok-Some.ensures.next i.place i.ahead) in
     stops-most _ i.place _ _ c.loop-number.number c.loop-number.written i.run next.0 next.2 next.3 (omega arith)
-
-pub returns-in-Ok-None-next_made-clause-completes : goal.returns-in-Ok-None-next_made-clause-completes
-returns-in-Ok-None-next_made-clause-completes g c =
-    let i = c.loop-number.invariant in
-    let all : c.loop-number.number ≡ most_frames = omega arith in
-    let end = rw c.in-Ok-None-next_made.field-0-is at (c.in-Ok-None-next_made.ensures.next i.place i.ahead) in
-    HasRun-completes Spells show _ i.place _ _ _ most_frames c.loop-number.written
-    (subst (λ n. HasRun Spells show (g.R.Read.remaining c.args.reader.now) i.place (g.W.Write.contents c.args.writer.now) (g.W.Write.contents c.loop-number.writer) n c.loop-number.written) all i.run) end
-
-pub returns-clause-stops : goal.returns-clause-stops
-returns-clause-stops g c =
-    let i = c.loop-number.invariant in
-    let all : c.loop-number.number ≡ most_frames = omega arith in
-    let run = subst (λ n. HasRun Spells show (g.R.Read.remaining c.args.reader.now) i.place (g.W.Write.contents c.args.writer.now) (g.W.Write.contents c.loop-number.writer) n c.loop-number.written) all i.run in
-    rw c.fault_of-in-Err-next_made.ensures (stops-at _ i.place _ _ most_frames c.loop-number.written run c.in-Err-next_made.fault (c.in-Err-next_made.ensures.next i.place i.ahead))
