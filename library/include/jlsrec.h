@@ -102,6 +102,9 @@ uint64_t jlsrec_bound(uint32_t components, uint32_t width, uint32_t height, uint
  *
  * Samples between rows, and after the last row, are read by no one and may have any value.
  *
+ * It asks for memory for two rows; for all samples, if rows stand apart; and, where jlsrec_bound is at most 2^25 or over
+ * `room`, for about as many bytes as that, of which it writes as many as the codestream has.
+ *
  * JLSREC_OK: the first *written bytes are T.87's codestream of this picture with these parameters; those after them are
  * as they were. A room of exactly so many bytes is enough.
  * JLSREC_NO_ROOM: *written says how many bytes are needed, and `bytes` is as it was.

@@ -301,16 +301,21 @@ static void film(const char *name, const char *coded_name, char **presets) {
 
 /* ---- refusals of encoding */
 
-static void refuses(const char *name, jlsrec_form form, size_t samples_count, size_t stride, uint16_t value, uint32_t want) {
-    struct guarded out = guarded(4096);
+static void refuses_in(size_t room, const char *name, jlsrec_form form, size_t samples_count, size_t stride, uint16_t value,
+                       uint32_t want) {
+    struct guarded out = guarded(room);
     uint16_t *samples = allocated(2 * samples_count);
     for (size_t i = 0; i < samples_count; i++) samples[i] = value;
     size_t written = 99;
-    uint32_t status = jlsrec_encode_16(&form, samples, samples_count, stride, out.bytes, 4096, &written);
+    uint32_t status = jlsrec_encode_16(&form, samples, samples_count, stride, out.bytes, room, &written);
     bool holds = status == want && (status == JLSREC_OK ? written > 0 && kept_after(&out, written) : written == 0 && kept_after(&out, 0));
     count(holds, "%s: status %u in place of %u", name, status, want);
     free(samples);
     free(out.all);
+}
+
+static void refuses(const char *name, jlsrec_form form, size_t samples_count, size_t stride, uint16_t value, uint32_t want) {
+    refuses_in(4096, name, form, samples_count, stride, value, want);
 }
 
 static void statuses(void) {
@@ -359,6 +364,15 @@ static void statuses(void) {
     refuses("parameters before the stride", WITH(form.reset = 1), 0, 1, 9999, JLSREC_BAD_RESET);
     refuses("stride before the count", good, 0, 1, 9999, JLSREC_BAD_STRIDE);
     refuses("count before the samples", good, 3, 0, 9999, JLSREC_TOO_FEW_SAMPLES);
+
+    /* Large pictures are coded where their codestreams are to go, if the room is that of their bound. */
+    jlsrec_form large = {1, 4096, 1024, 65534, 0, 0, 0, 0};
+    size_t bound = jlsrec_bound(1, 4096, 1024, 65534), many = (size_t)4096 * 1024;
+    refuses_in(bound, "a large picture", large, many, 0, 65534, JLSREC_OK);
+    refuses_in(bound, "sample 65535 of a large picture", large, many, 0, 65535, JLSREC_SAMPLE_TOO_LARGE);
+    refuses_in(bound - 1, "a large picture, less room", large, many, 0, 65534, JLSREC_OK);
+    refuses_in(bound - 1, "sample 65535 of a large picture, less room", large, many, 0, 65535, JLSREC_SAMPLE_TOO_LARGE);
+    refuses_in(bound, "a large picture, a sample less", large, many - 1, 0, 65534, JLSREC_TOO_FEW_SAMPLES);
 
     /* T.87's Annex H.3: the bytes that stand there, and those of a form of the same picture with its defaults written out */
     const uint8_t h3[16] = {0, 0, 90, 74, 68, 50, 43, 205, 64, 145, 145, 145, 100, 145, 145, 145};
