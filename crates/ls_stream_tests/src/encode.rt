@@ -110,7 +110,7 @@ fn check_sample_over_maxval(
 }
 
 #[test]
-fn a_picture_with_a_sample_over_maxval_has_no_codestream(
+fn pictures_with_a_sample_over_maxval_have_no_codestream_with_ample_memory(
     rt: HostRuntime,
 ) -> Result<(), AllocError> {
     for place in 0..12 {
