@@ -1,9 +1,10 @@
 -- Lines that are taken at once, what is found of them, and what is told.
-use Rattle.std.proofs.Common.{◌≡◌, ◌<◌, ◌≤◌, ◌+◌, ℕ, suc, Bool, inl, inr, List, [], ◌∷◌, ◌++◌, length, get_or, take, drop, append-nil, Option, None, Some, Result, Ok, Err, IfOk, IfSome, refl, sym, ap, subst, ◌∙◌, arith}
+use Rattle.std.proofs.Common.{◌≡◌, ◌<◌, ◌≤◌, ◌+◌, ℕ, suc, Bool, true, false, inl, inr, List, [], ◌∷◌, ◌++◌, length, get_or, take, drop, Option, None, Some, Result, Ok, Err, IfOk, IfSome, refl, sym, ap, subst, ◌∙◌, arith}
 use Rattle.std.specs.Prelude.{IfNone, OnErr, slice_index_or}
 use Rattle.std.specs.List.{AllZip}
-use Rattle.std.proofs.lemmas.List.{at_drop_more, at_drop_all, take_all, drop_all}
+use Rattle.std.proofs.lemmas.List.{at_drop_more, at_drop_all}
 use Rattle.ls_film.specs.Film.{most_frames}
+use Rattle.ls_frame.specs.View.Devices.{count_after}
 use Rattle.ls_frame.specs.View.Known.{Gave}
 use Rattle.ls_archive.specs.declared.checking.CheckFault.{CheckFault}
 use Rattle.ls_archive.specs.declared.checking.CheckFault.TheVariants as fault
@@ -17,7 +18,8 @@ use Rattle.ls_archive.specs.declared.checking.batches.Job.{Job}
 use Rattle.ls_archive.specs.declared.checking.batches.SoFar.{SoFar}
 use Rattle.ls_archive.specs.View.Checking.{Line, IsLine, IsGood, IsDamage}
 use Rattle.ls_archive.specs.View.Checks.{GaveAtMost, IsFound, HasLooked, HasChecked, IsChecked, Stops, Anything}
-use Rattle.ls_archive.specs.View.Batches.{Place, line_of, IsTaken, AreTaken, ComesAfter, IsBatch, IsLookedAt, IsLooked, AreLooked, HasCheckedTo, LeadsOn, LeadsSomewhere}
+use Rattle.ls_archive.specs.View.Batches.{Place, line_of, IsTaken, AreTaken, ComesAfter, IsBatch, IsLookedAt, IsLooked, AreLooked, HasCheckedTo, LeadsOn, LeadsSomewhere, HasReadBeyond}
+use Rattle.ls_player.proofs.BatchLemmas.{lent-back}
 use Rattle.ls_archive.proofs.CheckLemmas.{checked-more, checked-end, stops-after, stops-next-line, stops-reading}
 
 -- ---- lines that are taken
@@ -64,12 +66,10 @@ each-looked (job ∷ jobs) [] len each = let no : ⊥ = omega arith in absurd no
 each-looked (job ∷ jobs) (job' ∷ jobs') len each = (each 0 job (omega arith), each-looked jobs jobs' (omega arith) (later job job' jobs jobs' each))
 
 -- jobs that were lent as a slice were looked at where they stand
-pub looked-whole : (jobs lent after jobs' : List Job) (len : ℕ) → lent ≡ jobs → length lent ≡ len → length after ≡ length lent → AllZip IsLookedAt lent after
-    → jobs' ≡ take len (after ++ drop (length after) jobs) → AllZip IsLookedAt jobs jobs'
-looked-whole jobs lent after jobs' len same size kept looked is =
-    let none : drop (length after) jobs ≡ [] = drop_all (length after) jobs (omega (arith, kept, ap length same)) in
-    let all : take len (after ++ []) ≡ after = ap (take len) (append-nil after) ∙ take_all len after (omega (arith, kept, size)) in
-    subst (AllZip IsLookedAt jobs) (sym (is ∙ ap (λ rest. take len (after ++ rest)) none ∙ all)) (subst (λ (js : List Job). AllZip IsLookedAt js after) same looked)
+pub looked-whole : (jobs lent after : List Job) (len : ℕ) → lent ≡ jobs → length lent ≡ len → length after ≡ length lent → AllZip IsLookedAt lent after
+    → AllZip IsLookedAt jobs (take len (after ++ drop (length after) jobs))
+looked-whole jobs lent after len same size kept looked =
+    subst (AllZip IsLookedAt jobs) (sym (lent-back jobs lent after len same size kept)) (subst (λ (js : List Job). AllZip IsLookedAt js after) same looked)
 
 -- what was found
 found-is : (n offset : ℕ) (l : Line) (bytes : List ℕ) (found : Option Damage) → IfNone found (IsGood n offset l.text bytes) → IfSome found (λ damage. IsGood n offset l.text bytes → ⊥)
@@ -176,3 +176,10 @@ module _ (index recording : Option (List ℕ)) (found : Option (List Finding)) w
 
     pub fault-comes : (why : CheckFault) → after ≡ Fault why → Stops index recording found told why
     fault-comes why is = stops-either why (subst (ComesAfter at index' recording') is comes)
+
+-- ---- reads that failed
+
+-- where memory is refused, one that comes after may have
+pub reads-beyond : (failed : Bool) (old new : ℕ) → new ≡ count_after failed old → HasReadBeyond false old new (Err fault.NoMemory)
+reads-beyond true old new is = inr (refl, is)
+reads-beyond false old new is = inl is

@@ -53,12 +53,16 @@ pub fn verify<F: Feed, R: Feed>(
     ensures film_reads { F.failed_reads film.new ≡ count_after (failed_film result) (F.failed_reads film.old) }
     ensures recording_reads { R.failed_reads recording.new ≡ count_after (failed_recording result) (R.failed_reads recording.old) }
 {
-    for number in 0..MOST_FRAMES {
-        if let Some(verdict) = compare(alloc, film, recording, number)? {
+    for number in 0..MOST_FRAMES + 1 {
+        let compared = compare(alloc, film, recording, number)?;
+        if number == MOST_FRAMES {
+            return at_most(compared);
+        }
+        if let Some(verdict) = compared {
             return Ok(verdict);
         }
     }
-    at_most(compare(alloc, film, recording, MOST_FRAMES)?)
+    unreachable!()
 }
 
 /// The same, where so many threads at most decode the recording's codestreams side by side (`ls_player`).
@@ -81,14 +85,16 @@ pub fn verify_by<Rt: Threads + Sync, F: Feed, R: Feed>(
     ensures recording_reads { HasReadAhead (R.failed_reads recording.old) (R.failed_reads recording.new) result }
 {
     let mut ahead = Ahead::new(alloc);
-    for number in 0..MOST_FRAMES {
-        if let Some(verdict) = compare_by(
-            rt, alloc, workers, film, recording, &mut ahead, number,
-        )? {
+    for number in 0..MOST_FRAMES + 1 {
+        let compared = compare_by(rt, alloc, workers, film, recording, &mut ahead, number)?;
+        if number == MOST_FRAMES {
+            return at_most(compared);
+        }
+        if let Some(verdict) = compared {
             return Ok(verdict);
         }
     }
-    at_most(compare_by(rt, alloc, workers, film, recording, &mut ahead, MOST_FRAMES)?)
+    unreachable!()
 }
 
 /// Whether a recording in memory has the frames of a film in memory.

@@ -1,7 +1,8 @@
 -- Codestreams that were taken one after the other.
-use Rattle.std.proofs.Common.{◌≡◌, ◌⊎◌, ◌<◌, ℕ, suc, List, [], ◌∷◌, ◌++◌, length, Option, refl, sym, ap, subst, ◌∙◌, arith}
+use Rattle.std.proofs.Common.{◌≡◌, ◌⊎◌, ◌<◌, ℕ, suc, List, [], ◌∷◌, ◌++◌, length, take, drop, append-nil, Option, refl, sym, ap, subst, ◌∙◌, arith}
 use Rattle.std.specs.Prelude.{slice_index_or, remove}
 use Rattle.std.specs.List.{AllByRecursion}
+use Rattle.std.proofs.lemmas.List.{take_all, drop_all}
 use Rattle.ls_frame.specs.Picture.{Picture}
 use Rattle.ls_frame.specs.View.Known.{Tells, Gave, HadBytes, known}
 use Rattle.ls_stream.specs.declared.next.NextFault.{NextFault}
@@ -10,6 +11,7 @@ use Rattle.ls_stream.specs.Grammar.{Spells, most_bytes}
 use Rattle.ls_stream.specs.View.Extents.{IsNext}
 use Rattle.ls_film.proofs.NextLemmas.{gave_some}
 use Rattle.ls_film.proofs.PartLemmas.{too-large-breaks}
+use Rattle.ls_player.specs.declared.ahead.After.TheVariants.{More, End, Fault}
 use Rattle.ls_player.specs.declared.job.Job.{Job}
 use Rattle.ls_player.specs.View.Jobs.{IsTaken, IsMade}
 use Rattle.ls_player.specs.View.Batches.{AreTaken, IsUntaken, codestreams_of}
@@ -26,6 +28,13 @@ pub untaken : (read read' : Option (List ℕ)) (fault : NextFault) → (fault �
 untaken read read' next.TooLarge large complete memory = too-large-breaks read read' next.TooLarge refl large complete
 untaken read read' next.Io large complete memory = tt
 untaken read read' next.NoMemory large complete memory = memory refl
+
+-- more doesn't come after an end, nor after a fault
+pub no-more-after-end : End ≡ More → ⊥
+no-more-after-end is = let clash : ⊥ = cc in clash
+
+pub no-more-after-fault : (fault : NextFault) → Fault fault ≡ More → ⊥
+no-more-after-fault fault is = let clash : ⊥ = cc in clash
 
 -- what was taken had bytes
 pub had-bytes : (read read' : Option (List ℕ)) (bytes : List ℕ) → IsTaken read read' bytes → HadBytes read
@@ -53,13 +62,21 @@ module _ {T : Type 0} (made : Picture → T → Type 0) where
       let rest = all-made jobs jobs' (omega arith) (later job job' jobs jobs' each) in
       ((first.1, rest.0), ap (λ bytes. bytes.items ∷ codestreams_of jobs') first.0 ∙ ap (λ more. job.bytes.items ∷ more) rest.1)
 
--- ---- jobs that are taken off the front
+-- ---- jobs where they stand
+
+-- what was lent as a slice stands where it stood
+pub lent-back : {A : Type 0} (whole lent after : List A) (len : ℕ) → lent ≡ whole → length lent ≡ len → length after ≡ length lent → take len (after ++ drop (length after) whole) ≡ after
+lent-back whole lent after len same size kept =
+    let none : drop (length after) whole ≡ [] = drop_all (length after) whole (omega (arith, kept, ap length same)) in
+    ap (λ rest. take len (after ++ rest)) none ∙ ap (take len) (append-nil after) ∙ take_all len after (omega (arith, kept, size))
 
 module _ {T : Type 0} where
+  -- the first is taken off
   pub first-and-rest : (jobs : List (Job T)) (job : Job T) (rest : List (Job T)) → 0 < length jobs → job ≡ slice_index_or jobs 0 job → rest ≡ remove jobs 0 → jobs ≡ job ∷ rest
   first-and-rest [] job rest some is are = let no : ⊥ = omega arith in absurd no
   first-and-rest (first ∷ more) job rest some is are = ap (λ j. j ∷ more) (sym is) ∙ ap (λ js. job ∷ js) (sym are)
 
+  -- none
   pub none-left : (jobs : List (Job T)) → length jobs ≡ 0 → jobs ≡ []
   none-left [] is = refl
   none-left (job ∷ jobs) is = let no : ⊥ = omega arith in absurd no

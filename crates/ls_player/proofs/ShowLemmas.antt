@@ -1,5 +1,5 @@
 -- Images that are shown one after the other, and why that stops.
-use Rattle.std.proofs.Common.{◌≡◌, ◌<◌, ◌+◌, ℕ, Bool, true, false, List, [], ◌∷◌, ◌++◌, length, Option, refl, sym, ap, subst, ◌∙◌, inl, inr, arith}
+use Rattle.std.proofs.Common.{◌≡◌, ◌<◌, ◌+◌, ℕ, Bool, true, false, List, [], ◌∷◌, ◌++◌, length, take, Option, refl, sym, ap, subst, ◌∙◌, inl, inr, arith}
 use Rattle.std.specs.Io.KnownBytes.{Appends}
 use Rattle.ls_frame.specs.Canonical.{canonical}
 use Rattle.ls_frame.specs.Picture.{Picture, IsFrame}
@@ -18,7 +18,7 @@ use Rattle.ls_film.specs.declared.engine.Stopped.TheVariants.{Input}
 use Rattle.ls_film.specs.declared.playing.Unread.{Unread}
 use Rattle.ls_film.specs.declared.playing.Unread.TheVariants.{Stream, Io}
 use Rattle.ls_player.specs.View.Ahead.{IsUnread}
-use Rattle.ls_player.specs.View.Playing.{StopsAhead, StopsImage, HasReadAhead}
+use Rattle.ls_player.specs.View.Playing.{StopsAhead, HasReadAhead}
 use Rattle.ls_player.proofs.JobLemmas.{show-more}
 
 pub run-none : (read written : Option (List ℕ)) → HasRun Spells show read read written written 0 0
@@ -40,15 +40,11 @@ module _ (read place begun written : Option (List ℕ)) (n bytes : ℕ) (run : H
         HasRun-more Spells show read place after begun written written' n bytes f image run room next grows wrote
 
     -- a part of it was
-    pub stops-in : (written' : Option (List ℕ)) (image : List ℕ) (fault : PlayFault) → n < most_frames → image ≡ canonical f → StopsImage written written' bytes image fault
-        → StopsAhead read begun written' fault
-    stops-in written' image (play.Stream m fault) room is why = absurd why
-    stops-in written' image (play.Io m) room is why = absurd why
-    stops-in written' image (play.Output count) room is why =
+    pub stops-in : (written' : Option (List ℕ)) (image : List ℕ) (here : ℕ) → n < most_frames → image ≡ canonical f → here < length image → Appends written written' (take here image)
+        → StopsAhead read begun written' (play.Output (bytes + here))
+    stops-in written' image here room is part wrote =
         let grows : show (run.frames ++ f ∷ []) ≡ show run.frames ++ image = show-more run.frames f ∙ ap (λ s. show run.frames ++ s) (sym is) in
-        (after, rw why.1 (HasRun-output Spells show read place after begun written written' n bytes why.0 f image run room next grows why.2 why.3))
-    stops-in written' image play.NoMemory room is why = absurd why
-    stops-in written' image play.TooMuch room is why = absurd why
+        (after, HasRun-output Spells show read place after begun written written' n bytes here f image run room next grows part wrote)
 
     -- it is one more than a recording has
     pub stops-most : n ≡ most_frames → StopsAhead read begun written play.TooMuch

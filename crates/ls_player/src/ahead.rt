@@ -164,8 +164,7 @@ fn work_on_all<T: Send + Drop, M: Making<T>, Rt: Threads + Sync>(
     threads: usize,
 )
     requires { 0 < threads }
-    ensures made { AllByRecursion (IsMade M.made) jobs.new }
-    ensures kept { codestreams_of jobs.new ≡ codestreams_of jobs.old }
+    ensures { AllByRecursion (IsMade M.made) jobs.new × (codestreams_of jobs.new ≡ codestreams_of jobs.old) }
 {
     thread::for_each_mut(
         rt,

@@ -11,7 +11,7 @@ ghost use Rattle.ls_film.specs.Coding.{file};
 ghost use Rattle.ls_film.specs.Showing.{show};
 ghost use Rattle.ls_film.specs.View.Engine.{Completes};
 ghost use Rattle.ls_film.specs.View.Playing.{Stops, blames_reader, blames_writer, IsShownOf, IsOutOfMemory, IsCodable, frames_of};
-ghost use Rattle.ls_player.specs.View.Playing.{StopsAhead, StopsImage, HasReadAhead, failed_writer};
+ghost use Rattle.ls_player.specs.View.Playing.{StopsAhead, HasReadAhead};
 
 use crate::ahead::{Ahead, next_made};
 use crate::job::Images;
@@ -102,7 +102,8 @@ fn show_all<Rt: Threads + Sync, R: Feed, W: Outlet>(
     ensures stops { IfErr result (StopsAhead (R.remaining reader.old) (W.contents writer.old) (W.contents writer.new)) }
     ensures reads { MatchResult result (λ _. R.failed_reads reader.new ≡ R.failed_reads reader.old)
         (HasReadAhead (R.failed_reads reader.old) (R.failed_reads reader.new)) }
-    ensures writes { W.failed_writes writer.new ≡ count_after (failed_writer result) (W.failed_writes writer.old) }
+    ensures writes { MatchResult result (λ _. W.failed_writes writer.new ≡ W.failed_writes writer.old)
+        (λ fault. W.failed_writes writer.new ≡ count_after (blames_writer fault) (W.failed_writes writer.old)) }
 {
     let mut ahead = Ahead::new(alloc);
     let mut written = 0;
@@ -117,21 +118,10 @@ fn show_all<Rt: Threads + Sync, R: Feed, W: Outlet>(
         if number == MOST_FRAMES {
             return Err(PlayFault::TooMuch);
         }
-        written = write_image(writer, &image, written)?;
+        match write_bytes(writer, &image) {
+            Ok(()) => written += image.len() as u64,
+            Err(fault) => return Err(PlayFault::Output(written + fault.written as u64)),
+        }
     }
     unreachable!()
-}
-
-/// Writes an image after the `written` bytes of those before it, and says how many there are then.
-fn write_image<W: Outlet>(writer: &mut W, image: &[u8], written: u64) -> Result<u64, PlayFault>
-    requires { written + length image.now < 2 ^ 64 }
-    ensures all { OnOk result (Appends (W.contents writer.old) (W.contents writer.new) image.now) }
-    ensures count { IfOk result (λ count. count ≡ written + length image.now) }
-    ensures stops { IfErr result (StopsImage (W.contents writer.old) (W.contents writer.new) written image.now) }
-    ensures writes { W.failed_writes writer.new ≡ count_after (failed_writer result) (W.failed_writes writer.old) }
-{
-    match write_bytes(writer, image) {
-        Ok(()) => Ok(written + image.len() as u64),
-        Err(fault) => Err(PlayFault::Output(written + fault.written as u64)),
-    }
 }

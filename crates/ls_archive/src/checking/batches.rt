@@ -193,9 +193,9 @@ fn next_job<I: Feed, R: Feed>(
 }
 
 /// Has the bytes of all jobs looked at, by so many threads at most.
-fn look_at_all<Rt: Threads + Sync>(rt: &Rt, alloc: Global, workers: usize, jobs: &mut [Job])
+fn look_at_all<Rt: Threads + Sync>(rt: &Rt, alloc: Global, workers: usize, jobs: &mut Vec<Job>)
     requires { 0 < workers }
-    ensures { AllZip IsLookedAt jobs.old jobs.new }
+    ensures { AllZip IsLookedAt jobs.old.items jobs.new.items }
 {
     let threads = threads_for(jobs, workers);
     thread::for_each_mut(

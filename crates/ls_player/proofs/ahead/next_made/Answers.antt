@@ -14,6 +14,11 @@ returns-in-End-clause-next g c = λ place is.
     let size : length c.refill.new.ahead.jobs.items ≡ 0 = search rules in
     ends-ahead g.M.Making.made place (g.R.Read.remaining c.refill.new.reader) c.refill.new.ahead (none-left _ size) c.in-End.is (c.refill.ensures.ahead place is)
 
+pub unreachable-unreachable : goal.unreachable-unreachable
+unreachable-unreachable g c =
+    let size : length c.refill.new.ahead.jobs.items ≡ 0 = search rules in
+    c.refill.ensures.full (none-left _ size) c.in-More.is
+
 pub returns-in-Ok-clause-next : goal.returns-in-Ok-clause-next
 returns-in-Ok-clause-next g c = λ place is.
     let are = first-and-rest c.refill.new.ahead.jobs.items c.remove-job.result c.remove-job.new.self.items (omega arith) c.remove-job.ensures.value c.remove-job.ensures.items in

@@ -1,8 +1,9 @@
-use Rattle.std.proofs.Common.{◌≡◌, [], ◌∷◌, ◌++◌, rules, sym, ap, subst, ◌∙◌}
+use Rattle.std.proofs.Common.{◌≡◌, [], ◌∷◌, ◌++◌, rules, arith, refl, sym, ap, subst, ◌∙◌}
 use Rattle.std.proofs.lemmas.List.{map-append}
 use Rattle.ls_player.specs.View.Jobs.{IsTaken}
 use Rattle.ls_player.specs.View.Batches.{AreTaken, codestreams_of}
-use Rattle.ls_player.proofs.BatchLemmas.{taken-more, untaken, had-bytes}
+use Rattle.ls_player.proofs.BatchLemmas.{taken-more, untaken, had-bytes, no-more-after-end, no-more-after-fault}
+use Rattle.ls_stream.specs.declared.next.NextFault.TheVariants.{NoMemory}
 use Rattle.ls_player.proofs.ahead.take.Goals as goal
 
 pub returns-in-Err-clause-taken : goal.returns-in-Err-clause-taken
@@ -46,3 +47,29 @@ loop-place-preserved g c =
       len = search rules;
       reads = search rules;
     }
+
+pub returns-in-Ok-None-clause-taken : goal.returns-in-Ok-None-clause-taken
+returns-in-Ok-None-clause-taken g c = record {
+  mid = _;
+  taken = c.loop-place.invariant.taken;
+  after = rw c.in-Ok-None.field-0-is at c.in-Ok-None.ensures.end;
+}
+
+pub returns-clause-taken : goal.returns-clause-taken
+returns-clause-taken g c = record {
+  mid = _;
+  taken = c.loop-place.invariant.taken;
+  after = refl;
+}
+
+pub returns-clause-full : goal.returns-clause-full
+returns-clause-full g c = λ _. omega (arith, c.loop-place.invariant.len)
+
+pub returns-in-Ok-None-clause-full : goal.returns-in-Ok-None-clause-full
+returns-in-Ok-None-clause-full g c = λ more. absurd (no-more-after-end more)
+
+pub returns-in-Err-clause-full : goal.returns-in-Err-clause-full
+returns-in-Err-clause-full g c = λ more. absurd (no-more-after-fault c.in-Err.fault more)
+
+pub returns-then-is_err-clause-full : goal.returns-then-is_err-clause-full
+returns-then-is_err-clause-full g c = λ more. absurd (no-more-after-fault NoMemory more)

@@ -1,18 +1,32 @@
-use Rattle.std.proofs.Common.{refl, arith, rules}
+use Rattle.std.proofs.Common.{◌≡◌, inl, refl, sym, subst, arith, rules}
+use Rattle.std.specs.List.{AllZip}
 use Rattle.std.proofs.lemmas.Result.{err_from_is_err_and}
-use Rattle.ls_archive.proofs.BatchLemmas.{looked-whole, told-batch, stops-batch, more-comes, end-comes, fault-comes}
+use Rattle.ls_film.specs.Film.{most_frames}
+use Rattle.ls_archive.specs.View.Batches.{IsLookedAt}
+use Rattle.ls_archive.proofs.BatchLemmas.{told-batch, stops-batch, reads-beyond, more-comes, end-comes, fault-comes}
 use Rattle.ls_archive.proofs.CheckLemmas.{checked-none}
 use Rattle.ls_archive.proofs.checking.batches.check_by.Goals as goal
 
 pub loop-so_far-init : goal.loop-so_far-init
 loop-so_far-init g c = record { so_far = checked-none _ _ _; few = omega arith; bounded = omega arith; damaged = omega arith; index_reads = refl; reads = refl }
 
+pub take-batch-requires-clause-few : goal.take-batch-requires-clause-few
+take-batch-requires-clause-few g c = omega (arith, c.min-most.ensures)
+
+pub take-batch-requires-clause-bounded : goal.take-batch-requires-clause-bounded
+take-batch-requires-clause-bounded g c = c.loop-so_far.invariant.bounded
+
+pub tell_all-requires-clause-bounded : goal.tell_all-requires-clause-bounded
+tell_all-requires-clause-bounded g c = c.loop-so_far.invariant.bounded
+
+pub tell_all-requires-clause-damaged : goal.tell_all-requires-clause-damaged
+tell_all-requires-clause-damaged g c = c.loop-so_far.invariant.damaged
+
 pub returns-in_err-so_far-clause-stops : goal.returns-in_err-so_far-clause-stops
 returns-in_err-so_far-clause-stops g c =
     let p = err_from_is_err_and c.from_residual.result c.from_residual.ensures.1 in
     let i = c.loop-so_far.invariant in
-    let looked = looked-whole c.take-batch.result.jobs.items c.deref_mut.result.now c.look_at_all.new.jobs c.deref.result.now c.take-batch.result.jobs.len
-    c.deref_mut.ensures.value c.deref_mut.ensures.len c.look_at_all.auto.jobs c.look_at_all.ensures c.deref.ensures.value in
+    let looked = subst (AllZip IsLookedAt c.take-batch.result.jobs.items) (sym c.deref.ensures.value) c.look_at_all.ensures in
     rw (p.1, p.2)
     (stops-batch (g.I.Read.remaining c.args.index.now) (g.R.Read.remaining c.args.recording.now) (g.F.Findings.found c.args.findings.now)
     (g.F.Findings.found c.loop-so_far.findings) (g.F.Findings.found c.tell_all.new.findings) c.loop-so_far.so_far
@@ -23,8 +37,7 @@ returns-in_err-so_far-clause-stops g c =
 pub returns-in-End-clause-checked : goal.returns-in-End-clause-checked
 returns-in-End-clause-checked g c =
     let i = c.loop-so_far.invariant in
-    let looked = looked-whole c.take-batch.result.jobs.items c.deref_mut.result.now c.look_at_all.new.jobs c.deref.result.now c.take-batch.result.jobs.len
-    c.deref_mut.ensures.value c.deref_mut.ensures.len c.look_at_all.auto.jobs c.look_at_all.ensures c.deref.ensures.value in
+    let looked = subst (AllZip IsLookedAt c.take-batch.result.jobs.items) (sym c.deref.ensures.value) c.look_at_all.ensures in
     let told = told-batch (g.I.Read.remaining c.args.index.now) (g.R.Read.remaining c.args.recording.now) (g.F.Findings.found c.args.findings.now)
     (g.F.Findings.found c.loop-so_far.findings) (g.F.Findings.found c.tell_all.new.findings) c.loop-so_far.so_far
     (g.I.Read.remaining c.loop-so_far.index) (g.R.Read.remaining c.loop-so_far.recording) (g.I.Read.remaining c.take-batch.new.index) (g.R.Read.remaining c.take-batch.new.recording)
@@ -37,8 +50,7 @@ returns-in-End-clause-checked g c =
 pub returns-in-Fault-clause-stops : goal.returns-in-Fault-clause-stops
 returns-in-Fault-clause-stops g c =
     let i = c.loop-so_far.invariant in
-    let looked = looked-whole c.take-batch.result.jobs.items c.deref_mut.result.now c.look_at_all.new.jobs c.deref.result.now c.take-batch.result.jobs.len
-    c.deref_mut.ensures.value c.deref_mut.ensures.len c.look_at_all.auto.jobs c.look_at_all.ensures c.deref.ensures.value in
+    let looked = subst (AllZip IsLookedAt c.take-batch.result.jobs.items) (sym c.deref.ensures.value) c.look_at_all.ensures in
     let told = told-batch (g.I.Read.remaining c.args.index.now) (g.R.Read.remaining c.args.recording.now) (g.F.Findings.found c.args.findings.now)
     (g.F.Findings.found c.loop-so_far.findings) (g.F.Findings.found c.tell_all.new.findings) c.loop-so_far.so_far
     (g.I.Read.remaining c.loop-so_far.index) (g.R.Read.remaining c.loop-so_far.recording) (g.I.Read.remaining c.take-batch.new.index) (g.R.Read.remaining c.take-batch.new.recording)
@@ -51,8 +63,7 @@ returns-in-Fault-clause-stops g c =
 pub loop-so_far-preserved : goal.loop-so_far-preserved
 loop-so_far-preserved g c =
     let i = c.loop-so_far.invariant in
-    let looked = looked-whole c.take-batch.result.jobs.items c.deref_mut.result.now c.look_at_all.new.jobs c.deref.result.now c.take-batch.result.jobs.len
-    c.deref_mut.ensures.value c.deref_mut.ensures.len c.look_at_all.auto.jobs c.look_at_all.ensures c.deref.ensures.value in
+    let looked = subst (AllZip IsLookedAt c.take-batch.result.jobs.items) (sym c.deref.ensures.value) c.look_at_all.ensures in
     let told = told-batch (g.I.Read.remaining c.args.index.now) (g.R.Read.remaining c.args.recording.now) (g.F.Findings.found c.args.findings.now)
     (g.F.Findings.found c.loop-so_far.findings) (g.F.Findings.found c.tell_all.new.findings) c.loop-so_far.so_far
     (g.I.Read.remaining c.loop-so_far.index) (g.R.Read.remaining c.loop-so_far.recording) (g.I.Read.remaining c.take-batch.new.index) (g.R.Read.remaining c.take-batch.new.recording)
@@ -67,3 +78,43 @@ loop-so_far-preserved g c =
       index_reads = search rules;
       reads = search rules;
     }
+
+pub returns-clause-checked : goal.returns-clause-checked
+returns-clause-checked g c =
+    let all : c.loop-so_far.so_far.number ≡ most_frames = omega arith in
+    c.end_at_most.ensures.checked (g.I.Read.remaining c.args.index.now) (g.R.Read.remaining c.args.recording.now) (g.F.Findings.found c.args.findings.now)
+    (g.F.Findings.found c.loop-so_far.findings) (rw all at c.loop-so_far.invariant.so_far)
+
+pub returns-clause-stops : goal.returns-clause-stops
+returns-clause-stops g c =
+    let all : c.loop-so_far.so_far.number ≡ most_frames = omega arith in
+    c.end_at_most.ensures.stops (g.I.Read.remaining c.args.index.now) (g.R.Read.remaining c.args.recording.now) (g.F.Findings.found c.args.findings.now)
+    (g.F.Findings.found c.loop-so_far.findings) (rw all at c.loop-so_far.invariant.so_far)
+
+pub returns-in_err-so_far-clause-index_reads : goal.returns-in_err-so_far-clause-index_reads
+returns-in_err-so_far-clause-index_reads g c =
+    let p = err_from_is_err_and c.from_residual.result c.from_residual.ensures.1 in
+    rw (p.1, p.2) (reads-beyond _ _ _ (rw c.loop-so_far.invariant.index_reads at c.take-batch.ensures.index_reads))
+
+pub returns-in-End-clause-index_reads : goal.returns-in-End-clause-index_reads
+returns-in-End-clause-index_reads g c = inl (rw (c.in-End.is, c.loop-so_far.invariant.index_reads) at c.take-batch.ensures.index_reads)
+
+pub returns-in-Fault-clause-index_reads : goal.returns-in-Fault-clause-index_reads
+returns-in-Fault-clause-index_reads g c = inl (rw (c.in-Fault.is, c.loop-so_far.invariant.index_reads) at c.take-batch.ensures.index_reads)
+
+pub returns-clause-index_reads : goal.returns-clause-index_reads
+returns-clause-index_reads g c = inl (rw c.loop-so_far.invariant.index_reads at c.end_at_most.ensures.index_reads)
+
+pub returns-in_err-so_far-clause-reads : goal.returns-in_err-so_far-clause-reads
+returns-in_err-so_far-clause-reads g c =
+    let p = err_from_is_err_and c.from_residual.result c.from_residual.ensures.1 in
+    rw (p.1, p.2) (reads-beyond _ _ _ (rw c.loop-so_far.invariant.reads at c.take-batch.ensures.reads))
+
+pub returns-in-End-clause-reads : goal.returns-in-End-clause-reads
+returns-in-End-clause-reads g c = inl (rw (c.in-End.is, c.loop-so_far.invariant.reads) at c.take-batch.ensures.reads)
+
+pub returns-in-Fault-clause-reads : goal.returns-in-Fault-clause-reads
+returns-in-Fault-clause-reads g c = inl (rw (c.in-Fault.is, c.loop-so_far.invariant.reads) at c.take-batch.ensures.reads)
+
+pub returns-clause-reads : goal.returns-clause-reads
+returns-clause-reads g c = inl (rw c.loop-so_far.invariant.reads at c.end_at_most.ensures.reads)
