@@ -13,7 +13,7 @@ _jlsrec() {
         return
         ;;
     record) options+=' --workers --queue --window --preset --into --replace --progress --report --index' ;;
-    play) options+=' --frames --salvage --workers' ;;
+    play) options+=' --frames --salvage --index --workers' ;;
     verify) options+=' --workers' ;;
     index) options+=' --no-sums' ;;
     code) options+=' --index' ;;

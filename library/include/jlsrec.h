@@ -6,7 +6,8 @@
  * JLSREC_NO_MEMORY if memory is refused.
  *
  * What the caller guarantees, in every call:
- *   - each pointer is valid, not null, and aligned for its type, also where the count beside it is 0;
+ *   - each pointer is valid, not null, and aligned for its type, also where the count beside it is 0 (then it may be
+ *     the one after an array's last element);
  *   - so many elements stand at it as the count beside it says, and fewer than 2^63 bytes in all;
  *   - memory that a call writes overlaps no other that the same call is given, and no one else reads or writes it
  *     meanwhile; nobody writes meanwhile what the call reads;
@@ -66,7 +67,7 @@ enum jlsrec_status {
     JLSREC_PRESET_T2 = 36,
     JLSREC_PRESET_T3 = 37,
     JLSREC_PRESET_RESET = 38,
-    JLSREC_TOO_LARGE = 39,        /* over 2^28 samples, or a byte needed after 4,294,967,295 of them */
+    JLSREC_TOO_LARGE = 39,        /* over 2^28 samples; or a byte after the first 4,294,967,295 is there and needed */
     JLSREC_BAD_CODE = 40,         /* the data of fault.component is what no encoder writes, or ends early at a marker */
     JLSREC_LEFTOVER_BITS = 41     /* after the samples of fault.component its data has 16 bits or more */
 };
@@ -127,7 +128,8 @@ uint32_t jlsrec_encode_16(const jlsrec_form *form, const uint16_t *samples, size
  * 20 and above: the first fault, with its details in *fault; *form is all 0. No other status is answered. */
 uint32_t jlsrec_read_form(const uint8_t *bytes, size_t count, jlsrec_form *form, jlsrec_fault *fault);
 
-/* Decodes the codestream at the front of `count` bytes; what stands after it isn't looked at.
+/* Decodes the codestream at the front of `count` bytes. What stands after it makes no difference, but may be read: no
+ * one writes there meanwhile.
  *
  *   bytes    the bytes
  *   samples  where the samples are to go, with room for `room` of them: width * height * components are needed
@@ -152,14 +154,16 @@ uint32_t jlsrec_decode_16(const uint8_t *bytes, size_t count, uint16_t *samples,
 
 /* How many bytes the next codestream has, by its markers alone, for codestreams that follow one another: up to and with
  * EOI; or with the byte that shows that the markers break; or all bytes, if they end before. Decoding so many bytes
- * answers what decoding all of them would.
+ * answers what decoding all of them would. What stands after them makes no difference, but may be read.
+ *
+ * It asks for memory for 64 KiB, and for as many bytes as the codestream has and some more, since it copies them.
  *
  * JLSREC_OK: *extent is that. It is 0 only if `count` is.
- * JLSREC_NO_MEMORY, or JLSREC_TOO_LARGE if 4,294,967,295 bytes show neither: *extent is 0. */
+ * JLSREC_NO_MEMORY, or JLSREC_TOO_LARGE if there are 4,294,967,295 bytes, and they show neither: *extent is 0. */
 uint32_t jlsrec_extent(const uint8_t *bytes, size_t count, size_t *extent);
 
-/* What is said of a status, in English, as by the command jlsrec: "bad code in component 1". `fault` is what the call
- * wrote; where the call has none, all 0.
+/* What is said of a status, in English, as by the command jlsrec: "bad code in component 1"; of a number that is no
+ * status, "unknown status". `fault` is what the call wrote; where the call has none, all 0.
  *
  *   text     where the words are to go, cut to `room` - 1 bytes, and a 0 after them; nothing if `room` is 0. Bytes after
  *            that 0 are as they were

@@ -11,8 +11,11 @@ or (height, width, 3), colour. Calls hold no lock of Python's while they code, s
 from __future__ import annotations
 
 import ctypes
+import itertools
 import mmap
+import operator
 import os
+import sys
 import threading
 from collections.abc import Iterable, Iterator, Sequence
 from dataclasses import dataclass
@@ -22,12 +25,14 @@ from typing import Optional, Tuple, Union, overload
 import numpy as np
 
 from . import _library
+from ._files import NewFile, Reading, RecordingChanged
 from ._library import JlsrecError
 
 __all__ = [
     "Header",
     "JlsrecError",
     "Recording",
+    "RecordingChanged",
     "decode",
     "encode",
     "library_version",
@@ -37,6 +42,16 @@ __all__ = [
 
 Preset = Tuple[int, int, int, int]
 Data = Union[bytes, bytearray, memoryview, mmap.mmap, np.ndarray]
+Bytes = Union[bytes, np.ndarray]
+# A file, and where a codestream begins and ends in it.
+Place = Tuple[Reading, int, int]
+
+# How much of a recording is read at a time to look for its codestreams, and of a codestream for its header.
+WINDOW = 1 << 18
+HEAD = 1 << 12
+EOI = b"\xff\xd9"
+
+BYTE, WORD = np.dtype(np.uint8), np.dtype(np.uint16)
 
 
 @dataclass(frozen=True)
@@ -55,17 +70,17 @@ class Header:
     @property
     def shape(self) -> tuple[int, ...]:
         """The shape of the picture's array: (height, width), or (height, width, 3)."""
-        return (self.height, self.width) if self.components == 1 else (self.height, self.width, 3)
+        return _shape_of(self)
 
     @property
     def dtype(self) -> np.dtype:
         """The type of its samples: uint8 where maxval is at most 255, else uint16."""
-        return np.dtype(np.uint8 if self.maxval <= 255 else np.uint16)
+        return _type_of(self)
 
 
 def library_version() -> str:
     """The version of libjlsrec."""
-    number = _library.library.jlsrec_version()
+    number = _library.library().jlsrec_version()
     return f"{number // 10000}.{number // 100 % 100}.{number % 100}"
 
 
@@ -78,27 +93,31 @@ def encode(array: np.ndarray, maxval: Optional[int] = None, preset: Optional[Pre
     preset: T1, T2, T3 and RESET, each 0 for T.87's default; by default all are.
 
     Raises TypeError for another type or shape, JlsrecError for a picture that can't be encoded (a sample over maxval,
-    say) or parameters out of range, MemoryError where memory is refused.
+    say) or parameters out of range (a ValueError, whose text names them), MemoryError where memory is refused.
     """
     array = np.asarray(array)
     if array.dtype.kind != "u" or array.dtype.itemsize > 2:
         raise TypeError(f"samples are to be uint8 or uint16, and these are {array.dtype}")
     if array.ndim != 2 and not (array.ndim == 3 and array.shape[2] == 3):
         raise TypeError(f"a picture is (height, width) or (height, width, 3), and this is {array.shape}")
+    t1, t2, t3, reset = _preset(preset)
+    most = (255 if array.dtype.itemsize == 1 else 65535) if maxval is None else operator.index(maxval)
+    if not 1 <= most <= 65535:
+        raise JlsrecError(_library.BAD_MAXVAL, _library.Fault()).naming(most)
     array = array.astype(array.dtype.newbyteorder("="), copy=False)
     height, width = array.shape[:2]
     components = 1 if array.ndim == 2 else 3
+    if max(height, width) > 65535:
+        _library.check(_library.BAD_SIZE)
     stride = _stride(array)
     if stride is None:
         array = np.ascontiguousarray(array)
         stride = width * components
     bits = array.dtype.itemsize * 8
-    t1, t2, t3, reset = preset if preset is not None else (0, 0, 0, 0)
-    most = (255 if bits == 8 else 65535) if maxval is None else maxval
     form = _library.Form(components, width, height, most, t1, t2, t3, reset)
     count = 0 if array.size == 0 else (height - 1) * stride + width * components
-    call = getattr(_library.library, f"jlsrec_encode_{bits}")
-    room = _room(_library.library.jlsrec_bound(components, width, height, most))
+    call = getattr(_library.library(), f"jlsrec_encode_{bits}")
+    room = _room(_library.library().jlsrec_bound(components, width, height, most))
     written = ctypes.c_size_t()
     _library.check(
         call(
@@ -142,69 +161,80 @@ class Recording(Sequence):
             for array in film: ...
             last = film[-1]
 
-    len() and indices go by the markers of the codestreams; the file is mapped, and not read into memory. A slice is a
+    len() and indices go by the markers of the codestreams; no more of the file is read than is asked for. A slice is a
     list of arrays. header(i) and data(i) are of frame i, without decoding it. A frame that can't be decoded raises
-    JlsrecError, whose text begins with "frame N: "; the others are had all the same. The file must not shrink meanwhile.
+    JlsrecError, whose text begins with "frame N: "; the others are had all the same.
+
+    Threads may share a recording. It is the file as it was when it was opened: frames that are written behind its end
+    later aren't seen, and a file that is replaced, as `write` does it, is read on. If the file has shrunk since, or was
+    written over, RecordingChanged is raised, an OSError; after close() every use raises ValueError.
 
     Where the file breaks off or is damaged between codestreams, the frames before that are there and `fault` is the
     error, else None.
     """
 
     def __init__(self, path: Union[str, os.PathLike]) -> None:
-        """Opens a recording. Raises OSError where it can't be opened."""
+        """Opens a recording. Raises OSError where it can't be opened, or isn't a regular file."""
         self.path = Path(path)
-        with open(self.path, "rb") as file:
-            size = os.fstat(file.fileno()).st_size
-            self._map: Data = mmap.mmap(file.fileno(), 0, access=mmap.ACCESS_READ) if size > 0 else b""
-        self._bytes = _bytes_of(self._map)
+        self._file: Optional[Reading] = Reading(path)
+        # Where each codestream that was found begins, and where the last one ends. Only added to, under the lock.
         self._starts = [0]
         self._fault: Optional[JlsrecError] = None
-        self._details = _library.Fault()
-        self._ended = size == 0
+        self._lock = threading.RLock()
+        self._window = _Window(0, b"")
 
     def close(self) -> None:
         """Lets go of the file. A frame that was decoded stays."""
-        self._bytes, self._starts, self._ended = np.empty(0, np.uint8), [0], True
-        if isinstance(self._map, mmap.mmap):
-            self._map.close()
-        self._map = b""
+        self._file = None
 
     def __enter__(self) -> "Recording":
+        self._opened()
         return self
 
     def __exit__(self, *exception: object) -> None:
         self.close()
 
-    def _walk(self, frames: Optional[int] = None) -> None:
-        """Looks for the ends of so many frames, or of all."""
-        while not self._ended and (frames is None or len(self._starts) <= frames):
-            start = self._starts[-1]
-            extent = ctypes.c_size_t()
-            status = _library.library.jlsrec_extent(
-                self._bytes.ctypes.data + start, self._bytes.size - start, ctypes.byref(extent)
-            )
-            end = start + extent.value
-            if status == _library.OK:
-                status = self._broken(start, end)
-            if status == _library.NO_MEMORY:
-                _library.check(status)
-            if status != _library.OK:
-                self._fault = JlsrecError(status, self._details)
-                self._ended = True
-                return
-            self._starts.append(end)
-            self._ended = end == self._bytes.size
+    def _opened(self) -> Reading:
+        file = self._file
+        if file is None:
+            raise ValueError(f"{self.path}: the recording was closed")
+        return file
 
-    def _broken(self, start: int, end: int) -> int:
-        """The status of a last codestream that doesn't end with EOI: the first fault of what is there of it."""
-        if end - start >= 2 and bytes(self._bytes[end - 2 : end]) == b"\xff\xd9":
-            return _library.OK
-        try:
-            _decode(self._bytes[start:end], None)
-        except JlsrecError as error:
-            self._details = _library.Fault(error.component, error.marker, error.number)
-            return error.status
-        return _library.OK
+    def _walk(self, frames: int = sys.maxsize) -> Reading:
+        """Finds where the first frames end, or all. Answers the file."""
+        file, starts = self._opened(), self._starts
+        if len(starts) <= frames and self._fault is None and starts[-1] < file.size:
+            with self._lock:
+                while len(starts) <= frames and self._fault is None and starts[-1] < file.size:
+                    self._step(file)
+                if self._fault is not None or starts[-1] == file.size or len(self._window.data) > 16 * WINDOW:
+                    self._window = _Window(starts[-1], b"")
+        return file
+
+    def _step(self, file: Reading) -> None:
+        """Finds where the next codestream ends, or why there is none."""
+        number, window = len(self._starts), self._window
+        start = self._starts[number - 1]
+        status, end = window.extent(start)
+        # What has no end within the window may have one behind it.
+        while end == window.end < file.size:
+            if start == window.start:
+                size = max(WINDOW, 2 * len(window.data))
+            else:
+                size = max(WINDOW, (start - self._starts[number - 2]) * 5 // 4)
+            window = _Window(start, file.read(start, min(start + size, file.size)))
+            status, end = window.extent(start)
+        self._window = window
+        details = _library.Fault()
+        if status == _library.OK and not window.data.endswith(EOI, start - window.start, end - window.start):
+            status, details = _fault_of(window.data[start - window.start : end - window.start])
+        if status == _library.NO_MEMORY:
+            _library.check(status)
+        if status == _library.OK:
+            # A signal's handler may have come here meanwhile, and found the same.
+            self._starts[number : number + 1] = [end]
+        else:
+            self._fault = JlsrecError(status, details)
 
     @property
     def fault(self) -> Optional[JlsrecError]:
@@ -216,22 +246,30 @@ class Recording(Sequence):
         self._walk()
         return len(self._starts) - 1
 
-    def _span(self, index: int) -> np.ndarray:
+    def _place(self, index: int) -> Optional[Place]:
+        """Where the codestream of a frame stands, counted from the first; None behind the last."""
+        file, starts = self._walk(index + 1), self._starts
+        return (file, starts[index], starts[index + 1]) if index + 1 < len(starts) else None
+
+    def _span(self, index: int) -> Place:
+        """Where the codestream of a frame stands, or IndexError."""
+        index = operator.index(index)
         if index < 0:
             index += len(self)
-        if index < 0:
+        place = self._place(index) if index >= 0 else None
+        if place is None:
             raise IndexError("no such frame")
-        self._walk(index + 1)
-        if index + 1 >= len(self._starts):
-            raise IndexError("no such frame")
-        return self._bytes[self._starts[index] : self._starts[index + 1]]
+        return place
 
-    def _frame(self, index: int) -> np.ndarray:
+    def _frame(self, place: Place, index: int) -> np.ndarray:
+        file, start, end = place
         try:
-            return _decode(self._span(index), None)[0]
+            array, used = _decode(file.read(start, end), None)
         except JlsrecError as error:
-            number = index if index >= 0 else index + len(self)
-            raise error.of_frame(number) from None
+            raise error.of_frame(index if index >= 0 else index + len(self)) from None
+        if used != end - start:
+            raise file.written_over()
+        return array
 
     @overload
     def __getitem__(self, index: int) -> np.ndarray: ...
@@ -239,25 +277,56 @@ class Recording(Sequence):
     def __getitem__(self, index: slice) -> list[np.ndarray]: ...
     def __getitem__(self, index):
         if isinstance(index, slice):
-            return [self._frame(i) for i in range(*index.indices(len(self)))]
-        return self._frame(index)
+            return [self._frame(self._span(i), i) for i in range(*index.indices(len(self)))]
+        return self._frame(self._span(index), index)
 
     def __iter__(self) -> Iterator[np.ndarray]:
-        index = 0
-        while True:
-            self._walk(index + 1)
-            if index + 1 >= len(self._starts):
+        self._opened()
+        return self._frames()
+
+    def _frames(self) -> Iterator[np.ndarray]:
+        for index in itertools.count():
+            place = self._place(index)
+            if place is None:
                 return
-            yield self._frame(index)
-            index += 1
+            yield self._frame(place, index)
 
     def data(self, index: int) -> bytes:
         """The codestream of a frame."""
-        return self._span(index).tobytes()
+        file, start, end = self._span(index)
+        return file.read(start, end)
+
+    def size(self, index: int) -> int:
+        """How many bytes the codestream of a frame has."""
+        _, start, end = self._span(index)
+        return end - start
 
     def header(self, index: int) -> Header:
         """What the codestream of a frame says of it."""
-        return _header(self._span(index))
+        file, start, end = self._span(index)
+        front = min(HEAD, end - start)
+        try:
+            return _header(file.read(start, start + front))
+        except JlsrecError as error:
+            if error.status != _library.TRUNCATED or front == end - start:
+                raise
+        return _header(file.read(start, end))
+
+
+class _Window:
+    """Bytes of a file, in memory, and the place in it at which they begin."""
+
+    def __init__(self, start: int, data: bytes) -> None:
+        self.start, self.end, self.data = start, start + len(data), data
+        self._array = np.frombuffer(data, np.uint8) if data else np.empty(0, np.uint8)
+        self._address = self._array.ctypes.data
+
+    def extent(self, start: int) -> tuple[int, int]:
+        """The library's status for the codestream that begins at start, and where it ends as far as these bytes show."""
+        count = ctypes.c_size_t()
+        place, left = self._address + start - self.start, self.end - start
+        status = _library.library().jlsrec_extent(place, left, ctypes.byref(count))
+        return status, start + count.value
 
 
 def write(
@@ -269,15 +338,43 @@ def write(
 ) -> int:
     """Writes a recording, the joined codestreams of arrays, and answers how many there were.
 
-    maxval and preset: as for encode. A file that is there is replaced only if replace is true, else FileExistsError is
-    raised. Where an array can't be encoded, the codestreams of those before it are in the file.
+    arrays: an iterable of pictures, such as a list or a generator, or an array (frames, height, width) or (frames,
+    height, width, 3). One picture is refused; so is an array (frames, height, 3), which may be one: pass list(array)
+    instead.
+    maxval and preset: as for encode. An existing file is replaced only if replace is true, else FileExistsError is
+    raised, also if it came meanwhile.
+
+    The recording is written to PATH.part (or PATH.part.1, .. if there is one), is synced, and then takes its place; so
+    the folder has to be writable. Until then the earlier file stands whole at PATH, and whoever has that open reads on
+    in it, as these arrays themselves may. If an array can't be encoded, or anything else fails, PATH is as it was;
+    PATH.part has the codestreams of the arrays before, which a note of the error says (`__notes__`), and is removed if
+    there were none. Without arrays the recording has no frame; it doesn't replace one that has bytes: that is a
+    ValueError.
     """
-    frames = 0
-    with open(path, "wb" if replace else "xb") as file:
-        for array in arrays:
+    shape = getattr(arrays, "shape", None)
+    if isinstance(shape, tuple) and (len(shape) < 3 or (len(shape) == 3 and shape[2] == 3)):
+        raise TypeError(f"frames are wanted, not the rows of one: this is {shape}; pass a single picture as [picture]")
+    each = iter(arrays)
+    frames = whole = 0
+    file = NewFile(path, replace)
+    try:
+        for array in each:
             file.write(encode(array, maxval, preset))
-            frames += 1
+            frames, whole = frames + 1, file.count
+        if frames == 0 and file.earlier > 0:
+            raise ValueError(f"{file.path}: there are no frames to replace it by")
+        file.finish()
+    except BaseException as error:
+        part = file.keep(whole) if frames > 0 else file.drop()
+        if part is not None:
+            _note(error, f"{part} has the {frames} frames that were written")
+        raise
     return frames
+
+
+def _note(error: BaseException, text: str) -> None:
+    """Adds a note to an error, as Python does from 3.11 on."""
+    error.__notes__ = [*getattr(error, "__notes__", []), text]
 
 
 class _Kept(threading.local):
@@ -293,6 +390,19 @@ def _room(size: int) -> np.ndarray:
     if _kept.room.size < size:
         _kept.room = np.empty(size, np.uint8)
     return _kept.room
+
+
+def _preset(preset: Optional[Preset]) -> tuple[int, ...]:
+    """Coding parameters that the library's form has room for."""
+    if preset is None:
+        return (0, 0, 0, 0)
+    numbers = tuple(operator.index(number) for number in preset)
+    if len(numbers) != 4:
+        raise ValueError(f"a preset is T1, T2, T3 and RESET, and this is {numbers}")
+    for number, status in zip(numbers, _library.BAD_PRESET):
+        if not 0 <= number <= 65535:
+            raise JlsrecError(status, _library.Fault()).naming(number)
+    return numbers
 
 
 def _stride(array: np.ndarray) -> Optional[int]:
@@ -316,40 +426,56 @@ def _stride(array: np.ndarray) -> Optional[int]:
     return apart // size
 
 
-def _bytes_of(data: Data) -> np.ndarray:
+def _bytes_of(data: Data) -> Bytes:
     """The bytes of data, where they are."""
+    if isinstance(data, bytes):
+        return data
     if isinstance(data, np.ndarray):
         if data.dtype != np.uint8 or data.ndim != 1 or not data.flags.c_contiguous:
             raise TypeError("data in an array is to be bytes in a row")
         return data
-    return np.frombuffer(data, np.uint8) if len(data) > 0 else np.empty(0, np.uint8)
+    return np.frombuffer(data, np.uint8) if len(data) > 0 else b""
 
 
-def _form(data: np.ndarray) -> _library.Form:
+def _address(data: Bytes) -> Union[bytes, int]:
+    """What ctypes takes for a pointer to the bytes."""
+    return data if isinstance(data, bytes) else data.ctypes.data
+
+
+def _shape_of(form: Union[Header, _library.Form]) -> tuple[int, ...]:
+    return (form.height, form.width) if form.components == 1 else (form.height, form.width, 3)
+
+
+def _type_of(form: Union[Header, _library.Form]) -> np.dtype:
+    return BYTE if form.maxval <= 255 else WORD
+
+
+def _form(data: Bytes) -> _library.Form:
     form, fault = _library.Form(), _library.Fault()
-    status = _library.library.jlsrec_read_form(data.ctypes.data, data.size, ctypes.byref(form), ctypes.byref(fault))
+    status = _library.library().jlsrec_read_form(_address(data), len(data), ctypes.byref(form), ctypes.byref(fault))
     _library.check(status, fault)
     return form
 
 
-def _header(data: np.ndarray) -> Header:
+def _header(data: Bytes) -> Header:
     form = _form(data)
     return Header(form.width, form.height, form.components, form.maxval, (form.t1, form.t2, form.t3, form.reset))
 
 
-def _decode(data: np.ndarray, out: Optional[np.ndarray]) -> tuple[np.ndarray, int]:
-    header = _header(data)
+def _decode(data: Bytes, out: Optional[np.ndarray]) -> tuple[np.ndarray, int]:
+    """The picture at the front of the bytes, and how many of them are its codestream."""
+    form = _form(data)
+    shape, kind = _shape_of(form), _type_of(form)
     if out is None:
-        out = np.empty(header.shape, header.dtype)
-    elif out.shape != header.shape or out.dtype not in (np.dtype(np.uint16), header.dtype):
-        raise ValueError(f"out is to be {header.shape} of {header.dtype}, and is {out.shape} of {out.dtype}")
+        out = np.empty(shape, kind)
+    elif out.shape != shape or out.dtype not in (WORD, kind):
+        raise ValueError(f"out is to be {shape} of {kind}, and is {out.shape} of {out.dtype}")
     elif not (out.flags.c_contiguous and out.flags.writeable and out.flags.aligned):
         raise ValueError("out is to be contiguous and writable")
-    form, fault, used = _library.Form(), _library.Fault(), ctypes.c_size_t()
-    call = getattr(_library.library, f"jlsrec_decode_{out.dtype.itemsize * 8}")
-    status = call(
-        data.ctypes.data,
-        data.size,
+    fault, used, library = _library.Fault(), ctypes.c_size_t(), _library.library()
+    status = (library.jlsrec_decode_8 if out.dtype.itemsize == 1 else library.jlsrec_decode_16)(
+        _address(data),
+        len(data),
         out.ctypes.data,
         out.size,
         ctypes.byref(form),
@@ -358,3 +484,12 @@ def _decode(data: np.ndarray, out: Optional[np.ndarray]) -> tuple[np.ndarray, in
     )
     _library.check(status, fault)
     return out, used.value
+
+
+def _fault_of(data: bytes) -> tuple[int, _library.Fault]:
+    """The status of bytes that don't end as a codestream does, and its details: their first fault."""
+    try:
+        _decode(data, None)
+    except JlsrecError as error:
+        return error.status, error.fault
+    return _library.OK, _library.Fault()

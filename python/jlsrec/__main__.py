@@ -16,12 +16,13 @@ def main() -> int:
     sheet = commands.add_parser("sheet", help="a PNG page of a recording's frames, with the bits that each takes")
     sheet.add_argument("file", metavar="FILE", help="a recording")
     sheet.add_argument("-o", "--output", required=True, metavar="SHEET", help="the PNG file that is written")
+    sheet.add_argument("--replace", action="store_true", help="replace a SHEET that is there; never FILE itself")
     words = parser.parse_args()
     try:
         if words.command == "sheet":
             from .sheet import make_sheet
 
-            make_sheet(words.file, words.output)
+            make_sheet(words.file, words.output, words.replace)
         else:
             if len(words.files) > 16:
                 parser.error("at most sixteen recordings are shown")
@@ -30,6 +31,9 @@ def main() -> int:
             show(words.files, words.rate)
     except OSError as error:
         print(f"jlsrec: {error.filename or words.command}: {error.strerror or error}", file=sys.stderr)
+        return 1
+    except (ImportError, ValueError) as error:
+        print(f"jlsrec: {error}", file=sys.stderr)
         return 1
     return 0
 

@@ -4,12 +4,17 @@ from __future__ import annotations
 
 import ctypes
 import ctypes.util
+import functools
 import os
 from pathlib import Path
 
 OK = 0
 NO_MEMORY = 1
 NO_ROOM = 2
+BAD_SIZE = 4
+BAD_MAXVAL = 6
+BAD_PRESET = (10, 11, 12, 13)
+TRUNCATED = 20
 
 
 class Form(ctypes.Structure):
@@ -40,6 +45,11 @@ class JlsrecError(ValueError):
         self.component = int(fault.component)
         self.marker = int(fault.marker)
         self.number = int(fault.number)
+
+    def naming(self, number: int) -> JlsrecError:
+        """The same error, whose text ends with the number that is at fault."""
+        self.args = (f"{self}: {number}",)
+        return self
 
     def of_frame(self, number: int) -> JlsrecError:
         """The same error, whose text begins with the frame's number."""
@@ -74,31 +84,39 @@ _size = ctypes.c_size_t
 _form = ctypes.POINTER(Form)
 _fault = ctypes.POINTER(Fault)
 _count = ctypes.POINTER(ctypes.c_size_t)
-
-library = _load()
-
-
-def _declare(name: str, result: object, *arguments: object) -> None:
-    call = getattr(library, name)
-    call.restype = result
-    call.argtypes = list(arguments)
-
-
 _number = ctypes.c_uint32
-_declare("jlsrec_bound", ctypes.c_uint64, _number, _number, _number, _number)
-for _bits in ("8", "16"):
-    _declare(f"jlsrec_encode_{_bits}", _number, _form, _address, _size, _size, _address, _size, _count)
-    _declare(f"jlsrec_decode_{_bits}", _number, _address, _size, _address, _size, _form, _count, _fault)
-_declare("jlsrec_read_form", _number, _address, _size, _form, _fault)
-_declare("jlsrec_extent", _number, _address, _size, _count)
-_declare("jlsrec_text", _size, _number, _fault, _address, _size)
-_declare("jlsrec_version", _number)
+
+# Each call's result and arguments.
+_CALLS = {
+    "jlsrec_bound": (ctypes.c_uint64, _number, _number, _number, _number),
+    "jlsrec_encode_8": (_number, _form, _address, _size, _size, _address, _size, _count),
+    "jlsrec_encode_16": (_number, _form, _address, _size, _size, _address, _size, _count),
+    "jlsrec_decode_8": (_number, _address, _size, _address, _size, _form, _count, _fault),
+    "jlsrec_decode_16": (_number, _address, _size, _address, _size, _form, _count, _fault),
+    "jlsrec_read_form": (_number, _address, _size, _form, _fault),
+    "jlsrec_extent": (_number, _address, _size, _count),
+    "jlsrec_text": (_size, _number, _fault, _address, _size),
+    "jlsrec_version": (_number,),
+}
+
+
+@functools.lru_cache(maxsize=None)
+def library() -> ctypes.CDLL:
+    """The library, loaded by the first call, so that what needs no codec goes without it. Raises ImportError."""
+    try:
+        loaded = _load()
+        for name, (result, *arguments) in _CALLS.items():
+            call = getattr(loaded, name)
+            call.restype, call.argtypes = result, arguments
+    except (OSError, AttributeError) as error:
+        raise ImportError(f"libjlsrec can't be loaded: {error}") from error
+    return loaded
 
 
 def text_of(status: int, fault: Fault) -> str:
     """What the library says of a status."""
     room = ctypes.create_string_buffer(256)
-    library.jlsrec_text(status, ctypes.byref(fault), room, len(room))
+    library().jlsrec_text(status, ctypes.byref(fault), room, len(room))
     return room.value.decode()
 
 

@@ -8,7 +8,8 @@ from typing import Union
 import numpy as np
 
 from . import JlsrecError, Recording
-from .shown import colored, fitted, put_number, windowed, write_png
+from ._files import NewFile, is_same
+from .shown import colored, fitted, png_of, put_number, windowed
 
 CELL = 160
 GAP = 8
@@ -23,11 +24,12 @@ FAULT = (220, 60, 60)
 def sheet_of(recording: Recording, columns: int = 8, most: int = 64) -> np.ndarray:
     """The page of a recording, (height, width, 3): at most so many of its frames, evenly taken, and the plot of all.
 
-    A frame is windowed from the least to the greatest sample of it. One that is at fault is a red field.
+    A frame is windowed from the least to the greatest sample of it. One that is at fault is a red field. Raises
+    ValueError if the recording has no frame.
     """
     frames = len(recording)
     if frames == 0:
-        return np.full((CELL, CELL, 3), BACK, np.uint8)
+        raise ValueError(f"no frames{f': {recording.fault}' if recording.fault is not None else ''}")
     shown = range(frames) if frames <= most else [frames * i // most for i in range(most)]
     columns = min(columns, len(shown))
     lines = -(-len(shown) // columns)
@@ -59,7 +61,7 @@ def bits_a_sample(recording: Recording) -> np.ndarray:
             bits.append(0.0)
         else:
             samples = header.width * header.height * header.components
-            bits.append(8 * len(recording.data(number)) / samples)
+            bits.append(8 * recording.size(number) / samples)
     return np.array(bits)
 
 
@@ -75,6 +77,15 @@ def _plot(field: np.ndarray, values: np.ndarray) -> None:
     put_number(field, 0, 0, f"{greatest:.2f}", TEXT)
 
 
-def make_sheet(path: Union[str, Path], png: Union[str, Path]) -> None:
-    """Writes the page of a recording as a PNG file."""
-    write_png(png, sheet_of(Recording(path)))
+def make_sheet(path: Union[str, Path], png: Union[str, Path], replace: bool = False) -> None:
+    """Writes the page of a recording as a PNG file. An existing file is replaced only if that is asked for.
+
+    Raises FileExistsError otherwise, and ValueError if there is no frame, or if the PNG file would be the recording.
+    """
+    if is_same(path, png):
+        raise ValueError(f"{png}: this is the recording itself")
+    with NewFile(png, replace) as file, Recording(path) as recording:
+        try:
+            file.write(png_of(sheet_of(recording)))
+        except ValueError as error:
+            raise ValueError(f"{path}: {error}") from error

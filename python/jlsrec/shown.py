@@ -4,8 +4,6 @@ from __future__ import annotations
 
 import struct
 import zlib
-from pathlib import Path
-from typing import Union
 
 import numpy as np
 
@@ -70,8 +68,8 @@ def put_number(page: np.ndarray, row: int, column: int, text: str, color: tuple[
                     page[top : top + 2, left : left + 2] = color
 
 
-def write_png(path: Union[str, Path], page: np.ndarray) -> None:
-    """Writes a page (height, width, 3) of bytes as a PNG file."""
+def png_of(page: np.ndarray) -> bytes:
+    """A page (height, width, 3) of bytes as a PNG file."""
     height, width = page.shape[:2]
     rows = np.zeros((height, 1 + 3 * width), np.uint8)
     rows[:, 1:] = page.reshape(height, 3 * width)
@@ -81,4 +79,4 @@ def write_png(path: Union[str, Path], page: np.ndarray) -> None:
 
     header = struct.pack(">IIBBBBB", width, height, 8, 2, 0, 0, 0)
     png = b"\x89PNG\r\n\x1a\n" + chunk(b"IHDR", header)
-    Path(path).write_bytes(png + chunk(b"IDAT", zlib.compress(rows.tobytes())) + chunk(b"IEND", b""))
+    return png + chunk(b"IDAT", zlib.compress(rows.tobytes())) + chunk(b"IEND", b"")

@@ -57,7 +57,8 @@ class Pane:
         self.number = number
         try:
             self.frame = self.recording[number]
-        except JlsrecError as error:
+            self.maxval = self.recording.header(number).maxval
+        except (JlsrecError, OSError) as error:
             self.frame = None
             self.image = tkinter.PhotoImage()
             self.canvas.itemconfigure(self.picture, image=self.image)
@@ -198,7 +199,7 @@ class Window:
 
     def most(self, pane: Pane) -> int:
         """The greatest sample that a pane's frame may have."""
-        return pane.recording.header(pane.number).maxval
+        return pane.maxval
 
     def range_of(self, pane: Pane) -> tuple[float, float]:
         """Which samples are black and which white in a pane."""
@@ -279,8 +280,7 @@ class Window:
 def show(paths: Sequence[str], rate: float) -> None:
     """Opens the window on recordings and returns when it is closed. Raises OSError where one can't be opened."""
     for path in paths:
-        with open(path, "rb"):
-            pass
+        Recording(path).close()
     try:
         root = tkinter.Tk()
     except tkinter.TclError as error:

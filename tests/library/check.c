@@ -6,7 +6,7 @@
  *     check faults FOLDER       each fault of decoding; leaves the bytes in FOLDER
  *     check texts               what is said of each status
  *     check memory FILM         each request for memory refused in turn (linked with malloc and realloc wrapped)
- *     check threads FILM        eight threads at once
+ *     check threads FILM        eight threads at once, apart, and with one input and adjoining outputs
  *     check mutate PROGRAM SEED COUNT FILE..    changed codestreams, beside what PROGRAM play makes of them
  *
  * and `check play FILE` does what the command `jlsrec play FILE` does, by the library. */
@@ -358,6 +358,7 @@ static void statuses(void) {
     refuses("no samples", good, 0, 0, 0, JLSREC_TOO_FEW_SAMPLES);
     refuses("more samples", good, 9, 0, 0, JLSREC_OK);
     refuses("sample 4096", good, 4, 0, 4096, JLSREC_SAMPLE_TOO_LARGE);
+    for (size_t room = 0; room < 60; room++) refuses_in(room, "a sample before the room", good, 4, 0, 4096, JLSREC_SAMPLE_TOO_LARGE);
     /* the first that is so */
     refuses("all wrong", (jlsrec_form){2, 0, 0, 0, 70000, 0, 0, 1}, 0, 1, 0, JLSREC_BAD_COMPONENTS);
     refuses("all but components", (jlsrec_form){1, 0, 1, 0, 70000, 0, 0, 1}, 0, 1, 0, JLSREC_BAD_SIZE);
@@ -373,6 +374,7 @@ static void statuses(void) {
     refuses_in(bound - 1, "a large picture, less room", large, many, 0, 65534, JLSREC_OK);
     refuses_in(bound - 1, "sample 65535 of a large picture, less room", large, many, 0, 65535, JLSREC_SAMPLE_TOO_LARGE);
     refuses_in(bound, "a large picture, a sample less", large, many - 1, 0, 65534, JLSREC_TOO_FEW_SAMPLES);
+    refuses_in(0, "sample 65535 of a large picture, no room", large, many, 0, 65535, JLSREC_SAMPLE_TOO_LARGE);
 
     /* T.87's Annex H.3: the bytes that stand there, and those of a form of the same picture with its defaults written out */
     const uint8_t h3[16] = {0, 0, 90, 74, 68, 50, 43, 205, 64, 145, 145, 145, 100, 145, 145, 145};
@@ -414,6 +416,14 @@ static void faulty(const char *folder, const char *name, const uint8_t *bytes, s
     uint32_t status = jlsrec_decode_8(bytes, size, out.bytes, 64, &form, &used, &fault);
     count(status == want && !memcmp(&fault, &details, sizeof fault) && used == 0 && same_form(&form, &no_form) && kept_after(&out, picture),
           "%s: status %u, %u %u %u", name, status, fault.component, fault.marker, fault.number);
+    /* decoding as many bytes as the extent has answers the same, and so does decoding to 16 bits */
+    size_t extent = 0;
+    uint16_t words[64];
+    count(jlsrec_extent(bytes, size, &extent) == JLSREC_OK && extent <= size && (extent == 0) == (size == 0) &&
+              jlsrec_decode_8(bytes, extent, out.bytes, 64, &form, &used, &fault) == want && !memcmp(&fault, &details, sizeof fault),
+          "%s: %zu bytes by its extent", name, extent);
+    count(jlsrec_decode_16(bytes, size, words, 64, &form, &used, &fault) == want && !memcmp(&fault, &details, sizeof fault),
+          "%s: to 16 bits", name);
     char path[4096];
     snprintf(path, sizeof path, "%s/%s.jls", folder, name);
     write_file(path, bytes, size);
@@ -586,12 +596,18 @@ static void texts(void) {
 /* ---- memory that is refused */
 
 #ifdef REFUSE
-static size_t requests, refused_request;
+static size_t requests, refused_request, asked_for;
 
 void *__real_malloc(size_t size);
 void *__real_realloc(void *block, size_t size);
-void *__wrap_malloc(size_t size) { return ++requests == refused_request ? NULL : __real_malloc(size); }
-void *__wrap_realloc(void *block, size_t size) { return ++requests == refused_request ? NULL : __real_realloc(block, size); }
+void *__wrap_malloc(size_t size) {
+    asked_for += size;
+    return ++requests == refused_request ? NULL : __real_malloc(size);
+}
+void *__wrap_realloc(void *block, size_t size) {
+    asked_for += size;
+    return ++requests == refused_request ? NULL : __real_realloc(block, size);
+}
 
 static void memory(const char *name) {
     struct bytes images = read_file(name);
@@ -643,6 +659,15 @@ static void memory(const char *name) {
         count(status == JLSREC_OK ? extent == written : status == JLSREC_NO_MEMORY && extent == 0, "%s: request %zu of an extent", name, tries);
     }
     count(tries > 1, "%s: %zu requests of an extent", name, tries);
+    /* With a room of the bound, and that over 2^25, no memory is asked for but that of two rows; with less room there is. */
+    if (room > (size_t)1 << 25) {
+        asked_for = 0;
+        uint32_t status = encode(eight, &p.form, samples, p.count, 0, coded, room, &used);
+        count(status == JLSREC_OK && used == written && asked_for < (size_t)p.form.width * 16 + 1024, "%s: %zu bytes asked for", name, asked_for);
+        asked_for = 0;
+        status = encode(eight, &p.form, samples, p.count, 0, coded, room - 1, &used);
+        count(status == JLSREC_OK && used == written && asked_for >= written && asked_for < room + room / 8, "%s: %zu bytes asked for, less room", name, asked_for);
+    }
     refused_request = 1;
     requests = 0;
     jlsrec_form bad = p.form;
@@ -692,6 +717,73 @@ static void *work(void *argument) {
     }
     free(images.bytes);
     return NULL;
+}
+
+/* What all threads read at once, and where each writes a part of its own, beside those of the others. */
+struct common {
+    struct picture picture;
+    struct bytes coded;
+    uint8_t *codes;
+    uint16_t *words;
+    uint8_t *small;
+};
+
+struct part {
+    const struct common *common;
+    size_t number;
+    bool holds;
+};
+
+static void *work_beside(void *argument) {
+    struct part *part = argument;
+    const struct common *c = part->common;
+    size_t first = part->number * c->picture.count, size = c->coded.count, written, used;
+    jlsrec_form form, wanted = in_force(&c->picture.form);
+    jlsrec_fault fault;
+    part->holds = true;
+    for (unsigned round = 0; round < 20 && part->holds; round++) {
+        part->holds = !jlsrec_encode_16(&c->picture.form, c->picture.samples, c->picture.count, 0, c->codes + part->number * size, size, &written) &&
+                      written == size &&
+                      !jlsrec_decode_16(c->coded.bytes, size, c->words + first, c->picture.count, &form, &used, &fault) &&
+                      used == size && same_form(&form, &wanted);
+        if (part->holds && c->picture.form.maxval <= 255)
+            part->holds = !jlsrec_decode_8(c->coded.bytes, size, c->small + first, c->picture.count, &form, &used, &fault) && used == size;
+    }
+    return NULL;
+}
+
+static void threads_beside(const char *name) {
+    pthread_t made[8];
+    struct part parts[8];
+    struct bytes images = read_file(name);
+    size_t at = 0;
+    struct common c;
+    if (!next_picture(&images, &at, &c.picture)) exit(3);
+    size_t count_of = c.picture.count, room = jlsrec_bound(c.picture.form.components, c.picture.form.width, c.picture.form.height, c.picture.form.maxval);
+    c.coded.bytes = allocated(room);
+    if (jlsrec_encode_16(&c.picture.form, c.picture.samples, count_of, 0, c.coded.bytes, room, &c.coded.count)) exit(3);
+    c.codes = allocated(8 * c.coded.count);
+    c.words = allocated(8 * 2 * count_of);
+    c.small = allocated(8 * count_of);
+    for (size_t i = 0; i < 8; i++) {
+        parts[i] = (struct part){&c, i, false};
+        if (pthread_create(&made[i], NULL, work_beside, &parts[i])) exit(3);
+    }
+    for (size_t i = 0; i < 8; i++) {
+        pthread_join(made[i], NULL);
+    }
+    for (size_t i = 0; i < 8; i++) {
+        count(parts[i].holds && !memcmp(c.codes + i * c.coded.count, c.coded.bytes, c.coded.count) &&
+                  !memcmp(c.words + i * count_of, c.picture.samples, 2 * count_of) &&
+                  (c.picture.form.maxval > 255 || !memcmp(c.small + i * count_of, c.picture.small, count_of)),
+              "%s: thread %zu beside the others", name, i);
+    }
+    free(c.codes);
+    free(c.words);
+    free(c.small);
+    free(c.coded.bytes);
+    release(&c.picture);
+    free(images.bytes);
 }
 
 static void threads(const char *name) {
@@ -865,7 +957,7 @@ int main(int argc, char **argv) {
 #ifdef REFUSE
     else if (!strcmp(word, "memory") && argc == 3) memory(argv[2]);
 #endif
-    else if (!strcmp(word, "threads") && argc == 3) threads(argv[2]);
+    else if (!strcmp(word, "threads") && argc == 3) threads(argv[2]), threads_beside(argv[2]);
     else if (!strcmp(word, "mutate") && argc > 5) mutate(argv[2], strtoul(argv[3], NULL, 10), strtoul(argv[4], NULL, 10), argv + 5, argc - 5);
     else if (!strcmp(word, "play") && argc == 3) {
         struct bytes bytes = read_file(argv[2]);

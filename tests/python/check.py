@@ -2,7 +2,6 @@
 
 from __future__ import annotations
 
-import os
 import re
 import shutil
 import subprocess
@@ -14,9 +13,9 @@ from pathlib import Path
 import numpy as np
 
 import jlsrec
+from cases import case, end, refuses, screen
 
 program, films = sys.argv[1], Path(sys.argv[2])
-passed = failed = 0
 
 # The heading of a Netpbm image: words, with white space and comments between them.
 BETWEEN = rb"(?:\s|#[^\n\r]*[\n\r])+"
@@ -28,26 +27,6 @@ EXAMPLE_CODED = bytes.fromhex(
     "ffd8 fff7000b080004000401011100 ffda0008010100000000"
     "c000006c80208e01c00000574000006ee6000001bc18000005d800009160 ffd9"
 )
-
-
-def case(name: str, holds: bool) -> None:
-    """Counts a case, and tells of one that fails."""
-    global passed, failed
-    if holds:
-        passed += 1
-    else:
-        failed += 1
-        print(f"FAILED {name}")
-
-
-def refuses(name: str, kind: type[BaseException], text: str, call, *words) -> None:
-    """That a call raises an error of this kind, whose text holds this."""
-    try:
-        call(*words)
-    except kind as error:
-        case(f"{name}: {error}", text in str(error))
-    else:
-        case(name, False)
 
 
 def images_of(path: Path) -> list[tuple[np.ndarray, int]]:
@@ -134,6 +113,20 @@ refuses("a header cut off", jlsrec.JlsrecError, "truncated", jlsrec.read_header,
 refuses("an array of another shape", ValueError, "out is to be", jlsrec.decode, EXAMPLE_CODED, np.zeros((4, 5), np.uint8))
 refuses("an array that isn't whole", ValueError, "contiguous", jlsrec.decode, EXAMPLE_CODED, np.zeros((4, 8), np.uint8)[:, ::2])
 
+for number in (2**32 + 255, 2**64 + 255, 65536, 0, -1, -(2**32) + 255):
+    error = refuses(f"maxval {number}", ValueError, str(number), jlsrec.encode, plane, number)
+    case(f"maxval {number} is named", "maxval" in str(error))
+for place, name in enumerate(("T1", "T2", "T3", "RESET")):
+    for number in (2**32 + 30, 65536, -1):
+        preset = [20, 70, 300, 64]
+        preset[place] = number
+        error = refuses(f"{name} {number}", ValueError, str(number), jlsrec.encode, plane, 4095, tuple(preset))
+        case(f"{name} {number} is named", name in str(error))
+refuses("three parameters", ValueError, "T1, T2, T3 and RESET", jlsrec.encode, plane, 4095, (20, 70, 300))
+refuses("a maxval that is no integer", TypeError, "", jlsrec.encode, plane, 4095.0)
+tall = np.broadcast_to(np.zeros((1, 1), np.uint8), (2**32 + 5, 1))
+refuses("more rows than 32 bits count", jlsrec.JlsrecError, "side", jlsrec.encode, tall)
+
 # ---- recordings
 
 arrays = [np.roll(plane, k, axis=1) for k in range(9)]
@@ -141,6 +134,23 @@ case("a recording is written", jlsrec.write("nine.jls", arrays, 4095) == 9)
 refuses("and isn't written over", FileExistsError, "", jlsrec.write, "nine.jls", arrays)
 case("unless told", jlsrec.write("nine.jls", iter(arrays), 4095, replace=True) == 9)
 played = subprocess.run([program, "play", "nine.jls"], stdout=subprocess.PIPE, check=True).stdout
+for name, array in {
+    "a gray picture": plane,
+    "a colour picture": color,
+    "a row": plane[0],
+    "a colour picture of one row": color[:1],
+    "gray pictures 3 wide, as an array": np.zeros((5, 4, 3), np.uint8),
+}.items():
+    refuses(f"{name} instead of frames", TypeError, "frames are wanted", jlsrec.write, "rows.jls", array)
+refuses("no frames at all", TypeError, "", jlsrec.write, "rows.jls", 7)
+case("and no file is made", not any(Path(".").glob("rows.jls*")))
+for name, array in {
+    "an array of gray frames": np.stack(arrays),
+    "an array of colour frames": np.stack([color, color]),
+    "gray frames 3 wide, in a list": list(np.arange(60, dtype=np.uint8).reshape(5, 4, 3)),
+}.items():
+    case(name, jlsrec.write("stack.jls", array, replace=True) == len(array))
+    case(f"{name} comes back", all((a == b).all() for a, b in zip(jlsrec.Recording("stack.jls"), array)))
 case("the program plays it", played == b"".join(b"P5\n64 48\n4095\n" + a.astype(">u2").tobytes() for a in arrays))
 recording = jlsrec.Recording("nine.jls")
 case("by index", (recording[7] == arrays[7]).all() and (recording[-1] == arrays[8]).all())
@@ -168,7 +178,26 @@ with jlsrec.Recording("damaged.jls") as damage:
     refuses("a frame that is damaged", jlsrec.JlsrecError, "frame 1: ", damage.__getitem__, 1)
     refuses("from the end too", jlsrec.JlsrecError, "frame 1: ", damage.__getitem__, -8)
     case("and the others are there", all((damage[k] == arrays[k]).all() for k in (0, 2, 3, 8)))
-case("one that was closed has none", len(damage) == 0)
+for name, use in {
+    "len": lambda: len(damage),
+    "an index": lambda: damage[0],
+    "a slice": lambda: damage[0:0],
+    "a loop": lambda: iter(damage),
+    "data": lambda: damage.data(0),
+    "size": lambda: damage.size(0),
+    "a header": lambda: damage.header(0),
+    "the fault": lambda: damage.fault,
+    "with": damage.__enter__,
+    "in": lambda: arrays[0] in damage,
+    "whether it has any": lambda: bool(damage),
+    "backwards": lambda: list(reversed(damage)),
+}.items():
+    refuses(f"one that was closed, {name}", ValueError, "damaged.jls: the recording was closed", use)
+damage.close()
+with jlsrec.Recording("nine.jls") as opened:
+    going = iter(opened)
+    case("a loop begins", (next(going) == arrays[0]).all())
+refuses("and stops once it is closed", ValueError, "the recording was closed", next, going)
 big = arrays[4].astype(">u2")
 case("another order of bytes", jlsrec.encode(big, 4095) == recording.data(4))
 
@@ -215,22 +244,29 @@ def run(*words: str) -> subprocess.CompletedProcess:
 case("a sheet is made", run("sheet", "nine.jls", "-o", "nine.png").returncode == 0)
 case("as a PNG file", Path("nine.png").read_bytes()[:8] == b"\x89PNG\r\n\x1a\n")
 told = run("sheet", "nowhere.jls", "-o", "no.png")
-case("a file that isn't there is told", told.returncode == 1 and "nowhere.jls: No such file" in told.stderr)
+case("a missing file is named", told.returncode == 1 and "nowhere.jls: No such file" in told.stderr)
+for name, path in {"no frame": "none.jls", "no recording": "window.txt"}.items():
+    Path("window.txt").write_bytes(b"text")
+    told = run("sheet", path, "-o", "empty.png")
+    case(f"a sheet of {name}: {told.stderr}", told.returncode == 1 and f"jlsrec: {path}: no frames" in told.stderr)
+    case(f"a sheet of {name}: no file", not Path("empty.png").exists())
 case("seventeen are too many", run("view", *["nine.jls"] * 17).returncode == 2)
 
 if shutil.which("Xvfb") is None or shutil.which("import") is None:
     print("the window: not tested, since Xvfb or ImageMagick's import isn't there")
 else:
-    screen = f":{os.getpid() % 400 + 100}"
-    server = subprocess.Popen(["Xvfb", screen, "-screen", "0", "1280x960x24"], stderr=subprocess.DEVNULL)
-    time.sleep(2)
-    shown = {**os.environ, "DISPLAY": screen}
+    server, shown = screen()
     window = subprocess.Popen([sys.executable, "-m", "jlsrec", "view", "nine.jls", "cut.jls", "film.jls"], env=shown)
-    time.sleep(4)
-    subprocess.run(["import", "-window", "root", "window.png"], env=shown, check=False)
-    subprocess.run(["convert", "window.png", "window.ppm"], check=False)
-    picture = Path("window.ppm")
-    pixels = images_of(picture)[0][0] if picture.exists() else np.zeros((1, 1, 3), np.uint8)
+    pixels = np.zeros((1, 1, 3), np.uint8)
+    for _ in range(30):
+        time.sleep(2)
+        subprocess.run(["import", "-window", "root", "window.png"], env=shown, stderr=subprocess.DEVNULL, check=False)
+        subprocess.run(["convert", "window.png", "window.ppm"], stderr=subprocess.DEVNULL, check=False)
+        if Path("window.ppm").exists():
+            pixels = images_of(Path("window.ppm"))[0][0]
+        # On a busy machine it takes its time.
+        if (pixels == (240, 96, 96)).all(axis=2).any():
+            break
     case("the window runs", window.poll() is None)
     case("and shows pictures, a histogram and bits", len(np.unique(pixels.reshape(-1, 3), axis=0)) > 100)
     for color, what in (((90, 170, 250), "the bits"), ((240, 192, 64), "the window's bounds"), ((240, 96, 96), "the frame's place")):
@@ -240,5 +276,4 @@ else:
     window.wait()
     server.wait()
 
-print(f"{passed} passed, {failed} failed")
-sys.exit(failed != 0)
+end()

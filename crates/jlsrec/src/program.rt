@@ -1,7 +1,8 @@
 //! The whole program over its words, its files and its two streams.
+use crate::words::{fault_of_words, words};
 use ls_command::{Answer, Frames, Request, misuse, read_words};
-use ls_console::{Console, USAGE, finish, no_memory, write_text};
-use ls_files::Opens;
+use ls_console::{Console, Escaped, USAGE, finish, is_shown_plain, no_memory, write_text};
+use ls_files::{Locks, Makes};
 use ls_film::Part;
 use ls_frame::{Counted, Outlet, keep_blocks};
 use ls_reading::{
@@ -9,12 +10,13 @@ use ls_reading::{
     verify_files,
 };
 use ls_recording::record_films;
+use std::alloc::{AllocError, Global};
+use std::io;
 use std::io::Write;
 use std::rt::{Env, Files};
 use std::sync::Wait;
 use std::thread::Threads;
 use std::time::Clock;
-use std::{env, io};
 
 /// Reads the words, runs the program and flushes its output.
 ///
@@ -27,16 +29,19 @@ pub fn start<R, O, W, E>(
 ) -> u8
 where
     R: Env + Eprint + Files + AllocGlobal + Clock + Threads + Wait + Sync,
-    O: Opens<File = R::File> + Copy + Send,
-    R::File: Send,
-    W: Write,
+    O: Makes<File = R::File> + Copy + Send,
+    R::File: Send + Locks,
+    W: Write + Send,
     E: Outlet + Send,
 {
     let alloc = rt.alloc();
     let status = match words(rt) {
         Ok(words) => run(rt, opener, &words, output, console),
         Err(fault) if fault.kind() == io::ErrorKind::OutOfMemory => no_memory(console),
-        Err(_) => answer(misuse(alloc, "a word isn't UTF-8"), output, console),
+        Err(_) => match fault_of_words(rt) {
+            Ok(fault) => answer(misuse(alloc, &fault), output, console),
+            Err(AllocError) => no_memory(console),
+        },
     };
     finish(status, output, console)
 }
@@ -55,9 +60,9 @@ pub fn run<R, O, W, E>(
 ) -> u8
 where
     R: Eprint + Files + AllocGlobal + Clock + Threads + Wait + Sync,
-    O: Opens<File = R::File> + Copy + Send,
-    R::File: Send,
-    W: Write,
+    O: Makes<File = R::File> + Copy + Send,
+    R::File: Send + Locks,
+    W: Write + Send,
     E: Outlet + Send,
 {
     let alloc = rt.alloc();
@@ -67,7 +72,39 @@ where
             console.tell_reasons(reasons);
             do_request(rt, opener, request, output, console)
         }
-        Err(other) => answer(other, output, console),
+        Err(other) => answer(printable(alloc, words, other), output, console),
+    }
+}
+
+/// What is answered in place of a request, in which the words are shown printable.
+fn printable(alloc: Global, words: &[String], other: Answer) -> Answer {
+    if words.iter().all(|word| is_shown_plain(word)) {
+        return other;
+    }
+    match escaped(alloc, words) {
+        Ok(escaped) => match read_words(alloc, &escaped) {
+            Err(shown) => shown,
+            Ok(_) => other,
+        },
+        Err(AllocError) => Answer::NoMemory,
+    }
+}
+
+/// The words, with what isn't printable in them escaped.
+fn escaped(alloc: Global, words: &[String]) -> Result<Vec<String>, AllocError> {
+    let mut escaped = Vec::new(alloc);
+    for word in words {
+        escaped.push(shown_word(alloc, word)?)?;
+    }
+    Ok(escaped)
+}
+
+/// A word as it is, if it is printable, and else escaped.
+fn shown_word(alloc: Global, word: &str) -> Result<String, AllocError> {
+    if is_shown_plain(word) {
+        word.to_string(alloc)
+    } else {
+        Escaped(word).to_string(alloc)
     }
 }
 
@@ -81,9 +118,9 @@ fn do_request<R, O, W, E>(
 ) -> u8
 where
     R: Eprint + Files + AllocGlobal + Clock + Threads + Wait + Sync,
-    O: Opens<File = R::File> + Copy + Send,
-    R::File: Send,
-    W: Write,
+    O: Makes<File = R::File> + Copy + Send,
+    R::File: Send + Locks,
+    W: Write + Send,
     E: Outlet + Send,
 {
     match request {
@@ -97,8 +134,9 @@ where
             frames,
             salvage,
             workers,
+            ..
         } if !salvage => show(rt, file, frames.map(part_of), workers, output, console),
-        Request::Play { file, .. } => show_whole(rt, file, output, console),
+        Request::Play { file, index, .. } => show_whole(rt, file, index, output, console),
         Request::Index { file, sums } => index(rt, file, sums, output, console),
         Request::Check {
             file,
@@ -141,9 +179,4 @@ fn answer<W: Write, E: Outlet>(
         }
         Answer::NoMemory => no_memory(console),
     }
-}
-
-/// The words after the program's name.
-fn words<R: Env + AllocGlobal>(rt: &R) -> io::Result<Vec<String>> {
-    Ok(env::args(rt)?.skip(1).collect(rt.alloc())?)
 }

@@ -164,11 +164,12 @@ module _ (index recording : Option (List ℕ)) (found : Option (List Finding)) w
         let lines = subst (λ i. HasChecked index i recording at.recording found told done.number done.offset done.damaged) same.0 offset in
         subst (λ r. HasChecked index index' recording r found told done.number done.offset done.damaged) same.1 lines
 
-    pub end-comes : (more : Bool) → after ≡ End more → IsChecked index recording found told (record { frames = done.number; damaged = done.damaged; more = more })
+    pub end-comes : (more : Bool) → after ≡ End more → IsChecked index recording found told (record { frames = done.number; damaged = done.damaged; bytes = done.offset; more = more })
     end-comes more is =
         let end : ComesAfter at index' recording' (End more) = subst (ComesAfter at index' recording') is comes in
-        subst (λ n. IsChecked index recording found told (record { frames = n; damaged = done.damaged; more = more })) (sym to.number)
-        (checked-end index at.index index' recording at.recording found told at.number at.offset done.damaged more to.checked end.0 end.1)
+        rw (to.number, to.offset) (
+        checked-end index at.index index' recording at.recording found told at.number at.offset done.damaged more to.checked end.0 end.1
+        )
 
     stops-either : (why : CheckFault) → ComesAfter at index' recording' (Fault why) → Stops index recording found told why
     stops-either why (inl line) = stops-next-line index at.index recording at.recording found told at.number at.offset done.damaged why to.checked line

@@ -119,11 +119,11 @@ checked-none index recording found = record {
   left = λ told. refl;
 }
 
-texts-push : (lines : List Line) (l : Line) → texts (lines ++ l ∷ []) ≡ texts lines ++ l.text
+pub texts-push : (lines : List Line) (l : Line) → texts (lines ++ l ∷ []) ≡ texts lines ++ l.text
 texts-push [] l = append-nil l.text
 texts-push (first ∷ lines) l = ap (λ s. first.text ++ s) (texts-push lines l) ∙ sym (append_assoc first.text (texts lines) l.text)
 
-size-push : (lines : List Line) (l : Line) → size_of (lines ++ l ∷ []) ≡ size_of lines + l.size
+pub size-push : (lines : List Line) (l : Line) → size_of (lines ++ l ∷ []) ≡ size_of lines + l.size
 size-push [] l = omega arith
 size-push (first ∷ lines) l = omega (arith, size-push lines l)
 
@@ -174,7 +174,7 @@ checked-more index mid index' recording half recording' found some found' n offs
 
 -- the end of the index
 pub checked-end : (index mid index' recording half : Option (List ℕ)) (found found' : Option (List Finding)) (n offset damaged : ℕ) (more : Bool) → HasChecked index mid recording half found found' n offset damaged
-    → WasAtEnd mid index' → (Tells half → IsTrue more ↔ (0 < length (known half))) → IsChecked index recording found found' (record { frames = n; damaged = damaged; more = more })
+    → WasAtEnd mid index' → (Tells half → IsTrue more ↔ (0 < length (known half))) → IsChecked index recording found found' (record { frames = n; damaged = damaged; bytes = offset; more = more })
 checked-end index mid index' recording half found found' n offset damaged more run end goes_on = record {
   lines = run.lines;
   are_lines = subst (AreLines 0 0) (append-nil run.lines) (run.more_lines [] tt);
@@ -189,6 +189,7 @@ checked-end index mid index' recording half found found' n offset damaged more r
   are_found = λ told.
       subst (λ ls. AreFound 0 0 ls (known recording) run.findings) (append-nil run.lines)
       (subst (AreFound 0 0 (run.lines ++ []) (known recording)) (append-nil run.findings) (run.more_found told [] [] refl));
+  bytes = run.size;
   more = λ told.
       let size = ap length (run.left told) ∙ length-drop offset (known recording) in
       let both = goes_on (run.tells told) in

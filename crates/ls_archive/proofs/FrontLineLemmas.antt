@@ -14,7 +14,7 @@ use Rattle.ls_frame.specs.View.Known.{Tells, TakesUntil, known}
 use Rattle.ls_frame.proofs.KnownLemmas.{known-consumed}
 use Rattle.ls_stream.specs.Grammar.{most_bytes}
 use Rattle.ls_film.specs.Listing.{column}
-use Rattle.ls_archive.specs.View.Checking.{HasNoLineFeed, beginning}
+use Rattle.ls_archive.specs.View.Checking.{HasNoLineFeed, beginning, EndsColumn}
 use Rattle.ls_archive.specs.View.Checks.{IsFrontLine}
 use Rattle.ls_archive.proofs.LineLemmas.{head_or, all-append, same_first}
 
@@ -70,47 +70,58 @@ front-ended old mid before text one gave end same told front rest begins none fe
     let size : length front + suc (length rest) ≡ length before + 0 = sym (length-append front (10 ∷ rest)) ∙ ap length whole ∙ length-append before [] in
     absurd (no_feed_before front before rest [] one whole (omega (arith, size)))
 
--- ---- up to the first blank
+-- ---- up to the first blank, or the end
 
-first_blank : (number end : ℕ) (text rest : List ℕ) → number ≤ most_bytes → text ≡ decimal number ++ 32 ∷ rest → IsFirstByte (is_byte 32) text (Some end) → end ≡ length (decimal number)
-first_blank number end text rest small is first =
+-- no digit of a number is a blank
+no_blank : (number end : ℕ) (text rest : List ℕ) → number ≤ most_bytes → text ≡ decimal number ++ rest → end < length (decimal number) → get_or text end 0 ≡ 32 → ⊥
+no_blank number end text rest small is less blank =
     let digits = decimal number in
     let numeral = (decimal_is_IsNumeral number (omega (arith, small))).0.1 in
-    let blank : get_or text (length digits) 0 ≡ 32 = ap (λ s. get_or s (length digits) 0) is ∙ get_or-append_seam digits 32 rest 0 in
-    let found : get_or text end 0 ≡ 32 = eqb-true _ _ first.1 in
+    let here : get_or text end 0 ≡ get_or digits end 0 = ap (λ s. get_or s end 0) is ∙ get_or_append_left digits rest 0 end less in
+    let range = digit_at digits end numeral less in
+    omega (arith, here, blank, range)
+
+-- the first blank stands after the number
+pub first-blank : (number end : ℕ) (text rest : List ℕ) → number ≤ most_bytes → EndsColumn rest → text ≡ decimal number ++ rest → IsFirstByte (is_byte 32) text (Some end) → end ≡ length (decimal number)
+first-blank number end text rest small (inl none) is first =
+    let size : length text ≡ length (decimal number) + 0 = ap length is ∙ length-append (decimal number) rest ∙ ap (λ s. length (decimal number) + length s) none in
+    absurd (no_blank number end text rest small is (omega (arith, size, first.0.high)) (eqb-true _ _ first.1))
+first-blank number end text rest small (inr more) is first =
+    let digits = decimal number in
+    let all : text ≡ digits ++ 32 ∷ more.0 = is ∙ ap (λ s. digits ++ s) more.1 in
+    let blank : get_or text (length digits) 0 ≡ 32 = ap (λ s. get_or s (length digits) 0) all ∙ get_or-append_seam digits 32 more.0 0 in
     elim (cases_order end (length digits)) [
       | inl same ↦ same
-      | inr (inl less) ↦
-          let here : get_or text end 0 ≡ get_or digits end 0 = ap (λ s. get_or s end 0) is ∙ get_or_append_left digits (32 ∷ rest) 0 end less in
-          let range = digit_at digits end numeral less in
-          absurd (omega (arith, here, found, range))
-      | inr (inr more) ↦ absurd (first.0.before (length digits) (omega arith) more (eq-eqb _ _ blank))
+      | inr (inl less) ↦ absurd (no_blank number end text rest small is less (eqb-true _ _ first.1))
+      | inr (inr later) ↦ absurd (first.0.before (length digits) (omega arith) later (eq-eqb _ _ blank))
     ]
 
--- the bytes before it are the number
-pub number-before : (number end : ℕ) (text rest : List ℕ) → number ≤ most_bytes → text ≡ decimal number ++ (codes " " ++ rest) → IsFirstByte (is_byte 32) text (Some end) → take end text ≡ decimal number
-number-before number end text rest small is first =
-    let place = first_blank number end text rest small is first in
-    ap (λ n. take n text) place ∙ ap (take (length (decimal number))) is ∙ take-append_seam (decimal number) (32 ∷ rest)
-
--- there is one
-pub number-ends : (number : ℕ) (text rest : List ℕ) → text ≡ decimal number ++ (codes " " ++ rest) → IsFirstByte (is_byte 32) text None → ⊥
-number-ends number text rest is none =
+-- without a blank the number is all
+pub all-digits : (number : ℕ) (text rest : List ℕ) → EndsColumn rest → text ≡ decimal number ++ rest → IsFirstByte (is_byte 32) text None → length text ≡ length (decimal number)
+all-digits number text rest (inl none) is first =
+    let size : length text ≡ length (decimal number) + 0 = ap length is ∙ length-append (decimal number) rest ∙ ap (λ s. length (decimal number) + length s) none in
+    omega (arith, size)
+all-digits number text rest (inr more) is first =
     let digits = decimal number in
-    let blank : get_or text (length digits) 0 ≡ 32 = ap (λ s. get_or s (length digits) 0) is ∙ get_or-append_seam digits 32 rest 0 in
-    let size : length text ≡ length digits + suc (length rest) = ap length is ∙ length-append digits (32 ∷ rest) in
-    none (length digits) (omega arith) (omega (arith, size)) (eq-eqb _ _ blank)
+    let all : text ≡ digits ++ 32 ∷ more.0 = is ∙ ap (λ s. digits ++ s) more.1 in
+    let blank : get_or text (length digits) 0 ≡ 32 = ap (λ s. get_or s (length digits) 0) all ∙ get_or-append_seam digits 32 more.0 0 in
+    let size : length text ≡ length digits + suc (length more.0) = ap length all ∙ length-append digits (32 ∷ more.0) in
+    absurd (first (length digits) (omega arith) (omega (arith, size)) (eq-eqb _ _ blank))
 
--- if what is read up to the blank is read as a number, it is that
-pub number-read : {E : Type 0} (number end : ℕ) (text rest : List ℕ) (r : Result ℕ E) → number ≤ most_bytes → text ≡ decimal number ++ (codes " " ++ rest) → IsFirstByte (is_byte 32) text (Some end)
+-- the bytes before it are the number
+pub number-before : (number end : ℕ) (text rest : List ℕ) → text ≡ decimal number ++ rest → end ≡ length (decimal number) → take end text ≡ decimal number
+number-before number end text rest is place = ap (λ n. take n text) place ∙ ap (take (length (decimal number))) is ∙ take-append_seam (decimal number) rest
+
+-- if they are read as a number, it is that
+pub number-read : {E : Type 0} (number end : ℕ) (text rest : List ℕ) (r : Result ℕ E) → number ≤ most_bytes → text ≡ decimal number ++ rest → end ≡ length (decimal number)
     → ParsesUnsigned 32 10 (take end text) r → r ≡ Ok number
-number-read number end text rest r small is first parsed =
-    parse-decimal 32 number (take end text) r (omega (arith, small)) (omega (arith, small)) (number-before number end text rest small is first) parsed
+number-read number end text rest r small is place parsed =
+    parse-decimal 32 number (take end text) r (omega (arith, small)) (omega (arith, small)) (number-before number end text rest is place) parsed
 
 -- it is text
-pub number-is_text : (number end : ℕ) (text rest : List ℕ) → number ≤ most_bytes → text ≡ decimal number ++ (codes " " ++ rest) → IsFirstByte (is_byte 32) text (Some end) → IsUtf8 (take end text)
-number-is_text number end text rest small is first =
-    subst IsUtf8 (sym (number-before number end text rest small is first)) (IsUtf8-from_ascii (decimal number) (IsAscii-decimal number (omega (arith, small))))
+pub number-is_text : (number end : ℕ) (text rest : List ℕ) → number ≤ most_bytes → text ≡ decimal number ++ rest → end ≡ length (decimal number) → IsUtf8 (take end text)
+number-is_text number end text rest small is place =
+    subst IsUtf8 (sym (number-before number end text rest is place)) (IsUtf8-from_ascii (decimal number) (IsAscii-decimal number (omega (arith, small))))
 
 -- what is kept of an answer that was Ok, and of one that wasn't
 pub kept : {A E : Type 0} (P : A → Type 0) (Q : E → Type 0) (a : A) (r : Result A E) → MatchResult r P Q → Some a ≡ result_ok r → P a

@@ -1,11 +1,13 @@
 pub mod BatchLemmas
 pub mod CheckLemmas
+pub mod ColumnLemmas
 pub mod EntryLemmas
 pub mod FollowLemmas
 pub mod FormLemmas
 pub mod FrontLineLemmas
 pub mod IndexLemmas
 pub mod LineLemmas
+pub mod NextLineLemmas
 pub mod SideLemmas
 pub mod VerdictLaws
 pub mod VerdictLemmas

@@ -110,7 +110,7 @@ module _ (only_image : (front rest : List ℕ) (f g : Picture) → IsImageOf fro
         let image = images_of run.frames (run.film_gave refl).2 in
         let coded = codestreams_of run.frames (run.recording_gave refl).2 in
         (sym coded ∙ image, sym (ap length image) ∙ run.count)
-    compared (Differs n) finds =
+    compared (Differs n what) finds =
         let run = finds.2 in
         let image = first_are IsImageOf some_image only_of same_image film frames images finds.0 run.frames run.f run.film_gave in
         let coded = first_are Spells some_codestream only_codestream same_codestream recording others codestreams finds.1 run.frames run.g run.recording_gave in
@@ -124,6 +124,7 @@ module _ (only_image : (front rest : List ℕ) (f g : Picture) → IsImageOf fro
           frames_are = image.1;
           others_are = coded.1;
           differ = run.differ;
+          what_is = run.what_is;
         }
     compared (Missing n) finds =
         let run = finds.2 in

@@ -21,6 +21,7 @@ use Rattle.ls_archive.specs.declared.faults.VerifyFault.TheVariants.{Film, Recor
 use Rattle.ls_archive.specs.View.Entries.{HasBytes}
 use Rattle.ls_archive.specs.declared.verifying.Verdict.{Verdict}
 use Rattle.ls_archive.specs.declared.verifying.Verdict.TheVariants.{Same, Differs, Missing, Extra}
+use Rattle.ls_archive.specs.Verify.{difference_of}
 use Rattle.ls_archive.specs.View.Verifying.{BeginsWithImage, HaveRun, Finds, StopsAfter, Stops, GaveNext, verdict_at, IsCompared, at_most, StopsFilm, StopsRecording, film_fault, recording_fault}
 
 -- before the first frame
@@ -66,7 +67,7 @@ module _ (film mid film' recording midway recording' : Option (List ℕ)) (n : �
       → None ≡ verdict_at n image coded → HaveRun film film' recording recording' (n + 1)
   goes_on (Some f) (Some g) room image coded is = elim (cases_Bool (same_picture f g)) [
     | inl same ↦ more f g room (same_is f g same) image coded
-    | inr other ↦ absurd (some_none (Differs n) (is ∙ cond-false (same_picture f g) None (Some (Differs n)) other))
+    | inr other ↦ absurd (some_none (Differs n (difference_of f g)) (is ∙ cond-false (same_picture f g) None (Some (Differs n (difference_of f g))) other))
   ]
   goes_on (Some f) None room image coded is = absurd (some_none (Missing n) is)
   goes_on None (Some g) room image coded is = absurd (some_none (Extra n) is)
@@ -76,15 +77,16 @@ module _ (film mid film' recording midway recording' : Option (List ℕ)) (n : �
   ends : (image coded : Option Picture) (v : Verdict) → GaveNext IsImageOf mid film' image → GaveNext Spells midway recording' coded
       → Some v ≡ verdict_at n image coded → Finds film film' recording recording' v
   ends (Some f) (Some g) v image coded is = elim (cases_Bool (same_picture f g)) [
-    | inl same ↦ absurd (none_some v (is ∙ cond-true (same_picture f g) None (Some (Differs n)) same))
+    | inl same ↦ absurd (none_some v (is ∙ cond-true (same_picture f g) None (Some (Differs n (difference_of f g))) same))
     | inr other ↦
-        subst (Finds film film' recording recording') (sym (same_verdict v (Differs n) (is ∙ cond-false (same_picture f g) None (Some (Differs n)) other)))
+        subst (Finds film film' recording recording') (sym (same_verdict v (Differs n (difference_of f g)) (is ∙ cond-false (same_picture f g) None (Some (Differs n (difference_of f g))) other)))
         (record {
           frames = run.frames;
           f = f;
           g = g;
           count = run.count;
           differ = other_is f g other;
+          what_is = refl;
           film_gave = GaveFrames-more IsImageOf film mid film' run.frames f run.film_gave image;
           recording_gave = GaveFrames-more Spells recording midway recording' run.frames g run.recording_gave coded;
         })
@@ -185,14 +187,14 @@ module _ (film mid film' recording midway recording' : Option (List ℕ)) (run :
   pub most-ends : (v : Option Verdict) → IsCompared mid film' midway recording' most_frames v → IfOk (at_most v) (Finds film film' recording recording')
   most-ends None compared = tt
   most-ends (Some (Same n)) compared = run-ends film mid film' recording midway recording' most_frames run (Same n) compared
-  most-ends (Some (Differs n)) compared = tt
+  most-ends (Some (Differs n what)) compared = tt
   most-ends (Some (Missing n)) compared = tt
   most-ends (Some (Extra n)) compared = tt
 
   pub most-stops : (v : Option Verdict) → IsCompared mid film' midway recording' most_frames v → IfErr (at_most v) (Stops film recording)
   most-stops None compared = most None compared refl
   most-stops (Some (Same n)) compared = tt
-  most-stops (Some (Differs n)) compared = most (Some (Differs n)) compared refl
+  most-stops (Some (Differs n what)) compared = most (Some (Differs n what)) compared refl
   most-stops (Some (Missing n)) compared = most (Some (Missing n)) compared refl
   most-stops (Some (Extra n)) compared = most (Some (Extra n)) compared refl
 

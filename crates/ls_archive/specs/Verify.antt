@@ -1,11 +1,20 @@
 -- What a verdict says of the frames of a film and of a recording.
-use Rattle.std.specs.Prelude.{◌≡◌, ◌≢◌, ℕ, List, ◌∷◌, ◌++◌, length}
-use Rattle.ls_frame.specs.Picture.{Picture}
+use Rattle.std.specs.Prelude.{◌≡◌, ◌≢◌, ◌==◌, ◌&&◌, ℕ, if◌then◌else◌, List, ◌∷◌, ◌++◌, length}
+use Rattle.ls_frame.specs.Picture.{Picture, same_kind}
+use Rattle.ls_archive.specs.declared.verifying.Difference.{Difference}
+use Rattle.ls_archive.specs.declared.verifying.Difference.TheVariants.{Kinds, Sizes, Maxvals, Samples}
 use Rattle.ls_archive.specs.declared.verifying.Verdict.{Verdict}
 use Rattle.ls_archive.specs.declared.verifying.Verdict.TheVariants.{Same, Differs, Missing, Extra}
 
+-- what two pictures differ in: their kinds; or else their sizes; or else their maxvals; or else samples
+abbrev pub difference_of : Picture → Picture → Difference
+difference_of f g =
+    if same_kind f.kind g.kind
+    then (if f.width == g.width && f.height == g.height then (if f.maxval == g.maxval then Samples else Maxvals f.maxval g.maxval) else Sizes f.width f.height g.width g.height)
+    else Kinds f.kind g.kind
+
 -- the first n of both are equal, and then both have a frame, and these differ
-pub record DifferAt (frames others : List Picture) (n : ℕ) : Type 0 where
+pub record DifferAt (frames others : List Picture) (n : ℕ) (what : Difference) : Type 0 where
   pub first : List Picture
   pub f : Picture
   pub g : Picture
@@ -15,6 +24,7 @@ pub record DifferAt (frames others : List Picture) (n : ℕ) : Type 0 where
   pub frames_are : frames ≡ first ++ f ∷ frames_left
   pub others_are : others ≡ first ++ g ∷ others_left
   pub differ : f ≢ g
+  pub what_is : what ≡ difference_of f g
 
 -- the others are the first n frames, and there is another frame
 pub record EndAt (others frames : List Picture) (n : ℕ) : Type 0 where
@@ -26,7 +36,7 @@ pub record EndAt (others frames : List Picture) (n : ℕ) : Type 0 where
 -- what each verdict says of the film's frames and of the recording's
 abbrev pub Compares : List Picture → List Picture → Verdict → Type 0
 Compares frames others (Same n) = (others ≡ frames) × (length frames ≡ n)
-Compares frames others (Differs n) = DifferAt frames others n
+Compares frames others (Differs n what) = DifferAt frames others n what
 Compares frames others (Missing n) = EndAt others frames n
 Compares frames others (Extra n) = EndAt frames others n
 

@@ -6,5 +6,6 @@ pub mod Entries
 pub mod Followed
 pub mod Following
 pub mod Indexing
+pub mod Places
 pub mod SideBySide
 pub mod Verifying

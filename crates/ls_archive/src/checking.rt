@@ -2,13 +2,15 @@
 //!
 //! A line of the index says at which offset its codestream begins and how many bytes it has. So damage, also to
 //! markers, keeps no other codestream from being looked at.
-ghost use Rattle.std.specs.Prelude.{if◌then◌else◌, ◌≡◌, ◌≢◌, ◌⊎◌, ◌+◌, ◌*◌, ◌^◌, ◌<◌, ◌≤◌, ◌++◌, ◌∷◌, ◌↔◌, ℕ, List, [], Option, Some, IsTrue, decimal, IfOk, IfErr, IfSome, IfNone, OnOk, OnErr, codes, length, true, false};
+ghost use Rattle.std.specs.Prelude.{if◌then◌else◌, ◌≡◌, ◌≢◌, ◌⊎◌, ◌+◌, ◌*◌, ◌^◌, ◌<◌, ◌≤◌, ◌++◌, ◌∷◌, ◌↔◌, ℕ, List, [], Option, Some, IsTrue, decimal, flat_map, IfOk, IfErr, IfSome, IfNone, OnOk, OnErr, MatchOption, codes, length, true, false};
+ghost use Rattle.ls_frame.specs.declared.frame.Kind.{Kind};
 ghost use Rattle.ls_frame.specs.Picture.{Picture};
 ghost use Rattle.ls_frame.specs.View.Devices.{count_after, failed_read};
 ghost use Rattle.ls_frame.specs.View.Known.{Tells, Gave, WasAtEnd, known};
 ghost use Rattle.ls_film.specs.Film.{most_frames};
+ghost use Rattle.ls_film.specs.Listing.{kind_text, column};
 ghost use Rattle.ls_stream.specs.Grammar.{Spells, most_bytes};
-ghost use Rattle.ls_archive.specs.View.Checking.{Line, beginning, IsLine, HasLine, IsGood, IsDamage};
+ghost use Rattle.ls_archive.specs.View.Checking.{Line, beginning, AreNumbers, EndsColumn, IsSum, sum_at_end, AreColumns, IsLine, HasLine, IsGood, IsDamage};
 ghost use Rattle.ls_archive.specs.Index.{line};
 ghost use Rattle.ls_archive.specs.View.Checks.{FindsMore, GaveAtMost, IsOneLine, IsFrontLine, IsFound, HasLooked, HasChecked, IsChecked, StopsNextLine, StopsReading, Stops, failed_index, failed_recording};
 ghost use Rattle.ls_archive.specs.declared.checking.Finding.{Finding};
@@ -18,6 +20,8 @@ mod batches;
 use crate::entry::Indexed;
 use crate::index::line;
 pub use batches::check_by;
+use hex::{FromHex, encode_to_slice};
+use itoa::Buffer;
 use ls_film::MOST_FRAMES;
 use ls_frame::{Feed, FeedFault};
 use ls_stream::laws::outlines_follow_the_grammar;
@@ -50,6 +54,8 @@ pub struct Finding {
     pub place: u64,
     /// How many bytes it should have.
     pub count: u64,
+    /// The SHA-256 that they should have, if the index says it.
+    pub sum: Option<[u8; 32]>,
     /// What is wrong with the bytes that stand there.
     pub damage: Damage,
 }
@@ -86,6 +92,8 @@ pub struct Checked {
     pub frames: u64,
     /// How many of their codestreams are damaged; so many findings were told.
     pub damaged: u64,
+    /// How many bytes their codestreams have, all together.
+    pub bytes: u64,
     /// Whether the recording has bytes after those that the lines speak of.
     pub more: bool,
 }
@@ -96,8 +104,8 @@ pub struct Checked {
 #[derive(Clone, Copy, Debug, Drop, PartialEq, Eq, Error)]
 pub enum CheckFault {
     /// After so many lines the index goes on with what isn't the next: it has another number, or another offset than
-    /// the one at which the codestream before it ends, or no size, or no LF within 1,024 bytes, or the index ends
-    /// before its LF.
+    /// the one at which the codestream before it ends, or it isn't of the form that `write_index` writes, as one with
+    /// CR before LF or with a sum in upper case isn't, or the index ends before its LF.
     #[error("line {0}: not of an index")]
     Line(u64),
     /// A read of the index failed.
@@ -132,10 +140,10 @@ impl From<AllocError> for CheckFault {
 /// So by an index with sums bytes of another SHA-256 are found. By one without sums they are if they have another size,
 /// other headers, or data that can't be decoded; a changed byte that leaves these as they are isn't seen.
 ///
-/// A line is the beginning `number offset size ` and what follows it up to LF; each begins where the one before it
-/// ends. One codestream is in memory at a time. If the bytes of both readers are known (as in memory), the clauses say
-/// what was found in them; if those of the findings are, which were told. After a fault nothing is said of the place of
-/// either reader.
+/// A line is of the form that `write_index` writes: number, offset and size of its codestream, the kind, eight numbers,
+/// its sum or nothing, one blank between, and LF; each begins where the one before it ends. One codestream is in memory
+/// at a time. If the bytes of both readers are known (as in memory), the clauses say what was found in them; if those
+/// of the findings are, which were told. After a fault nothing is said of the place of either reader.
 pub fn check<I: Feed, R: Feed, F: Findings>(
     alloc: Global,
     index: &mut I,
@@ -155,6 +163,7 @@ pub fn check<I: Feed, R: Feed, F: Findings>(
             return Ok(Checked {
                 frames: number,
                 damaged,
+                bytes: offset,
                 more,
             });
         };
@@ -189,15 +198,17 @@ fn end_at_most<I: Feed, R: Feed>(
     Ok(Checked {
         frames: MOST_FRAMES,
         damaged,
+        bytes: offset,
         more,
     })
 }
 
-/// A line of an index, and how many bytes it says that its codestream has.
+/// A line of an index, how many bytes it says that its codestream has, and their SHA-256, if it says that.
 #[derive(Drop)]
-struct IndexLine {
+pub(crate) struct IndexLine {
     text: Vec<u8>,
-    size: u32,
+    pub(crate) size: u32,
+    pub(crate) sum: Option<[u8; 32]>,
 }
 
 /// The most bytes of a line.
@@ -205,13 +216,13 @@ const MOST_LINE: usize = 1024;
 
 /// Takes the next line off an index; `None` at its end. It has to be that of the codestream of this number, which
 /// begins at this offset.
-fn next_line<I: Feed>(
+pub(crate) fn next_line<I: Feed>(
     alloc: Global,
     index: &mut I,
     number: u64,
     offset: u64,
 ) -> Result<Option<IndexLine>, CheckFault>
-    ensures is { IfOk result (λ next. IfSome next (λ line. IsLine number offset (record { text = line.text.items; size = line.size }))) }
+    ensures is { IfOk result (λ next. IfSome next (λ line. IsLine number offset (record { text = line.text.items; size = line.size; sum = line.sum }))) }
     ensures gave { IfOk result (λ next. IfSome next (λ line. Gave (I.remaining index.old) (I.remaining index.new) (λ bytes. line.text.items ≡ bytes))) }
     ensures end { IfOk result (λ next. IfNone next (WasAtEnd (I.remaining index.old) (I.remaining index.new))) }
     ensures blame { IfErr result (λ fault. fault ≢ CheckFault.Io) }
@@ -224,8 +235,11 @@ fn next_line<I: Feed>(
         Err(FeedFault::Io) => return Err(CheckFault::IndexIo),
         Err(FeedFault::NoMemory) => return Err(CheckFault::NoMemory),
     };
-    match size_in(alloc, number, offset, &text)? {
-        Some(size) => Ok(Some(IndexLine { text, size })),
+    let Some((size, columns)) = size_in(alloc, number, offset, &text)? else {
+        return Err(CheckFault::Line(number));
+    };
+    match sum_in(columns) {
+        Some(sum) => Ok(Some(IndexLine { text, size, sum })),
         None => Err(CheckFault::Line(number)),
     }
 }
@@ -252,12 +266,17 @@ fn take_line<I: Feed>(alloc: Global, reader: &mut I) -> Result<Option<Vec<u8>>, 
     Ok(Some(line))
 }
 
-/// How many bytes the line of the codestream of this number, which begins at this offset, says that it has; `None` if
-/// the text isn't such a line.
-fn size_in(alloc: Global, number: u64, offset: u64, text: &[u8]) -> Result<Option<u32>, AllocError>
-    ensures some { IfOk result (λ found. IfSome found (λ size. (rest : List ℕ) × (text.now ≡ (beginning number offset size ++ rest) ++ codes "\n"))) }
-    ensures none { IfOk result (λ found. IfNone found ((size : ℕ) (rest : List ℕ) → size ≤ most_bytes
-        → text.now ≡ (beginning number offset size ++ rest) ++ codes "\n" → ⊥)) }
+/// How many bytes the line of the codestream of this number, which begins at this offset, says that it has, and what
+/// follows up to LF; `None` if the text doesn't begin and end as such a line.
+fn size_in(
+    alloc: Global,
+    number: u64,
+    offset: u64,
+    text: &[u8],
+) -> Result<Option<(u32, &[u8])>, AllocError>
+    ensures some { IfOk result (λ found. IfSome found (λ parts. text.now ≡ (beginning number offset parts.0 ++ parts.1.now) ++ codes "\n")) }
+    ensures given { (size : ℕ) (rest : List ℕ) → size ≤ most_bytes → text.now ≡ (beginning number offset size ++ rest) ++ codes "\n"
+        → IfOk result (λ found. MatchOption found ⊥ (λ parts. (parts.0 ≡ size) × (parts.1.now ≡ rest))) }
 {
     let Some(columns) = text.strip_suffix(b"\n") else {
         return Ok(None);
@@ -271,20 +290,101 @@ fn size_in(alloc: Global, number: u64, offset: u64, text: &[u8]) -> Result<Optio
     };
     // As it is written, with no sign and no zero before it.
     let wanted = format!(in alloc; "{size} ")?;
-    if columns.starts_with(wanted.as_bytes()) {
-        Ok(Some(size))
-    } else {
-        Ok(None)
+    match columns.strip_prefix(wanted.as_bytes()) {
+        Some(rest) => Ok(Some((size, rest))),
+        None => Ok(None),
     }
 }
 
-/// The number that stands in a text up to the first blank, if there is one.
+/// The number that stands in a text up to the first blank or the end, if there is one.
 fn leading_number(text: &[u8]) -> Option<u32>
-    ensures { (number : ℕ) (rest : List ℕ) → number ≤ most_bytes → text.now ≡ decimal number ++ (codes " " ++ rest) → result ≡ Some number }
+    ensures { (number : ℕ) (rest : List ℕ) → number ≤ most_bytes → EndsColumn rest → text.now ≡ decimal number ++ rest → result ≡ Some number }
 {
-    let end = memchr(b' ', text)?;
-    let digits = from_utf8(&text[..end]).ok()?;
+    let digits = from_utf8(&text[..end_of_column(text)]).ok()?;
     digits.parse().ok()
+}
+
+/// How many bytes stand before the first blank, or in all.
+fn end_of_column(text: &[u8]) -> usize
+    ensures few { result ≤ length text.now }
+    ensures number { (number : ℕ) (rest : List ℕ) → number ≤ most_bytes → EndsColumn rest → text.now ≡ decimal number ++ rest → result ≡ length (decimal number) }
+{
+    match memchr(b' ', text) {
+        Some(end) => end,
+        None => text.len(),
+    }
+}
+
+/// The SHA-256 that stands at the end of what follows the beginning of a line, or that there is none; `None` if it
+/// isn't the kind, eight numbers, and such a sum or nothing, as `write_index` writes them.
+fn sum_in(columns: &[u8]) -> Option<Option<[u8; 32]>>
+    ensures some { IfSome result (AreColumns columns.now) }
+    ensures given { (sum : Option (List ℕ)) → AreColumns columns.now sum → result ≡ Some sum }
+{
+    let left = after_numbers(after_kind(columns)?, 8)?;
+    sum_at_end(left)
+}
+
+/// The SHA-256 that a text is, after a blank and in lower case, or that there is none; `None` if it is another text.
+fn sum_at_end(text: &[u8]) -> Option<Option<[u8; 32]>>
+    ensures some { IfSome result (λ sum. IsSum sum × (text.now ≡ sum_at_end sum)) }
+    ensures given { (sum : Option (List ℕ)) → IsSum sum → text.now ≡ sum_at_end sum → result ≡ Some sum }
+{
+    if text.is_empty() {
+        return Some(None);
+    }
+    let digits = text.strip_prefix(b" ")?;
+    let sum = <[u8; 32] as FromHex>::from_hex(digits).ok()?;
+    // As it is written, in lower case.
+    let mut wanted = [0u8; 64];
+    encode_to_slice(sum.as_slice(), &mut wanted).ok()?;
+    if digits == wanted.as_slice() {
+        Some(Some(sum))
+    } else {
+        None
+    }
+}
+
+/// What follows a kind, if a text begins with one.
+fn after_kind(text: &[u8]) -> Option<&[u8]>
+    ensures some { IfSome result (λ rest. (kind : Kind) × (text.now ≡ kind_text kind ++ rest.now)) }
+    ensures given { (kind : Kind) (rest : List ℕ) → text.now ≡ kind_text kind ++ rest → MatchOption result ⊥ (λ left. left.now ≡ rest) }
+{
+    match text.strip_prefix(b"gray") {
+        Some(rest) => Some(rest),
+        None => text.strip_prefix(b"color"),
+    }
+}
+
+/// What follows so many columns of numbers below 2^16, if a text begins with as many.
+fn after_numbers(text: &[u8], count: usize) -> Option<&[u8]>
+    ensures some { IfSome result (λ rest. (numbers : List ℕ) × AreNumbers count numbers × (text.now ≡ flat_map column numbers ++ rest.now)) }
+    ensures given { (numbers : List ℕ) (rest : List ℕ) → AreNumbers count numbers → EndsColumn rest → text.now ≡ flat_map column numbers ++ rest
+        → MatchOption result ⊥ (λ left. left.now ≡ rest) }
+{
+    let mut left = text;
+    let mut passed = 0;
+    'columns: while passed < count {
+        left = after_number(left)?;
+        passed += 1;
+    }
+    Some(left)
+}
+
+/// What follows a blank and a number below 2^16, as it is written, up to the next blank or the end; `None` if a text
+/// doesn't begin so.
+fn after_number(text: &[u8]) -> Option<&[u8]>
+    ensures some { IfSome result (λ rest. (number : ℕ) × (number < 2 ^ 16) × (text.now ≡ column number ++ rest.now)) }
+    ensures given { (number : ℕ) (rest : List ℕ) → number < 2 ^ 16 → EndsColumn rest → text.now ≡ column number ++ rest
+        → MatchOption result ⊥ (λ left. left.now ≡ rest) }
+{
+    let left = text.strip_prefix(b" ")?;
+    let number = leading_number(left)?;
+    if number > 65_535 {
+        return None;
+    }
+    let mut buffer = Buffer::new();
+    left.strip_prefix(buffer.format(number).as_bytes())
 }
 
 /// Takes so many bytes off a reader, or all that are left.
@@ -327,25 +427,26 @@ fn look_at<F: Findings>(
     bytes: Vec<u8>,
     findings: &mut F,
 ) -> Result<u64, AllocError>
-    ensures looked { IfOk result (HasLooked number offset (record { text = line.now.text.items; size = line.now.size }) bytes.items
+    ensures looked { IfOk result (HasLooked number offset (record { text = line.now.text.items; size = line.now.size; sum = line.now.sum }) bytes.items
         (F.found findings.old) (F.found findings.new)) }
     ensures none { OnErr result (F.found findings.new ≡ F.found findings.old) }
 {
     let damage = damage_of(alloc, number, offset, line, bytes)?;
-    tell_damage(number, offset, line.size, damage, findings)
+    tell_damage(number, offset, line, damage, findings)
 }
 
-/// Tells of what is wrong with the bytes at the offset of a codestream, which should be so many, if anything is; and
-/// says how many are damaged: 1 or none.
+/// Tells of what is wrong with the bytes at the offset of a line's codestream, if anything is, and says how many are
+/// damaged: 1 or none.
 fn tell_damage<F: Findings>(
     number: u64,
     offset: u64,
-    size: u32,
+    line: &IndexLine,
     damage: Option<Damage>,
     findings: &mut F,
 ) -> Result<u64, AllocError>
-    ensures looked { (text bytes : List ℕ) → IsFound number offset (record { text = text; size = size }) bytes damage
-        → IfOk result (HasLooked number offset (record { text = text; size = size }) bytes (F.found findings.old) (F.found findings.new)) }
+    ensures looked { (bytes : List ℕ) → IsFound number offset (record { text = line.now.text.items; size = line.now.size; sum = line.now.sum }) bytes damage
+        → IfOk result (HasLooked number offset (record { text = line.now.text.items; size = line.now.size; sum = line.now.sum }) bytes
+        (F.found findings.old) (F.found findings.new)) }
     ensures few { IfOk result (λ damaged. damaged ≤ 1) }
     ensures none { OnErr result (F.found findings.new ≡ F.found findings.old) }
 {
@@ -355,7 +456,8 @@ fn tell_damage<F: Findings>(
     findings.tell(Finding {
         number,
         place: offset,
-        count: u64::from(size),
+        count: u64::from(line.size),
+        sum: line.sum,
         damage,
     })?;
     Ok(1)
@@ -371,7 +473,7 @@ fn damage_of(
 ) -> Result<Option<Damage>, AllocError>
     ensures good { IfOk result (λ found. IfNone found (IsGood number offset line.now.text.items bytes.items)) }
     ensures damaged { IfOk result (λ found. IfSome found (λ _. IsGood number offset line.now.text.items bytes.items → ⊥)) }
-    ensures damage { IfOk result (λ found. IfSome found (IsDamage number offset (record { text = line.now.text.items; size = line.now.size }) bytes.items)) }
+    ensures damage { IfOk result (λ found. IfSome found (IsDamage number offset (record { text = line.now.text.items; size = line.now.size; sum = line.now.sum }) bytes.items)) }
 {
     outlines_follow_the_grammar();
     let is_short = bytes.len() < line.size as usize;

@@ -37,10 +37,12 @@ pub mod faults;
 pub mod following;
 pub mod index;
 pub mod laws;
+pub mod places;
 pub mod verifying;
 
 pub use checking::{CheckFault, Checked, Damage, Finding, Findings, check, check_by};
 pub use faults::{IndexFault, VerifyFault};
 pub use following::{Follower, Indexing};
 pub use index::{index_bytes, write_index};
-pub use verifying::{Verdict, verify, verify_by, verify_bytes};
+pub use places::{Wanted, find_places, read_index};
+pub use verifying::{Difference, Verdict, verify, verify_by, verify_bytes};

@@ -7,7 +7,7 @@ ghost use Rattle.ls_stream.specs.Grammar.{Spells};
 ghost use Rattle.ls_film.specs.Film.{most_frames, IsFilm};
 ghost use Rattle.ls_player.specs.View.Ahead.{IsAhead, GivesNext};
 ghost use Rattle.ls_player.specs.View.Batches.{failed_after};
-ghost use Rattle.ls_archive.specs.Verify.{Compares};
+ghost use Rattle.ls_archive.specs.Verify.{Compares, difference_of};
 ghost use Rattle.ls_archive.specs.View.SideBySide.{IsSame, HasCompared, FindsAhead, HasReadAhead};
 ghost use Rattle.ls_archive.specs.View.Verifying.{Finds, Stops, GaveNext, IsCompared, StopsFilm, StopsRecording, verdict_at, at_most, failed_film, failed_recording, FindsIn, StopsIn};
 
@@ -17,7 +17,7 @@ use ls_film::playing::Unread;
 use ls_frame::laws::{
     bytes_break_or_hold_an_image, images_have_one_frame, no_image_begins_another,
 };
-use ls_frame::{Feed, Frame, next_frame};
+use ls_frame::{Feed, Frame, Kind, next_frame};
 use ls_player::ahead::{Ahead, next_made};
 use ls_player::job::Frames;
 use ls_stream::laws::{no_codestream_begins_another, one_frame_each};
@@ -25,13 +25,26 @@ use ls_stream::{NextFault, StreamFault, decode_frame, next_stream};
 use std::alloc::Global;
 use std::thread::Threads;
 
+/// What two frames differ in, the film's first: the first of these that does.
+#[derive(Clone, Copy, Debug, Drop, PartialEq, Eq)]
+pub enum Difference {
+    /// Their kinds.
+    Kinds(Kind, Kind),
+    /// Their widths and heights: the film's, and then the recording's.
+    Sizes(u16, u16, u16, u16),
+    /// Their maxvals.
+    Maxvals(u16, u16),
+    /// Samples alone.
+    Samples,
+}
+
 /// What a comparison finds.
 #[derive(Clone, Copy, Debug, Drop, PartialEq, Eq)]
 pub enum Verdict {
     /// Film and recording have the same frames, so many.
     Same(u64),
-    /// So many frames are the same, and then both have one, and these differ.
-    Differs(u64),
+    /// So many frames are the same, and then both have one, and these differ, in this.
+    Differs(u64, Difference),
     /// The recording ends after so many frames of the film's, and the film has another.
     Missing(u64),
     /// The film ends after so many frames of the recording's, and the recording has another.
@@ -238,11 +251,27 @@ fn verdict_at(number: u64, image: &Option<Frame>, coded: &Option<Frame>) -> Opti
 {
     match (image, coded) {
         (Some(image), Some(coded)) if image == coded => None,
-        (Some(_), Some(_)) => Some(Verdict::Differs(number)),
+        (Some(image), Some(coded)) => Some(Verdict::Differs(number, difference_of(image, coded))),
         (Some(_), None) => Some(Verdict::Missing(number)),
         (None, Some(_)) => Some(Verdict::Extra(number)),
         (None, None) => Some(Verdict::Same(number)),
     }
+}
+
+/// What two frames that differ differ in.
+fn difference_of(image: &Frame, coded: &Frame) -> Difference
+    ensures { result ≡ difference_of image.now coded.now }
+{
+    if image.kind() != coded.kind() {
+        return Difference::Kinds(image.kind(), coded.kind());
+    }
+    if image.width() != coded.width() || image.height() != coded.height() {
+        return Difference::Sizes(image.width(), image.height(), coded.width(), coded.height());
+    }
+    if image.maxval() != coded.maxval() {
+        return Difference::Maxvals(image.maxval(), coded.maxval());
+    }
+    Difference::Samples
 }
 
 /// After the most frames of a film there has to be an end.

@@ -55,21 +55,29 @@ fn outcome_of<Rt: Threads + Sync>(
     )
 }
 
-/// What a check came to.
+/// What a check of codestreams of 28 bytes each came to.
 fn checked(frames: u64, damaged: u64, more: bool) -> Checked {
     Checked {
         frames,
         damaged,
+        bytes: 28 * frames,
         more,
     }
 }
 
-/// A finding on one of two codestreams of 28 bytes each.
-fn found(place: u64, damage: Damage) -> Finding {
+/// A finding on one of two codestreams of 28 bytes each, by an index with sums or without.
+fn found(place: u64, damage: Damage, sums: bool) -> Finding {
     Finding {
         number: place / 28,
         place,
         count: 28,
+        sum: if !sums {
+            None
+        } else if place == 0 {
+            Some(FIRST_SUM)
+        } else {
+            Some(SECOND_SUM)
+        },
         damage,
     }
 }
@@ -81,6 +89,17 @@ const SUMS: &[u8] = b"0 0 28 gray 1 1 255 8 3 7 21 64 \
 14c5eaab40e8fcaf165a37d64d027b1357eb15846597672e4e87ef4c04547aa1\n\
 1 28 28 gray 1 1 255 8 3 7 21 64 \
 0efbec04d1400b04eceb24a245c12e080c3916e4fa2379af048299d12b0a0953\n";
+
+/// The sums of `TWO_CODESTREAMS`.
+const FIRST_SUM: [u8; 32] = [
+    0x14, 0xc5, 0xea, 0xab, 0x40, 0xe8, 0xfc, 0xaf, 0x16, 0x5a, 0x37, 0xd6, 0x4d, 0x02, 0x7b, 0x13,
+    0x57, 0xeb, 0x15, 0x84, 0x65, 0x97, 0x67, 0x2e, 0x4e, 0x87, 0xef, 0x4c, 0x04, 0x54, 0x7a, 0xa1,
+];
+
+const SECOND_SUM: [u8; 32] = [
+    0x0e, 0xfb, 0xec, 0x04, 0xd1, 0x40, 0x0b, 0x04, 0xec, 0xeb, 0x24, 0xa2, 0x45, 0xc1, 0x2e, 0x08,
+    0x0c, 0x39, 0x16, 0xe4, 0xfa, 0x23, 0x79, 0xaf, 0x04, 0x82, 0x99, 0xd1, 0x2b, 0x0a, 0x09, 0x53,
+];
 
 /// The second codestream has another sample.
 const CHANGED: &[u8] = b"\xff\xd8\
@@ -172,8 +191,58 @@ const CASES: &[Case] = &[
         "a line whose end isn't text",
         b"0 0 28 \xff\n",
         TWO_CODESTREAMS,
-        Ok((1, 1, true)),
-        Some((0, Damage::Changed)),
+        Err(CheckFault::Line(0)),
+        None,
+    ),
+    (
+        "CR before LF",
+        b"0 0 28 gray 1 1 255 8 3 7 21 64\r\n",
+        TWO_CODESTREAMS,
+        Err(CheckFault::Line(0)),
+        None,
+    ),
+    (
+        "a sum in upper case",
+        b"0 0 28 gray 1 1 255 8 3 7 21 64 \
+14C5EAAB40E8FCAF165A37D64D027B1357EB15846597672E4E87EF4C04547AA1\n",
+        TWO_CODESTREAMS,
+        Err(CheckFault::Line(0)),
+        None,
+    ),
+    (
+        "a zero before a number",
+        b"0 0 28 gray 1 1 255 8 3 7 021 64\n",
+        TWO_CODESTREAMS,
+        Err(CheckFault::Line(0)),
+        None,
+    ),
+    (
+        "a number of 17 bits",
+        b"0 0 28 gray 1 65536 255 8 3 7 21 64\n",
+        TWO_CODESTREAMS,
+        Err(CheckFault::Line(0)),
+        None,
+    ),
+    (
+        "two blanks",
+        b"0 0 28 gray 1 1 255 8  3 7 21 64\n",
+        TWO_CODESTREAMS,
+        Err(CheckFault::Line(0)),
+        None,
+    ),
+    (
+        "a blank at the end",
+        b"0 0 28 gray 1 1 255 8 3 7 21 64 \n",
+        TWO_CODESTREAMS,
+        Err(CheckFault::Line(0)),
+        None,
+    ),
+    (
+        "another kind",
+        b"0 0 28 grey 1 1 255 8 3 7 21 64\n",
+        TWO_CODESTREAMS,
+        Err(CheckFault::Line(0)),
+        None,
     ),
     (
         "a size that no codestream has",
@@ -207,11 +276,12 @@ fn check_case<Rt: Threads + Abort + Sync>(
     ample: bool,
 ) {
     let (name, index, recording, result, first) = *case;
+    let sums = index == SUMS;
     let index = Pieces::new(index, 7, None);
     let recording = Pieces::new(recording, 5, None);
     let got = outcome_of(rt, alloc, workers, index, recording);
     let result = result.map(|(frames, damaged, more)| checked(frames, damaged, more));
-    let first = first.map(|(place, damage)| found(place, damage));
+    let first = first.map(|(place, damage)| found(place, damage, sums));
     check_outcome(rt, name, got, (result, first, 0, 0), ample);
 }
 

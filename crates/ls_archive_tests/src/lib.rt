@@ -18,6 +18,8 @@ mod index;
 #[cfg(test)]
 mod page;
 #[cfg(test)]
+mod places;
+#[cfg(test)]
 mod salvage_page;
 #[cfg(test)]
 mod testing;

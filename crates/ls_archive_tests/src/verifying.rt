@@ -1,6 +1,6 @@
 use crate::testing::{ANOTHER_FORM, BROKEN_DATA};
-use ls_archive::{Verdict, VerifyFault, verify, verify_bytes};
-use ls_frame::{Counted, Feed, NetpbmFault};
+use ls_archive::{Difference, Verdict, VerifyFault, verify, verify_bytes};
+use ls_frame::{Counted, Feed, Kind, NetpbmFault};
 use ls_stream::StreamFault;
 use ls_testing::Pieces;
 use ls_testing::films::{
@@ -58,31 +58,31 @@ const CASES: &[Case] = &[
         "another second sample",
         b"P5\n1 1\n255\n\x00P5\n1 1\n255\n\xfe",
         TWO_CODESTREAMS,
-        Ok(Verdict::Differs(1)),
+        Ok(Verdict::Differs(1, Difference::Samples)),
     ),
     (
         "another first sample",
         b"P5\n1 1\n255\n\x01P5\n1 1\n255\n\xff",
         TWO_CODESTREAMS,
-        Ok(Verdict::Differs(0)),
+        Ok(Verdict::Differs(0, Difference::Samples)),
     ),
     (
         "another maxval",
         b"P5\n1 1\n254\n\x00",
         FIRST_CODESTREAM,
-        Ok(Verdict::Differs(0)),
+        Ok(Verdict::Differs(0, Difference::Maxvals(254, 255))),
     ),
     (
         "another kind",
         b"P6\n1 1\n255\n\x00\x00\x00",
         FIRST_CODESTREAM,
-        Ok(Verdict::Differs(0)),
+        Ok(Verdict::Differs(0, Difference::Kinds(Kind::Color, Kind::Gray))),
     ),
     (
         "another size",
         b"P5\n2 1\n255\n\x00\x00",
         FIRST_CODESTREAM,
-        Ok(Verdict::Differs(0)),
+        Ok(Verdict::Differs(0, Difference::Sizes(2, 1, 1, 1))),
     ),
     (
         "a recording without the last frame",

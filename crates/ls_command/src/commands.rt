@@ -1,10 +1,11 @@
 //! The commands and options: a table of them, and what tells `clap` of it.
 use crate::texts::{
     CAPACITY_HELP, CHECK_HELP, CHECKERS_HELP, CODE_HELP, FILM_HELP, FILMS_HELP, FRAMES_HELP,
-    INDEX_FILE_HELP, INDEX_HELP, INDEX_OF_CODE_HELP, INDEX_OF_RECORDING_HELP, INTO_HELP, LIST_HELP,
-    NO_SUMS_HELP, PLAY_HELP, PLAYERS_HELP, PRESET_HELP, PROGRESS_HELP, QUEUE_HELP, REASONS_HELP,
-    RECORD_HELP, RECORDING_HELP, REPLACE_HELP, REPLAY_HELP, REPORT_HELP, SALVAGE_HELP,
-    SOURCES_HELP, STEPS_HELP, VERIFIERS_HELP, VERIFY_HELP, WINDOW_HELP, WORKERS_HELP,
+    INDEX_FILE_HELP, INDEX_HELP, INDEX_OF_CODE_HELP, INDEX_OF_RECORDING_HELP,
+    INDEX_OF_SALVAGE_HELP, INTO_HELP, LIST_HELP, NO_SUMS_HELP, PLAY_HELP, PLAYERS_HELP,
+    PRESET_HELP, PROGRESS_HELP, QUEUE_HELP, REASONS_HELP, RECORD_HELP, RECORDING_HELP,
+    REPLACE_HELP, REPLAY_HELP, REPORT_HELP, SALVAGE_HELP, SOURCES_HELP, STEPS_HELP, VERIFIERS_HELP,
+    VERIFY_HELP, WINDOW_HELP, WORKERS_HELP,
 };
 use clap::builder::ValueParser;
 use clap::{Arg, ArgAction, Command};
@@ -36,6 +37,9 @@ enum Argument {
     RequiredNumber(&'static str, (i64, i64), &'static str),
 }
 
+/// The program's name.
+const PROGRAM: &str = "jlsrec";
+
 /// The commands in the order of the help.
 const COMMANDS: [Entry; 8] = [
     Entry {
@@ -65,6 +69,7 @@ const COMMANDS: [Entry; 8] = [
             Argument::File("FILE", RECORDING_HELP),
             Argument::Text("frames", "A..B", FRAMES_HELP),
             Argument::Flag("salvage", SALVAGE_HELP),
+            Argument::Text("index", "INDEX", INDEX_OF_SALVAGE_HELP),
             Argument::Number("workers", WORKERS, "1", PLAYERS_HELP),
         ],
     },
@@ -144,14 +149,25 @@ pub fn command<'a>(alloc: Global) -> Result<Command<'a>, AllocError> {
     bare_command(alloc)?.subcommands(commands)
 }
 
+/// The command of this name, as it stands below the program; or the program, if it has none of this name.
+pub fn command_named<'a>(alloc: Global, name: &str) -> Result<Command<'a>, AllocError> {
+    for entry in COMMANDS {
+        if entry.name == name {
+            let full_name = format!(in alloc; "{PROGRAM} {name}")?;
+            return command_of(alloc, entry)?.bin_name(&full_name);
+        }
+    }
+    command(alloc)
+}
+
 /// The program without its commands.
 fn bare_command<'a>(alloc: Global) -> Result<Command<'a>, AllocError> {
-    Command::new(alloc, "jlsrec")
+    Command::new(alloc, PROGRAM)
         .version("0.1.0")
         .about("A lossless recorder of image sequences: JPEG-LS, ITU-T T.87")
         .no_binary_name(true)
         .subcommand_required(true)
-        .bin_name("jlsrec")
+        .bin_name(PROGRAM)
 }
 
 /// A command of the table, with its arguments.

@@ -23,12 +23,14 @@ pub mod frames;
 mod texts;
 
 use clap::error::ErrorKind;
-use clap::{ArgMatches, Error};
-use commands::command;
+use clap::{ArgMatches, Command, Error};
+use commands::{command, command_named};
 pub use frames::Frames;
 use frames::read_frames;
-use std::alloc::Global;
-use texts::{BEGINNING, CHECKERS_WANTED, COMMAND_WANTED, FRAMES_WANTED, PLAYERS_WANTED};
+use std::alloc::{AllocError, Global};
+use texts::{
+    BEGINNING, CHECKERS_WANTED, COMMAND_WANTED, FRAMES_WANTED, PLAYERS_WANTED, SALVAGE_WANTED,
+};
 
 /// What the words ask for.
 #[derive(Drop)]
@@ -47,6 +49,8 @@ pub enum Request<'a> {
         file: &'a str,
         frames: Option<Frames>,
         salvage: bool,
+        /// The recording's index, by whose numbers gaps are told past damage.
+        index: Option<&'a str>,
         /// How many workers decode; one, if it is some or past damage.
         workers: u8,
     },
@@ -119,7 +123,7 @@ pub fn read_words<'a>(alloc: Global, words: &'a [String]) -> Result<(Request<'a>
     }
     match parse(alloc, words) {
         Ok(read) => Ok(read),
-        Err(error) => Err(answer_of(alloc, &error)),
+        Err(error) => Err(answer_of(alloc, &with_tip(alloc, words, error))),
     }
 }
 
@@ -133,7 +137,7 @@ fn beginning(alloc: Global) -> Answer {
 
 /// The answer to words that can't be read at all, for the reason `message`.
 pub fn misuse(alloc: Global, message: &str) -> Answer {
-    answer_of(alloc, &usage_fault(alloc, message))
+    answer_of(alloc, &usage_fault(command(alloc), message))
 }
 
 /// What the words ask for; what is wrong with them is an error of `clap`.
@@ -153,11 +157,11 @@ fn request_of_matches<'a>(
     matches: &ArgMatches<'a>,
 ) -> Result<(Request<'a>, bool), Error> {
     let Some((name, words)) = matches.subcommand() else {
-        return Err(usage_fault(alloc, COMMAND_WANTED));
+        return Err(usage_fault(command(alloc), COMMAND_WANTED));
     };
     match request_of(alloc, name, words)? {
         Some(request) => Ok((request, words.get_flag("reasons"))),
-        None => Err(usage_fault(alloc, COMMAND_WANTED)),
+        None => Err(usage_fault(command(alloc), COMMAND_WANTED)),
     }
 }
 
@@ -205,23 +209,31 @@ fn play_request<'a>(alloc: Global, words: &ArgMatches<'a>) -> Result<Option<Requ
     let salvage = words.get_flag("salvage");
     let frames = match words.get_str("frames") {
         Some(_) if salvage => {
-            return Err(usage_fault(alloc, "--frames and --salvage don't go together"));
+            return Err(usage_fault(
+                command_named(alloc, "play"),
+                "--frames and --salvage don't go together",
+            ));
         }
         Some(text) => match read_frames(text) {
             Some(frames) => Some(frames),
-            None => return Err(usage_fault(alloc, FRAMES_WANTED)),
+            None => return Err(usage_fault(command_named(alloc, "play"), FRAMES_WANTED)),
         },
         None => None,
     };
+    let index = words.get_str("index");
+    if index.is_some() && !salvage {
+        return Err(usage_fault(command_named(alloc, "play"), SALVAGE_WANTED));
+    }
     let workers = words.get_one("workers").unwrap_or(1);
     if workers > 1 && (frames.is_some() || salvage) {
-        return Err(usage_fault(alloc, PLAYERS_WANTED));
+        return Err(usage_fault(command_named(alloc, "play"), PLAYERS_WANTED));
     }
     Ok(
         words.get_str("FILE").map(|file| Request::Play {
             file,
             frames,
             salvage,
+            index,
             workers,
         }),
     )
@@ -240,7 +252,7 @@ fn check_request<'a>(alloc: Global, words: &ArgMatches<'a>) -> Result<Option<Req
     let index = words.get_str("index");
     let workers = words.get_one("workers").unwrap_or(1);
     if workers > 1 && index.is_none() {
-        return Err(usage_fault(alloc, CHECKERS_WANTED));
+        return Err(usage_fault(command_named(alloc, "check"), CHECKERS_WANTED));
     }
     Ok(
         words.get_str("FILE").map(|file| Request::Check {
@@ -291,14 +303,85 @@ fn replay_request<'a>(words: &ArgMatches<'a>) -> Option<Request<'a>> {
     })
 }
 
-/// A usage fault that `clap` doesn't find by itself; an error of kind `OutOfMemory` if an allocation fails.
-fn usage_fault(alloc: Global, message: &str) -> Error {
-    let made = match command(alloc) {
-        Ok(mut program) => program.error(ErrorKind::InvalidValue, message),
+/// A usage fault of a command that `clap` doesn't find by itself; an error of kind `OutOfMemory` if an allocation fails,
+/// as that of the command.
+fn usage_fault(used: Result<Command<'_>, AllocError>, message: &str) -> Error {
+    fault_of_kind(ErrorKind::InvalidValue, used, message)
+}
+
+/// The same, of another kind.
+fn fault_of_kind(kind: ErrorKind, used: Result<Command<'_>, AllocError>, message: &str) -> Error {
+    let made = match used {
+        Ok(mut used) => used.error(kind, message),
         Err(refused) => Err(refused),
     };
     match made {
         Ok(error) => error,
         Err(refused) => Error::from(refused),
+    }
+}
+
+/// An error of `clap`; of a command that doesn't exist one that says which may be meant, if there is one.
+fn with_tip(alloc: Global, words: &[String], error: Error) -> Error {
+    if error.kind() != ErrorKind::InvalidSubcommand {
+        return error;
+    }
+    let is_help = words.first().is_some_and(|word| word.as_str() == "help");
+    let name = usize::from(is_help);
+    match words.get(name) {
+        Some(word) => match meant_by(word.as_str()) {
+            Some(meant) => unknown_command(alloc, word.as_str(), meant),
+            None if is_help => tip_of_clap(alloc, words, error),
+            None => error,
+        },
+        None => error,
+    }
+}
+
+/// The command that is meant by a word for what it does.
+fn meant_by(word: &str) -> Option<&'static str> {
+    match word {
+        "decode" => Some("play"),
+        "encode" => Some("record"),
+        _ => None,
+    }
+}
+
+/// A usage fault, in the words of `clap`: a command that doesn't exist, in place of which `meant` may be meant.
+fn unknown_command(alloc: Global, word: &str, meant: &str) -> Error {
+    let message = format!(in alloc;
+        "unrecognized subcommand '{word}'\n\n  tip: a similar subcommand exists: '{meant}'"
+    );
+    match message {
+        Ok(message) => {
+            fault_of_kind(
+                ErrorKind::InvalidSubcommand,
+                command(alloc),
+                message.as_str(),
+            )
+        }
+        Err(refused) => Error::from(refused),
+    }
+}
+
+/// What `clap` says of the word after `help` by itself, if it knows no such command: it gives a tip only so.
+fn tip_of_clap(alloc: Global, words: &[String], error: Error) -> Error {
+    match words.get(1..2) {
+        Some(word) => tip_or(match_words(alloc, word), error),
+        None => error,
+    }
+}
+
+/// The error of words that are no command, if there is one; else another.
+fn tip_or(matched: Result<ArgMatches<'_>, Error>, error: Error) -> Error {
+    match matched {
+        Ok(_matches) => error,
+        Err(tip) => {
+            if tip.kind() == ErrorKind::InvalidSubcommand {
+                tip
+            } else {
+                error
+            }
+        }
     }
 }

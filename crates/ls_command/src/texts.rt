@@ -71,7 +71,15 @@ pub const SALVAGE_HELP: &str = "\
 Go on after a codestream at fault, at the next place after its first byte where one may begin, and say of each gap on
 standard error
   frame N: FAULT: B bytes at O passed over
-where N is the number of the next frame that is played. The status is 1 if there was a gap";
+where N counts the frames and the gaps before it. The status is 1 if there was a gap";
+
+pub const INDEX_OF_SALVAGE_HELP: &str = "\
+The recording's index, with sums, as `index` wrote it: gaps are told by the recorded numbers then, and at the end the
+recorded frames that weren't played, each run of them by a line on standard error
+  FILE: frame N is lost
+or `frames N to M are lost`. FILE is read twice then, so a pipe can't be played so";
+
+pub const SALVAGE_WANTED: &str = "--index goes only with --salvage";
 
 pub const PLAYERS_HELP: &str = "\
 How many workers decode, 1 to 16. From 2 on twice as many codestreams are read at once, and their images written in
@@ -117,10 +125,12 @@ Decodes each codestream of FILE, a recording, and says of each that is damaged a
   frame N: FAULT: B bytes at O passed over
 or, by an index, where FAULT is also `truncated` or `changed`,
   frame N: FAULT: B bytes at O
+  frame N: at P, not O
   FILE: more bytes than the index has
 and at the end
   FILE: N frames, M damaged
-The status is 0 if nothing else was written, else 1. JPEG-LS has no checksums, so a bit that has changed may decode as
+A codestream that stands elsewhere in FILE, as its sum in the index shows, is told so by the second of these lines, and
+counted apart: `, K moved`. In a pipe, which is read once, none is looked for. The status is 0 if nothing else was written, else 1. JPEG-LS has no checksums, so a bit that has changed may decode as
 other samples: that only an index with sums shows, or `verify` with the film.";
 
 pub const INDEX_FILE_HELP: &str = "\
@@ -154,9 +164,10 @@ recorded whole, in their order:
   FILE: N frames
 
 All FILEs are opened first, and only then each FILE.jls is made. Nothing that was recorded before is
-lost: a FILE.jls that is there and isn't empty is first renamed to FILE.jls.1, or to the next number
-that is free, unless --replace is given. A named pipe is opened by its own lane, so a camera that
-hasn't started keeps none of the others waiting. A line is written only once its recording is on the disk.
+lost: a FILE.jls that is there is first renamed to FILE.jls.1, or to the next number that is free, and
+its index with it. Where another program is recording it, nothing is changed. A named pipe is opened by
+its own lane, so a camera that hasn't started keeps none of the others waiting. A line is written only
+once its recording is on the disk.
 
   $ jlsrec record left.pgm right.pgm
   left.pgm: 250 frames
@@ -176,7 +187,8 @@ pub const INTO_HELP: &str = "\
 The folder for the recordings, which are called as the last parts of their FILEs, with .jls added
 [default: beside each FILE]";
 
-pub const REPLACE_HELP: &str = "Empty a FILE.jls that is there, in place of renaming it";
+pub const REPLACE_HELP: &str = "\
+Remove the FILE.jls that was renamed, and its index, once the new recording has its first frame on the disk";
 
 pub const PROGRESS_HELP: &str = "\
 Say on standard error how far each film is, twice a second, and at once if one stops;

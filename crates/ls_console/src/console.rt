@@ -1,15 +1,16 @@
 //! What the program says on standard error.
+use crate::shown::Shown;
 use ls_frame::{Failed, Outlet, write_bytes};
 use std::alloc::{AllocError, Global};
-use std::fmt::Display;
+use std::fmt::{Display, Style};
 use std::io;
 
-/// How many characters a line in its place has: one less than the terminals that have fewest.
+/// How many characters a line in its place has where the terminal has its usual width: one less than that, since some
+/// terminals go to the next line after the last.
 pub const COLUMNS: usize = 79;
 
-/// What clears a line in its place, whatever it was, and leaves the place to another.
-pub const CLEARED: &str =
-    "\r                                                                               \r";
+/// What is said of a file `-` that can't be opened.
+const STANDARD_INPUT: &str = "; - is a file's name, and standard input is /dev/stdin";
 
 /// Standard error, and how much is said there.
 #[derive(Drop)]
@@ -18,6 +19,8 @@ pub struct Console<'e, E> {
     errors: &'e mut E,
     /// Whether it is a terminal.
     is_terminal: bool,
+    /// How many characters a line in its place has.
+    columns: usize,
     /// Whether it is told why a device failed.
     reasons: bool,
     /// Whether a line in its place is shown.
@@ -25,11 +28,18 @@ pub struct Console<'e, E> {
 }
 
 impl<'e, E: Outlet> Console<'e, E> {
-    pub fn new(alloc: Global, errors: &'e mut E, is_terminal: bool) -> Console<'e, E> {
+    /// What is said on `errors`, which is a terminal or isn't; a line in its place has `columns` characters there.
+    pub fn new(
+        alloc: Global,
+        errors: &'e mut E,
+        is_terminal: bool,
+        columns: usize,
+    ) -> Console<'e, E> {
         Console {
             alloc,
             errors,
             is_terminal,
+            columns,
             reasons: is_terminal,
             is_shown: false,
         }
@@ -46,6 +56,11 @@ impl<'e, E: Outlet> Console<'e, E> {
 
     pub fn reasons(&self) -> bool {
         self.reasons
+    }
+
+    /// How many characters a line in its place has.
+    pub fn columns(&self) -> usize {
+        self.columns
     }
 
     /// Writes a line, or says that there is no memory for it.
@@ -65,9 +80,10 @@ impl<'e, E: Outlet> Console<'e, E> {
 
     /// Shows a line in its place, as far as it has room there: the next one is shown over it. Of a terminal only.
     pub fn show(&mut self, line: &str) {
-        let cut: Result<String, AllocError> = line.chars().take(COLUMNS).collect(self.alloc);
+        let cut: Result<String, AllocError> = line.chars().take(self.columns).collect(self.alloc);
         if let Ok(cut) = cut {
-            if let Ok(text) = format!(in self.alloc; "\r{cut:<79}") {
+            let filled = cut.as_str().left().width(self.columns);
+            if let Ok(text) = format!(in self.alloc; "\r{filled}") {
                 self.is_shown = true;
                 let _refused = write_bytes(self.errors, text.as_bytes());
             }
@@ -78,7 +94,9 @@ impl<'e, E: Outlet> Console<'e, E> {
     pub fn clear(&mut self) {
         if self.is_shown {
             self.is_shown = false;
-            let _refused = write_bytes(self.errors, CLEARED.as_bytes());
+            if let Ok(text) = cleared(self.alloc, self.columns) {
+                let _refused = write_bytes(self.errors, text.as_bytes());
+            }
         }
     }
 
@@ -89,17 +107,20 @@ impl<'e, E: Outlet> Console<'e, E> {
 
     /// Says why a file can't be opened or made.
     pub fn say_unopened(&mut self, file: &str, fault: &io::Error) {
+        let shown = Shown(file);
         if fault.kind() == io::ErrorKind::OutOfMemory {
-            self.say(format_args!("{file}: no memory"));
+            self.say(format_args!("{shown}: no memory"));
         } else {
-            self.say(format_args!("{file}: can't open"));
-            self.blame(file, Some(Failed::from(*fault)));
+            self.say(format_args!("{shown}: can't open"));
+            let hint = if file == "-" { STANDARD_INPUT } else { "" };
+            self.blame_with(file, Some(Failed::from(*fault)), hint);
         }
     }
 
     /// Says how what stood in a recording's place is called now, if that is told.
     pub fn mention(&mut self, path: &str, kept: &str) {
         if self.reasons {
+            let (path, kept) = (Shown(path), Shown(kept));
             self.say(format_args!("{path}: renamed to {kept}"));
         }
     }
@@ -108,6 +129,7 @@ impl<'e, E: Outlet> Console<'e, E> {
     pub fn liken(&mut self, file: &str, likeness: Option<&str>) {
         if let Some(likeness) = likeness {
             if self.reasons {
+                let file = Shown(file);
                 self.say(format_args!("{file}: ({likeness})"));
             }
         }
@@ -115,15 +137,41 @@ impl<'e, E: Outlet> Console<'e, E> {
 
     /// Says what the system says of a failure, if that is told and there was one.
     pub fn blame(&mut self, file: &str, failure: Option<Failed>) {
+        self.blame_with(file, failure, "");
+    }
+
+    /// Says what the system says of a failure to write a recording, as `blame` does, and how many frames are whole in
+    /// it, if that is known.
+    pub fn blame_writing(&mut self, file: &str, failure: Option<Failed>, frames: Option<u64>) {
+        match frames {
+            Some(frames) => {
+                self.blame_with(file, failure, format_args!("; {frames} frames are whole"));
+            }
+            None => self.blame(file, failure),
+        }
+    }
+
+    /// Says what the system says of a failure, and what more there is to say of it, if that is told and there was one.
+    fn blame_with<D: Display + Drop>(&mut self, file: &str, failure: Option<Failed>, more: D) {
         if let Some(failure) = failure {
             if self.reasons {
+                let file = Shown(file);
                 match text_of(self.alloc, failure) {
-                    Ok(text) => self.say(format_args!("{file}: ({})", without_number(&text))),
+                    Ok(text) => {
+                        let text = without_number(&text);
+                        self.say(format_args!("{file}: ({text}{more})"));
+                    }
                     Err(AllocError) => self.say_no_memory(),
                 }
             }
         }
     }
+}
+
+/// What clears a line in its place of so many characters, whatever it was, and leaves the place to another.
+pub fn cleared(alloc: Global, columns: usize) -> Result<String, AllocError> {
+    let blanks = "".left().width(columns);
+    format!(in alloc; "\r{blanks}\r")
 }
 
 /// What the system says of a failure, with its number.

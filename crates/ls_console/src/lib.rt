@@ -18,7 +18,7 @@
 //! }
 //! ```
 //!
-//! In reading order: `console` (what is said on standard error), `output` (what goes to standard output, and the
+//! In reading order: `shown` (files' names and other words), `console` (what is said on standard error), `output` (what goes to standard output, and the
 //! statuses), `reader` (what films and recordings are read by, and what a fault of that comes of), `written` (what
 //! becomes of a file at its end). No contract says what is said; the tests of the whole program show it.
 #![tactic(auto)]
@@ -26,11 +26,13 @@
 mod console;
 mod output;
 mod reader;
+mod shown;
 mod written;
 
-pub use console::{CLEARED, COLUMNS, Console};
+pub use console::{COLUMNS, Console, cleared};
 pub use output::{
     DONE, FAILED, USAGE, finish, finish_lines, misused, no_memory, say_unwritten, write_text,
 };
 pub use reader::{Cause, Reader, buffered, cause_of_input, explain, open_film};
-pub use written::{EndedIndex, say_index_end, say_unsynced};
+pub use shown::{Escaped, Shown, ShownBytes, is_shown_plain};
+pub use written::{EndedIndex, say_index_end, say_unmade, say_unsynced};

@@ -1,6 +1,7 @@
 //! What films and recordings are read by, and what is said of one that can't be.
 use crate::console::Console;
 use crate::output::FAILED;
+use crate::shown::Shown;
 use ls_files::{Opener, Opens, Source, likeness_of};
 use ls_frame::{Buffered, Counted, Failed, NetpbmFault, Outlet};
 use std::alloc::Global;
@@ -54,6 +55,7 @@ where
     match Buffered::new(alloc, Counted::new(source)) {
         Ok(reader) => Ok(reader),
         Err(_) => {
+            let file = Shown(file);
             console.say(format_args!("{file}: no memory"));
             Err(FAILED)
         }

@@ -1,9 +1,12 @@
 //! What becomes of a file that was written, at its end.
 use crate::console::Console;
+use crate::output::FAILED;
 use crate::reader::Cause;
+use crate::shown::Shown;
 use ls_files::{Opens, Target};
 use ls_frame::{Counted, Failed, Outlet};
 use std::fmt::Display;
+use std::io;
 
 /// An index whose recording has ended: whether it is whole, and its file.
 #[derive(Drop)]
@@ -12,11 +15,11 @@ pub struct EndedIndex<'a, O: Opens> {
     pub target: Target<'a, O>,
 }
 
-/// Brings an index onto the disk, and says why it isn't whole, if it isn't: for a fault of this cause, or since the
-/// disk refuses it.
+/// Says why an index isn't whole, if it isn't: for a fault of this cause, or since it couldn't be brought onto the disk.
 pub fn say_index_end<'a, O, X, E>(
     path: &str,
     index: Counted<Target<'a, O>>,
+    synced: Result<(), Failed>,
     broken: Option<(X, Cause)>,
     console: &mut Console<'_, E>,
 ) -> EndedIndex<'a, O>
@@ -27,14 +30,15 @@ where
 {
     let written = index.last_failure();
     let target = index.into_inner();
-    let is_whole = match (broken, target.sync()) {
+    let is_whole = match (broken, synced) {
         (None, Ok(())) => true,
-        (None, Err(fault)) => {
-            say_unsynced(path, &target, Failed::from(fault), console);
+        (None, Err(failure)) => {
+            say_unsynced(path, &target, failure, console);
             false
         }
         (Some((fault, cause)), _) => {
-            console.say(format_args!("{path}: {fault}"));
+            let shown = Shown(path);
+            console.say(format_args!("{shown}: {fault}"));
             if matches!(cause, Cause::Writing) {
                 console.blame(path, written);
             }
@@ -56,6 +60,18 @@ where
     E: Outlet,
 {
     let bytes = target.written();
-    console.say(format_args!("{path}: output failed after {bytes} bytes"));
+    let shown = Shown(path);
+    console.say(format_args!("{shown}: output failed after {bytes} bytes"));
     console.blame(path, Some(failure));
+}
+
+/// Says why a file can't be made, and gives the status.
+pub fn say_unmade<E: Outlet>(path: &str, fault: io::Error, console: &mut Console<'_, E>) -> u8 {
+    if fault.kind() == io::ErrorKind::WouldBlock {
+        let shown = Shown(path);
+        console.say(format_args!("{shown}: another program is recording it"));
+    } else {
+        console.say_unopened(path, &fault);
+    }
+    FAILED
 }

@@ -1,8 +1,8 @@
 //! Opening files in any thread.
-use std::alloc::AllocError;
-use std::fs::{File, Files, OpenFile, OpenOptions};
-use std::io;
+use std::alloc::{AllocError, Global};
+use std::fs::{File, Files, Metadata, OpenFile, OpenOptions, TryLockError};
 use std::io::{Read, Write};
+use std::{fs, io};
 
 /// Opens files, and says a line on standard error. A lane opens its pipe by it, in its own thread: what is asked of a
 /// whole file system can't be taken along into one.
@@ -17,6 +17,45 @@ pub trait Opens {
 
     /// Says a line on standard error. That it is refused changes nothing.
     fn say(&self, line: &str);
+}
+
+/// Makes, locks, renames and removes files, in any thread.
+pub trait Makes: Opens {
+    /// Makes a file to write to. Fails with `AlreadyExists` if anything has that name.
+    fn create_new(&self, path: &str) -> io::Result<Self::File>;
+
+    /// Opens an existing file to write to it at its end.
+    fn open_to_append(&self, path: &str) -> io::Result<Self::File>;
+
+    /// Takes the lock of a file, which it has until it is closed; `false` if another program has it.
+    fn try_lock(&self, file: &Self::File) -> io::Result<bool>;
+
+    /// The metadata of what has a name; of a link its own.
+    fn look(&self, path: &str) -> io::Result<Metadata>;
+
+    /// Where a path leads, past all links.
+    fn follow(&self, alloc: Global, path: &str) -> io::Result<String>;
+
+    /// Renames a file, over what has the new name.
+    fn rename(&self, from: &str, to: &str) -> io::Result<()>;
+
+    fn remove(&self, path: &str) -> io::Result<()>;
+}
+
+/// A file that has a lock, which it holds until it is closed.
+pub trait Locks {
+    /// Takes the lock; `false` if another program has it.
+    fn take_lock(&self) -> io::Result<bool>;
+}
+
+impl Locks for File {
+    fn take_lock(&self) -> io::Result<bool> {
+        match self.try_lock() {
+            Ok(()) => Ok(true),
+            Err(TryLockError::WouldBlock) => Ok(false),
+            Err(TryLockError::Error(fault)) => Err(fault),
+        }
+    }
 }
 
 /// Opens the files of a runtime.
@@ -52,5 +91,41 @@ impl<'a, R: Files + Eprint> Opens for Opener<'a, R> {
 
     fn say(&self, line: &str) {
         let _refused = self.rt.eprintln(line);
+    }
+}
+
+impl<'a, R: Files + Eprint> Makes for Opener<'a, R>
+where
+    R::File: Locks,
+{
+    fn create_new(&self, path: &str) -> io::Result<R::File> {
+        OpenOptions::new()
+            .write(true)
+            .create_new(true)
+            .open(self.rt, path)
+    }
+
+    fn open_to_append(&self, path: &str) -> io::Result<R::File> {
+        OpenOptions::new().append(true).open(self.rt, path)
+    }
+
+    fn try_lock(&self, file: &R::File) -> io::Result<bool> {
+        file.take_lock()
+    }
+
+    fn look(&self, path: &str) -> io::Result<Metadata> {
+        fs::symlink_metadata(self.rt, path)
+    }
+
+    fn follow(&self, alloc: Global, path: &str) -> io::Result<String> {
+        Ok(self.rt.canonicalize(alloc, path)?.into_string())
+    }
+
+    fn rename(&self, from: &str, to: &str) -> io::Result<()> {
+        fs::rename(self.rt, from, to)
+    }
+
+    fn remove(&self, path: &str) -> io::Result<()> {
+        fs::remove_file(self.rt, path)
     }
 }

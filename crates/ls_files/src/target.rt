@@ -1,44 +1,27 @@
 //! A file that is written.
-use crate::identity::folder_of;
 use crate::opener::Opens;
-use std::fs::OpenFile;
 use std::io;
 use std::io::Write;
 
-/// A recording to write. A named pipe is opened at the first write, which waits until something reads from it. Any
-/// other file is open.
+/// A file to write to. A named pipe is opened at the first write, which waits until something reads from it. Any other
+/// file is open.
 #[derive(Drop)]
 pub struct Target<'a, O: Opens> {
     opener: O,
     path: &'a str,
     file: Option<O::File>,
-    /// Whether it is a file that can be synced.
-    is_regular: bool,
     /// Whether it couldn't be opened.
     is_refused: bool,
     written: u64,
 }
 
 impl<'a, O: Opens> Target<'a, O> {
-    /// What is written to a regular file that is open.
-    pub fn regular(opener: O, path: &'a str, file: O::File) -> Target<'a, O> {
+    /// What is written to a file or a device that is open.
+    pub fn opened(opener: O, path: &'a str, file: O::File) -> Target<'a, O> {
         Target {
             opener,
             path,
             file: Some(file),
-            is_regular: true,
-            is_refused: false,
-            written: 0,
-        }
-    }
-
-    /// What is written to a device that is open.
-    pub fn device(opener: O, path: &'a str, file: O::File) -> Target<'a, O> {
-        Target {
-            opener,
-            path,
-            file: Some(file),
-            is_regular: false,
             is_refused: false,
             written: 0,
         }
@@ -50,28 +33,14 @@ impl<'a, O: Opens> Target<'a, O> {
             opener,
             path,
             file: None,
-            is_regular: false,
             is_refused: false,
             written: 0,
         }
     }
 
-    /// How many bytes were written to it.
+    /// The number of bytes that were written to it.
     pub fn written(&self) -> u64 {
         self.written
-    }
-
-    /// Brings what was written to a regular file onto the disk, and the name of a new file too if its folder can be
-    /// synced.
-    pub fn sync(&self) -> io::Result<()> {
-        match &self.file {
-            Some(file) if self.is_regular => {
-                file.sync_all()?;
-                self.sync_folder();
-                Ok(())
-            }
-            _ => Ok(()),
-        }
     }
 
     /// Has what reads from a pipe that was never opened see the end, for which it waits until something reads there.
@@ -91,12 +60,6 @@ impl<'a, O: Opens> Target<'a, O> {
             self.is_refused = false;
         }
         Ok(())
-    }
-
-    fn sync_folder(&self) {
-        if let Ok(folder) = self.opener.open(folder_of(self.path)) {
-            let _refused = folder.sync_all();
-        }
     }
 }
 

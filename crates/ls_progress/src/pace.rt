@@ -1,6 +1,6 @@
 //! How far films are, in words.
 use crate::seen::{Doing, Seen};
-use ls_console::COLUMNS;
+use ls_console::Shown;
 use std::alloc::{AllocError, Global};
 
 /// So many nanoseconds a film may give no frame before that is said.
@@ -8,6 +8,16 @@ const SILENCE: u64 = 2_000_000_000;
 
 /// So many lines begin with the same film, where not all films have room in a line.
 const LINES_A_FILM: usize = 4;
+
+/// How many characters each name has at least, or all of its own, however little room there is in a line.
+const LEAST_NAME: usize = 8;
+
+/// What stands in a line in front of the end of a name that is shortened, after each name, and between films.
+const CUT: &str = "..";
+
+const AFTER_NAME: &str = ": ";
+
+const BETWEEN: &str = "; ";
 
 /// How far a film is and how fast it goes, at the last look.
 #[derive(Drop)]
@@ -125,54 +135,189 @@ fn speeds_text(alloc: Global, speed_in: u64, speed_out: u64) -> Result<String, A
     format!(in alloc; "{whole_in}.{tenth_in} MB/s in, {whole_out}.{tenth_out} out")
 }
 
-/// All films in a line, after so many lines before. If they have no room in one, each line goes round from another film
-/// on, the same for some lines.
+/// All films in a line of at most `columns` characters, after so many lines before.
+///
+/// If they have no room there, their names are shortened to their ends, no more than they have to be. If there is room
+/// for all only with less of a name than `LEAST_NAME`, each line goes round from another film on, the same for some
+/// lines, and has as many films as have room.
 pub fn line_of(
     alloc: Global,
     files: &[&str],
     paces: &[Pace],
     lines: usize,
+    columns: usize,
 ) -> Result<String, AllocError> {
-    let line = line_from(alloc, files, paces, 0)?;
-    if line.chars().count() <= COLUMNS || files.is_empty() {
-        return Ok(line);
-    }
-    line_from(alloc, files, paces, lines / LINES_A_FILM % files.len())
+    let names = names_of(alloc, files)?;
+    let (longest, first) = match longest_within(alloc, &names, paces, columns)? {
+        Some(longest) => (longest, 0),
+        None => (
+            LEAST_NAME,
+            (lines / LINES_A_FILM).checked_rem(files.len()).unwrap_or(0),
+        ),
+    };
+    let films = Films {
+        names: &names,
+        paces,
+        longest,
+        columns,
+    };
+    line_from(alloc, films, first)
 }
 
-/// All films in a line, from the one of this number on and round to it.
-fn line_from(
+/// Films that are to be put into a line of so many characters, each by no more than so many of its name.
+#[derive(Clone, Copy)]
+struct Films<'a> {
+    names: &'a [String],
+    paces: &'a [Pace],
+    longest: usize,
+    columns: usize,
+}
+
+/// The films' names as they are shown.
+fn names_of(alloc: Global, files: &[&str]) -> Result<Vec<String>, AllocError> {
+    let mut names = Vec::new(alloc);
+    for file in files {
+        names.push(Shown(*file).to_string(alloc)?)?;
+    }
+    Ok(names)
+}
+
+/// The most characters of each name with which all films have room in a line, if that is `LEAST_NAME` at least.
+fn longest_within(
     alloc: Global,
-    files: &[&str],
+    names: &[String],
     paces: &[Pace],
-    first: usize,
-) -> Result<String, AllocError> {
+    columns: usize,
+) -> Result<Option<usize>, AllocError> {
+    let Some(room) = columns.checked_sub(length_without_names(paces)) else {
+        return Ok(None);
+    };
+    let lengths = lengths_of(alloc, names)?;
+    for shorter in 0..=columns.saturating_sub(LEAST_NAME) {
+        let longest = columns.saturating_sub(shorter);
+        if shortened_length(&lengths, longest) <= room {
+            return Ok(Some(longest));
+        }
+    }
+    Ok(None)
+}
+
+/// How many characters a line of all films has but for their names.
+fn length_without_names(paces: &[Pace]) -> usize {
+    let mut length: usize = 0;
+    for pace in paces {
+        let before = if length == 0 { 0 } else { BETWEEN.len() };
+        length = length
+            .saturating_add(before)
+            .saturating_add(AFTER_NAME.len())
+            .saturating_add(pace.text().chars().count());
+    }
+    length
+}
+
+/// How many characters each name has.
+fn lengths_of(alloc: Global, names: &[String]) -> Result<Vec<usize>, AllocError> {
+    let mut lengths = Vec::new(alloc);
+    for name in names {
+        lengths.push(name.chars().count())?;
+    }
+    Ok(lengths)
+}
+
+/// How many characters names of these lengths have together, if none has more than so many.
+fn shortened_length(lengths: &[usize], longest: usize) -> usize {
+    let mut together: usize = 0;
+    for length in lengths {
+        together = together.saturating_add((*length).min(longest));
+    }
+    together
+}
+
+/// Films in a line, from the one of this number on and round to it, as far as they have room.
+fn line_from(alloc: Global, films: Films<'_>, first: usize) -> Result<String, AllocError> {
     let mut line = String::new(alloc);
-    add_films(&mut line, files, paces, first, usize::MAX)?;
-    add_films(&mut line, files, paces, 0, first)?;
+    if add_films(alloc, &mut line, films, first, usize::MAX)? {
+        add_films(alloc, &mut line, films, 0, first)?;
+    }
     Ok(line)
 }
 
-/// Adds so many films to a line, or as many as there are, from the one of this number on.
+/// Adds so many films to a line, or as many as there are, from the one of this number on; whether all had room.
 fn add_films(
+    alloc: Global,
     line: &mut String,
-    files: &[&str],
-    paces: &[Pace],
+    films: Films<'_>,
     first: usize,
     count: usize,
-) -> Result<(), AllocError> {
-    for (file, pace) in files.iter().zip(paces.iter()).skip(first).take(count) {
-        add_film(line, *file, pace)?;
+) -> Result<bool, AllocError> {
+    let Films {
+        names,
+        paces,
+        longest,
+        columns,
+    } = films;
+    for (name, pace) in names.iter().zip(paces.iter()).skip(first).take(count) {
+        let film = film_text(alloc, name, longest, pace)?;
+        if !add_film(line, &film, columns)? {
+            return Ok(false);
+        }
+    }
+    Ok(true)
+}
+
+/// A film's name, in no more than so many characters, and how far it is.
+fn film_text(alloc: Global, name: &str, longest: usize, pace: &Pace) -> Result<String, AllocError> {
+    let mut text = String::new(alloc);
+    push_shortened(&mut text, name, longest)?;
+    text.push_str(AFTER_NAME)?;
+    text.push_str(pace.text())?;
+    Ok(text)
+}
+
+/// Adds a name, or `..` and its end if it has more than so many characters.
+fn push_shortened(text: &mut String, name: &str, longest: usize) -> Result<(), AllocError> {
+    let length = name.chars().count();
+    if length <= longest {
+        return text.push_str(name);
+    }
+    text.push_str(CUT)?;
+    let kept = longest.saturating_sub(CUT.len());
+    for character in name.chars().skip(length.saturating_sub(kept)) {
+        text.push(character)?;
     }
     Ok(())
 }
 
-/// Adds a film to a line.
-fn add_film(line: &mut String, file: &str, pace: &Pace) -> Result<(), AllocError> {
-    if !line.is_empty() {
-        line.push_str("; ")?;
+/// Adds a film to a line of so many characters, if it has room there; whether it had. Of the first film as much is added
+/// as has room, so that no number is cut.
+fn add_film(line: &mut String, film: &str, columns: usize) -> Result<bool, AllocError> {
+    if line.is_empty() {
+        let fitting = fitting(film, columns);
+        line.push_str(fitting)?;
+        return Ok(fitting.len() == film.len());
     }
-    line.push_str(file)?;
-    line.push_str(": ")?;
-    line.push_str(pace.text())
+    let left = columns
+        .saturating_sub(line.chars().count())
+        .saturating_sub(BETWEEN.len());
+    if film.chars().count() > left {
+        return Ok(false);
+    }
+    line.push_str(BETWEEN)?;
+    line.push_str(film)?;
+    Ok(true)
+}
+
+/// What has room in so many characters of what is said of a film: some of its parts, which stand between commas.
+fn fitting(film: &str, columns: usize) -> &str {
+    let mut kept = film;
+    for _part in 0..film.len() {
+        if kept.chars().count() <= columns {
+            break;
+        }
+        match kept.rsplit_once(", ") {
+            Some((before, _)) => kept = before,
+            None => break,
+        }
+    }
+    kept
 }

@@ -1,5 +1,6 @@
 //! The lines of a report.
 use crate::seen::{Doing, Seen};
+use ls_console::Shown;
 use std::alloc::{AllocError, Global};
 use std::fmt::Display;
 
@@ -84,6 +85,7 @@ fn add_name<F: Copy + Display>(
     file: &str,
     seen: &Seen<F>,
 ) -> Result<(), AllocError> {
+    let file = Shown(file);
     let name = match seen.doing {
         Doing::Ended(Err(fault)) => format!(in alloc; " {file}: {fault}\n"),
         _ => format!(in alloc; " {file}\n"),

@@ -1,16 +1,17 @@
 //! What is asked of a recording that is kept: its index, whether it is damaged, and whether it is of a film.
 use crate::cause::conclude;
 use ls_archive::{
-    CheckFault, Checked, Finding, Findings, IndexFault, Verdict, VerifyFault, check, check_by,
-    verify, verify_by, write_index,
+    CheckFault, Checked, Difference, Finding, Findings, IndexFault, Verdict, VerifyFault, Wanted,
+    check, check_by, find_places, verify, verify_by, write_index,
 };
 use ls_console::{
-    Cause, Console, DONE, FAILED, explain, finish_lines, no_memory, open_film, say_unwritten,
+    Cause, Console, DONE, FAILED, Shown, explain, finish_lines, no_memory, open_film, say_unwritten,
 };
-use ls_frame::{Buffered, Counted, Feed, Outlet, write_bytes};
+use ls_frame::{Buffered, Counted, Feed, Kind, Outlet, write_bytes};
 use ls_salvage::{Gap, Gaps, NoText, SalvageFault, Salvaged, salvage};
 use std::alloc::{AllocError, Global};
 use std::fmt::Display;
+use std::fs;
 use std::io::{BufWriter, Write};
 use std::rt::Files;
 use std::thread::Threads;
@@ -105,18 +106,115 @@ where
         Ok(wanted) => wanted,
         Err(status) => return status,
     };
-    let mut report = Report::new(rt.alloc(), lines);
-    match check_lent(
+    let mut findings: Vec<Finding> = Vec::new(rt.alloc());
+    let result = check_lent(
         rt,
         rt.alloc(),
         workers,
         &mut wanted,
         &mut recording,
-        &mut report,
-    ) {
-        Ok(checked) => report.end(file, checked, console),
-        Err(fault) if is_of_index(fault) => conclude(index, Err(fault), &wanted, None, console),
-        Err(fault) => conclude(file, Err(fault), &recording, None, console),
+        &mut findings,
+    );
+    let mut report = Report::new(rt.alloc(), lines);
+    let fault = match result {
+        Ok(checked) => match find_moved(rt, file, &findings, checked.bytes, console) {
+            Ok(places) => return report.end_by(file, checked, &findings, &places, console),
+            Err(status) => {
+                return report.tell_all(&findings, console).unwrap_or(status);
+            }
+        },
+        Err(fault) => fault,
+    };
+    if let Some(status) = report.tell_all(&findings, console) {
+        return status;
+    }
+    if is_of_index(fault) {
+        return conclude(index, Err(fault), &wanted, None, console);
+    }
+    conclude(file, Err(fault), &recording, None, console)
+}
+
+/// The places at which codestreams that were found to be damaged stand elsewhere in the recording, of each one or none;
+/// nothing where none has a sum, or the recording can't be read once more. `end` is the offset at which the last one
+/// should end. If that fails it is said why, and the status given.
+fn find_moved<R, E>(
+    rt: &R,
+    file: &str,
+    findings: &[Finding],
+    end: u64,
+    console: &mut Console<'_, E>,
+) -> Result<Vec<Option<u64>>, u8>
+where
+    R: Eprint + Files + AllocGlobal,
+    E: Outlet,
+{
+    if findings.iter().all(|finding| finding.sum.is_none()) || !is_read_anew(rt, file) {
+        return Ok(Vec::new(rt.alloc()));
+    }
+    let Ok(wanted) = wanted_of(rt.alloc(), findings) else {
+        return Err(no_memory(console));
+    };
+    find_all(rt, file, &wanted, end, console)
+}
+
+/// The place at which a codestream was found, if it isn't its own: one that stands at its own place is damaged itself.
+fn elsewhere(found: Option<u64>, own: u64) -> Option<u64> {
+    match found {
+        Some(place) if place != own => Some(place),
+        _ => None,
+    }
+}
+
+/// What is looked for of findings.
+fn wanted_of(alloc: Global, findings: &[Finding]) -> Result<Vec<Wanted>, AllocError> {
+    let mut wanted = Vec::new(alloc);
+    for finding in findings {
+        let Finding {
+            place,
+            count,
+            sum,
+            ..
+        } = *finding;
+        wanted.push(Wanted { place, count, sum })?;
+    }
+    Ok(wanted)
+}
+
+/// The places at which codestreams stand in a recording, of each that is wanted one or none; or says why they can't be
+/// looked for, and gives the status.
+pub fn find_all<R, E>(
+    rt: &R,
+    file: &str,
+    wanted: &[Wanted],
+    end: u64,
+    console: &mut Console<'_, E>,
+) -> Result<Vec<Option<u64>>, u8>
+where
+    R: Eprint + Files + AllocGlobal,
+    E: Outlet,
+{
+    let mut recording = open_film(rt, file, console)?;
+    match find_lent(rt.alloc(), &mut recording, wanted, end) {
+        Ok(places) => Ok(places),
+        Err(fault) => Err(conclude(file, Err(fault), &recording, None, console)),
+    }
+}
+
+/// The same in a recording that is lent.
+fn find_lent<R: Feed>(
+    alloc: Global,
+    recording: &mut Buffered<R>,
+    wanted: &[Wanted],
+    end: u64,
+) -> Result<Vec<Option<u64>>, CheckFault> {
+    find_places(alloc, recording, wanted, end)
+}
+
+/// Whether a file gives the same bytes when it is opened once more, as a pipe doesn't.
+pub fn is_read_anew<R: Files>(rt: &R, file: &str) -> bool {
+    match fs::metadata(rt, file) {
+        Ok(metadata) => metadata.is_file(),
+        Err(_) => false,
     }
 }
 
@@ -159,16 +257,18 @@ where
     let mut report = Report::new(rt.alloc(), lines);
     match decode_only(rt.alloc(), &mut recording, &mut report) {
         Ok(salvaged) => {
-            console.say(format_args!("{file}: only decoded: no index is named"));
+            let shown = Shown(file);
+            console.say(format_args!("{shown}: only decoded: no index is named"));
             if salvaged.frames == 0 {
                 explain(file, Cause::Format, &recording, None, console);
             }
             let checked = Checked {
                 frames: salvaged.frames.saturating_add(salvaged.gaps),
                 damaged: salvaged.gaps,
+                bytes: 0,
                 more: false,
             };
-            report.end(file, checked, console)
+            report.end(file, checked, 0, console)
         }
         Err(fault) => conclude(file, Err(fault), &recording, None, console),
     }
@@ -229,10 +329,11 @@ fn verify_lent<Rt: Threads + Sync, F: Feed, R: Feed>(
 
 /// Says how a recording differs from its film, if it does, and answers the status.
 fn say_verdict<E: Outlet>(recording: &str, verdict: Verdict, console: &mut Console<'_, E>) -> u8 {
+    let recording = Shown(recording);
     match verdict {
         Verdict::Same(_frames) => return DONE,
-        Verdict::Differs(number) => {
-            console.say(format_args!("{recording}: frame {number} differs"));
+        Verdict::Differs(number, difference) => {
+            say_difference(recording, number, difference, console);
         }
         Verdict::Missing(number) => {
             console.say(format_args!("{recording}: frame {number} is missing"));
@@ -242,6 +343,38 @@ fn say_verdict<E: Outlet>(recording: &str, verdict: Verdict, console: &mut Conso
         }
     }
     FAILED
+}
+
+/// Says what the frames of this number of a recording and of its film differ in, the recording's first.
+fn say_difference<E: Outlet>(
+    recording: Shown<'_>,
+    number: u64,
+    difference: Difference,
+    console: &mut Console<'_, E>,
+) {
+    match difference {
+        Difference::Kinds(film, own) => {
+            let film = kind_text(film);
+            let own = kind_text(own);
+            console.say(format_args!("{recording}: frame {number} differs: {own}, not {film}"));
+        }
+        Difference::Sizes(width, height, own_width, own_height) => console.say(format_args!(
+            "{recording}: frame {number} differs: size {own_width}x{own_height}, not {width}x{height}"
+        )),
+        Difference::Maxvals(film, own) => console.say(format_args!(
+            "{recording}: frame {number} differs: maxval {own}, not {film}"
+        )),
+        Difference::Samples => {
+            console.say(format_args!("{recording}: frame {number} differs: samples"));
+        }
+    }
+}
+
+fn kind_text(kind: Kind) -> &'static str {
+    match kind {
+        Kind::Gray => "gray",
+        Kind::Color => "color",
+    }
 }
 
 /// The lines of a check.
@@ -269,41 +402,98 @@ impl<'l, L: Outlet> Report<'l, L> {
         Ok(())
     }
 
-    /// Writes what the check came to, and says the status.
-    fn end<E: Outlet>(&mut self, file: &str, checked: Checked, console: &mut Console<'_, E>) -> u8 {
-        match self.write_end(file, checked) {
+    /// Writes the lines of findings, each with the place at which its codestream stands elsewhere, if there is one, and
+    /// what the check came to; and says the status.
+    fn end_by<E: Outlet>(
+        &mut self,
+        file: &str,
+        checked: Checked,
+        findings: &[Finding],
+        places: &[Option<u64>],
+        console: &mut Console<'_, E>,
+    ) -> u8 {
+        match self.write_all(findings, places) {
+            Ok(moved) => self.end(file, checked, moved, console),
+            Err(AllocError) => no_memory(console),
+        }
+    }
+
+    /// Writes the lines of findings; the status where memory is refused.
+    fn tell_all<E: Outlet>(
+        &mut self,
+        findings: &[Finding],
+        console: &mut Console<'_, E>,
+    ) -> Option<u8> {
+        match self.write_all(findings, &[]) {
+            Ok(_moved) => None,
+            Err(AllocError) => Some(no_memory(console)),
+        }
+    }
+
+    /// Writes the lines of findings, each with its place or without, and says how many have one.
+    fn write_all(
+        &mut self,
+        findings: &[Finding],
+        places: &[Option<u64>],
+    ) -> Result<u64, AllocError> {
+        let mut moved = 0u64;
+        for (number, finding) in findings.iter().enumerate() {
+            let stands = match places.get(number) {
+                Some(found) => elsewhere(*found, finding.place),
+                None => None,
+            };
+            self.write_finding(finding, stands)?;
+            if stands.is_some() {
+                moved = moved.saturating_add(1);
+            }
+        }
+        Ok(moved)
+    }
+
+    /// Writes the line of a finding, whose codestream stands at another place, or nowhere.
+    fn write_finding(&mut self, finding: &Finding, stands: Option<u64>) -> Result<(), AllocError> {
+        let Finding {
+            number,
+            place,
+            count,
+            damage,
+            ..
+        } = *finding;
+        match stands {
+            Some(stands) => self.write(format_args!("frame {number}: at {stands}, not {place}")),
+            None => self.write(format_args!("frame {number}: {damage}: {count} bytes at {place}")),
+        }
+    }
+
+    /// Writes what the check came to, where so many of those that are damaged at their places stand elsewhere, and says
+    /// the status.
+    fn end<E: Outlet>(
+        &mut self,
+        file: &str,
+        checked: Checked,
+        moved: u64,
+        console: &mut Console<'_, E>,
+    ) -> u8 {
+        match self.write_end(file, checked, moved) {
             Ok(()) if checked.damaged == 0 && !checked.more => DONE,
             Ok(()) => FAILED,
             Err(AllocError) => no_memory(console),
         }
     }
 
-    fn write_end(&mut self, file: &str, checked: Checked) -> Result<(), AllocError> {
-        let Checked {
-            frames,
-            damaged,
-            more,
-        } = checked;
-        if more {
+    fn write_end(&mut self, file: &str, checked: Checked, moved: u64) -> Result<(), AllocError> {
+        let file = Shown(file);
+        let frames = checked.frames;
+        let damaged = checked.damaged.saturating_sub(moved);
+        if checked.more {
             self.write(format_args!("{file}: more bytes than the index has"))?;
         }
+        if moved > 0 {
+            return self.write(format_args!(
+                "{file}: {frames} frames, {damaged} damaged, {moved} moved"
+            ));
+        }
         self.write(format_args!("{file}: {frames} frames, {damaged} damaged"))
-    }
-}
-
-impl<'l, L: Outlet> Findings for Report<'l, L> {
-    ghost use Rattle.std.specs.Prelude.{None};
-
-    ghost found = { λ _. None };
-
-    fn tell(&mut self, finding: Finding) -> Result<(), AllocError> {
-        let Finding {
-            number,
-            place,
-            count,
-            damage,
-        } = finding;
-        self.write(format_args!("frame {number}: {damage}: {count} bytes at {place}"))
     }
 }
 

@@ -1,6 +1,6 @@
 //! What faults come of, and what is said of one that an engine over a file stops with.
 use ls_archive::{CheckFault, IndexFault, VerifyFault};
-use ls_console::{Cause, Console, DONE, FAILED, Reader, cause_of_input, explain};
+use ls_console::{Cause, Console, DONE, FAILED, Reader, Shown, cause_of_input, explain};
 use ls_files::Opens;
 use ls_film::{FilmFault, PartFault, PlayFault};
 use ls_frame::{Failed, Outlet};
@@ -102,7 +102,8 @@ where
     match outcome {
         Ok(_frames) => DONE,
         Err(fault) => {
-            console.say(format_args!("{file}: {fault}"));
+            let shown = Shown(file);
+            console.say(format_args!("{shown}: {fault}"));
             explain(file, fault.cause(), reader, written, console);
             FAILED
         }

@@ -1,10 +1,11 @@
 //! Listing a film, and coding it, with the index of its codestreams or without.
 use crate::cause::{Caused, conclude};
-use crate::indexing::make_index;
+use crate::indexing::{IndexFile, make_index};
 use ls_archive::{Follower, IndexFault, Indexing};
 use ls_console::{Console, FAILED, finish_lines, no_memory, open_film, say_index_end};
+use ls_files::Locks;
 use ls_film::{FilmFault, code_film, list_film};
-use ls_frame::{Counted, Feed, Outlet};
+use ls_frame::{Counted, Failed, Feed, Outlet};
 use std::alloc::Global;
 use std::io::{BufWriter, Write};
 use std::rt::Files;
@@ -84,6 +85,7 @@ pub fn code_with_index<R, W, E>(
 ) -> u8
 where
     R: Eprint + Files + AllocGlobal,
+    R::File: Locks,
     W: Write,
     E: Outlet,
 {
@@ -91,8 +93,8 @@ where
         Ok(film) => film,
         Err(status) => return status,
     };
-    let target = match make_index(rt, index, file, &film, console) {
-        Ok(target) => target,
+    let IndexFile { target, mut keeper } = match make_index(rt, index, file, &film, console) {
+        Ok(made) => made,
         Err(status) => return status,
     };
     let follower = Follower::new(rt.alloc(), Counted::new(target));
@@ -101,8 +103,15 @@ where
     let Some(follower) = follower else {
         return status;
     };
+    if result.is_err() {
+        keeper.give_back();
+    }
+    let synced = match keeper.sync() {
+        Ok(()) => Ok(()),
+        Err(fault) => Err(Failed::from(fault)),
+    };
     let broken = broken.map(|fault| (fault, fault.cause()));
-    let ended = say_index_end(index, follower.into_inner(), broken, console);
+    let ended = say_index_end(index, follower.into_inner(), synced, broken, console);
     ended.target.release();
     if ended.is_whole { status } else { FAILED }
 }

@@ -1,8 +1,15 @@
 //! The file of an index that is written while its recording is.
-use ls_console::{Console, FAILED, Reader, USAGE};
-use ls_files::{Opener, Place, Target};
+use ls_console::{Console, Reader, Shown, USAGE, say_unmade};
+use ls_files::{Keeper, Locks, Makes, Opener, Place, Target};
 use ls_frame::Outlet;
 use std::rt::Files;
+
+/// The file of an index that is written, and what keeps it.
+#[derive(Drop)]
+pub struct IndexFile<'a, O: Makes> {
+    pub target: Target<'a, O>,
+    pub keeper: Keeper<O>,
+}
 
 /// Makes the file for the index of a film's codestreams; or says why it can't be made, and gives the status.
 pub fn make_index<'a, R, E>(
@@ -11,28 +18,33 @@ pub fn make_index<'a, R, E>(
     file: &str,
     film: &Reader<'_, Opener<'_, R>>,
     console: &mut Console<'_, E>,
-) -> Result<Target<'a, Opener<'a, R>>, u8>
+) -> Result<IndexFile<'a, Opener<'a, R>>, u8>
 where
     R: Eprint + Files + AllocGlobal,
+    R::File: Locks,
     E: Outlet,
 {
     let place = Place::of(rt, path);
     let identity = film.get_ref().get_ref().identity();
     let is_film = identity.is_some() && identity == place.identity();
     if path == file || is_film {
-        console.say(format_args!("{path}: given twice"));
+        let shown = Shown(path);
+        console.say(format_args!("{shown}: given twice"));
         return Err(USAGE);
     }
-    match place.make(rt, rt.alloc(), Opener::new(rt), false, false) {
-        Ok(made) => {
-            if let Some(kept) = &made.kept {
-                console.mention(path, kept);
+    let alloc = rt.alloc();
+    let mut keeper = match Keeper::claim(alloc, Opener::new(rt), &place, None, false) {
+        Ok(keeper) => keeper,
+        Err(unmade) => return Err(say_unmade(path, unmade.fault, console)),
+    };
+    match keeper.make(alloc, path, None) {
+        Ok(targets) => {
+            if let Some(renamed) = keeper.renamed() {
+                console.mention(path, renamed);
             }
-            Ok(made.target)
+            let target = targets.recording;
+            Ok(IndexFile { target, keeper })
         }
-        Err(fault) => {
-            console.say_unopened(path, &fault);
-            Err(FAILED)
-        }
+        Err(unmade) => Err(say_unmade(path, unmade.fault, console)),
     }
 }

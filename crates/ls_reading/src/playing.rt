@@ -1,6 +1,7 @@
 //! Playing a recording: all of it, a part, or what stands whole of one that is damaged.
 use crate::cause::conclude;
-use ls_console::{Cause, Console, DONE, FAILED, explain, open_film};
+use crate::recorded::Recorded;
+use ls_console::{Cause, Console, DONE, FAILED, Shown, explain, open_film};
 use ls_film::{MOST_FRAMES, Part, PartFault, play, play_part};
 use ls_frame::{Buffered, Counted, Feed, Outlet};
 use ls_player::play_by;
@@ -70,10 +71,12 @@ fn play_frames<R: Feed, W: Outlet>(
     play_part(alloc, part, recording, output)
 }
 
-/// Plays what stands whole of a recording, and says what is passed over.
+/// Plays what stands whole of a recording, and says what is passed over; with an index by the recorded numbers, and
+/// also which of the recorded frames are lost.
 pub fn show_whole<R, W, E>(
     rt: &R,
     file: &str,
+    index: Option<&str>,
     output: &mut Counted<W>,
     console: &mut Console<'_, E>,
 ) -> u8
@@ -82,14 +85,31 @@ where
     W: Write,
     E: Outlet,
 {
+    let recorded = match index {
+        Some(index) => match Recorded::find(rt, file, index, console) {
+            Ok(recorded) => Some(recorded),
+            Err(status) => return status,
+        },
+        None => None,
+    };
     let mut recording = match open_film(rt, file, console) {
         Ok(recording) => recording,
         Err(status) => return status,
     };
-    let mut gaps = SaidGaps { file, console };
-    match play_whole(rt.alloc(), &mut recording, output, &mut gaps) {
-        Ok(salvaged) if salvaged.gaps == 0 => DONE,
+    let mut gaps = SaidGaps {
+        file,
+        console,
+        gaps: 0,
+        recorded,
+    };
+    let result = play_whole(rt.alloc(), &mut recording, output, &mut gaps);
+    let recorded = gaps.recorded;
+    match result {
         Ok(salvaged) => {
+            let lost = recorded.is_some_and(|recorded| recorded.say_lost(file, console));
+            if salvaged.gaps == 0 && !lost {
+                return DONE;
+            }
             if salvaged.frames == 0 {
                 explain(file, Cause::Format, &recording, None, console);
             }
@@ -114,6 +134,10 @@ fn play_whole<R: Feed, W: Outlet, G: Gaps>(
 struct SaidGaps<'f, 'c, 'e, E> {
     file: &'f str,
     console: &'c mut Console<'e, E>,
+    /// How many were told of.
+    gaps: u64,
+    /// The frames that were recorded, if an index says it.
+    recorded: Option<Recorded>,
 }
 
 impl<'f, 'c, 'e, E: Outlet> Gaps for SaidGaps<'f, 'c, 'e, E> {
@@ -128,9 +152,14 @@ impl<'f, 'c, 'e, E: Outlet> Gaps for SaidGaps<'f, 'c, 'e, E> {
             count,
             fault,
         } = gap;
-        let file = self.file;
+        let number = match &mut self.recorded {
+            Some(recorded) => recorded.number_of(&gap),
+            None => frame.saturating_add(self.gaps),
+        };
+        self.gaps = self.gaps.saturating_add(1);
+        let file = Shown(self.file);
         self.console.say(format_args!(
-            "{file}: frame {frame}: {fault}: {count} bytes at {place} passed over"
+            "{file}: frame {number}: {fault}: {count} bytes at {place} passed over"
         ));
         Ok(())
     }

@@ -1,5 +1,5 @@
 //! The replies of a queue to the steps of a file.
-use ls_console::{Console, DONE, FAILED, finish_lines, misused, no_memory};
+use ls_console::{Console, DONE, FAILED, Shown, finish_lines, misused, no_memory};
 use ls_files::{Opener, Source};
 use ls_frame::{Counted, Outlet};
 use ls_queue::{QueueFault, Reply, replay};
@@ -46,7 +46,7 @@ where
     let steps = match read_steps(alloc, &text) {
         Ok(steps) => steps,
         Err(fault) => {
-            console.say(format_args!("{file}: {fault}"));
+            console.say(format_args!("{}: {fault}", Shown(file)));
             return Err(FAILED);
         }
     };
@@ -55,7 +55,7 @@ where
         Err(QueueFault::Sources) => Err(misused(console, b"jlsrec: sources\n")),
         Err(QueueFault::Capacity) => Err(misused(console, b"jlsrec: capacity\n")),
         Err(fault) => {
-            console.say(format_args!("{file}: {fault}"));
+            console.say(format_args!("{}: {fault}", Shown(file)));
             Err(FAILED)
         }
     }
@@ -77,7 +77,7 @@ where
     match read_text(rt.alloc(), &mut reader) {
         Ok(text) => Ok(text),
         Err(fault) => {
-            console.say(format_args!("{file}: {fault}"));
+            console.say(format_args!("{}: {fault}", Shown(file)));
             console.blame(file, reader.last_failure());
             Err(FAILED)
         }
@@ -103,7 +103,7 @@ where
     let status = match print_replies(&mut lines, replies) {
         Ok(()) => DONE,
         Err(fault) => {
-            console.say(format_args!("{file}: {fault}"));
+            console.say(format_args!("{}: {fault}", Shown(file)));
             console.blame(file, lines.last_failure());
             FAILED
         }

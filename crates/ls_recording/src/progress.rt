@@ -1,50 +1,138 @@
-//! The progress of a recording, said on standard error while it goes on: on a terminal as a line in its place,
-//! elsewhere as lines.
+//! What is done and said while films are recorded: each film's files are settled as soon as it ends, and progress is
+//! said on standard error: on a terminal as a line in its place, elsewhere as lines.
+use crate::ending::say_count;
+use crate::kept::Kept;
 use crate::watch::Watch;
-use ls_console::Console;
-use ls_frame::Outlet;
+use ls_console::{Console, Shown};
+use ls_files::Makes;
+use ls_frame::{Counted, Outlet};
 use ls_progress::{Pace, line_of};
 use std::alloc::{AllocError, Global};
+use std::io::Write;
 use std::sync::Wait;
 use std::time::{Clock, Duration};
 
 /// After so many nanoseconds progress is said again: a little less than the wait, which may end a little early.
 const DUE: u64 = 450_000_000;
 
-/// Until the recording ends, says twice a second how far each film is, by its name, and of each whose recording stops
-/// why, at once.
-///
-/// What memory is refused for isn't said that time.
-pub fn tell_progress<R: Wait + Clock, E: Outlet>(
-    rt: &R,
-    alloc: Global,
-    watch: &Watch<'_, R>,
-    files: &[&str],
-    console: &mut Console<'_, E>,
-) {
-    let Ok(mut paces) = paces_for(alloc, files.len()) else {
-        return;
-    };
-    let mut said = watch.now();
-    let mut lines: usize = 0;
-    for _ in rt.forever() {
-        watch.wait(Duration::from_millis(500));
-        if watch.is_over() {
-            break;
-        }
-        tell_news(watch, files, console);
-        let now = watch.now();
-        let time = now.saturating_sub(said);
-        if time >= DUE {
-            let _refused = tell_paces(alloc, watch, files, &mut paces, now, time, console);
-            if console.is_terminal() {
-                let _refused = show_line(alloc, files, &paces, lines, console);
+/// Looks after films while they are recorded, and says how far they are, if that is wanted.
+#[derive(Drop)]
+pub struct Teller<'s, 'a, 'e, R, O: Makes, W, E> {
+    pub rt: &'s R,
+    pub alloc: Global,
+    pub watch: &'s Watch<'s, R>,
+    /// The films' names.
+    pub files: &'s [&'s str],
+    pub kept: &'s mut [Kept<'a, O>],
+    pub output: &'s mut Counted<W>,
+    pub console: &'s mut Console<'e, E>,
+    /// Whether it is said how far they are.
+    pub is_telling: bool,
+}
+
+impl<'s, 'a, 'e, R, O, W, E> Teller<'s, 'a, 'e, R, O, W, E>
+where
+    R: Wait + Clock,
+    O: Makes + Copy + Drop,
+    W: Write,
+    E: Outlet,
+{
+    /// Until the recording ends, settles the files of each film that ends; and says, if that is wanted, which film has
+    /// ended or stopped, at once, and twice a second how far each is.
+    ///
+    /// What memory is refused for isn't said that time.
+    pub fn tell(self) {
+        let Teller {
+            rt,
+            alloc,
+            watch,
+            files,
+            kept,
+            output,
+            console,
+            is_telling,
+        } = self;
+        let Ok(mut paces) = paces_for(alloc, files.len()) else {
+            return;
+        };
+        let mut said = watch.now();
+        let mut lines: usize = 0;
+        for _ in rt.forever() {
+            watch.wait(longest_wait(is_telling));
+            if watch.is_over() {
+                break;
             }
-            lines = lines.wrapping_add(1);
-            said = now;
+            settle_ended(watch, kept);
+            if !is_telling {
+                continue;
+            }
+            tell_news(watch, files, console);
+            tell_counts(alloc, watch, kept, output, console);
+            let now = watch.now();
+            let time = now.saturating_sub(said);
+            if time >= DUE {
+                let _refused = tell_paces(alloc, watch, files, &mut paces, now, time, console);
+                if console.is_terminal() {
+                    let _refused = show_line(alloc, files, &paces, lines, console);
+                }
+                lines = lines.wrapping_add(1);
+                said = now;
+            }
+        }
+        console.clear();
+    }
+}
+
+/// How long to wait where nothing happens.
+fn longest_wait(is_telling: bool) -> Duration {
+    if is_telling {
+        Duration::from_millis(500)
+    } else {
+        Duration::from_secs(3600)
+    }
+}
+
+/// Settles the files of each film that has ended since, and removes what each that goes on has replaced.
+fn settle_ended<R, O>(watch: &Watch<'_, R>, kept: &mut [Kept<'_, O>])
+where
+    R: Clock,
+    O: Makes + Copy + Drop,
+{
+    for (film, kept) in kept.iter_mut().enumerate() {
+        let written = watch.written(film);
+        match watch.ended(film) {
+            Some(result) => {
+                let _synced = kept.settle(result, written);
+            }
+            None => kept.replace(written),
         }
     }
-    console.clear();
+}
+
+/// Writes the number of frames of each film that has ended since and is on the disk.
+fn tell_counts<R, O, W, E>(
+    alloc: Global,
+    watch: &Watch<'_, R>,
+    kept: &mut [Kept<'_, O>],
+    output: &mut Counted<W>,
+    console: &mut Console<'_, E>,
+)
+where
+    R: Clock,
+    O: Makes + Copy + Drop,
+    W: Write,
+    E: Outlet,
+{
+    for (film, kept) in kept.iter_mut().enumerate() {
+        if kept.is_told || !kept.is_on_disk() {
+            continue;
+        }
+        if let Some(Ok(frames)) = watch.ended(film) {
+            kept.is_told = true;
+            console.clear();
+            let _said = say_count(alloc, kept.names.file, frames, output, console);
+        }
+    }
 }
 
 fn paces_for(alloc: Global, films: usize) -> Result<Vec<Pace>, AllocError> {
@@ -63,6 +151,7 @@ fn tell_news<R: Clock, E: Outlet>(
 ) {
     for (film, file) in files.iter().enumerate() {
         if let Some(fault) = watch.news(film) {
+            let file = Shown(file);
             console.say(format_args!("{file}: {fault}"));
         }
     }
@@ -85,7 +174,7 @@ fn tell_paces<R: Clock, E: Outlet>(
         };
         let has_news = pace.step(alloc, &seen, now, time)?;
         if has_news && !console.is_terminal() {
-            let text = pace.text();
+            let (file, text) = (Shown(file), pace.text());
             console.say(format_args!("{file}: {text}"));
         }
     }
@@ -100,7 +189,7 @@ fn show_line<E: Outlet>(
     lines: usize,
     console: &mut Console<'_, E>,
 ) -> Result<(), AllocError> {
-    let line = line_of(alloc, files, paces, lines)?;
+    let line = line_of(alloc, files, paces, lines, console.columns())?;
     console.show(&line);
     Ok(())
 }

@@ -1,8 +1,9 @@
 //! The report of a recording: a table of what came of each film, and how busy the workers were.
+use crate::kept::failed_of;
 use crate::watch::Watch;
-use ls_console::{Console, DONE, FAILED};
-use ls_files::Opens;
-use ls_frame::{Counted, Failed, Outlet, write_bytes};
+use ls_console::{Console, DONE, FAILED, Shown};
+use ls_files::Makes;
+use ls_frame::{Counted, Outlet, write_bytes};
 use ls_progress::{add_film, add_workers, head};
 use ls_setup::Report;
 use std::alloc::{AllocError, Global};
@@ -20,26 +21,36 @@ pub fn write_report<R, O, E>(
 ) -> u8
 where
     R: Clock,
-    O: Opens + Drop,
+    O: Makes + Copy + Drop,
     E: Outlet,
 {
-    let Report { path, target } = report;
+    let Report {
+        path,
+        target,
+        mut keeper,
+    } = report;
+    let shown = Shown(path);
     let Ok(text) = table_of(alloc, watch, files, workers) else {
-        console.say(format_args!("{path}: no memory"));
+        console.say(format_args!("{shown}: no memory"));
+        keeper.give_back();
         return FAILED;
     };
     let mut output = Counted::new(target);
     let failure = match write_bytes(&mut output, text.as_bytes()) {
-        Ok(()) => output.get_ref().sync().err().map(Failed::from),
+        Ok(()) => failed_of(keeper.sync()).err(),
         Err(_) => output.last_failure(),
     };
     let target = output.into_inner();
     let status = match failure {
-        None => DONE,
+        None => {
+            keeper.replace();
+            DONE
+        }
         Some(_) => {
             let bytes = target.written();
-            console.say(format_args!("{path}: output failed after {bytes} bytes"));
+            console.say(format_args!("{shown}: output failed after {bytes} bytes"));
             console.blame(path, failure);
+            keeper.give_back();
             FAILED
         }
     };

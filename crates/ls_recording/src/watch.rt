@@ -1,4 +1,5 @@
-//! What is seen of a recording while it goes on: a gate that counts and takes times, for its progress and its report.
+//! What is seen of a recording while it goes on: a gate that counts and takes times, so that each film's files are
+//! settled when it ends, and for progress and a report.
 mod film;
 
 use film::FilmWatch;
@@ -12,7 +13,7 @@ use std::time::{Clock, Duration, Instant};
 
 /// What is seen of a recording. Its lanes and its workers write it, and any thread may read it meanwhile.
 ///
-/// Times are nanoseconds since it was made; where the clock can't be read, none passes.
+/// Times are nanoseconds since it was made; where the clock can't be read, or no times are wanted, none passes.
 #[derive(Drop)]
 pub struct Watch<'r, R> {
     clock: &'r R,
@@ -24,20 +25,29 @@ pub struct Watch<'r, R> {
     /// Whether the recording has ended, and when it did.
     over: AtomicBool,
     lasted: AtomicU64,
-    /// Wakes who waits when a film stops or ends, and when the recording does.
+    /// Wakes who waits when a film has its first codestream, stops or ends, and when the recording ends.
     bell: Parker,
 }
 
 impl<'r, R: Clock> Watch<'r, R> {
-    /// What is seen of so many films before anything has come of them.
-    pub fn new(clock: &'r R, alloc: Global, films: usize) -> Result<Watch<'r, R>, AllocError> {
+    /// What is seen of so many films before anything has come of them, with times or without.
+    pub fn new(
+        clock: &'r R,
+        alloc: Global,
+        films: usize,
+        is_timed: bool,
+    ) -> Result<Watch<'r, R>, AllocError> {
         let mut watches = Vec::new(alloc);
         for _film in 0..films {
             watches.push(FilmWatch::new(alloc)?)?;
         }
         Ok(Watch {
             clock,
-            made: Instant::now(clock).ok(),
+            made: if is_timed {
+                Instant::now(clock).ok()
+            } else {
+                None
+            },
             films: watches,
             coding: AtomicU64::new(0),
             over: AtomicBool::new(false),
@@ -48,15 +58,31 @@ impl<'r, R: Clock> Watch<'r, R> {
 
     /// The time.
     pub fn now(&self) -> u64 {
-        match (self.made, Instant::now(self.clock)) {
-            (Some(made), Ok(now)) => nanoseconds(now.duration_since(made)),
-            _ => 0,
+        let Some(made) = self.made else {
+            return 0;
+        };
+        match Instant::now(self.clock) {
+            Ok(now) => nanoseconds(now.duration_since(made)),
+            Err(_) => 0,
         }
     }
 
     /// What is seen of the film of this number, if there is one.
     pub fn seen(&self, film: usize) -> Option<Seen<LaneFault>> {
         Some(self.films.get(film)?.seen())
+    }
+
+    /// How the film of this number ended, if its lane has: nothing more is written of it then.
+    pub fn ended(&self, film: usize) -> Option<Result<u64, LaneFault>> {
+        self.films.get(film)?.ended()
+    }
+
+    /// The number of codestreams that were written of the film of this number.
+    pub fn written(&self, film: usize) -> u64 {
+        match self.films.get(film) {
+            Some(film) => film.written(),
+            None => 0,
+        }
     }
 
     /// Why the recording of the film of this number stopped, if it did and no call has answered that before: so it is
@@ -77,7 +103,7 @@ impl<'r, R: Clock> Watch<'r, R> {
         self.coding.load(Ordering::SeqCst)
     }
 
-    /// Waits so long at most, and less if a film stops or ends, or the recording does.
+    /// Waits so long at most, and less if a film has its first codestream, stops or ends, or the recording ends.
     pub fn wait(&self, longest: Duration)
     where
         R: Wait,
@@ -116,9 +142,18 @@ impl<'r, R: Clock + Sync> Gate for Watch<'r, R> {
         if let Some(film) = self.films.get(usize::from(source)) {
             film.take(notice, self.now());
         }
-        if let Notice::Ended(_) | Notice::Stops(_) = notice {
+        if rings(notice) {
             self.bell.unpark();
         }
+    }
+}
+
+/// Whether this is worth to be seen at once.
+fn rings(notice: Notice) -> bool {
+    match notice {
+        Notice::Ended(_) | Notice::Stops(_) => true,
+        Notice::Written { number, .. } => number == 0,
+        _ => false,
     }
 }
 

@@ -100,7 +100,11 @@ fn is_refusal(fault: StreamFault) -> bool
 
 /// Passes over bytes that were read, of which no front is a codestream, and those after them up to the next start, and
 /// says how many they are. All but the first of those that were read are put back for that.
-fn pass_gap<R: Feed>(alloc: Global, reader: &mut Buffered<R>, read: &[u8]) -> Result<u64, ReadFault>
+pub fn pass_gap<R: Feed>(
+    alloc: Global,
+    reader: &mut Buffered<R>,
+    read: &[u8],
+) -> Result<u64, ReadFault>
     ensures passed { IfOk result (λ count. Tells (left_in R.remaining reader.old) → 0 < length read.now
         → HasPassed (read.now ++ known (left_in R.remaining reader.old)) count (left_in R.remaining reader.new)) }
     ensures some { IfOk result (λ count. 0 < count) }

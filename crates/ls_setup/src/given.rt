@@ -1,8 +1,8 @@
 //! The films that are given, by which names and which files, and whether one of them is given twice.
 use ls_command::Recording as Asked;
-use ls_console::CLEARED;
+use ls_console::{Shown, cleared};
 use ls_files::identity::last_part;
-use ls_files::{Identity, Opens, Place, Source, Spot};
+use ls_files::{INDEX, Identity, Opens, Place, Source, Spot};
 use std::alloc::{AllocError, Global};
 use std::rt::Files;
 
@@ -11,27 +11,33 @@ use std::rt::Files;
 pub struct Names<'a> {
     pub file: &'a str,
     pub recording: String,
-    /// Of the recording's index, if one is wanted.
-    pub index: Option<String>,
+    /// Of the recording's index.
+    pub index: String,
+    /// Whether an index is made.
+    pub is_indexed: bool,
     pub notice: String,
 }
 
-/// A film that is given: which file it is, where its name stands, and where its recording and the index of that are to
-/// be made.
+/// A film that is given: which file it is, where its name stands, and where its recording and the index of that stand
+/// or are to be made.
 #[derive(Clone, Copy)]
 pub struct Given<'a> {
     pub names: &'a Names<'a>,
     pub identity: Option<Identity>,
     pub spot: Option<Spot<'a>>,
     pub place: Place<'a>,
-    pub index: Option<Place<'a>>,
+    pub index: Place<'a>,
 }
 
-/// The names of each film.
-pub fn names_of<'a>(alloc: Global, asked: &Asked<'a>) -> Result<Vec<Names<'a>>, AllocError> {
+/// The names of each film, for a terminal whose lines have so many columns.
+pub fn names_of<'a>(
+    alloc: Global,
+    asked: &Asked<'a>,
+    columns: usize,
+) -> Result<Vec<Names<'a>>, AllocError> {
     let mut names = Vec::new(alloc);
     for file in &asked.files {
-        names.push(film_names(alloc, *file, asked.into, asked.index)?)?;
+        names.push(film_names(alloc, *file, asked.into, asked.index, columns)?)?;
     }
     Ok(names)
 }
@@ -42,19 +48,18 @@ fn film_names<'a>(
     file: &'a str,
     into: Option<&str>,
     is_indexed: bool,
+    columns: usize,
 ) -> Result<Names<'a>, AllocError> {
     let recording = recording_name(alloc, file, into)?;
-    let index = if is_indexed {
-        Some(format!(in alloc; "{recording}.index")?)
-    } else {
-        None
-    };
+    let index = format!(in alloc; "{recording}{INDEX}")?;
     // It goes over the line in its place that may be shown by then.
-    let notice = format!(in alloc; "{CLEARED}jlsrec: {file}: opened")?;
+    let (blanks, shown) = (cleared(alloc, columns)?, Shown(file));
+    let notice = format!(in alloc; "{blanks}jlsrec: {shown}: opened")?;
     Ok(Names {
         file,
         recording,
         index,
+        is_indexed,
         notice,
     })
 }
@@ -91,19 +96,15 @@ where
 /// The same, of one film.
 fn given_of<'a, R, O>(rt: &R, names: &'a Names<'a>, source: &Source<'a, O>) -> Given<'a>
 where
-    R: Files,
+    R: Files + AllocGlobal,
     O: Opens,
 {
-    let index = match &names.index {
-        Some(index) => Some(Place::of(rt, index.as_str())),
-        None => None,
-    };
     Given {
         names,
         identity: source.identity(),
         spot: Spot::of(rt, names.file),
         place: Place::of(rt, names.recording.as_str()),
-        index,
+        index: Place::of(rt, names.index.as_str()),
     }
 }
 
@@ -122,10 +123,7 @@ pub fn named_twice<'a>(names: &[Names<'a>]) -> Option<&'a str> {
 
 /// Whether the index of a film is to be called so.
 fn is_index_of(name: &str, film: &Names<'_>) -> bool {
-    match &film.index {
-        Some(index) => index.as_str() == name,
-        None => false,
-    }
+    film.is_indexed && film.index.as_str() == name
 }
 
 /// Whether a film has the name of another or of its recording, or their recordings have one name.
@@ -174,24 +172,18 @@ fn is_overwritten(film: &Given<'_>, other: &Given<'_>, replace: bool) -> bool {
 fn are_one(film: &Given<'_>, other: &Given<'_>) -> bool {
     film.place.is_one_with(&other.place)
         || (film.spot.is_some() && film.spot == other.place.spot())
-        || other.index.is_some_and(|index| has_index_at(film, &index))
+        || (other.names.is_indexed && has_index_at(film, &other.index))
 }
 
 /// Whether a film's index is to be made at this place.
 pub fn has_index_at(film: &Given<'_>, place: &Place<'_>) -> bool {
-    match &film.index {
-        Some(index) => index.is_one_with(place),
-        None => false,
-    }
+    film.names.is_indexed && film.index.is_one_with(place)
 }
 
 /// Whether the index of `other` would be one file with this film's recording, is where the film stands, or would be
 /// written into the film.
 fn meets_index(film: &Given<'_>, other: &Given<'_>, replace: bool) -> bool {
-    match &other.index {
-        Some(index) => is_met(film, index, replace),
-        None => false,
-    }
+    other.names.is_indexed && is_met(film, &other.index, replace)
 }
 
 /// Whether a report or an index would be one file with a film's recording, is where the film stands, or would be
@@ -202,4 +194,22 @@ pub fn is_met(film: &Given<'_>, place: &Place<'_>, replace: bool) -> bool {
         || film
             .identity
             .is_some_and(|identity| place.would_write_into(identity, replace))
+}
+
+/// Whether what stands where a film's index would be goes where its recording goes: unless no index is made, and the
+/// recording is written into a pipe or a device, or that is one of the films or where the report goes.
+pub fn has_index(film: &Given<'_>, given: &[Given<'_>], report: Option<&Place<'_>>) -> bool {
+    film.names.is_indexed || !(film.place.is_written_into() || is_given(&film.index, given, report))
+}
+
+/// Whether what stands at a place is one of the films, or where the report goes.
+fn is_given(place: &Place<'_>, given: &[Given<'_>], report: Option<&Place<'_>>) -> bool {
+    given.iter().any(|film| is_at(film, place))
+        || report.is_some_and(|report| report.is_one_with(place))
+}
+
+/// Whether a film stands at a place.
+fn is_at(film: &Given<'_>, place: &Place<'_>) -> bool {
+    (film.spot.is_some() && film.spot == place.spot())
+        || (film.identity.is_some() && film.identity == place.identity())
 }

@@ -11,5 +11,5 @@ mod opening;
 mod preset;
 
 pub use given::{Names, named_as_report, named_twice, names_of};
-pub use opening::{Film, Opened, Recording, Report, given_twice, open_films};
+pub use opening::{Film, Opened, Report, given_twice, open_films};
 pub use preset::tuning_of;

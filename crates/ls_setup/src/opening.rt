@@ -1,50 +1,54 @@
 //! Opening: the films to read, and the files for what is made of them.
-use crate::given::{Given, Names, has_index_at, is_met, look_at, written_twice};
+use crate::given::{Given, Names, has_index, has_index_at, is_met, look_at, written_twice};
 use ls_command::Recording as Asked;
-use ls_console::{Console, FAILED, Reader, USAGE, buffered, no_memory};
-use ls_files::{Opens, Place, Source, Target};
+use ls_console::{Console, FAILED, Reader, Shown, USAGE, buffered, no_memory, say_unmade};
+use ls_files::{Folders, Keeper, Makes, Opens, Place, Source, Target, Targets, Unmade};
 use ls_frame::Outlet;
 use std::alloc::{AllocError, Global};
 use std::rt::Files;
+use std::sync::Wait;
+use std::thread::Parker;
+use std::time::Duration;
 
-/// The file that a film's codestreams are to be written to, and that of their index, if there is to be one.
-#[derive(Drop)]
-pub struct Recording<'a, O: Opens> {
-    pub target: Target<'a, O>,
-    pub index: Option<Target<'a, O>>,
-}
-
-/// A film: what it is read by, and its recording.
+/// A film: what it is read by, what its codestreams are written to, and their index, if there is to be one.
 #[derive(Drop)]
 pub struct Film<'a, O: Opens> {
     pub reader: Reader<'a, O>,
-    pub recording: Recording<'a, O>,
+    pub recording: Targets<'a, O>,
 }
 
-/// A film that is opened, and whose recording's file is made, but that isn't read by way of a buffer yet.
+/// A film that is opened, and whose files are made, but that isn't read by way of a buffer yet.
 #[derive(Drop)]
 struct Made<'a, O: Opens> {
     names: &'a Names<'a>,
     source: Source<'a, O>,
-    recording: Recording<'a, O>,
+    recording: Targets<'a, O>,
 }
 
 /// Where a report goes: its file, and how that is called.
 #[derive(Drop)]
-pub struct Report<'a, O: Opens> {
+pub struct Report<'a, O: Makes> {
     pub path: &'a str,
     pub target: Target<'a, O>,
+    pub keeper: Keeper<O>,
 }
 
-/// The films, and where the report goes, if there is to be one.
+/// The films, what keeps the files of each, and where the report goes, if there is to be one.
 #[derive(Drop)]
-pub struct Opened<'a, O: Opens> {
+pub struct Opened<'a, O: Makes> {
     pub films: Vec<Film<'a, O>>,
+    pub keepers: Vec<Keeper<O>>,
     pub report: Option<Report<'a, O>>,
 }
 
+/// How often a folder that another program has locked is tried, and how many milliseconds are waited in between: a
+/// second in all.
+const TRIES: u32 = 100;
+
+const PAUSE: u64 = 10;
+
 /// Opens each film but the named pipes, and only then makes a file for the report and for the recording of each, once
-/// none is given twice; or says why not, and gives the status.
+/// none is given twice and none is made by another program; or says why not, and gives the status.
 pub fn open_films<'a, R, O, E>(
     rt: &R,
     opener: O,
@@ -53,38 +57,46 @@ pub fn open_films<'a, R, O, E>(
     console: &mut Console<'_, E>,
 ) -> Result<Opened<'a, O>, u8>
 where
-    R: Files + AllocGlobal,
-    O: Opens<File = R::File> + Copy,
+    R: Files + AllocGlobal + Wait,
+    O: Makes<File = R::File> + Copy + Drop,
     E: Outlet,
 {
     let sources = open_sources(rt, opener, names, console)?;
-    let (report, made) = make_files(rt, opener, asked, names, sources, console)?;
-    let films = films_of(rt.alloc(), made, console)?;
-    Ok(Opened { films, report })
-}
-
-/// Makes the file for the report, if there is to be one, and those for the recordings, once none is given twice; or
-/// says why not, and gives the status.
-fn make_files<'a, R, O, E>(
-    rt: &R,
-    opener: O,
-    asked: &Asked<'a>,
-    names: &'a [Names<'a>],
-    sources: Vec<Source<'a, O>>,
-    console: &mut Console<'_, E>,
-) -> Result<(Option<Report<'a, O>>, Vec<Made<'a, O>>), u8>
-where
-    R: Files + AllocGlobal,
-    O: Opens<File = R::File> + Copy,
-    E: Outlet,
-{
+    let Ok(folders) = lock_folders(rt, opener, names, asked.report) else {
+        return Err(no_memory(console));
+    };
     let given = given_once(rt, asked.replace, names, &sources, console)?;
-    let report = match asked.report {
-        Some(path) => Some(make_report(rt, opener, path, &given, asked.replace, console)?),
+    let place = report_place(rt, asked, &given, console)?;
+    // Every lock is taken before anything is changed.
+    let keeper = match &place {
+        Some(place) => Some(claim_report(rt.alloc(), opener, place, asked.replace, console)?),
         None => None,
     };
-    let made = make_recordings(rt, opener, &given, sources, asked.replace, console)?;
-    Ok((report, made))
+    let mut keepers = claim_all(
+        rt.alloc(),
+        opener,
+        &given,
+        place.as_ref(),
+        asked.replace,
+        console,
+    )?;
+    let report = match (place, keeper) {
+        (Some(place), Some(keeper)) => Some(make_report(
+            rt.alloc(),
+            place.path(),
+            keeper,
+            console,
+        )?),
+        _ => None,
+    };
+    let made = make_recordings(rt.alloc(), &given, sources, &mut keepers, console)?;
+    drop(folders);
+    let films = films_of(rt.alloc(), made, console)?;
+    Ok(Opened {
+        films,
+        keepers,
+        report,
+    })
 }
 
 /// What the films are and where their recordings are to be made, if none is given twice; or says so, and gives the
@@ -147,7 +159,7 @@ where
     } = made;
     if source.is_awaited() && console.is_terminal() {
         source.announce(names.notice.as_str());
-        let file = names.file;
+        let file = Shown(names.file);
         console.say(format_args!("{file}: waiting for what writes to it"));
     }
     match buffered(alloc, names.file, source, console) {
@@ -185,47 +197,176 @@ where
     Ok(sources)
 }
 
-/// Makes the file of the report; or says that it is given twice, or why it can't be made, and gives the status.
-fn make_report<'a, R, O, E>(
+/// Locks the folders in which files are to be made, so that programs which begin at once make theirs one after the
+/// other. What another program has locked for long is left: by what stands there it is seen, too, who has a file.
+fn lock_folders<R, O>(
     rt: &R,
     opener: O,
-    path: &'a str,
+    names: &[Names<'_>],
+    report: Option<&str>,
+) -> Result<Folders<O::File>, AllocError>
+where
+    R: AllocGlobal + Wait,
+    O: Makes + Copy + Drop,
+{
+    let mut folders = Folders::new(rt.alloc());
+    for film in names {
+        lock_folder(rt, opener, film.recording.as_str(), &mut folders)?;
+    }
+    if let Some(report) = report {
+        lock_folder(rt, opener, report, &mut folders)?;
+    }
+    Ok(folders)
+}
+
+/// The same, of the folder of a path.
+fn lock_folder<R, O>(
+    rt: &R,
+    opener: O,
+    path: &str,
+    folders: &mut Folders<O::File>,
+) -> Result<(), AllocError>
+where
+    R: Wait,
+    O: Makes + Copy + Drop,
+{
+    let pause = Parker::new();
+    for _try in 0..TRIES {
+        if folders.lock(&opener, path)? {
+            break;
+        }
+        pause.park_timeout(rt, Duration::from_millis(PAUSE));
+    }
+    Ok(())
+}
+
+/// Where the report goes, if there is to be one; or says that it is given twice, and gives the status.
+fn report_place<'a, R, E>(
+    rt: &R,
+    asked: &Asked<'a>,
     given: &[Given<'a>],
-    replace: bool,
     console: &mut Console<'_, E>,
-) -> Result<Report<'a, O>, u8>
+) -> Result<Option<Place<'a>>, u8>
 where
     R: Files + AllocGlobal,
-    O: Opens<File = R::File> + Copy,
     E: Outlet,
 {
+    let Some(path) = asked.report else {
+        return Ok(None);
+    };
     let place = Place::of(rt, path);
+    let replace = asked.replace;
     if given.iter().any(|film| is_met(film, &place, replace) || has_index_at(film, &place)) {
         return Err(given_twice(path, console));
     }
-    let target = make_target(rt, opener, &place, given, replace, console)?;
-    Ok(Report { path, target })
+    Ok(Some(place))
+}
+
+/// Locks what stands where the report goes; or says why it can't, and gives the status.
+fn claim_report<O, E>(
+    alloc: Global,
+    opener: O,
+    place: &Place<'_>,
+    replace: bool,
+    console: &mut Console<'_, E>,
+) -> Result<Keeper<O>, u8>
+where
+    O: Makes + Copy + Drop,
+    E: Outlet,
+{
+    match Keeper::claim(alloc, opener, place, None, replace) {
+        Ok(keeper) => Ok(keeper),
+        Err(unmade) => Err(say_unmade(place.path(), unmade.fault, console)),
+    }
+}
+
+/// Locks what stands where recordings and their indexes go; or says of the first that can't be locked, and gives the
+/// status.
+fn claim_all<O, E>(
+    alloc: Global,
+    opener: O,
+    given: &[Given<'_>],
+    report: Option<&Place<'_>>,
+    replace: bool,
+    console: &mut Console<'_, E>,
+) -> Result<Vec<Keeper<O>>, u8>
+where
+    O: Makes + Copy + Drop,
+    E: Outlet,
+{
+    let mut keepers = Vec::new(alloc);
+    for film in given {
+        let index = if has_index(film, given, report) {
+            Some(&film.index)
+        } else {
+            None
+        };
+        let keeper = match Keeper::claim(alloc, opener, &film.place, index, replace) {
+            Ok(keeper) => keeper,
+            Err(unmade) => return Err(say_film_unmade(film.names, unmade, console)),
+        };
+        if keepers.push(keeper).is_err() {
+            return Err(no_memory(console));
+        }
+    }
+    Ok(keepers)
+}
+
+/// Says which file of a film can't be made, and why; gives the status.
+fn say_film_unmade<E: Outlet>(
+    names: &Names<'_>,
+    unmade: Unmade,
+    console: &mut Console<'_, E>,
+) -> u8 {
+    let path = if unmade.is_index {
+        names.index.as_str()
+    } else {
+        names.recording.as_str()
+    };
+    say_unmade(path, unmade.fault, console)
+}
+
+/// Makes the file of the report; or says why it can't be made, and gives the status.
+fn make_report<'a, O, E>(
+    alloc: Global,
+    path: &'a str,
+    mut keeper: Keeper<O>,
+    console: &mut Console<'_, E>,
+) -> Result<Report<'a, O>, u8>
+where
+    O: Makes + Copy + Drop,
+    E: Outlet,
+{
+    match keeper.make(alloc, path, None) {
+        Ok(targets) => {
+            mention(path, keeper.renamed(), console);
+            Ok(Report {
+                path,
+                target: targets.recording,
+                keeper,
+            })
+        }
+        Err(unmade) => Err(say_unmade(path, unmade.fault, console)),
+    }
 }
 
 /// Makes the file of each recording, and that of its index if it is to have one; or says of the first that can't be
 /// made, and gives the status.
-fn make_recordings<'a, R, O, E>(
-    rt: &R,
-    opener: O,
+fn make_recordings<'a, O, E>(
+    alloc: Global,
     given: &[Given<'a>],
     sources: Vec<Source<'a, O>>,
-    replace: bool,
+    keepers: &mut [Keeper<O>],
     console: &mut Console<'_, E>,
 ) -> Result<Vec<Made<'a, O>>, u8>
 where
-    R: Files + AllocGlobal,
-    O: Opens<File = R::File> + Copy,
+    O: Makes + Copy + Drop,
     E: Outlet,
 {
-    let mut all = Vec::new(rt.alloc());
-    for (film, source) in given.iter().zip(sources) {
-        let recording = make_recording(rt, opener, film, given, replace, console)?;
+    let mut all = Vec::new(alloc);
+    for ((film, source), keeper) in given.iter().zip(sources).zip(keepers.iter_mut()) {
         let names = film.names;
+        let recording = make_recording(alloc, names, keeper, console)?;
         let made = Made {
             names,
             source,
@@ -238,61 +379,42 @@ where
     Ok(all)
 }
 
-/// The same, of one film among those that are given.
-fn make_recording<'a, R, O, E>(
-    rt: &R,
-    opener: O,
-    film: &Given<'a>,
-    given: &[Given<'a>],
-    replace: bool,
+/// The same, of one film.
+fn make_recording<'a, O, E>(
+    alloc: Global,
+    names: &'a Names<'a>,
+    keeper: &mut Keeper<O>,
     console: &mut Console<'_, E>,
-) -> Result<Recording<'a, O>, u8>
+) -> Result<Targets<'a, O>, u8>
 where
-    R: Files + AllocGlobal,
-    O: Opens<File = R::File> + Copy,
+    O: Makes + Copy + Drop,
     E: Outlet,
 {
-    let target = make_target(rt, opener, &film.place, given, replace, console)?;
-    let index = match &film.index {
-        Some(place) => Some(make_target(rt, opener, place, given, replace, console)?),
-        None => None,
+    let index = if names.is_indexed {
+        Some(names.index.as_str())
+    } else {
+        None
     };
-    Ok(Recording { target, index })
+    match keeper.make(alloc, names.recording.as_str(), index) {
+        Ok(targets) => {
+            mention(names.recording.as_str(), keeper.renamed(), console);
+            mention(names.index.as_str(), keeper.renamed_index(), console);
+            Ok(targets)
+        }
+        Err(unmade) => Err(say_film_unmade(names, unmade, console)),
+    }
 }
 
-/// Makes the file of a recording, of its index or of the report, and says how what stood there is called now, if that
-/// is told; or says why it can't be made, and gives the status.
-fn make_target<'a, R, O, E>(
-    rt: &R,
-    opener: O,
-    place: &Place<'a>,
-    given: &[Given<'a>],
-    replace: bool,
-    console: &mut Console<'_, E>,
-) -> Result<Target<'a, O>, u8>
-where
-    R: Files + AllocGlobal,
-    O: Opens<File = R::File> + Copy,
-    E: Outlet,
-{
-    let is_film = given.iter().any(|film| film.identity.is_some()
-        && film.identity == place.identity());
-    match place.make(rt, rt.alloc(), opener, replace, is_film) {
-        Ok(made) => {
-            if let Some(kept) = &made.kept {
-                console.mention(place.path(), kept);
-            }
-            Ok(made.target)
-        }
-        Err(fault) => {
-            console.say_unopened(place.path(), &fault);
-            Err(FAILED)
-        }
+/// Says how what stood at a path is called now, if it was renamed and that is told.
+fn mention<E: Outlet>(path: &str, renamed: Option<&str>, console: &mut Console<'_, E>) {
+    if let Some(name) = renamed {
+        console.mention(path, name);
     }
 }
 
 /// Says that a film, or the file of a recording, is given twice.
 pub fn given_twice<E: Outlet>(file: &str, console: &mut Console<'_, E>) -> u8 {
+    let file = Shown(file);
     console.say(format_args!("{file}: given twice"));
     USAGE
 }

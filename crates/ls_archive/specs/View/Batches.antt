@@ -26,7 +26,7 @@ pub record Place : Type 0 where
 
 -- a line of the index
 abbrev pub line_of : IndexLine → Line
-line_of line = record { text = line.text.items; size = line.size }
+line_of line = record { text = line.text.items; size = line.size; sum = line.sum }
 
 -- ---- lines that are taken
 

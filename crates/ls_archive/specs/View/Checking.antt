@@ -1,7 +1,9 @@
 -- What a check of a recording by its index finds: of each line of the index whether the codestream stands where it says and is as it was.
-use Rattle.std.specs.Prelude.{◌≡◌, ◌≢◌, ◌⊎◌, ℕ, ◌+◌, ◌<◌, ◌≤◌, Bool, List, [], ◌∷◌, ◌++◌, length, take, drop, decimal, codes}
+use Rattle.std.specs.Prelude.{◌≡◌, ◌≢◌, ◌⊎◌, ℕ, ◌+◌, ◌<◌, ◌≤◌, ◌^◌, Bool, List, [], ◌∷◌, ◌++◌, length, take, drop, flat_map, decimal, codes, Option, None, Some}
 use Rattle.std.specs.List.{AllByRecursion}
-use Rattle.ls_film.specs.Listing.{column}
+use Rattle.hex.specs.Hex.{encode_lower, IsBytes}
+use Rattle.ls_frame.specs.declared.frame.Kind.{Kind}
+use Rattle.ls_film.specs.Listing.{kind_text, column}
 use Rattle.ls_frame.specs.Picture.{Picture}
 use Rattle.ls_stream.specs.Grammar.{Spells, most_bytes}
 use Rattle.ls_stream.specs.View.Outlines.{IsFirstFault}
@@ -13,10 +15,11 @@ use Rattle.ls_archive.specs.declared.checking.Finding.{Finding}
 
 -- ---- lines
 
--- A line of an index, LF and all, and how many bytes it says that its codestream has.
+-- A line of an index, LF and all, how many bytes it says that its codestream has, and their SHA-256, if it says that.
 pub record Line : Type 0 where
   pub text : List ℕ
   pub size : ℕ
+  pub sum : Option (List ℕ)
 
 -- none of these bytes is LF
 abbrev pub HasNoLineFeed : List ℕ → Type 0
@@ -26,11 +29,38 @@ HasNoLineFeed bytes = AllByRecursion (λ byte. byte ≢ 10) bytes
 abbrev pub beginning : ℕ → ℕ → ℕ → List ℕ
 beginning n offset size = decimal n ++ (column offset ++ (column size ++ codes " "))
 
--- The line of codestream n, which begins at this offset: its beginning and what follows that, without LF, and then LF. It says no more
--- bytes than a codestream may have.
+-- so many numbers of 16 bits
+abbrev pub AreNumbers : ℕ → List ℕ → Type 0
+AreNumbers count numbers = (length numbers ≡ count) × AllByRecursion (λ number. number < 2 ^ 16) numbers
+
+-- the end, or a blank and what follows it
+abbrev pub EndsColumn : List ℕ → Type 0
+EndsColumn text = (text ≡ []) ⊎ ((more : List ℕ) × (text ≡ codes " " ++ more))
+
+-- a SHA-256, if there is one
+abbrev pub IsSum : Option (List ℕ) → Type 0
+IsSum None = Unit {0}
+IsSum (Some sum) = (length sum ≡ 32) × IsBytes sum
+
+-- a blank and the sum in hexadecimal after it, in lower case; or nothing, without a sum
+abbrev pub sum_at_end : Option (List ℕ) → List ℕ
+sum_at_end None = []
+sum_at_end (Some sum) = codes " " ++ encode_lower sum
+
+-- What follows the beginning of a line: the kind, eight numbers, and this sum, or nothing.
+pub record AreColumns (text : List ℕ) (sum : Option (List ℕ)) : Type 0 where
+  pub kind : Kind
+  pub numbers : List ℕ
+  pub are : AreNumbers 8 numbers
+  pub is_sum : IsSum sum
+  pub text_is : text ≡ kind_text kind ++ (flat_map column numbers ++ sum_at_end sum)
+
+-- The line of codestream n, which begins at this offset, as the line of some codestream is: its beginning, its columns, and LF. It says
+-- no more bytes than a codestream may have.
 pub record IsLine (n offset : ℕ) (l : Line) : Type 0 where
   pub few : l.size ≤ most_bytes
   pub rest : List ℕ
+  pub columns : AreColumns rest l.sum
   pub text_is : l.text ≡ (beginning n offset l.size ++ rest) ++ codes "\n"
   pub one : HasNoLineFeed (beginning n offset l.size ++ rest)
   pub short : length l.text ≤ 1024
@@ -73,6 +103,7 @@ pub record IsOf (n offset : ℕ) (l : Line) (bytes : List ℕ) (finding : Findin
   pub number : finding.number ≡ n
   pub place : finding.place ≡ offset
   pub count : finding.count ≡ l.size
+  pub sum : finding.sum ≡ l.sum
   pub damage : IsDamage n offset l bytes finding.damage
 
 -- Of these lines, the first of which is number n and says this offset, the bytes have codestreams that are good but for the findings.

@@ -48,6 +48,7 @@ pub record IsChecked (index recording : Option (List ℕ)) (found found' : Optio
   pub damaged : length findings ≡ checked.damaged
   pub told : FindsMore found found' findings
   pub are_found : Tells recording → AreFound 0 0 lines (known recording) findings
+  pub bytes : size_of lines ≡ checked.bytes
   pub more : Tells recording → IsTrue checked.more ↔ (size_of lines < length (known recording))
 
 -- what is wrong with the bytes of a line, or that they are good

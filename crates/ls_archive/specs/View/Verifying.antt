@@ -16,8 +16,10 @@ use Rattle.ls_film.specs.View.Playing.{BreaksBy}
 use Rattle.ls_archive.specs.declared.faults.VerifyFault.{VerifyFault}
 use Rattle.ls_archive.specs.declared.faults.VerifyFault.TheVariants.{Film, Recording, RecordingIo, NoMemory, TooMany}
 use Rattle.ls_archive.specs.View.Entries.{HasBytes}
+use Rattle.ls_archive.specs.declared.verifying.Difference.{Difference}
 use Rattle.ls_archive.specs.declared.verifying.Verdict.{Verdict}
 use Rattle.ls_archive.specs.declared.verifying.Verdict.TheVariants.{Same, Differs, Missing, Extra}
+use Rattle.ls_archive.specs.Verify.{difference_of}
 
 -- the bytes begin with an image of some frame
 abbrev pub BeginsWithImage : (List ℕ → Picture → Type 0) → List ℕ → Type 0
@@ -40,13 +42,14 @@ module _ (film film' recording recording' : Option (List ℕ)) where
     pub film_gave : GaveFilm IsImageOf film film' frames
     pub recording_gave : GaveFilm Spells recording recording' frames
 
-  -- Both gave the same n frames, and then two that differ.
-  pub record AreApart (n : ℕ) : Type 0 where
+  -- Both gave the same n frames, and then two that differ, in this.
+  pub record AreApart (n : ℕ) (what : Difference) : Type 0 where
     pub frames : List Picture
     pub f : Picture
     pub g : Picture
     pub count : length frames ≡ n
     pub differ : f ≢ g
+    pub what_is : what ≡ difference_of f g
     pub film_gave : GaveFrames IsImageOf film film' (frames ++ f ∷ [])
     pub recording_gave : GaveFrames Spells recording recording' (frames ++ g ∷ [])
 
@@ -69,7 +72,7 @@ module _ (film film' recording recording' : Option (List ℕ)) where
   -- what each verdict says
   abbrev pub Finds : Verdict → Type 0
   Finds (Same n) = AreSame n
-  Finds (Differs n) = AreApart n
+  Finds (Differs n what) = AreApart n what
   Finds (Missing n) = IsMissing n
   Finds (Extra n) = IsExtra n
 
@@ -100,7 +103,7 @@ GaveNext IsImage old new None = WasAtEnd old new
 
 -- the verdict on the frames of number n, or on the ends, of film and recording; none, if they are two frames and equal
 abbrev pub verdict_at : ℕ → Option Picture → Option Picture → Option Verdict
-verdict_at n (Some f) (Some g) = if same_picture f g then None else Some (Differs n)
+verdict_at n (Some f) (Some g) = if same_picture f g then None else Some (Differs n (difference_of f g))
 verdict_at n (Some f) None = Some (Missing n)
 verdict_at n None (Some g) = Some (Extra n)
 verdict_at n None None = Some (Same n)
@@ -117,7 +120,7 @@ pub record IsCompared (film film' recording recording' : Option (List ℕ)) (n :
 abbrev pub at_most : Option Verdict → Result Verdict VerifyFault
 at_most None = Err TooMany
 at_most (Some (Same n)) = Ok (Same n)
-at_most (Some (Differs n)) = Err TooMany
+at_most (Some (Differs n what)) = Err TooMany
 at_most (Some (Missing n)) = Err TooMany
 at_most (Some (Extra n)) = Err TooMany
 

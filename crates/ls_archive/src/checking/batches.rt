@@ -58,6 +58,7 @@ pub fn check_by<Rt: Threads + Sync, I: Feed, R: Feed, F: Findings>(
                 return Ok(Checked {
                     frames: so_far.number,
                     damaged: so_far.damaged,
+                    bytes: so_far.offset,
                     more,
                 });
             }
@@ -263,10 +264,11 @@ fn tell_of<F: Findings>(job: &Job, so_far: SoFar, findings: &mut F) -> Result<So
         Ok(damage) => damage,
         Err(_) => return Err(AllocError),
     };
-    let damaged = tell_damage(job.number, job.offset, job.line.size, damage, findings)?;
+    let damaged = tell_damage(job.number, job.offset, &job.line, damage, findings)?;
+    let size = job.line.size;
     Ok(SoFar {
         number: so_far.number + 1,
-        offset: so_far.offset + u64::from(job.line.size),
+        offset: so_far.offset + u64::from(size),
         damaged: so_far.damaged + damaged,
     })
 }

@@ -25,6 +25,8 @@ pub struct FilmWatch {
     /// When each frame that isn't written was read, by its number modulo the widest window.
     read_at: Vec<AtomicU64>,
     end: OnceLock<Result<u64, LaneFault>>,
+    /// Whether its lane has ended.
+    is_over: AtomicBool,
     /// Whether it was told why its recording stopped.
     told: AtomicBool,
 }
@@ -50,6 +52,7 @@ impl FilmWatch {
             queue_wait: zero(),
             read_at,
             end: OnceLock::new(),
+            is_over: AtomicBool::new(false),
             told: AtomicBool::new(false),
         })
     }
@@ -72,6 +75,7 @@ impl FilmWatch {
             Notice::Ended(result) => {
                 let _since = self.turn(now);
                 self.end_so(result);
+                self.is_over.store(true, Ordering::SeqCst);
             }
         }
     }
@@ -147,6 +151,22 @@ impl FilmWatch {
         } else {
             Doing::AwaitsWindow
         }
+    }
+
+    /// How it ended, if its lane has.
+    pub fn ended(&self) -> Option<Result<u64, LaneFault>> {
+        if !self.is_over.load(Ordering::SeqCst) {
+            return None;
+        }
+        match self.end.get() {
+            Some(result) => Some(*result),
+            None => None,
+        }
+    }
+
+    /// The number of codestreams that were written.
+    pub fn written(&self) -> u64 {
+        self.written.load(Ordering::SeqCst)
     }
 
     /// Why its recording stopped, if it did and no call has answered that before.

@@ -17,7 +17,7 @@ returns-in_default-clause-checked g c =
 
 pub loop-number-preserved : goal.loop-number-preserved
 loop-number-preserved g c =
-    let l : Line = record { text = c.in-Some.line.text.items; size = c.in-Some.line.size } in
+    let l : Line = record { text = c.in-Some.line.text.items; size = c.in-Some.line.size; sum = c.in-Some.line.sum } in
     let is = rw c.in-Some.is at c.in_ok-line.ensures.is in
     let gave = rw c.in-Some.is at c.in_ok-line.ensures.gave in
     record {

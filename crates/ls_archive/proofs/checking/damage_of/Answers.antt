@@ -13,7 +13,7 @@ returns-in_default-clause-damaged c = λ good. c.in_default.ensures.none good.fr
 
 pub returns-in_default-clause-damage : goal.returns-in_default-clause-damage
 returns-in_default-clause-damage c =
-    let l : Line = record { text = c.args.line.now.text.items; size = c.args.line.now.size } in
+    let l : Line = record { text = c.args.line.now.text.items; size = c.args.line.now.size; sum = c.args.line.now.sum } in
     rw c.changed.ensures
     (damage_by c.args.number c.args.offset l c.args.bytes.items (λ has. c.in_default.ensures.no_entry has.entry has.is_entry has.bytes_are) _ (search rules))
 
@@ -45,7 +45,7 @@ returns-clause-damage c =
     let e = c.in-Some.indexed in
     let is = c.in-Some.ensures.entry in
     let bytes = c.args.bytes.items in
-    let l : Line = record { text = c.args.line.now.text.items; size = c.args.line.now.size } in
+    let l : Line = record { text = c.args.line.now.text.items; size = c.args.line.now.size; sum = c.args.line.now.sum } in
     let same : c.bytes.result.now ≡ bytes = c.bytes.ensures.value ∙ is.1 in
     let has : (c.args.line.now.text.items ≡ line true c.args.number c.args.offset e) ⊎ (c.args.line.now.text.items ≡ line false c.args.number c.args.offset e) = search rules in
     let line = has_line c.args.number c.args.offset e c.args.line.now.text.items bytes is.0 is.1 has in

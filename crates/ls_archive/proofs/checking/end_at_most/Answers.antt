@@ -15,7 +15,7 @@ returns-clause-checked g c = λ lines whole found found' run.
 pub returns-in_default-clause-stops : goal.returns-in_default-clause-stops
 returns-in_default-clause-stops g c = λ lines whole found found' run.
     let next = c.in_default.field-0 in
-    let l : Line = record { text = next.text.items; size = next.size } in
+    let l : Line = record { text = next.text.items; size = next.size; sum = next.sum } in
     let is = rw c.in_default.is at c.in_ok-next_line.ensures.is in
     let gave = rw c.in_default.is at c.in_ok-next_line.ensures.gave in
     stops-after lines (g.I.Read.remaining c.args.index.now) whole (g.R.Read.remaining c.args.recording.now) found found' found'

@@ -1,35 +1,42 @@
 //! What came of each film, said once its recording has ended and is on the disk.
-use crate::recording::{FilmTrack, Recorded, Writer};
+use crate::kept::Kept;
+use crate::recording::{FilmTrack, MOST_FILES, Recorded, Writer};
+use crate::watch::Watch;
 use ls_archive::{Follower, IndexFault};
 use ls_console::{
-    Cause, Console, DONE, EndedIndex, FAILED, Reader, cause_of_input, explain, no_memory,
+    Cause, Console, DONE, EndedIndex, FAILED, Reader, Shown, cause_of_input, explain, no_memory,
     say_index_end, say_unsynced, write_text,
 };
-use ls_files::{Opens, Target};
+use ls_files::{Makes, Opens, Target};
 use ls_frame::{Counted, Failed, Outlet};
 use ls_recorder::{LaneFault, Track};
-use ls_setup::Names;
 use std::alloc::{AllocError, Global};
 use std::io::Write;
+use std::time::Clock;
 
-/// Says what came of each film, or why nothing did; answers the status.
-pub fn say_recorded<O, W, E>(
+/// Says how each film's recording ended, unless that was told while it was watched, or why none began; answers the
+/// status.
+pub fn say_recorded<R, O, W, E>(
     alloc: Global,
-    names: &[Names<'_>],
+    watch: &Watch<'_, R>,
+    mut kept: Vec<Kept<'_, O>>,
     recorded: Recorded<Reader<'_, O>, Writer<'_, O>>,
-    told: &[bool],
     output: &mut Counted<W>,
     console: &mut Console<'_, E>,
 ) -> u8
 where
-    O: Opens + Copy,
+    R: Clock,
+    O: Makes + Copy,
     W: Write,
     E: Outlet,
 {
     match recorded {
-        Ok(recording) => say_tracks(alloc, names, recording.tracks, told, output, console),
+        Ok(recording) => say_tracks(alloc, watch, &mut kept, recording.tracks, output, console),
         Err((fault, _films)) => {
             console.say(fault);
+            for kept in kept.iter_mut() {
+                kept.give_back();
+            }
             FAILED
         }
     }
@@ -43,45 +50,51 @@ struct Ended<'a, O: Opens> {
     index: Option<EndedIndex<'a, O>>,
 }
 
-/// Syncs each recording and says of each film whose recording stopped why it did, unless that was told, then of each
-/// other film how many frames were recorded; answers the status.
-fn say_tracks<O, W, E>(
+/// Settles each film's files that aren't yet, and says of each film whose recording stopped why it did, unless that was
+/// told, then of each other film how many frames were recorded; answers the status.
+fn say_tracks<R, O, W, E>(
     alloc: Global,
-    names: &[Names<'_>],
+    watch: &Watch<'_, R>,
+    kept: &mut [Kept<'_, O>],
     tracks: Vec<FilmTrack<'_, O>>,
-    told: &[bool],
     output: &mut Counted<W>,
     console: &mut Console<'_, E>,
 ) -> u8
 where
-    O: Opens + Copy,
+    R: Clock,
+    O: Makes + Copy,
     W: Write,
     E: Outlet,
 {
-    let Ok(recordings) = end_tracks(alloc, names, tracks, told, console) else {
+    let Ok(recordings) = end_tracks(alloc, watch, kept, tracks, console) else {
         return no_memory(console);
     };
-    let status = say_counts(alloc, names, &recordings, output, console);
+    let status = say_counts(alloc, kept, &recordings, output, console);
     release(recordings);
     status
 }
 
-/// Syncs each recording, and says of each film whose recording stopped why it did, unless that was told.
-fn end_tracks<'a, O, E>(
+/// Settles each film's files that aren't yet, and says of each film whose recording stopped why it did, unless that was
+/// told.
+fn end_tracks<'a, R, O, E>(
     alloc: Global,
-    names: &[Names<'_>],
+    watch: &Watch<'_, R>,
+    kept: &mut [Kept<'_, O>],
     tracks: Vec<FilmTrack<'a, O>>,
-    told: &[bool],
     console: &mut Console<'_, E>,
 ) -> Result<Vec<Ended<'a, O>>, AllocError>
 where
-    O: Opens + Copy,
+    R: Clock,
+    O: Makes + Copy,
     E: Outlet,
 {
+    let mut told = [false; MOST_FILES];
+    watch.told(&mut told);
     let mut recordings = Vec::new(alloc);
-    for (film, track) in names.iter().zip(tracks) {
-        let was_told = is_told(told, recordings.len());
-        recordings.push(say_end(film, track, was_told, console))?;
+    for (kept, track) in kept.iter_mut().zip(tracks) {
+        let film = recordings.len();
+        let written = watch.written(film);
+        recordings.push(say_end(kept, track, written, is_told(&told, film), console))?;
     }
     Ok(recordings)
 }
@@ -104,63 +117,69 @@ fn is_told(told: &[bool], film: usize) -> bool {
     }
 }
 
-/// Brings what was written of a film onto the disk, and says why its recording stopped, if it did and that wasn't told.
+/// Settles a film's files, unless they are, and says why its recording stopped, if it did and that wasn't told.
 fn say_end<'a, O, E>(
-    names: &Names<'_>,
+    kept: &mut Kept<'_, O>,
     track: FilmTrack<'a, O>,
+    written: u64,
     was_told: bool,
     console: &mut Console<'_, E>,
 ) -> Ended<'a, O>
 where
-    O: Opens + Copy,
+    O: Makes + Copy,
     E: Outlet,
 {
+    let names = kept.names;
     let file = names.file;
     let Track {
         reader,
         writer,
         result,
     } = track;
+    let synced = kept.settle(result, written);
     let (writer, follower, broken) = writer.into_parts();
-    let written = writer.last_failure();
+    let failure = writer.last_failure();
     let target = writer.into_inner();
-    let frames = match (result, target.sync()) {
+    let frames = match (result, synced.recording) {
         (Ok(frames), Ok(())) => Some(frames),
-        (Ok(_), Err(fault)) => {
-            say_unsynced(file, &target, Failed::from(fault), console);
+        (Ok(_), Err(failure)) => {
+            say_unsynced(file, &target, failure, console);
             None
         }
         (Err(fault), _) => {
             if !was_told {
-                console.say(format_args!("{file}: {fault}"));
+                let shown = Shown(file);
+                console.say(format_args!("{shown}: {fault}"));
             }
-            explain(file, cause_of(fault), &reader, written, console);
+            match cause_of(fault) {
+                Cause::Writing => console.blame_writing(file, failure, Some(written)),
+                cause => explain(file, cause, &reader, None, console),
+            }
             None
         }
+    };
+    if let Some(name) = kept.left_over() {
+        console.mention(names.recording.as_str(), name);
+    }
+    let index = match follower {
+        Some(follower) => {
+            let broken = broken.map(|fault| (fault, cause_of_index(fault)));
+            let index = follower.into_inner();
+            Some(say_index_end(
+                kept.names.index.as_str(),
+                index,
+                synced.index,
+                broken,
+                console,
+            ))
+        }
+        None => None,
     };
     Ended {
         frames,
         target,
-        index: say_index(&names.index, follower, broken, console),
+        index,
     }
-}
-
-/// Brings the index of a recording onto the disk, if it has one, and says why it isn't whole, if it isn't.
-fn say_index<'a, O, E>(
-    path: &Option<String>,
-    follower: Option<Follower<Counted<Target<'a, O>>>>,
-    broken: Option<IndexFault>,
-    console: &mut Console<'_, E>,
-) -> Option<EndedIndex<'a, O>>
-where
-    O: Opens + Drop,
-    E: Outlet,
-{
-    let (Some(path), Some(follower)) = (path, follower) else {
-        return None;
-    };
-    let broken = broken.map(|fault| (fault, cause_of_index(fault)));
-    Some(say_index_end(path.as_str(), follower.into_inner(), broken, console))
 }
 
 /// What it comes of that an index broke off.
@@ -180,24 +199,29 @@ fn cause_of(fault: LaneFault) -> Cause {
     }
 }
 
-/// Says how many frames each recording has that is whole; answers the status of all.
+/// Says how many frames each recording has that is whole, unless that was told; answers the status of all.
 fn say_counts<O, W, E>(
     alloc: Global,
-    names: &[Names<'_>],
+    kept: &[Kept<'_, O>],
     recordings: &[Ended<'_, O>],
     output: &mut Counted<W>,
     console: &mut Console<'_, E>,
 ) -> u8
 where
-    O: Opens,
+    O: Makes,
     W: Write,
     E: Outlet,
 {
     let mut status = DONE;
-    for (film, recording) in names.iter().zip(recordings) {
+    for (kept, recording) in kept.iter().zip(recordings) {
+        // After a line that couldn't be written, none is.
+        if Outlet::failures(output) > 0 {
+            return FAILED;
+        }
         match recording.frames {
+            Some(_) if kept.is_told => {}
             Some(frames) => {
-                let said = say_count(alloc, film.file, frames, output, console);
+                let said = say_count(alloc, kept.names.file, frames, output, console);
                 if said != DONE {
                     return said;
                 }
@@ -220,13 +244,14 @@ fn is_broken<O: Opens>(index: &Option<EndedIndex<'_, O>>) -> bool {
 }
 
 /// Says how many frames of a film were recorded, and answers the status.
-fn say_count<W: Write, E: Outlet>(
+pub fn say_count<W: Write, E: Outlet>(
     alloc: Global,
     file: &str,
     frames: u64,
     output: &mut Counted<W>,
     console: &mut Console<'_, E>,
 ) -> u8 {
+    let file = Shown(file);
     match format!(in alloc; "{file}: {frames} frames\n") {
         Ok(line) => write_text(line.as_bytes(), output, console),
         Err(_) => no_memory(console),

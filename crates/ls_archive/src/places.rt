@@ -1,0 +1,264 @@
+//! Where the codestreams of an index stand in a recording, if not at the offsets that it says.
+ghost use Rattle.std.specs.Prelude.{◌≡◌, ◌⊎◌, ◌<◌, ◌^◌, length, IfOk, IfErr, IfSome, IsTrue};
+ghost use Rattle.ls_frame.specs.View.Chunks.{left_in, inner_reader};
+ghost use Rattle.ls_frame.specs.View.Devices.{count_after};
+ghost use Rattle.ls_salvage.specs.View.Ends.{failed_read};
+ghost use Rattle.ls_archive.specs.View.Checks.{failed_index, failed_recording};
+ghost use Rattle.ls_archive.specs.View.Places.{GaveStanding, IsSmall};
+
+use crate::checking::{CheckFault, next_line};
+use crate::entry::Indexed;
+use ls_film::MOST_FRAMES;
+use ls_frame::{Buffered, Feed};
+use ls_salvage::faults::ReadFault;
+use ls_salvage::parts::pass_gap;
+use ls_salvage::starts::MOST_PLACE;
+use ls_stream::{NextFault, next_stream};
+use sha2::{Digest, Sha256};
+use std::alloc::{AllocError, Global};
+use std::collections::HashMap;
+
+/// A codestream that is looked for: what its line of an index says of it.
+#[derive(Clone, Copy, Debug, Drop, PartialEq, Eq)]
+pub struct Wanted {
+    /// The offset at which it should begin.
+    pub place: u64,
+    /// How many bytes it has.
+    pub count: u64,
+    /// Their SHA-256; one without it is never found.
+    pub sum: Option<[u8; 32]>,
+}
+
+/// Reads the lines of an index, and gives what each says of its codestream, in their order.
+///
+/// A line has the form that `check` asks for, and a fault says what it says there; `Io` never comes.
+pub fn read_index<I: Feed>(alloc: Global, index: &mut I) -> Result<Vec<Wanted>, CheckFault>
+    ensures reads { I.failed_reads index.new ≡ count_after (failed_index result) (I.failed_reads index.old) }
+{
+    let mut wanted = Vec::new(alloc);
+    let mut offset = 0;
+    for number in 0..MOST_FRAMES {
+        let Some(line) = next_line(alloc, index, number, offset)? else {
+            return Ok(wanted);
+        };
+        let count = u64::from(line.size);
+        let said = Wanted {
+            place: offset,
+            count,
+            sum: line.sum,
+        };
+        if wanted.push(said).is_err() {
+            return Err(CheckFault::NoMemory);
+        }
+        offset += count;
+    }
+    match next_line(alloc, index, MOST_FRAMES, offset)? {
+        None => Ok(wanted),
+        Some(_) => Err(CheckFault::TooMany),
+    }
+}
+
+/// Looks for codestreams in a recording, wherever they stand in it, and gives the place of each that was found.
+///
+/// It goes through the recording by codestreams that are complete by their markers and headers, and past other bytes to
+/// the next place where one may begin, as a salvage does; so of bytes with a sum that is wanted it sees those that
+/// stand at such a place. Each place is given once: to the codestream that should stand there, or else to the first
+/// with that sum that has none yet. `wanted` are in the order of their places; below `end` a place that is no wanted
+/// one's is passed over, since the codestream that should stand there does.
+///
+/// If no end is found within as many bytes as a codestream may have, it stops there, with what was found before.
+pub fn find_places<R: Feed>(
+    alloc: Global,
+    recording: &mut Buffered<R>,
+    wanted: &[Wanted],
+    end: u64,
+) -> Result<Vec<Option<u64>>, CheckFault>
+    ensures count { IfOk result (λ places. length places.items ≡ length wanted.now) }
+    ensures blame { IfErr result (λ fault. (fault ≡ CheckFault.Io) ⊎ (fault ≡ CheckFault.NoMemory)) }
+    ensures reads { R.failed_reads (inner_reader recording.new) ≡ count_after (failed_recording result) (R.failed_reads (inner_reader recording.old)) }
+{
+    let mut search = Search::new(alloc, wanted)?;
+    let mut places = vec![in alloc; None; wanted.len()]?;
+    let mut place = 0;
+    'steps: for _ in 0..MOST_PLACE {
+        if place >= MOST_PLACE {
+            return Ok(places);
+        }
+        match next_standing(alloc, recording) {
+            Ok(Some(Standing::Codestream(indexed))) => {
+                let bytes = indexed.bytes();
+                let sum: [u8; 32] = Sha256::digest(bytes);
+                let picked = search.pick(wanted, &places, place, end, bytes.len() as u64, &sum);
+                give_place(wanted, &mut places, picked, place, bytes.len() as u64, &sum);
+                place += bytes.len() as u64;
+            }
+            Ok(Some(Standing::Gap(count))) => place += count,
+            Ok(None) => return Ok(places),
+            Err(ReadFault::Io) => return Err(CheckFault::Io),
+            Err(ReadFault::NoMemory) => return Err(CheckFault::NoMemory),
+            Err(_) => return Ok(places),
+        }
+    }
+    Ok(places)
+}
+
+/// What stands next in a recording.
+#[derive(Drop)]
+enum Standing {
+    /// A codestream that is complete by its markers and headers.
+    Codestream(Indexed),
+    /// So many bytes that were passed over.
+    Gap(u64),
+}
+
+/// Takes what stands next off a reader; `None` exactly at its end.
+fn next_standing<R: Feed>(
+    alloc: Global,
+    reader: &mut Buffered<R>,
+) -> Result<Option<Standing>, ReadFault>
+    ensures small { IfOk result (λ next. IfSome next IsSmall) }
+    ensures standing { IfOk result (λ next. IfSome next (GaveStanding (left_in R.remaining reader.old) (left_in R.remaining reader.new))) }
+    ensures failures { R.failed_reads (inner_reader reader.new) ≡ count_after (failed_read result) (R.failed_reads (inner_reader reader.old)) }
+{
+    let mut bytes = match next_stream(alloc, reader) {
+        Ok(Some(bytes)) => bytes,
+        Ok(None) => return Ok(None),
+        Err(NextFault::TooLarge) => return Err(ReadFault::NoEnd),
+        Err(NextFault::Io) => return Err(ReadFault::Io),
+        Err(NextFault::NoMemory) => return Err(ReadFault::NoMemory),
+    };
+    match Indexed::take(alloc, &mut bytes) {
+        Some(indexed) => Ok(Some(Standing::Codestream(indexed))),
+        None => Ok(Some(Standing::Gap(pass_gap(alloc, reader, &bytes)?))),
+    }
+}
+
+/// Gives a place, at which so many bytes with this sum stand, to the one that was picked, if it is of such and has no
+/// place yet.
+fn give_place(
+    wanted: &[Wanted],
+    places: &mut Vec<Option<u64>>,
+    picked: usize,
+    place: u64,
+    count: u64,
+    sum: &[u8; 32],
+)
+    requires { length places.old.items ≡ length wanted.now }
+    ensures as_many { length places.new.items ≡ length places.old.items }
+{
+    if fits(wanted, places, picked, count, sum) {
+        places[picked] = Some(place);
+    }
+}
+
+/// Whether the codestream of this number among those that are wanted has so many bytes with this sum, and no place yet.
+fn fits(
+    wanted: &[Wanted],
+    places: &[Option<u64>],
+    number: usize,
+    count: u64,
+    sum: &[u8; 32],
+) -> bool
+    requires { length places.now ≡ length wanted.now }
+    ensures { IsTrue result → number < length wanted.now }
+{
+    number < wanted.len()
+        && places[number].is_none()
+        && wanted[number].count == count
+        && wanted[number].sum == Some(*sum)
+}
+
+/// How far a search is.
+#[derive(Drop)]
+struct Search {
+    /// The number of the first with a sum that may have no place yet, by the sum.
+    first: HashMap<[u8; 32], usize>,
+    /// For each that is wanted the number of the next with its sum, or how many are wanted.
+    next: Vec<usize>,
+    /// The number of the first that doesn't end before the place.
+    here: usize,
+}
+
+impl Search {
+    fn new(alloc: Global, wanted: &[Wanted]) -> Result<Search, AllocError> {
+        let mut first = HashMap::new(alloc);
+        let mut next = vec![in alloc; wanted.len(); wanted.len()]?;
+        let mut number = wanted.len();
+        'chain: while number > 0 {
+            number -= 1;
+            let Some(Wanted { sum: Some(sum), .. }) = wanted.get(number) else {
+                continue 'chain;
+            };
+            match first.insert(*sum, number) {
+                Ok(Some(later)) => {
+                    if let Some(next) = next.get_mut(number) {
+                        *next = later;
+                    }
+                }
+                Ok(None) => {}
+                Err(_) => return Err(AllocError),
+            }
+        }
+        Ok(Search {
+            first,
+            next,
+            here: 0,
+        })
+    }
+
+    /// The number of the one to which so many bytes with this sum, which stand at this place, are to be given.
+    fn pick(
+        &mut self,
+        wanted: &[Wanted],
+        places: &[Option<u64>],
+        place: u64,
+        end: u64,
+        count: u64,
+        sum: &[u8; 32],
+    ) -> usize
+        requires { length places.now ≡ length wanted.now }
+    {
+        self.here = pass_ended(wanted, self.here, place);
+        if self.here < wanted.len() && wanted[self.here].place <= place {
+            if wanted[self.here].place == place && fits(wanted, places, self.here, count, sum) {
+                return self.here;
+            }
+        } else if place < end {
+            return wanted.len();
+        }
+        let Some(first) = self.first.get_mut(sum) else {
+            return wanted.len();
+        };
+        let number = pass_given(places, &self.next, *first);
+        *first = number;
+        number
+    }
+}
+
+/// The number, from `here` on, of the first that doesn't end before this place.
+fn pass_ended(wanted: &[Wanted], here: usize, place: u64) -> usize {
+    let mut here = here;
+    'here: while here < wanted.len()
+        && wanted[here].place.saturating_add(wanted[here].count) <= place
+    {
+        here += 1;
+    }
+    here
+}
+
+/// The first without a place, from this number on, of those with one sum.
+fn pass_given(places: &[Option<u64>], next: &[usize], number: usize) -> usize {
+    let mut number = number;
+    'given: while number < places.len() && places[number].is_some() {
+        let later = if number < next.len() {
+            next[number]
+        } else {
+            number
+        };
+        if later <= number {
+            return places.len();
+        }
+        number = later;
+    }
+    number
+}

@@ -1,0 +1,323 @@
+"""Files that are read as they were when they were opened, and files that are put in their places once they are whole."""
+
+from __future__ import annotations
+
+import contextlib
+import errno
+import fcntl
+import itertools
+import os
+import stat
+from collections.abc import Iterator
+from typing import Optional, Union
+
+Name = Union[str, os.PathLike]
+
+# What the system answers if a file system has no hard links, no locks, or no syncing.
+LACKING = {
+    errno.EPERM, errno.EXDEV, errno.EMLINK, errno.ENOSYS, errno.ENOTSUP, errno.EOPNOTSUPP, errno.EINVAL, errno.ENOLCK
+}
+# A read by the system takes less than 2^31 bytes.
+READ = 1 << 30
+EDGE = 4096
+
+
+class RecordingChanged(OSError):
+    """A recording that isn't what it was when it was opened: its file has shrunk, or was written over."""
+
+
+class Reading:
+    """A file that is read at any place, as it was when it was opened.
+
+    What is written behind its end later isn't seen. The file is closed once nobody holds it, so that no thread reads
+    from another file that got its number.
+    """
+
+    def __init__(self, path: Name) -> None:
+        """Opens a file. Raises OSError where it can't be opened, or has no places, as a pipe has none."""
+        self._number = -1
+        self._path = os.fsdecode(path)
+        # Looked at first, since the opening and closing of a pipe would end what writes to it.
+        mode = os.stat(path).st_mode
+        if stat.S_ISDIR(mode):
+            raise IsADirectoryError(errno.EISDIR, os.strerror(errno.EISDIR), self._path)
+        if not stat.S_ISREG(mode):
+            raise OSError(errno.ESPIPE, "not a regular file", self._path)
+        self._number = os.open(path, os.O_RDONLY | os.O_CLOEXEC)
+        opened = os.fstat(self._number)
+        self.size = opened.st_size
+        self._changed = opened.st_ctime_ns
+        self._edges = self._read_edges()
+
+    def __del__(self) -> None:
+        if self._number >= 0:
+            os.close(self._number)
+
+    def read(self, start: int, end: int) -> bytes:
+        """The bytes from start to end, both within its size. Raises RecordingChanged if the file isn't as it was."""
+        data = os.pread(self._number, min(end - start, READ), start)
+        if len(data) < end - start:
+            data = self._read_on(data, start, end)
+        # The time goes by with each change, also with one that only adds to the file: then its edges are as they were.
+        now = os.fstat(self._number)
+        if now.st_size < self.size or now.st_ctime_ns != self._changed:
+            self._look(now)
+        return data
+
+    def _read_on(self, data: bytes, start: int, end: int) -> bytes:
+        parts, start = [data], start + len(data)
+        while start < end:
+            data = os.pread(self._number, min(end - start, READ), start)
+            if not data:
+                self._look(os.fstat(self._number))
+                raise RecordingChanged(errno.ESTALE, "it has no more bytes, where it had some", self._path)
+            parts.append(data)
+            start += len(data)
+        return b"".join(parts)
+
+    def _look(self, now: os.stat_result) -> None:
+        """Looks at a file that was changed."""
+        if now.st_size < self.size:
+            raise RecordingChanged(
+                errno.ESTALE, f"it has shrunk from {self.size} to {now.st_size} bytes since it was opened", self._path
+            )
+        if self._read_edges() != self._edges:
+            raise self.written_over()
+        self._changed = now.st_ctime_ns
+
+    def written_over(self) -> RecordingChanged:
+        """The error of a file that holds other bytes than it did."""
+        return RecordingChanged(errno.ESTALE, "it was written over since it was opened", self._path)
+
+    def _read_edges(self) -> tuple[bytes, bytes]:
+        """The first and the last bytes of what was there when it was opened."""
+        return (
+            os.pread(self._number, min(EDGE, self.size), 0),
+            os.pread(self._number, min(EDGE, self.size), self.size - min(EDGE, self.size)),
+        )
+
+
+def write_all(number: int, data: Union[bytes, memoryview]) -> None:
+    """Writes all bytes to a descriptor, however few the system takes at a time."""
+    left = memoryview(data)
+    while len(left) > 0:
+        taken = os.write(number, left)
+        if taken == 0:
+            raise OSError(errno.EIO, "nothing more was taken")
+        left = left[taken:]
+
+
+def is_same(one: Name, other: Name) -> bool:
+    """Whether two names are of one file, by its device and inode; or the same name, where there is no file."""
+    try:
+        return os.path.samefile(one, other)
+    except OSError:
+        return os.path.realpath(one) == os.path.realpath(other)
+
+
+class NewFile:
+    """A file that is made beside its place, and is put there once it is whole.
+
+    Until then it is PATH.part, or PATH.part.1, .. where that name is taken, and what stands at PATH is as it was. An
+    existing file is replaced only if that is asked for: by a rename, so that whoever has it open reads on in it. The
+    new one has its permissions, and a link to it stays one. A file that may not be written isn't replaced, nor one of
+    which another program holds a lock (flock). A pipe or a device is written to where it is.
+
+        with NewFile(path, replace) as file:
+            file.write(data)
+
+    If the block raises an error, nothing is left of the new file.
+    """
+
+    def __init__(self, path: Name, replace: bool = False) -> None:
+        """Makes the file beside. Raises FileExistsError if there is a file at PATH that isn't to be replaced."""
+        self.path = os.fsdecode(path)
+        self.part: Optional[str] = None
+        self.number = -1
+        self.count = 0
+        self.earlier = 0
+        # Of a name that begins at the working folder, which may change meanwhile.
+        self._place = self.path if os.path.isabs(self.path) else os.path.join(os.getcwd(), self.path)
+        self._replace = replace
+        with self.named():
+            self._make()
+
+    def _make(self) -> None:
+        earlier = None
+        if os.path.lexists(self._place):
+            if not self._replace:
+                raise FileExistsError(errno.EEXIST, os.strerror(errno.EEXIST))
+            if os.path.exists(self._place):
+                earlier = os.stat(self._place)
+        if earlier is not None and not stat.S_ISREG(earlier.st_mode):
+            self.number = os.open(self._place, os.O_WRONLY | os.O_CLOEXEC)
+        else:
+            self._place = os.path.realpath(self._place)
+            self._make_beside(earlier)
+        self._made = os.fstat(self.number)
+
+    def _make_beside(self, earlier: Optional[os.stat_result]) -> None:
+        """Makes the file, with the owner and the permissions of an earlier one."""
+        if earlier is None:
+            self.part, self.number = self._beside(0o666)
+            return
+        os.close(self._locked())
+        self.earlier = earlier.st_size
+        mode = stat.S_IMODE(earlier.st_mode)
+        self.part, self.number = self._beside(mode)
+        made = os.fstat(self.number)
+        if (made.st_uid, made.st_gid) != (earlier.st_uid, earlier.st_gid):
+            with contextlib.suppress(OSError):
+                os.fchown(self.number, earlier.st_uid, earlier.st_gid)
+        with contextlib.suppress(OSError):
+            os.fchmod(self.number, mode)
+
+    def _beside(self, mode: int) -> tuple[str, int]:
+        """A new file of a name that nobody has."""
+        for count in itertools.count():
+            part = f"{self._place}.part{f'.{count}' if count > 0 else ''}"
+            with contextlib.suppress(FileExistsError):
+                return part, os.open(part, os.O_WRONLY | os.O_CREAT | os.O_EXCL | os.O_CLOEXEC, mode)
+        raise AssertionError("there is always another number")
+
+    def _locked(self) -> int:
+        """Opens the earlier file and locks it. Raises OSError if it may not be written, or if another holds its lock."""
+        number = os.open(self._place, os.O_WRONLY | os.O_NONBLOCK | os.O_CLOEXEC)
+        try:
+            if not stat.S_ISREG(os.fstat(number).st_mode):
+                raise OSError(errno.EEXIST, "not a regular file any more")
+            fcntl.flock(number, fcntl.LOCK_EX | fcntl.LOCK_NB)
+        except OSError as error:
+            if isinstance(error, BlockingIOError):
+                os.close(number)
+                raise BlockingIOError(error.errno, "another program is writing it") from None
+            if error.errno not in LACKING:
+                os.close(number)
+                raise
+        return number
+
+    @contextlib.contextmanager
+    def named(self) -> Iterator[None]:
+        """Gives an error of the system the name that the caller gave the file."""
+        try:
+            yield
+        except OSError as error:
+            if error.errno is None:
+                raise
+            raise OSError(error.errno, error.strerror, self.path) from None
+
+    def write(self, data: Union[bytes, memoryview]) -> None:
+        """Writes bytes behind those that were written."""
+        with self.named():
+            write_all(self.number, data)
+        self.count += len(data)
+
+    def sync(self) -> None:
+        """Syncs the file and closes it, so that it only is to be put into its place."""
+        with self.named():
+            try:
+                os.fsync(self.number)
+            except OSError as error:
+                if error.errno not in LACKING:
+                    raise
+            self._close()
+
+    def finish(self) -> None:
+        """Puts the file into its place, synced. If that can't be, the file is PATH.part as before."""
+        if self.number >= 0:
+            self.sync()
+        if self.part is None:
+            return
+        with self.named():
+            if self._replace:
+                self._rename()
+            else:
+                self._link()
+            self.part = None
+            _sync_folder(os.path.dirname(self._place))
+
+    def _rename(self) -> None:
+        number = self._locked() if os.path.exists(self._place) else -1
+        try:
+            os.rename(self.part, self._place)
+        finally:
+            if number >= 0:
+                os.close(number)
+
+    def _link(self) -> None:
+        """Takes the place if nothing has come there."""
+        try:
+            os.link(self.part, self._place)
+        except OSError as error:
+            if error.errno not in LACKING:
+                raise
+        else:
+            os.unlink(self.part)
+            return
+        # The place is taken by an empty file, which none but this has made, and that is replaced.
+        number = os.open(self._place, os.O_WRONLY | os.O_CREAT | os.O_EXCL | os.O_CLOEXEC)
+        try:
+            os.rename(self.part, self._place)
+        except BaseException:
+            if os.path.samestat(os.fstat(number), os.stat(self._place)):
+                os.unlink(self._place)
+            raise
+        finally:
+            os.close(number)
+
+    def keep(self, count: int) -> Optional[str]:
+        """Ends with the first bytes in the file beside, and answers its name; None if there is none."""
+        if self.number >= 0 and self.part is not None:
+            with contextlib.suppress(OSError):
+                os.ftruncate(self.number, count)
+        self._close()
+        return self.part if self._is_at(self.part) else None
+
+    def drop(self) -> None:
+        """Takes away what was made beside."""
+        self._close()
+        if self._is_at(self.part):
+            os.unlink(self.part)
+
+    def remove(self) -> None:
+        """Takes away what was made, also where it is in its place."""
+        self.drop()
+        if stat.S_ISREG(self._made.st_mode) and self._is_at(self._place):
+            os.unlink(self._place)
+
+    def _is_at(self, path: Optional[str]) -> bool:
+        """Whether what this made is at a path."""
+        try:
+            return path is not None and os.path.samestat(os.lstat(path), self._made)
+        except FileNotFoundError:
+            return False
+
+    def _close(self) -> None:
+        number, self.number = self.number, -1
+        if number >= 0:
+            os.close(number)
+
+    def __enter__(self) -> NewFile:
+        return self
+
+    def __exit__(self, kind: object, *error: object) -> None:
+        try:
+            if kind is None:
+                self.finish()
+        finally:
+            self.drop()
+
+
+def _sync_folder(path: str) -> None:
+    """Syncs a folder, so that a name in it is on the disk. One that may not be read is left to the system."""
+    try:
+        number = os.open(path, os.O_RDONLY | os.O_DIRECTORY | os.O_CLOEXEC)
+    except PermissionError:
+        return
+    try:
+        os.fsync(number)
+    except OSError as error:
+        if error.errno not in LACKING:
+            raise
+    finally:
+        os.close(number)
