@@ -20,6 +20,7 @@
 
 mod commands;
 pub mod frames;
+mod preset;
 mod texts;
 
 use clap::error::ErrorKind;
@@ -27,6 +28,8 @@ use clap::{ArgMatches, Command, Error};
 use commands::{command, command_named};
 pub use frames::Frames;
 use frames::read_frames;
+use ls_frame::Tuning;
+use preset::tuning_of;
 use std::alloc::{AllocError, Global};
 use texts::{
     BEGINNING, CHECKERS_WANTED, COMMAND_WANTED, FRAMES_WANTED, PLAYERS_WANTED, SALVAGE_WANTED,
@@ -83,17 +86,20 @@ pub enum Request<'a> {
     },
 }
 
+/// The most films of a recording.
+pub const MOST_FILMS: usize = 16;
+
 /// Recordings of films that are asked for.
 #[derive(Drop)]
 pub struct Recording<'a> {
     pub workers: u8,
     pub queue: u16,
     pub window: u8,
-    /// The coding parameters that were chosen, as they were written.
-    pub preset: Option<&'a str>,
+    /// The coding parameters that were chosen.
+    pub tuning: Tuning,
     /// The folder for the recordings.
     pub into: Option<&'a str>,
-    /// Whether recordings that are there are emptied.
+    /// Whether recordings that are there are removed.
     pub replace: bool,
     /// Whether it is said meanwhile how far they are.
     pub progress: bool,
@@ -101,6 +107,7 @@ pub struct Recording<'a> {
     pub report: Option<&'a str>,
     /// Whether each recording gets an index.
     pub index: bool,
+    /// The films: one at least, and no more than `MOST_FILMS`.
     pub files: Vec<&'a str>,
 }
 
@@ -123,16 +130,31 @@ pub fn read_words<'a>(alloc: Global, words: &'a [String]) -> Result<(Request<'a>
     }
     match parse(alloc, words) {
         Ok(read) => Ok(read),
-        Err(error) => Err(answer_of(alloc, &with_tip(alloc, words, error))),
+        Err(Refusal::Clap(error)) => Err(answer_of(alloc, &with_tip(alloc, words, error))),
+        Err(Refusal::Limit(line)) => Err(misused(alloc, line)),
     }
 }
 
 /// What the program is and how to begin.
 fn beginning(alloc: Global) -> Answer {
-    match BEGINNING.to_string(alloc) {
+    misused(alloc, BEGINNING)
+}
+
+/// The answer that is this text.
+fn misused(alloc: Global, text: &str) -> Answer {
+    match text.to_string(alloc) {
         Ok(text) => Answer::Misused(text),
         Err(_) => Answer::NoMemory,
     }
+}
+
+/// Why words ask for nothing that the program does.
+#[derive(Drop)]
+enum Refusal {
+    /// What `clap` has to say of them, or is to say in its manner.
+    Clap(Error),
+    /// A limit of the program, as the line that is said of it.
+    Limit(&'static str),
 }
 
 /// The answer to words that can't be read at all, for the reason `message`.
@@ -140,10 +162,12 @@ pub fn misuse(alloc: Global, message: &str) -> Answer {
     answer_of(alloc, &usage_fault(command(alloc), message))
 }
 
-/// What the words ask for; what is wrong with them is an error of `clap`.
-fn parse<'a>(alloc: Global, words: &'a [String]) -> Result<(Request<'a>, bool), Error> {
-    let matches = match_words(alloc, words)?;
-    request_of_matches(alloc, &matches)
+/// What the words ask for, and whether they ask for reasons.
+fn parse<'a>(alloc: Global, words: &'a [String]) -> Result<(Request<'a>, bool), Refusal> {
+    match match_words(alloc, words) {
+        Ok(matches) => request_of_matches(alloc, &matches),
+        Err(error) => Err(Refusal::Clap(error)),
+    }
 }
 
 /// The words as `clap` matches them to its commands and options.
@@ -155,13 +179,35 @@ fn match_words<'a>(alloc: Global, words: &'a [String]) -> Result<ArgMatches<'a>,
 fn request_of_matches<'a>(
     alloc: Global,
     matches: &ArgMatches<'a>,
-) -> Result<(Request<'a>, bool), Error> {
+) -> Result<(Request<'a>, bool), Refusal> {
     let Some((name, words)) = matches.subcommand() else {
-        return Err(usage_fault(command(alloc), COMMAND_WANTED));
+        return Err(no_command(alloc));
     };
-    match request_of(alloc, name, words)? {
+    let request = if name == "record" {
+        record_request(alloc, words)?
+    } else {
+        clap_request(alloc, name, words)?
+    };
+    match request {
         Some(request) => Ok((request, words.get_flag("reasons"))),
-        None => Err(usage_fault(command(alloc), COMMAND_WANTED)),
+        None => Err(no_command(alloc)),
+    }
+}
+
+/// That the words name no command.
+fn no_command(alloc: Global) -> Refusal {
+    Refusal::Clap(usage_fault(command(alloc), COMMAND_WANTED))
+}
+
+/// What the words of another command than `record` ask for, which `clap` has looked at.
+fn clap_request<'a>(
+    alloc: Global,
+    name: &str,
+    words: &ArgMatches<'a>,
+) -> Result<Option<Request<'a>>, Refusal> {
+    match request_of(alloc, name, words) {
+        Ok(request) => Ok(request),
+        Err(error) => Err(Refusal::Clap(error)),
     }
 }
 
@@ -177,7 +223,7 @@ fn answer_of(alloc: Global, error: &Error) -> Answer {
     }
 }
 
-/// What the words of a command ask for, which `clap` has looked at.
+/// The same, whose faults are errors of `clap`.
 fn request_of<'a>(
     alloc: Global,
     name: &str,
@@ -190,7 +236,6 @@ fn request_of<'a>(
         "index" => Ok(index_request(words)),
         "check" => check_request(alloc, words),
         "verify" => Ok(verify_request(words)),
-        "record" => record_request(alloc, words),
         "replay" => Ok(replay_request(words)),
         _ => Ok(None),
     }
@@ -273,18 +318,33 @@ fn verify_request<'a>(words: &ArgMatches<'a>) -> Option<Request<'a>> {
 }
 
 /// What the words of `record` ask for, which `clap` has looked at.
-fn record_request<'a>(alloc: Global, words: &ArgMatches<'a>) -> Result<Option<Request<'a>>, Error> {
-    let files = words.get_strs("FILE").unwrap_or(&[]).to_vec(alloc)?;
-    Ok(recording_of(words, files))
+fn record_request<'a>(
+    alloc: Global,
+    words: &ArgMatches<'a>,
+) -> Result<Option<Request<'a>>, Refusal> {
+    let Some(tuning) = tuning_of(words.get_str("preset")) else {
+        return Err(Refusal::Limit("jlsrec: bad preset\n"));
+    };
+    match words.get_strs("FILE").unwrap_or(&[]).to_vec(alloc) {
+        Ok(files) if files.len() > MOST_FILMS => {
+            Err(Refusal::Limit("jlsrec: at most 16 files\n"))
+        }
+        Ok(files) => Ok(recording_of(words, tuning, files)),
+        Err(refused) => Err(Refusal::Clap(Error::from(refused))),
+    }
 }
 
 /// The same, of the films that the words name.
-fn recording_of<'a>(words: &ArgMatches<'a>, files: Vec<&'a str>) -> Option<Request<'a>> {
+fn recording_of<'a>(
+    words: &ArgMatches<'a>,
+    tuning: Tuning,
+    files: Vec<&'a str>,
+) -> Option<Request<'a>> {
     Some(Request::Record(Recording {
         workers: words.get_one("workers")?,
         queue: words.get_one("queue")?,
         window: words.get_one("window")?,
-        preset: words.get_str("preset"),
+        tuning,
         into: words.get_str("into"),
         replace: words.get_flag("replace"),
         progress: words.get_flag("progress"),

@@ -1,8 +1,14 @@
 //! What came of each film, said once its recording has ended and is on the disk.
-use crate::kept::Kept;
-use crate::recording::{FilmTrack, MOST_FILES, Recorded, Writer};
-use crate::watch::Watch;
+pub mod kept;
+pub mod report;
+mod table;
+
+use crate::opening::Writer;
+use crate::recording::{FilmTrack, Recorded};
+use crate::watching::Watch;
+use kept::Kept;
 use ls_archive::{Follower, IndexFault};
+use ls_command::MOST_FILMS;
 use ls_console::{
     Cause, Console, DONE, EndedIndex, FAILED, Reader, Shown, cause_of_input, explain, no_memory,
     say_index_end, say_unsynced, write_text,
@@ -88,7 +94,7 @@ where
     O: Makes + Copy,
     E: Outlet,
 {
-    let mut told = [false; MOST_FILES];
+    let mut told = [false; MOST_FILMS];
     watch.told(&mut told);
     let mut recordings = Vec::new(alloc);
     for (kept, track) in kept.iter_mut().zip(tracks) {
@@ -182,7 +188,7 @@ where
     }
 }
 
-/// What it comes of that an index broke off.
+/// The cause of an index's fault.
 fn cause_of_index(fault: IndexFault) -> Cause {
     match fault {
         IndexFault::Output(_) => Cause::Writing,
@@ -190,7 +196,7 @@ fn cause_of_index(fault: IndexFault) -> Cause {
     }
 }
 
-/// What it comes of that a lane stopped.
+/// The cause of a lane's fault.
 fn cause_of(fault: LaneFault) -> Cause {
     match fault {
         LaneFault::Input(number, fault) => cause_of_input(number, fault),

@@ -1,19 +1,15 @@
 //! The command `record`: films are opened, their recordings made, and what came of each is said.
+use crate::ending::report::write_report;
 use crate::ending::say_recorded;
-use crate::kept::{Kept, kept_of};
-use crate::progress::Teller;
-use crate::report::write_report;
-use crate::watch::Watch;
-use ls_archive::{Follower, Indexing};
+use crate::opening::{Names, Opened, Writer, names_once, open_films};
+use crate::watching::Watch;
+use crate::watching::progress::Teller;
 use ls_command::Recording as Asked;
-use ls_console::{Console, Reader, misused, no_memory};
-use ls_files::{Makes, Opens, Target, Targets};
+use ls_console::{Console, Reader, no_memory};
+use ls_files::Makes;
 use ls_frame::{Counted, Feed, Outlet, Tuning};
-use ls_recorder::{RecordFault, Recording as Tracks, Track, record};
-use ls_setup::{
-    Film, Names, Opened, given_twice, named_as_report, named_twice, names_of, open_films, tuning_of,
-};
-use std::alloc::{AllocError, Global};
+use ls_recorder::{RecordFault, Recording as Tracks, Sizes, Track, record};
+use std::alloc::Global;
 use std::io::Write;
 use std::rt::Files;
 use std::sync::Wait;
@@ -21,35 +17,13 @@ use std::thread;
 use std::thread::Threads;
 use std::time::Clock;
 
-/// The most films of a recording.
-pub const MOST_FILES: usize = 16;
-
-/// How many workers code, how many frames may wait for one, and how many of a film may be read and not written.
-#[derive(Clone, Copy)]
-struct Sizes {
-    workers: usize,
-    queue: usize,
-    window: usize,
-}
-
-fn sizes_of(asked: &Asked<'_>) -> Sizes {
-    Sizes {
-        workers: usize::from(asked.workers),
-        queue: usize::from(asked.queue),
-        window: usize::from(asked.window),
-    }
-}
-
-/// What a film's codestreams are written through: the file of its recording, and that of their index, if there is one.
-pub type Writer<'a, O> = Indexing<Counted<Target<'a, O>>, Counted<Target<'a, O>>>;
-
 /// What came of a film.
 pub type FilmTrack<'a, O> = Track<Reader<'a, O>, Writer<'a, O>>;
 
 /// What came of all films; or why nothing did.
 pub type Recorded<R, W> = Result<Tracks<R, W>, (RecordFault, Vec<(R, W, Tuning)>)>;
 
-/// Records the films that are asked for, says what came of each, and answers the status. How far they are is told on a
+/// Records the films that are asked for, says what came of each, and answers the status. How far they are is said on a
 /// terminal in any case.
 pub fn record_films<R, O, W, E>(
     rt: &R,
@@ -66,57 +40,9 @@ where
     E: Outlet + Send,
 {
     asked.progress = asked.progress || console.is_terminal();
-    record_asked(rt, opener, &asked, output, console)
-}
-
-/// Records films, says what came of each, and answers the status.
-fn record_asked<R, O, W, E>(
-    rt: &R,
-    opener: O,
-    asked: &Asked<'_>,
-    output: &mut Counted<W>,
-    console: &mut Console<'_, E>,
-) -> u8
-where
-    R: Files + AllocGlobal + Clock + Threads + Wait + Sync,
-    O: Makes<File = R::File> + Copy + Send,
-    R::File: Send,
-    W: Write + Send,
-    E: Outlet + Send,
-{
-    let Some(tuning) = tuning_of(asked.preset) else {
-        return misused(console, b"jlsrec: bad preset\n");
-    };
-    match names_once(rt.alloc(), asked, console) {
-        Ok(names) => record_named(rt, opener, asked, tuning, &names, output, console),
+    match names_once(rt.alloc(), &asked, console) {
+        Ok(names) => record_named(rt, opener, &asked, &names, output, console),
         Err(status) => status,
-    }
-}
-
-/// The names of what is made of the films, if these are no more than 16 and none is given twice; or says why not, and
-/// gives the status.
-fn names_once<'a, E: Outlet>(
-    alloc: Global,
-    asked: &Asked<'a>,
-    console: &mut Console<'_, E>,
-) -> Result<Vec<Names<'a>>, u8> {
-    if asked.files.len() > MOST_FILES {
-        return Err(misused(console, b"jlsrec: at most 16 files\n"));
-    }
-    let Ok(names) = names_of(alloc, asked, console.columns()) else {
-        return Err(no_memory(console));
-    };
-    match name_twice(&names, asked.report) {
-        Some(name) => Err(given_twice(name, console)),
-        None => Ok(names),
-    }
-}
-
-/// The first name that is given twice: of a film, or else of the report.
-fn name_twice<'a>(names: &[Names<'a>], report: Option<&'a str>) -> Option<&'a str> {
-    match named_twice(names) {
-        Some(file) => Some(file),
-        None => named_as_report(names, report),
     }
 }
 
@@ -125,7 +51,6 @@ fn record_named<'a, R, O, W, E>(
     rt: &R,
     opener: O,
     asked: &'a Asked<'a>,
-    tuning: Tuning,
     names: &'a [Names<'a>],
     output: &mut Counted<W>,
     console: &mut Console<'_, E>,
@@ -143,18 +68,12 @@ where
     };
     let Opened {
         films,
-        keepers,
+        mut kept,
         report,
     } = opened;
     let alloc = rt.alloc();
     let is_timed = asked.progress || report.is_some();
     let Ok(watch) = Watch::new(rt, alloc, films.len(), is_timed) else {
-        return no_memory(console);
-    };
-    let Ok(mut kept) = kept_of(alloc, names, keepers) else {
-        return no_memory(console);
-    };
-    let Ok(films) = written_through(alloc, films, tuning) else {
         return no_memory(console);
     };
     let teller = Teller {
@@ -167,7 +86,12 @@ where
         console,
         is_telling: asked.progress,
     };
-    let recorded = record_told(films, sizes_of(asked), teller);
+    let sizes = Sizes {
+        workers: usize::from(asked.workers),
+        capacity: usize::from(asked.queue),
+        window: usize::from(asked.window),
+    };
+    let recorded = record_told(films, sizes, teller);
     let status = say_recorded(alloc, &watch, kept, recorded, output, console);
     match report {
         Some(report) => {
@@ -176,26 +100,6 @@ where
         }
         None => status,
     }
-}
-
-/// Films that are opened, each with what its codestreams are written through, and with the tuning of all.
-fn written_through<'a, O: Opens + Drop>(
-    alloc: Global,
-    films: Vec<Film<'a, O>>,
-    tuning: Tuning,
-) -> Result<Vec<(Reader<'a, O>, Writer<'a, O>, Tuning)>, AllocError> {
-    let mut all = Vec::new(alloc);
-    for film in films {
-        all.push((film.reader, writer_of(alloc, film.recording), tuning))?;
-    }
-    Ok(all)
-}
-
-/// What a film's codestreams are written through to the files of its recording.
-fn writer_of<'a, O: Opens + Drop>(alloc: Global, targets: Targets<'a, O>) -> Writer<'a, O> {
-    let Targets { recording, index } = targets;
-    let follower = index.map(|target| Follower::new(alloc, Counted::new(target)));
-    Indexing::new(Counted::new(recording), follower)
 }
 
 /// Records films; meanwhile another thread looks after them. If none can be made for that, it is done at the end.
@@ -236,10 +140,10 @@ where
 {
     let Sizes {
         workers,
-        queue,
+        capacity,
         window,
     } = sizes;
-    let recorded = record(rt, alloc, films, workers, queue, window, watch);
+    let recorded = record(rt, alloc, films, workers, capacity, window, watch);
     watch.end();
     recorded
 }

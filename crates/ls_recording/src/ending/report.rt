@@ -1,11 +1,11 @@
 //! The report of a recording: a table of what came of each film, and how busy the workers were.
-use crate::kept::failed_of;
-use crate::watch::Watch;
+use super::kept::failed_of;
+use super::table::{add_film, add_workers, head};
+use crate::opening::Report;
+use crate::watching::Watch;
 use ls_console::{Console, DONE, FAILED, Shown};
 use ls_files::Makes;
 use ls_frame::{Counted, Outlet, write_bytes};
-use ls_progress::{add_film, add_workers, head};
-use ls_setup::Report;
 use std::alloc::{AllocError, Global};
 use std::time::Clock;
 

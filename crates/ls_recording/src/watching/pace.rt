@@ -1,5 +1,5 @@
 //! How far films are, in words.
-use crate::seen::{Doing, Seen};
+use super::seen::{Doing, Seen};
 use ls_console::Shown;
 use std::alloc::{AllocError, Global};
 
@@ -48,10 +48,10 @@ impl Pace {
     }
 
     /// Takes in what is seen now, `time` nanoseconds after the last look; whether that makes other words.
-    pub fn step<F: Copy>(
+    pub fn step(
         &mut self,
         alloc: Global,
-        seen: &Seen<F>,
+        seen: &Seen,
         now: u64,
         time: u64,
     ) -> Result<bool, AllocError> {
@@ -84,9 +84,9 @@ fn speed_after(speed: u64, bytes: u64, time: u64) -> u64 {
 }
 
 /// How far a film is, by what is seen of it now and how fast it goes.
-fn text_of<F: Copy>(
+fn text_of(
     alloc: Global,
-    seen: &Seen<F>,
+    seen: &Seen,
     now: u64,
     speed_in: u64,
     speed_out: u64,
@@ -120,7 +120,7 @@ fn rough(seconds: u64) -> (u64, &'static str) {
 }
 
 /// What is full, so that the lane waits.
-fn fullness<F: Copy>(doing: Doing<F>) -> &'static str {
+fn fullness(doing: Doing) -> &'static str {
     match doing {
         Doing::AwaitsWindow => ", window full",
         Doing::AwaitsQueue => ", queue full",

@@ -1,9 +1,9 @@
 //! The files of the films, kept beside what writes to them: synced when a film ends, and what stood in their places
 //! removed or given back.
+use crate::opening::Names;
 use ls_files::{Keeper, Makes};
 use ls_frame::Failed;
 use ls_recorder::LaneFault;
-use ls_setup::Names;
 use std::alloc::{AllocError, Global};
 use std::io;
 

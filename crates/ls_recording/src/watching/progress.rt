@@ -1,12 +1,12 @@
 //! What is done and said while films are recorded: each film's files are settled as soon as it ends, and progress is
 //! said on standard error: on a terminal as a line in its place, elsewhere as lines.
+use super::Watch;
+use super::pace::{Pace, line_of};
+use crate::ending::kept::Kept;
 use crate::ending::say_count;
-use crate::kept::Kept;
-use crate::watch::Watch;
 use ls_console::{Console, Shown};
 use ls_files::Makes;
 use ls_frame::{Counted, Outlet};
-use ls_progress::{Pace, line_of};
 use std::alloc::{AllocError, Global};
 use std::io::Write;
 use std::sync::Wait;

@@ -1,29 +1,26 @@
-//! Opening: the films to read, and the files for what is made of them.
-use crate::given::{Given, Names, has_index, has_index_at, is_met, look_at, written_twice};
+//! What `record` begins with: its films, opened under names of which none is given twice, and the files for what is made
+//! of them.
+mod given;
+
+use crate::ending::kept::{Kept, kept_of};
+pub use given::Names;
+use given::{
+    Given, has_index, has_index_at, is_met, look_at, named_as_report, named_twice, names_of,
+    written_twice,
+};
+use ls_archive::{Follower, Indexing};
 use ls_command::Recording as Asked;
 use ls_console::{Console, FAILED, Reader, Shown, USAGE, buffered, no_memory, say_unmade};
 use ls_files::{Folders, Keeper, Makes, Opens, Place, Source, Target, Targets, Unmade};
-use ls_frame::Outlet;
+use ls_frame::{Counted, Outlet, Tuning};
 use std::alloc::{AllocError, Global};
 use std::rt::Files;
 use std::sync::Wait;
 use std::thread::Parker;
 use std::time::Duration;
 
-/// A film: what it is read by, what its codestreams are written to, and their index, if there is to be one.
-#[derive(Drop)]
-pub struct Film<'a, O: Opens> {
-    pub reader: Reader<'a, O>,
-    pub recording: Targets<'a, O>,
-}
-
-/// A film that is opened, and whose files are made, but that isn't read by way of a buffer yet.
-#[derive(Drop)]
-struct Made<'a, O: Opens> {
-    names: &'a Names<'a>,
-    source: Source<'a, O>,
-    recording: Targets<'a, O>,
-}
+/// What a film's codestreams are written through: the file of its recording, and that of their index, if there is one.
+pub type Writer<'a, O> = Indexing<Counted<Target<'a, O>>, Counted<Target<'a, O>>>;
 
 /// Where a report goes: its file, and how that is called.
 #[derive(Drop)]
@@ -33,11 +30,12 @@ pub struct Report<'a, O: Makes> {
     pub keeper: Keeper<O>,
 }
 
-/// The films, what keeps the files of each, and where the report goes, if there is to be one.
+/// The films, each with what it is read by, what its codestreams are written through and by which parameters it is coded;
+/// the files of each; and where the report goes, if there is to be one.
 #[derive(Drop)]
 pub struct Opened<'a, O: Makes> {
-    pub films: Vec<Film<'a, O>>,
-    pub keepers: Vec<Keeper<O>>,
+    pub films: Vec<(Reader<'a, O>, Writer<'a, O>, Tuning)>,
+    pub kept: Vec<Kept<'a, O>>,
     pub report: Option<Report<'a, O>>,
 }
 
@@ -46,6 +44,29 @@ pub struct Opened<'a, O: Makes> {
 const TRIES: u32 = 100;
 
 const PAUSE: u64 = 10;
+
+/// The names of what is made of the films, if none is given twice; or says so, and gives the status.
+pub fn names_once<'a, E: Outlet>(
+    alloc: Global,
+    asked: &Asked<'a>,
+    console: &mut Console<'_, E>,
+) -> Result<Vec<Names<'a>>, u8> {
+    let Ok(names) = names_of(alloc, asked, console.columns()) else {
+        return Err(no_memory(console));
+    };
+    match name_twice(&names, asked.report) {
+        Some(name) => Err(given_twice(name, console)),
+        None => Ok(names),
+    }
+}
+
+/// The first name that is given twice: of a film, or else of the report.
+fn name_twice<'a>(names: &[Names<'a>], report: Option<&'a str>) -> Option<&'a str> {
+    match named_twice(names) {
+        Some(file) => Some(file),
+        None => named_as_report(names, report),
+    }
+}
 
 /// Opens each film but the named pipes, and only then makes a file for the report and for the recording of each, once
 /// none is given twice and none is made by another program; or says why not, and gives the status.
@@ -89,14 +110,17 @@ where
         )?),
         _ => None,
     };
-    let made = make_recordings(rt.alloc(), &given, sources, &mut keepers, console)?;
+    let writers = make_recordings(rt.alloc(), &given, &mut keepers, console)?;
     drop(folders);
-    let films = films_of(rt.alloc(), made, console)?;
-    Ok(Opened {
-        films,
-        keepers,
-        report,
-    })
+    let films = films_of(rt.alloc(), names, sources, writers, asked.tuning, console)?;
+    match kept_of(rt.alloc(), names, keepers) {
+        Ok(kept) => Ok(Opened {
+            films,
+            kept,
+            report,
+        }),
+        Err(AllocError) => Err(no_memory(console)),
+    }
 }
 
 /// What the films are and where their recordings are to be made, if none is given twice; or says so, and gives the
@@ -122,50 +146,46 @@ where
     }
 }
 
-/// The films: each is read by way of a buffer. Or gives the status, if memory is refused.
+/// The films, each with its writer and with the tuning of all. Or gives the status, if memory is refused.
 fn films_of<'a, O, E>(
     alloc: Global,
-    made: Vec<Made<'a, O>>,
+    names: &'a [Names<'a>],
+    sources: Vec<Source<'a, O>>,
+    writers: Vec<Writer<'a, O>>,
+    tuning: Tuning,
     console: &mut Console<'_, E>,
-) -> Result<Vec<Film<'a, O>>, u8>
+) -> Result<Vec<(Reader<'a, O>, Writer<'a, O>, Tuning)>, u8>
 where
     O: Opens + Copy,
     E: Outlet,
 {
     let mut films = Vec::new(alloc);
-    for made in made {
-        let film = film_of(alloc, made, console)?;
-        if films.push(film).is_err() {
+    for ((film, source), writer) in names.iter().zip(sources).zip(writers) {
+        let reader = reader_of(alloc, film, source, console)?;
+        if films.push((reader, writer, tuning)).is_err() {
             return Err(no_memory(console));
         }
     }
     Ok(films)
 }
 
-/// The same, of one film; says who is waited for.
-fn film_of<'a, O, E>(
+/// What a film is read by, by way of a buffer; says who is waited for.
+fn reader_of<'a, O, E>(
     alloc: Global,
-    made: Made<'a, O>,
+    names: &'a Names<'a>,
+    mut source: Source<'a, O>,
     console: &mut Console<'_, E>,
-) -> Result<Film<'a, O>, u8>
+) -> Result<Reader<'a, O>, u8>
 where
     O: Opens + Copy,
     E: Outlet,
 {
-    let Made {
-        names,
-        mut source,
-        recording,
-    } = made;
     if source.is_awaited() && console.is_terminal() {
         source.announce(names.notice.as_str());
         let file = Shown(names.file);
         console.say(format_args!("{file}: waiting for what writes to it"));
     }
-    match buffered(alloc, names.file, source, console) {
-        Ok(reader) => Ok(Film { reader, recording }),
-        Err(status) => Err(status),
-    }
+    buffered(alloc, names.file, source, console)
 }
 
 /// Opens the films; or says of the first that can't be opened, and gives the status.
@@ -350,33 +370,33 @@ where
     }
 }
 
-/// Makes the file of each recording, and that of its index if it is to have one; or says of the first that can't be
-/// made, and gives the status.
+/// Makes the file of each recording, and that of its index if it is to have one, and gives what is written through them;
+/// or says of the first that can't be made, and gives the status.
 fn make_recordings<'a, O, E>(
     alloc: Global,
     given: &[Given<'a>],
-    sources: Vec<Source<'a, O>>,
     keepers: &mut [Keeper<O>],
     console: &mut Console<'_, E>,
-) -> Result<Vec<Made<'a, O>>, u8>
+) -> Result<Vec<Writer<'a, O>>, u8>
 where
     O: Makes + Copy + Drop,
     E: Outlet,
 {
-    let mut all = Vec::new(alloc);
-    for ((film, source), keeper) in given.iter().zip(sources).zip(keepers.iter_mut()) {
-        let names = film.names;
-        let recording = make_recording(alloc, names, keeper, console)?;
-        let made = Made {
-            names,
-            source,
-            recording,
-        };
-        if all.push(made).is_err() {
+    let mut writers = Vec::new(alloc);
+    for (film, keeper) in given.iter().zip(keepers.iter_mut()) {
+        let targets = make_recording(alloc, film.names, keeper, console)?;
+        if writers.push(writer_of(alloc, targets)).is_err() {
             return Err(no_memory(console));
         }
     }
-    Ok(all)
+    Ok(writers)
+}
+
+/// What a film's codestreams are written through to the files of its recording.
+fn writer_of<'a, O: Opens + Drop>(alloc: Global, targets: Targets<'a, O>) -> Writer<'a, O> {
+    let Targets { recording, index } = targets;
+    let follower = index.map(|target| Follower::new(alloc, Counted::new(target)));
+    Indexing::new(Counted::new(recording), follower)
 }
 
 /// The same, of one film.
@@ -413,7 +433,7 @@ fn mention<E: Outlet>(path: &str, renamed: Option<&str>, console: &mut Console<'
 }
 
 /// Says that a film, or the file of a recording, is given twice.
-pub fn given_twice<E: Outlet>(file: &str, console: &mut Console<'_, E>) -> u8 {
+fn given_twice<E: Outlet>(file: &str, console: &mut Console<'_, E>) -> u8 {
     let file = Shown(file);
     console.say(format_args!("{file}: given twice"));
     USAGE

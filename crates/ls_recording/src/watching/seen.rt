@@ -1,22 +1,23 @@
 //! What is seen of a film whose recording goes on or has ended, at a moment.
+use ls_recorder::LaneFault;
 
 /// What a film's lane does.
 #[derive(Clone, Copy, Drop)]
-pub enum Doing<F> {
+pub enum Doing {
     /// It waits for a place in the window, or hasn't begun.
     AwaitsWindow,
     /// It reads a frame.
     Reads,
     /// It waits for a place in the queue.
     AwaitsQueue,
-    /// It has ended, and so many frames were recorded; or why it stops.
-    Ended(Result<u64, F>),
+    /// It has ended with this number of frames, or stops for this fault.
+    Ended(Result<u64, LaneFault>),
 }
 
 /// What was seen of a film at a moment.
 #[derive(Drop)]
-pub struct Seen<F> {
-    pub doing: Doing<F>,
+pub struct Seen {
+    pub doing: Doing,
     /// When it began to do that.
     pub since: u64,
     /// How many frames were read, and how many written.

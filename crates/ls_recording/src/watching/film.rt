@@ -1,5 +1,5 @@
 //! What is seen of one film.
-use ls_progress::{Doing, Seen};
+use super::seen::{Doing, Seen};
 use ls_recorder::{LaneFault, MOST_WINDOW, Notice};
 use std::alloc::{AllocError, Global};
 use std::sync::OnceLock;
@@ -119,7 +119,7 @@ impl FilmWatch {
     }
 
     /// What is seen of it now.
-    pub fn seen(&self) -> Seen<LaneFault> {
+    pub fn seen(&self) -> Seen {
         // What is written was read before: in this order no frame is seen as written that isn't seen as read.
         let written = self.written.load(Ordering::SeqCst);
         let bytes_out = self.bytes_out.load(Ordering::SeqCst);
@@ -137,7 +137,7 @@ impl FilmWatch {
         }
     }
 
-    fn doing(&self) -> Doing<LaneFault> {
+    fn doing(&self) -> Doing {
         if let Some(result) = self.end.get() {
             return Doing::Ended(*result);
         }

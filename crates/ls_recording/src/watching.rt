@@ -1,10 +1,13 @@
 //! What is seen of a recording while it goes on: a gate that counts and takes times, so that each film's files are
 //! settled when it ends, and for progress and a report.
 mod film;
+mod pace;
+pub mod progress;
+pub mod seen;
 
 use film::FilmWatch;
-use ls_progress::Seen;
 use ls_recorder::{Gate, LaneFault, Moment, Notice};
+use seen::Seen;
 use std::alloc::{AllocError, Global};
 use std::sync::Wait;
 use std::sync::atomic::{AtomicBool, AtomicU64, Ordering};
@@ -68,7 +71,7 @@ impl<'r, R: Clock> Watch<'r, R> {
     }
 
     /// What is seen of the film of this number, if there is one.
-    pub fn seen(&self, film: usize) -> Option<Seen<LaneFault>> {
+    pub fn seen(&self, film: usize) -> Option<Seen> {
         Some(self.films.get(film)?.seen())
     }
 

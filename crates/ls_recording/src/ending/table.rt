@@ -1,8 +1,7 @@
 //! The lines of a report.
-use crate::seen::{Doing, Seen};
+use crate::watching::seen::{Doing, Seen};
 use ls_console::Shown;
 use std::alloc::{AllocError, Global};
-use std::fmt::Display;
 
 /// The columns' names, with their units. Each name ends where its numbers do, but for the last.
 const HEAD: &str =
@@ -14,11 +13,11 @@ pub fn head(alloc: Global) -> Result<String, AllocError> {
 }
 
 /// Adds the line of a film, by its name.
-pub fn add_film<F: Copy + Display>(
+pub fn add_film(
     alloc: Global,
     table: &mut String,
     file: &str,
-    seen: &Seen<F>,
+    seen: &Seen,
 ) -> Result<(), AllocError> {
     add_numbers(alloc, table, seen)?;
     add_name(alloc, table, file, seen)
@@ -40,7 +39,7 @@ pub fn add_workers(
 }
 
 /// Adds the numbers of a film.
-fn add_numbers<F>(alloc: Global, table: &mut String, seen: &Seen<F>) -> Result<(), AllocError> {
+fn add_numbers(alloc: Global, table: &mut String, seen: &Seen) -> Result<(), AllocError> {
     let frames = seen.written;
     let (bytes_in, bytes_out) = (seen.bytes_in, seen.bytes_out);
     let time = if seen.read == 0 {
@@ -55,12 +54,7 @@ fn add_numbers<F>(alloc: Global, table: &mut String, seen: &Seen<F>) -> Result<(
 }
 
 /// Adds the times of a film, which took so many nanoseconds.
-fn add_times<F>(
-    alloc: Global,
-    table: &mut String,
-    seen: &Seen<F>,
-    time: u64,
-) -> Result<(), AllocError> {
+fn add_times(alloc: Global, table: &mut String, seen: &Seen, time: u64) -> Result<(), AllocError> {
     let seconds = seconds_text(alloc, time)?;
     let speed = hundredths(alloc, seen.written.saturating_mul(1_000_000), time / 1000)?;
     let (milliseconds, tenth) = (seen.delay / 1_000_000, seen.delay / 100_000 % 10);
@@ -71,7 +65,7 @@ fn add_times<F>(
 }
 
 /// Adds how long a film waited.
-fn add_waits<F>(alloc: Global, table: &mut String, seen: &Seen<F>) -> Result<(), AllocError> {
+fn add_waits(alloc: Global, table: &mut String, seen: &Seen) -> Result<(), AllocError> {
     let window = seconds_text(alloc, seen.window_wait)?;
     let queue = seconds_text(alloc, seen.queue_wait)?;
     let waits = format!(in alloc; " {window:>10} {queue:>10}")?;
@@ -79,12 +73,7 @@ fn add_waits<F>(alloc: Global, table: &mut String, seen: &Seen<F>) -> Result<(),
 }
 
 /// Adds the name of a film, and why its recording stopped, if it did.
-fn add_name<F: Copy + Display>(
-    alloc: Global,
-    table: &mut String,
-    file: &str,
-    seen: &Seen<F>,
-) -> Result<(), AllocError> {
+fn add_name(alloc: Global, table: &mut String, file: &str, seen: &Seen) -> Result<(), AllocError> {
     let file = Shown(file);
     let name = match seen.doing {
         Doing::Ended(Err(fault)) => format!(in alloc; " {file}: {fault}\n"),
