@@ -1,11 +1,11 @@
-//! Folders in which files are made, locked meanwhile.
+//! Locks the folders in which files are made.
 use crate::identity::{Identity, folder_of};
 use crate::opener::Makes;
 use std::alloc::{AllocError, Global};
 use std::fs::OpenFile;
 
-/// The folders in which files are made: while they are locked, other programs make none there, so that each finds what
-/// stands there as another has left it.
+/// Locked folders. Programs that lock a folder before they make files in it do so one after the other, and each finds
+/// what the one before has left there.
 #[derive(Drop)]
 pub struct Folders<F> {
     locked: Vec<(Identity, F)>,
@@ -18,8 +18,8 @@ impl<F: OpenFile + Drop> Folders<F> {
         }
     }
 
-    /// Locks the folder of a path, unless it is locked here; `false` if another program has the lock. A folder that
-    /// can't be opened or locked is left: what is made there shows why.
+    /// Locks the folder of `path`, unless it is locked here already; `false` if another program has the lock. A
+    /// folder that can't be opened or locked is skipped: if a file can't be made there, making it says why.
     pub fn lock<O: Makes<File = F>>(&mut self, opener: &O, path: &str) -> Result<bool, AllocError> {
         let Ok(folder) = opener.open(folder_of(path)) else {
             return Ok(true);

@@ -1,4 +1,4 @@
-//! A file that is made for a recording, and what stood in its place.
+//! A file that is made for a recording, and the earlier file in its place.
 use crate::identity::{Identity, folder_of};
 use crate::opener::Makes;
 use crate::place::{Place, Standing};
@@ -7,34 +7,34 @@ use std::alloc::Global;
 use std::fs::OpenFile;
 use std::io;
 
-/// A file that is made, or is to be, and what stood in its place before.
+/// A file that is made, or is to be, and the earlier file in its place.
 ///
-/// What stands there is locked first, then renamed; then the file is made new, and locked while it is open. So of two
-/// programs that would make one file one is refused before it has changed anything.
+/// The earlier file is locked first, then renamed; then the new file is made, and locked while it is open. So if two
+/// programs would make the same file, one is refused before it has changed anything.
 #[derive(Drop)]
 pub struct Held<F> {
     path: String,
-    /// What a new name of what stands there ends with, after the number.
+    /// The ending of the earlier file's new name, after the number.
     ending: &'static str,
     standing: Standing,
-    /// The file that stood there, locked.
+    /// The earlier file, locked.
     earlier: Option<F>,
-    /// What the file that stood there is called now.
+    /// The earlier file's new name.
     renamed: Option<String>,
-    /// The file that was made: a clone of the one that is written to.
+    /// The file that was made: a clone of the handle that is written to.
     made: Option<F>,
 }
 
-/// Another program has the lock.
+/// The error for a file that another program has locked, or has just made or renamed.
 fn busy() -> io::Error {
     io::Error::from(io::ErrorKind::WouldBlock)
 }
 
 impl<F: OpenFile + Drop> Held<F> {
-    /// Takes the lock of the file that stands at a place, and changes nothing. Fails with `WouldBlock` if another
-    /// program has it.
+    /// Locks the existing file at a place, if there is one, and changes nothing. Fails with `WouldBlock` if another
+    /// program has the lock.
     ///
-    /// If what stands there is to be replaced and is a link to a file, the place is where the link leads.
+    /// With `replace`, a link to a file is followed: the new file is made where the link leads.
     pub fn claim<O: Makes<File = F>>(
         alloc: Global,
         opener: &O,
@@ -67,17 +67,17 @@ impl<F: OpenFile + Drop> Held<F> {
         })
     }
 
-    /// Whether what stands there is to be renamed, and hasn't been.
+    /// Whether an existing file or link still has to be renamed.
     pub fn is_in_the_way(&self) -> bool {
         self.standing.is_kept() && self.renamed.is_none()
     }
 
-    /// Whether what stood there may be removed, if it is to be replaced: not a link, which has led nowhere.
+    /// Whether the earlier file may be removed if it is to be replaced: not if it is a link that leads nowhere.
     pub fn is_replaceable(&self) -> bool {
         !matches!(self.standing, Standing::Astray)
     }
 
-    /// What stood there is called now, if it was renamed.
+    /// The earlier file's new name, if it was renamed.
     pub fn renamed(&self) -> Option<&str> {
         match &self.renamed {
             Some(name) => Some(name.as_str()),
@@ -85,7 +85,7 @@ impl<F: OpenFile + Drop> Held<F> {
         }
     }
 
-    /// What the file that stands there would be called by this number, if that name is free.
+    /// The existing file's new name by this number; `None` if something has that name.
     pub fn free_name<O: Makes<File = F>>(
         &self,
         alloc: Global,
@@ -102,7 +102,7 @@ impl<F: OpenFile + Drop> Held<F> {
         }
     }
 
-    /// Renames what stands there; `false` if something has the new name by now.
+    /// Renames the existing file; `false` if something has the new name by now.
     pub fn rename<O: Makes<File = F>>(&mut self, opener: &O, name: String) -> io::Result<bool> {
         if !rename_new(opener, &self.path, &name)? {
             return Ok(false);
@@ -111,8 +111,8 @@ impl<F: OpenFile + Drop> Held<F> {
         Ok(true)
     }
 
-    /// Makes the file, or opens the pipe or the device that stands there. Fails with `WouldBlock` if another program
-    /// has made it meanwhile.
+    /// Makes the file. An existing device or open file is opened to be written into instead, and a pipe at its first
+    /// write. Fails with `WouldBlock` if another program has made the file meanwhile.
     pub fn make<'a, O: Makes<File = F> + Drop>(
         &mut self,
         opener: O,
@@ -136,8 +136,7 @@ impl<F: OpenFile + Drop> Held<F> {
         }
     }
 
-    /// Brings what was written onto the disk, and the file's name too if its folder can be synced. Of a pipe or a
-    /// device there is nothing to bring.
+    /// Syncs the file to disk, and its folder too if that can be synced. Does nothing for a pipe or a device.
     pub fn sync<O: Makes<File = F>>(&self, opener: &O) -> io::Result<()> {
         if let Some(made) = &self.made {
             made.sync_all()?;
@@ -148,7 +147,7 @@ impl<F: OpenFile + Drop> Held<F> {
         Ok(())
     }
 
-    /// Whether a file was made, and has bytes.
+    /// Whether a file was made and has bytes. If its size can't be read, it counts as having some.
     pub fn has_bytes(&self) -> bool {
         match &self.made {
             Some(made) => match made.metadata() {
@@ -159,7 +158,7 @@ impl<F: OpenFile + Drop> Held<F> {
         }
     }
 
-    /// Removes what stood there, under its new name. That it can't be removed changes nothing.
+    /// Removes the earlier file, under its new name. A failure to remove it is ignored.
     pub fn remove_earlier<O: Makes<File = F>>(&mut self, opener: &O) {
         if self.is_replaceable() {
             if let Some(name) = self.renamed.take() {
@@ -171,7 +170,7 @@ impl<F: OpenFile + Drop> Held<F> {
         self.earlier = None;
     }
 
-    /// Whether the file that was made stands there.
+    /// Whether the file that was made is still at its path.
     pub fn stands<O: Makes<File = F>>(&self, opener: &O) -> bool {
         match &self.made {
             Some(made) => stands_at(opener, &self.path, made),
@@ -179,7 +178,7 @@ impl<F: OpenFile + Drop> Held<F> {
         }
     }
 
-    /// Whether nothing stands there.
+    /// Whether nothing is at the path.
     fn is_free<O: Makes<File = F>>(&self, opener: &O) -> bool {
         match opener.look(&self.path) {
             Ok(_) => false,
@@ -187,7 +186,7 @@ impl<F: OpenFile + Drop> Held<F> {
         }
     }
 
-    /// Whether what stood there still has the name that it was given. (Of a link it isn't asked.)
+    /// Whether the earlier file still has the name that it was given. (A link isn't checked.)
     fn is_still<O: Makes<File = F>>(&self, opener: &O, name: &str) -> bool {
         match (&self.earlier, self.standing) {
             (Some(earlier), Standing::File(_)) => stands_at(opener, name, earlier),
@@ -195,8 +194,9 @@ impl<F: OpenFile + Drop> Held<F> {
         }
     }
 
-    /// Gives what stood there its name back, and removes the file that was made, if that is empty; whether all stands
-    /// there as before. What somebody has put there meanwhile stays, and what somebody has moved stays where it is.
+    /// If the new file is empty, removes it and gives the earlier file its name back. Returns whether that worked,
+    /// or, if nothing was renamed, whether the path is free. Files that others have put there or moved meanwhile are
+    /// left alone.
     pub fn give_back<O: Makes<File = F>>(&mut self, opener: &O) -> bool {
         if self.has_bytes() {
             return false;
@@ -210,7 +210,7 @@ impl<F: OpenFile + Drop> Held<F> {
         is_back
     }
 
-    /// Renames what stood there back, from this name; whether it could.
+    /// Renames the earlier file back, from this name; whether that worked.
     fn rename_back<O: Makes<File = F>>(&mut self, opener: &O, name: String) -> bool {
         let stands = self.stands(opener);
         if !self.is_still(opener, &name) {
@@ -220,7 +220,7 @@ impl<F: OpenFile + Drop> Held<F> {
             return false;
         }
         let is_back = if stands {
-            // Over the empty file, which nobody else can have made.
+            // Over the empty file, which is this program's own.
             opener.rename(&name, &self.path).is_ok()
         } else {
             rename_new(opener, &name, &self.path).unwrap_or(false)
@@ -232,7 +232,7 @@ impl<F: OpenFile + Drop> Held<F> {
     }
 }
 
-/// Opens the file that stands at a path, and takes its lock, if the file system has locks.
+/// Opens an existing file and locks it, if the file system has locks.
 fn locked<O: Makes>(opener: &O, path: &str, identity: Identity) -> io::Result<O::File> {
     let file = match opener.open(path) {
         Ok(file) => file,
@@ -253,7 +253,7 @@ fn locked<O: Makes>(opener: &O, path: &str, identity: Identity) -> io::Result<O:
     }
 }
 
-/// Makes a file that wasn't there, and takes its lock, if the file system has locks.
+/// Makes a new file and locks it, if the file system has locks.
 fn make_new<O: Makes>(opener: &O, path: &str) -> io::Result<O::File> {
     let file = match opener.create_new(path) {
         Ok(file) => file,
@@ -269,7 +269,7 @@ fn make_new<O: Makes>(opener: &O, path: &str) -> io::Result<O::File> {
     }
 }
 
-/// Whether a file stands at a path.
+/// Whether this file is at a path.
 fn stands_at<O: Makes>(opener: &O, path: &str, file: &O::File) -> bool {
     match (opener.look(path), file.metadata()) {
         (Ok(there), Ok(own)) => Identity::of(&there) == Identity::of(&own),
@@ -277,8 +277,8 @@ fn stands_at<O: Makes>(opener: &O, path: &str, file: &O::File) -> bool {
     }
 }
 
-/// Renames a file, unless something has the new name: `false` then. The name is taken first, by an empty file that
-/// nobody else can have made, so nothing that has it is ever replaced.
+/// Renames a file, unless something has the new name: then `false`. The name is reserved first by a new, empty file,
+/// so an existing file is never replaced.
 fn rename_new<O: Makes>(opener: &O, from: &str, to: &str) -> io::Result<bool> {
     match opener.create_new(to) {
         Ok(_taken) => {}

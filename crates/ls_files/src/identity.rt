@@ -1,9 +1,9 @@
-//! Which file something is, whatever it is called.
+//! Identifies files, whatever they are called.
 use std::fs;
 use std::fs::{Files, Metadata};
 use std::os::unix::fs::MetadataExt;
 
-/// A file by its device and its inode.
+/// A file, identified by its device and its inode.
 #[derive(Clone, Copy, PartialEq, Eq)]
 pub struct Identity {
     device: u64,
@@ -11,7 +11,7 @@ pub struct Identity {
 }
 
 impl Identity {
-    /// Which file this is the metadata of.
+    /// The identity of the file with this metadata.
     pub fn of(metadata: &Metadata) -> Identity {
         Identity {
             device: metadata.dev(),
@@ -28,7 +28,7 @@ pub struct Spot<'a> {
 }
 
 impl<'a> Spot<'a> {
-    /// Where a path leads; `None` if its folder can't be looked at.
+    /// The folder and the last part of a path; `None` if the folder can't be looked at.
     pub fn of<R: Files>(rt: &R, path: &'a str) -> Option<Spot<'a>> {
         match fs::metadata(rt, folder_of(path)) {
             Ok(metadata) => Some(Spot {
@@ -40,7 +40,7 @@ impl<'a> Spot<'a> {
     }
 }
 
-/// The folder that a path's last part stands in.
+/// The folder of a path's last part.
 pub fn folder_of(path: &str) -> &str {
     match path.rsplit_once('/') {
         None => ".",

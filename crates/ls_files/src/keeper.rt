@@ -1,4 +1,4 @@
-//! The files of a recording: made, locked and synced, and what stood in their places kept until they may go.
+//! Makes, locks and syncs the files of a recording, and keeps earlier files until they may be removed.
 use crate::held::Held;
 use crate::opener::{Makes, Opens};
 use crate::place::Place;
@@ -6,28 +6,28 @@ use crate::target::Target;
 use std::alloc::Global;
 use std::io;
 
-/// What the index of a recording is called: as the recording, and this.
+/// The ending that the name of an index adds to its recording's.
 pub const INDEX: &str = ".index";
 
-/// Keeps the file of a recording and that of its index, or another file alone.
+/// Holds the file of a recording and that of its index, or one other file.
 #[derive(Drop)]
 pub struct Keeper<O: Makes> {
     opener: O,
     recording: Held<O::File>,
-    /// What stands where an index is made, or beside the recording.
+    /// The index to make, or an existing one beside the recording.
     index: Option<Held<O::File>>,
-    /// Whether what was renamed is removed once the recording has a codestream.
+    /// Whether earlier files are removed once the recording has a codestream.
     replaces: bool,
 }
 
-/// Files that were made, to write to.
+/// The files that were made, to be written to.
 #[derive(Drop)]
 pub struct Targets<'a, O: Opens> {
     pub recording: Target<'a, O>,
     pub index: Option<Target<'a, O>>,
 }
 
-/// Which of the files can't be made, and why. `WouldBlock` says that another program makes it.
+/// The file that can't be made, and why. `WouldBlock` means that another program is making it.
 #[derive(Clone, Copy)]
 pub struct Unmade {
     pub is_index: bool,
@@ -51,8 +51,8 @@ impl Unmade {
 }
 
 impl<O: Makes + Copy + Drop> Keeper<O> {
-    /// Takes the locks of what stands where a recording and its index are to be made, and changes nothing. An index
-    /// that stands beside the recording is given here too if none is to be made: it goes where the recording goes.
+    /// Locks existing files where a recording and its index are to be made, and changes nothing. The index's place is
+    /// given even if none is to be made: an existing index is then renamed with its recording.
     pub fn claim(
         alloc: Global,
         opener: O,
@@ -81,9 +81,9 @@ impl<O: Makes + Copy + Drop> Keeper<O> {
 
     /// Makes the file of the recording, and that of its index if a path is given for it.
     ///
-    /// What stands there is renamed first, to the first of `path`.1, `path`.2, .. that is free, and an index to
-    /// `path`.1.index with it. A pipe or a device is written to as it is. Where a file can't be made, what stood there
-    /// stands there again.
+    /// Existing files are renamed first: to the first free name of `path`.1, `path`.2, .., and an index to
+    /// `path`.1.index with it. A pipe or a device is written to as it is. If a file can't be made, earlier files get
+    /// their names back.
     pub fn make<'a>(
         &mut self,
         alloc: Global,
@@ -120,7 +120,7 @@ impl<O: Makes + Copy + Drop> Keeper<O> {
         Ok(Targets { recording, index })
     }
 
-    /// Renames what stands there, by the first number for which all names are free.
+    /// Renames the existing files, by the first number for which all names are free.
     fn clear_places(&mut self, alloc: Global) -> Result<(), Unmade> {
         for number in 1..u32::MAX {
             if self.are_clear() || self.clear_by(alloc, number)? {
@@ -130,7 +130,7 @@ impl<O: Makes + Copy + Drop> Keeper<O> {
         Err(Unmade::recording(io::Error::from(io::ErrorKind::AlreadyExists)))
     }
 
-    /// Whether nothing stands there that is to be renamed.
+    /// Whether no existing file has to be renamed.
     fn are_clear(&self) -> bool {
         let is_beside = match &self.index {
             Some(index) => index.is_in_the_way(),
@@ -139,7 +139,7 @@ impl<O: Makes + Copy + Drop> Keeper<O> {
         !is_beside && !self.recording.is_in_the_way()
     }
 
-    /// Renames what stands there by this number, if all names by it are free; whether it could.
+    /// Renames the existing files by this number, if all names by it are free; whether that worked.
     fn clear_by(&mut self, alloc: Global, number: u32) -> Result<bool, Unmade> {
         let name = match self.recording.free_name(alloc, &self.opener, number) {
             Ok(Some(name)) => name,
@@ -172,12 +172,12 @@ impl<O: Makes + Copy + Drop> Keeper<O> {
         }
     }
 
-    /// What stood in the recording's place is called now, if it was renamed and won't be removed.
+    /// The earlier recording's new name, if it was renamed and won't be removed.
     pub fn renamed(&self) -> Option<&str> {
         self.staying(&self.recording)
     }
 
-    /// The same, of the index.
+    /// The same for the index.
     pub fn renamed_index(&self) -> Option<&str> {
         match &self.index {
             Some(index) => self.staying(index),
@@ -192,17 +192,18 @@ impl<O: Makes + Copy + Drop> Keeper<O> {
         held.renamed()
     }
 
-    /// What was renamed stays, though it was to be replaced: the recording has ended, and has no codestream.
+    /// Keeps earlier files that were to be replaced: the recording has ended without a codestream, or isn't on the
+    /// disk.
     pub fn keep(&mut self) {
         self.replaces = false;
     }
 
-    /// Brings the recording onto the disk, and its name too if its folder can be synced.
+    /// Syncs the recording to disk, and its folder too if that can be synced.
     pub fn sync(&self) -> io::Result<()> {
         self.recording.sync(&self.opener)
     }
 
-    /// Brings the index onto the disk likewise.
+    /// Syncs the index likewise.
     pub fn sync_index(&self) -> io::Result<()> {
         match &self.index {
             Some(index) => index.sync(&self.opener),
@@ -210,12 +211,13 @@ impl<O: Makes + Copy + Drop> Keeper<O> {
         }
     }
 
-    /// Whether what was renamed is to be removed once the recording has a codestream, and hasn't been.
+    /// Whether earlier files are to be removed once the recording has a codestream, and haven't been.
     pub fn replaces(&self) -> bool {
         self.replaces
     }
 
-    /// Removes what stood there, if it is to be replaced: the recording has a codestream, and is on the disk.
+    /// Removes earlier files, if they are to be replaced. To be called once the recording has a codestream and is on
+    /// the disk.
     pub fn replace(&mut self) {
         if self.replaces {
             self.replaces = false;
@@ -226,14 +228,14 @@ impl<O: Makes + Copy + Drop> Keeper<O> {
         }
     }
 
-    /// Where nothing was recorded: removes the files that were made, and gives what stood there its name back; an index
-    /// only with its recording.
+    /// If nothing was recorded, removes the new files and gives earlier ones their names back; an index only with its
+    /// recording.
     pub fn give_back(&mut self) {
         if self.recording.has_bytes() {
             return;
         }
         if self.recording.stands(&self.opener) {
-            // While that stands there and is locked, no other program takes the place.
+            // While the recording's new file is there and locked, no other program takes its place.
             self.give_index_back();
             let _is_back = self.recording.give_back(&self.opener);
         } else if self.recording.give_back(&self.opener) {

@@ -1,5 +1,11 @@
-//! The files of films and recordings: opened late where opening may wait, known by what they are and not by their
-//! names, locked while they are written, and never destroyed.
+//! The files of films and recordings, as the program opens and makes them. A file is known by its device and inode,
+//! whatever it is called. It is locked while it is written. An existing file is renamed before another is made in its
+//! place, and removed only if it is to be replaced. A named pipe, whose opening waits for the other side, is opened
+//! late, in its lane's own thread.
+//!
+//! What it hands on: an `Opener` opens and makes files in any thread, a `Source` reads one, a `Target` writes one. A
+//! `Place` is where a file is to be made, a `Keeper` holds the files of a recording from the lock of earlier ones to
+//! the last sync, and `Folders` are locked while files are made in them. `likeness_of` guesses the format of a file.
 //!
 //! ```
 //! let opener = Opener::new(rt);
@@ -13,11 +19,12 @@
 //! }
 //! ```
 //!
-//! In reading order: `identity` (which file something is), `opener` (what opens and makes files, in any thread),
-//! `source` (a file that is read), `target` (a file that is written), `place` (where a file is to be made, and what
-//! stands there), `held` (a file that is made, from the lock of what stands there to the last sync), `keeper` (a
-//! recording's file and that of its index, together), `folders` (where files are made, locked meanwhile), `likeness` (what the first bytes of a file seem to be). No
-//! contract says what a file holds; what is known of these calls is shown by the tests of the whole program.
+//! In reading order: `identity` (identifies files), `opener` (opens and makes files, in any thread), `source` (a file
+//! that is read), `target` (a file that is written), `place` (the place of a file that is to be made, and what is
+//! there already), `held` (a file that is made, from the lock of the earlier one to the last sync), `keeper` (a
+//! recording's file and that of its index, together), `folders` (locks the folders in which files are made),
+//! `likeness` (guesses formats). No contract says what a file holds: the tests of the whole program show how these
+//! calls work.
 #![tactic(auto)]
 
 pub mod folders;

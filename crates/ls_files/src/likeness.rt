@@ -1,7 +1,7 @@
-//! What the first bytes of a file seem to be.
+//! Guesses the format of a file from its first bytes.
 
-/// What the first bytes of a file seem to be, and what makes a film or a recording of it; `None` if they are like
-/// nothing that is known here. Of 136 bytes all is known.
+/// Guesses the format of a file from its first bytes, and says what makes a film or a recording of it; `None` if no
+/// format known here fits. 136 bytes are enough for all of them.
 pub fn likeness_of(front: &[u8]) -> Option<&'static str> {
     for (place, mark, likeness) in LIKENESSES {
         if has_at(front, place, mark) {
@@ -11,7 +11,7 @@ pub fn likeness_of(front: &[u8]) -> Option<&'static str> {
     None
 }
 
-/// Where the marks of formats stand, the first that fits wins.
+/// The marks of formats: where each is, its bytes, and what is said. The first that fits wins.
 const LIKENESSES: [(usize, &[u8], &str); 18] = [
     (
         0,
@@ -89,7 +89,7 @@ const LIKENESSES: [(usize, &[u8], &str); 18] = [
     (0, b"\x1f\x8b", "this seems to be compressed by gzip"),
 ];
 
-/// Whether these bytes stand there.
+/// Whether `mark` is at this place.
 fn has_at(front: &[u8], place: usize, mark: &[u8]) -> bool {
     match front.get(place..) {
         Some(rest) => rest.starts_with(mark),

@@ -1,21 +1,21 @@
-//! Opening files in any thread.
+//! Opens files in any thread.
 use std::alloc::{AllocError, Global};
 use std::fs::{File, Files, Metadata, OpenFile, OpenOptions, TryLockError};
 use std::io::{Read, Write};
 use std::{fs, io};
 
-/// Opens files, and says a line on standard error. A lane opens its pipe by it, in its own thread: what is asked of a
-/// whole file system can't be taken along into one.
+/// Opens files, and writes a line on standard error. A lane opens its pipe with it, in its own thread, into which the
+/// runtime's whole file system can't be taken.
 pub trait Opens {
     type File: Read + Write + OpenFile + Drop;
 
     /// Opens a file to read it.
     fn open(&self, path: &str) -> io::Result<Self::File>;
 
-    /// Opens a file that is there to write to it.
+    /// Opens an existing file to write to it.
     fn open_to_write(&self, path: &str) -> io::Result<Self::File>;
 
-    /// Says a line on standard error. That it is refused changes nothing.
+    /// Writes a line on standard error. A failure is ignored.
     fn say(&self, line: &str);
 }
 
@@ -27,22 +27,22 @@ pub trait Makes: Opens {
     /// Opens an existing file to write to it at its end.
     fn open_to_append(&self, path: &str) -> io::Result<Self::File>;
 
-    /// Takes the lock of a file, which it has until it is closed; `false` if another program has it.
+    /// Locks a file until it is closed; `false` if another program has the lock.
     fn try_lock(&self, file: &Self::File) -> io::Result<bool>;
 
-    /// The metadata of what has a name; of a link its own.
+    /// The metadata of a file; of a link, its own.
     fn look(&self, path: &str) -> io::Result<Metadata>;
 
-    /// Where a path leads, past all links.
+    /// The path with all links resolved.
     fn follow(&self, alloc: Global, path: &str) -> io::Result<String>;
 
-    /// Renames a file, over what has the new name.
+    /// Renames a file, over any file that has the new name.
     fn rename(&self, from: &str, to: &str) -> io::Result<()>;
 
     fn remove(&self, path: &str) -> io::Result<()>;
 }
 
-/// A file that has a lock, which it holds until it is closed.
+/// A file that can be locked until it is closed.
 pub trait Locks {
     /// Takes the lock; `false` if another program has it.
     fn take_lock(&self) -> io::Result<bool>;
@@ -64,7 +64,7 @@ pub struct Opener<'a, R> {
 }
 
 impl<'a, R> Opener<'a, R> {
-    /// What opens the files of this runtime.
+    /// An opener for the files of this runtime.
     pub fn new(rt: &'a R) -> Opener<'a, R> {
         Opener { rt }
     }

@@ -1,19 +1,19 @@
-//! Where a file is to be made, and what stands there.
+//! The place of a file that is to be made, and what is there already.
 use crate::identity::{Identity, Spot, folder_of};
 use std::fs;
 use std::fs::Files;
 use std::os::unix::fs::{FileTypeExt, MetadataExt};
 
-/// What stands where a file is to be made.
+/// The existing file, link, pipe or device where a file is to be made, if any.
 #[derive(Clone, Copy)]
 pub enum Standing {
     /// Nothing, as far as can be seen.
     Nothing,
     /// A regular file.
     File(Identity),
-    /// A link to a regular file, and that file.
+    /// A link to a regular file; the identity is that of the file.
     Link(Identity),
-    /// A regular file that is open, by a name that the system has for it, such as /dev/stdout.
+    /// A regular file that is already open, under a name that the system has for it, such as /dev/stdout.
     Open(Identity),
     /// A link that leads nowhere.
     Astray,
@@ -23,7 +23,7 @@ pub enum Standing {
     Other(Identity),
 }
 
-/// Where a file is to be made.
+/// The place of a file that is to be made.
 #[derive(Clone, Copy)]
 pub struct Place<'a> {
     path: &'a str,
@@ -32,7 +32,7 @@ pub struct Place<'a> {
 }
 
 impl<'a> Place<'a> {
-    /// A path, and what stands there.
+    /// Looks at what is at a path.
     pub fn of<R: Files + AllocGlobal>(rt: &R, path: &'a str) -> Place<'a> {
         Place {
             path,
@@ -51,12 +51,12 @@ impl<'a> Place<'a> {
         self.spot
     }
 
-    /// What stands there.
+    /// The existing file there, if any.
     pub fn standing(&self) -> Standing {
         self.standing
     }
 
-    /// Whether what is written goes into what stands there: a pipe, a device or a file that is open.
+    /// Whether output goes into the existing file there: a pipe, a device or a file that is already open.
     pub fn is_written_into(&self) -> bool {
         matches!(
             self.standing,
@@ -64,14 +64,14 @@ impl<'a> Place<'a> {
         )
     }
 
-    /// Whether files at both places would be one: one name in one folder, or what stands there is one file.
+    /// Whether files at both places would be the same: one name in one folder, or one existing file.
     pub fn is_one_with(&self, other: &Place<'_>) -> bool {
         (self.spot.is_some() && self.spot == other.spot)
             || (self.identity().is_some() && self.identity() == other.identity())
     }
 
-    /// Whether what is written would go into this very file, or would take its place for good: a pipe or a device in
-    /// any case, a regular file if what stands there is to be replaced.
+    /// Whether output here would go into this very file, or replace it for good: always for a pipe, a device or an
+    /// open file; for a regular file only if existing files are replaced.
     pub fn would_write_into(&self, file: Identity, replace: bool) -> bool {
         match self.standing {
             Standing::Pipe(identity) | Standing::Other(identity) | Standing::Open(identity) => {
@@ -82,7 +82,7 @@ impl<'a> Place<'a> {
         }
     }
 
-    /// Which file stands there, if any; where a link leads, if that is what stands there.
+    /// The identity of the existing file, if any; of a link, that of the file to which it leads.
     pub fn identity(&self) -> Option<Identity> {
         match self.standing {
             Standing::Nothing | Standing::Astray => None,
@@ -105,7 +105,7 @@ impl Standing {
     }
 }
 
-/// What stands at a path.
+/// Looks at what is at a path.
 fn standing_at<R: Files + AllocGlobal>(rt: &R, path: &str) -> Standing {
     let Ok(own) = fs::symlink_metadata(rt, path) else {
         return Standing::Nothing;
@@ -128,8 +128,7 @@ fn standing_at<R: Files + AllocGlobal>(rt: &R, path: &str) -> Standing {
     }
 }
 
-/// Whether a link is one of those that the system has for the files that are open, or leads to one, as /dev/stdout
-/// does.
+/// Whether a link is one of the system's names for open files, or leads to one, as /dev/stdout does.
 fn is_of_process<R: Files + AllocGlobal>(rt: &R, path: &str) -> bool {
     if is_in_proc(rt, folder_of(path)) {
         return true;
@@ -140,7 +139,7 @@ fn is_of_process<R: Files + AllocGlobal>(rt: &R, path: &str) -> bool {
     }
 }
 
-/// Whether a folder is the system's own, of processes.
+/// Whether a folder is on the file system of /proc.
 fn is_in_proc<R: Files>(rt: &R, folder: &str) -> bool {
     match (fs::metadata(rt, folder), fs::metadata(rt, "/proc/self")) {
         (Ok(folder), Ok(process)) => folder.dev() == process.dev(),

@@ -9,14 +9,14 @@ use std::io::Read;
 use std::os::unix::fs::{FileTypeExt, MetadataExt};
 use std::{fs, io};
 
-/// How many bytes of its front a source keeps.
+/// The number of first bytes that a source keeps.
 pub const FRONT: usize = 136;
 
-/// EACCES, as the system says it where a file may not be read.
+/// EACCES, the system's error number for a file that may not be read.
 const PERMISSION_DENIED: i32 = 13;
 
-/// A film or a recording to read. A named pipe is opened at the first read, which waits until something writes to it:
-/// so that wait is the reader's alone. Any other file is open.
+/// A film or a recording to read. A named pipe made by `of` is opened at the first read, which waits until something
+/// writes to it: so only its reader waits. Any other file is already open.
 #[derive(Drop)]
 pub struct Source<'a, O: Opens> {
     opener: O,
@@ -32,8 +32,8 @@ pub struct Source<'a, O: Opens> {
 }
 
 impl<'a, O: Opens + Drop> Source<'a, O> {
-    /// Opens a file, unless it is a named pipe. That a pipe is there is looked at, and that its permissions let this
-    /// process read it.
+    /// Opens a file; a named pipe only at its first read. Fails with EACCES if the permissions of the pipe don't let
+    /// this process read it.
     pub fn of<R: Files>(rt: &R, opener: O, path: &'a str) -> io::Result<Source<'a, O>> {
         let pipe = match fs::metadata(rt, path) {
             Ok(metadata) if metadata.file_type().is_fifo() => Some(metadata),
@@ -49,7 +49,7 @@ impl<'a, O: Opens + Drop> Source<'a, O> {
         }
     }
 
-    /// Opens a file, and waits for that if it is a named pipe.
+    /// Opens a file; if it is a named pipe, waits until something writes to it.
     pub fn open(opener: O, path: &'a str) -> io::Result<Source<'a, O>> {
         let file = opener.open(path)?;
         let identity = match file.metadata() {
@@ -83,17 +83,17 @@ impl<'a, O: Opens> Source<'a, O> {
         self.file.is_none()
     }
 
-    /// Has a line said on standard error once a pipe that is awaited is open.
+    /// Sets the line to write on standard error once an awaited pipe is open.
     pub fn announce(&mut self, notice: &'a str) {
         self.notice = Some(notice);
     }
 
-    /// Which file it is, if the system says so.
+    /// The file's identity, if the system gives it.
     pub fn identity(&self) -> Option<Identity> {
         self.identity
     }
 
-    /// The first bytes that were read of it, 136 at most.
+    /// The first bytes that were read, at most 136.
     pub fn front(&self) -> &[u8] {
         &self.front[..self.kept]
     }
@@ -108,7 +108,7 @@ impl<'a, O: Opens> Source<'a, O> {
         Ok(())
     }
 
-    /// Keeps what still belongs to the front.
+    /// Adds bytes to the front until that is full.
     fn keep(&mut self, bytes: &[u8]) {
         let start = self.kept;
         let count = bytes.len().min(FRONT - start);
@@ -129,8 +129,8 @@ impl<'a, O: Opens> Read for Source<'a, O> {
     }
 }
 
-/// Whether the permissions of a file let this process read it, as far as they tell: not if it is sure that they don't.
-/// The process is the owner of its own folder under /proc.
+/// Whether the permissions of a file let this process read it: `false` only if they surely forbid it. The owner of
+/// /proc/self is this process's user.
 fn may_be_read<R: Files>(rt: &R, metadata: &Metadata) -> bool {
     let Ok(process) = fs::metadata(rt, "/proc/self") else {
         return true;

@@ -3,8 +3,8 @@ use crate::opener::Opens;
 use std::io;
 use std::io::Write;
 
-/// A file to write to. A named pipe is opened at the first write, which waits until something reads from it. Any other
-/// file is open.
+/// A file to write to. A named pipe is opened at the first write, which waits until something reads from it. Any
+/// other file is already open.
 #[derive(Drop)]
 pub struct Target<'a, O: Opens> {
     opener: O,
@@ -16,7 +16,7 @@ pub struct Target<'a, O: Opens> {
 }
 
 impl<'a, O: Opens> Target<'a, O> {
-    /// What is written to a file or a device that is open.
+    /// A file or a device that is already open.
     pub fn opened(opener: O, path: &'a str, file: O::File) -> Target<'a, O> {
         Target {
             opener,
@@ -27,7 +27,7 @@ impl<'a, O: Opens> Target<'a, O> {
         }
     }
 
-    /// What is written to a named pipe, which is not yet open.
+    /// A named pipe, which is not yet open.
     pub fn pipe(opener: O, path: &'a str) -> Target<'a, O> {
         Target {
             opener,
@@ -43,7 +43,7 @@ impl<'a, O: Opens> Target<'a, O> {
         self.written
     }
 
-    /// Has what reads from a pipe that was never opened see the end, for which it waits until something reads there.
+    /// Opens a pipe that was never opened, so that its reader sees the end; waits until something reads from it.
     pub fn release(mut self)
     where
         O: Drop,
