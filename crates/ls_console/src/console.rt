@@ -1,34 +1,35 @@
-//! What the program says on standard error.
+//! Standard error: the program's messages, and the progress line on a terminal.
 use crate::shown::Shown;
 use ls_frame::{Failed, Outlet, write_bytes};
 use std::alloc::{AllocError, Global};
 use std::fmt::{Display, Style};
 use std::io;
 
-/// How many characters a line in its place has where the terminal has its usual width: one less than that, since some
-/// terminals go to the next line after the last.
+/// The number of characters in a progress line at a terminal's usual width: one less than that, since some terminals
+/// go to the next line after the last.
 pub const COLUMNS: usize = 79;
 
-/// What is said of a file `-` that can't be opened.
+/// The hint for a file `-` that can't be opened.
 const STANDARD_INPUT: &str = "; - is a file's name, and standard input is /dev/stdin";
 
-/// Standard error, and how much is said there.
+/// Standard error, and how detailed its messages are.
 #[derive(Drop)]
 pub struct Console<'e, E> {
     alloc: Global,
     errors: &'e mut E,
     /// Whether it is a terminal.
     is_terminal: bool,
-    /// How many characters a line in its place has.
+    /// The number of characters in a progress line.
     columns: usize,
-    /// Whether it is told why a device failed.
+    /// Whether reasons are on: the program then says why a device failed, what a file seems to be, how one was
+    /// renamed.
     reasons: bool,
-    /// Whether a line in its place is shown.
+    /// Whether a progress line is shown.
     is_shown: bool,
 }
 
 impl<'e, E: Outlet> Console<'e, E> {
-    /// What is said on `errors`, which is a terminal or isn't; a line in its place has `columns` characters there.
+    /// A console on `errors`, which is a terminal or isn't; a progress line has `columns` characters there.
     pub fn new(
         alloc: Global,
         errors: &'e mut E,
@@ -45,7 +46,7 @@ impl<'e, E: Outlet> Console<'e, E> {
         }
     }
 
-    /// Has it told why a device failed, also where it isn't a terminal.
+    /// Turns reasons on, if `reasons`. On a terminal they are on in any case.
     pub fn tell_reasons(&mut self, reasons: bool) {
         self.reasons = self.reasons || reasons;
     }
@@ -58,7 +59,7 @@ impl<'e, E: Outlet> Console<'e, E> {
         self.reasons
     }
 
-    /// How many characters a line in its place has.
+    /// The number of characters in a progress line.
     pub fn columns(&self) -> usize {
         self.columns
     }
@@ -72,13 +73,13 @@ impl<'e, E: Outlet> Console<'e, E> {
         }
     }
 
-    /// Writes a text as it is, after what is cleared of a line in its place. That it is refused changes nothing.
+    /// Clears the progress line, then writes a text as it is. A failure is ignored.
     pub fn write(&mut self, text: &[u8]) {
         self.clear();
         let _refused = write_bytes(self.errors, text);
     }
 
-    /// Shows a line in its place, as far as it has room there: the next one is shown over it. Of a terminal only.
+    /// Shows a progress line over the one before, cut to the number of columns. For a terminal only.
     pub fn show(&mut self, line: &str) {
         let cut: Result<String, AllocError> = line.chars().take(self.columns).collect(self.alloc);
         if let Ok(cut) = cut {
@@ -90,7 +91,7 @@ impl<'e, E: Outlet> Console<'e, E> {
         }
     }
 
-    /// Clears the line in its place, if one is shown.
+    /// Clears the progress line, if one is shown.
     pub fn clear(&mut self) {
         if self.is_shown {
             self.is_shown = false;
@@ -100,7 +101,7 @@ impl<'e, E: Outlet> Console<'e, E> {
         }
     }
 
-    /// Says that memory was refused before there was anything to say it of.
+    /// Says that memory ran out, and names no file.
     pub fn say_no_memory(&mut self) {
         self.write(b"jlsrec: no memory\n");
     }
@@ -117,7 +118,7 @@ impl<'e, E: Outlet> Console<'e, E> {
         }
     }
 
-    /// Says how what stood in a recording's place is called now, if that is told.
+    /// Says that the file at `path` was renamed to `kept`, if reasons are on.
     pub fn mention(&mut self, path: &str, kept: &str) {
         if self.reasons {
             let (path, kept) = (Shown(path), Shown(kept));
@@ -125,7 +126,7 @@ impl<'e, E: Outlet> Console<'e, E> {
         }
     }
 
-    /// Says what a file seems to be, if that is told.
+    /// Says what a file seems to be, if that is known and reasons are on.
     pub fn liken(&mut self, file: &str, likeness: Option<&str>) {
         if let Some(likeness) = likeness {
             if self.reasons {
@@ -135,13 +136,13 @@ impl<'e, E: Outlet> Console<'e, E> {
         }
     }
 
-    /// Says what the system says of a failure, if that is told and there was one.
+    /// Says the system's reason for a failure, if there was one and reasons are on.
     pub fn blame(&mut self, file: &str, failure: Option<Failed>) {
         self.blame_with(file, failure, "");
     }
 
-    /// Says what the system says of a failure to write a recording, as `blame` does, and how many frames are whole in
-    /// it, if that is known.
+    /// Says why a recording couldn't be written, as `blame` does, and how many of its frames are whole, if that is
+    /// known.
     pub fn blame_writing(&mut self, file: &str, failure: Option<Failed>, frames: Option<u64>) {
         match frames {
             Some(frames) => {
@@ -151,7 +152,7 @@ impl<'e, E: Outlet> Console<'e, E> {
         }
     }
 
-    /// Says what the system says of a failure, and what more there is to say of it, if that is told and there was one.
+    /// Says the system's reason for a failure, followed by `more`, if there was one and reasons are on.
     fn blame_with<D: Display + Drop>(&mut self, file: &str, failure: Option<Failed>, more: D) {
         if let Some(failure) = failure {
             if self.reasons {
@@ -168,13 +169,13 @@ impl<'e, E: Outlet> Console<'e, E> {
     }
 }
 
-/// What clears a line in its place of so many characters, whatever it was, and leaves the place to another.
+/// The text that clears a progress line of `columns` characters and goes back to its start.
 pub fn cleared(alloc: Global, columns: usize) -> Result<String, AllocError> {
     let blanks = "".left().width(columns);
     format!(in alloc; "\r{blanks}\r")
 }
 
-/// What the system says of a failure, with its number.
+/// The system's text for a failure, with its number.
 fn text_of(alloc: Global, failure: Failed) -> Result<String, AllocError> {
     let error = match failure.number {
         Some(number) => io::Error::from_raw_os_error(number),
@@ -183,7 +184,7 @@ fn text_of(alloc: Global, failure: Failed) -> Result<String, AllocError> {
     error.to_string(alloc)
 }
 
-/// A text of the system without its number.
+/// The system's text without its number.
 fn without_number(text: &str) -> &str {
     match text.split_once(" (os error ") {
         Some((text, _)) => text,

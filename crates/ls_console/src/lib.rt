@@ -1,4 +1,8 @@
-//! What the program says of its files and devices, and the statuses that it ends with.
+//! The program's messages about its files and devices, and the statuses that it exits with.
+//!
+//! What it hands on: a `Console` writes messages on standard error, and a progress line on a terminal. A `Reader`
+//! reads a film or a recording, and the `Cause` of a fault decides what more is said of it. `DONE`, `FAILED` and
+//! `USAGE` are the statuses; `Shown` makes a file name printable.
 //!
 //! ```
 //! use ls_console::{Console, DONE, open_film};
@@ -18,9 +22,9 @@
 //! }
 //! ```
 //!
-//! In reading order: `shown` (files' names and other words), `console` (what is said on standard error), `output` (what goes to standard output, and the
-//! statuses), `reader` (what films and recordings are read by, and what a fault of that comes of), `written` (what
-//! becomes of a file at its end). No contract says what is said; the tests of the whole program show it.
+//! In reading order: `shown` (file names and other words), `console` (standard error), `output` (standard output, and
+//! the statuses), `reader` (reads films and recordings, and finds the cause of a fault), `written` (says how a file
+//! that was written ended). No contract says what is said; the tests of the whole program show it.
 #![tactic(auto)]
 
 mod console;

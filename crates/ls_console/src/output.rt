@@ -1,16 +1,16 @@
-//! What goes to standard output, and the status that the program ends with.
+//! Standard output, and the statuses that the program exits with.
 use crate::console::Console;
 use ls_frame::{Counted, Failed, Outlet, write_bytes};
 use std::io::{BufWriter, Write};
 
-/// The statuses that the program ends with.
+/// The statuses that the program exits with.
 pub const DONE: u8 = 0;
 
 pub const FAILED: u8 = 1;
 
 pub const USAGE: u8 = 2;
 
-/// Writes a text to standard output, or says that it can't; answers the status.
+/// Writes a text to standard output, or says that it can't. Returns the status.
 pub fn write_text<W: Write, E: Outlet>(
     text: &[u8],
     output: &mut Counted<W>,
@@ -22,8 +22,8 @@ pub fn write_text<W: Write, E: Outlet>(
     }
 }
 
-/// Flushes `output`, unless a write to it has failed, and says the status to end with: that of a failure if the
-/// flush is refused.
+/// Flushes `output`, unless a write to it has failed, and returns the status to exit with: `FAILED` if the flush
+/// fails.
 pub fn finish<W: Write, E: Outlet>(
     status: u8,
     output: &mut Counted<W>,
@@ -38,32 +38,32 @@ pub fn finish<W: Write, E: Outlet>(
     }
 }
 
-/// Flushes lines that were written by way of a buffer, as [`finish`] does, and gives up what couldn't be written.
+/// Flushes lines that were written through a buffer, as [`finish`] does, and drops what couldn't be written.
 pub fn finish_lines<W: Write, E: Outlet>(
     status: u8,
     mut lines: Counted<BufWriter<&mut Counted<W>>>,
     console: &mut Console<'_, E>,
 ) -> u8 {
     let status = finish(status, &mut lines, console);
-    // A buffer that is dropped writes again what couldn't be written.
+    // A buffer that is dropped would write again what couldn't be written.
     let (_output, _unwritten) = lines.into_inner().into_parts();
     status
 }
 
-/// Says that standard output failed.
+/// Says that standard output failed, and returns the status.
 pub fn say_unwritten<E: Outlet>(failure: Option<Failed>, console: &mut Console<'_, E>) -> u8 {
     console.say("output failed");
     console.blame("standard output", failure);
     FAILED
 }
 
-/// Says that memory was refused before there was a request.
+/// Says that memory ran out, and returns the status.
 pub fn no_memory<E: Outlet>(console: &mut Console<'_, E>) -> u8 {
     console.say_no_memory();
     FAILED
 }
 
-/// Says a usage fault that `clap` doesn't know, for which it takes no memory.
+/// Says a usage fault that `clap` doesn't find, and returns the status. Allocates nothing.
 pub fn misused<E: Outlet>(console: &mut Console<'_, E>, line: &[u8]) -> u8 {
     console.write(line);
     USAGE

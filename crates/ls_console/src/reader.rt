@@ -1,4 +1,4 @@
-//! What films and recordings are read by, and what is said of one that can't be.
+//! Reads films and recordings from files, and says why one can't be read.
 use crate::console::Console;
 use crate::output::FAILED;
 use crate::shown::Shown;
@@ -7,22 +7,23 @@ use ls_frame::{Buffered, Counted, Failed, NetpbmFault, Outlet};
 use std::alloc::Global;
 use std::rt::Files;
 
-/// What a film or a recording is read by.
+/// The reader of a film or a recording.
 pub type Reader<'a, O> = Buffered<Counted<Source<'a, O>>>;
 
-/// What a fault comes of.
+/// The cause of a fault.
 #[derive(Clone, Copy)]
 pub enum Cause {
     /// A read failed.
     Reading,
     /// A write failed.
     Writing,
-    /// The file isn't of the kind that was wanted: its first bytes show it.
+    /// The file is of another kind, as its first bytes show.
     Format,
     Other,
 }
 
-/// Opens a film or a recording, and waits for that if it is a named pipe; or says why it can't, and gives the status.
+/// Opens a film or a recording; if it is a named pipe, waits until something writes to it. On failure says why and
+/// returns the status.
 pub fn open_film<'a, R, E>(
     rt: &'a R,
     file: &'a str,
@@ -41,7 +42,7 @@ where
     }
 }
 
-/// Reads a file by way of a buffer; or says that there is no memory for one, and gives the status.
+/// Wraps a source in a buffer. If there is no memory for one, says so and returns the status.
 pub fn buffered<'a, O, E>(
     alloc: Global,
     file: &str,
@@ -62,7 +63,7 @@ where
     }
 }
 
-/// What it comes of that a frame of a film can't be read.
+/// The cause of a fault in reading the frame of this number from a film.
 pub fn cause_of_input(number: u64, fault: NetpbmFault) -> Cause {
     match fault {
         NetpbmFault::Io => Cause::Reading,
@@ -71,7 +72,7 @@ pub fn cause_of_input(number: u64, fault: NetpbmFault) -> Cause {
     }
 }
 
-/// Says what there is to say of a fault's cause.
+/// Says more about a fault's cause, if reasons are on: the system's reason, or what the file seems to be.
 pub fn explain<O, E>(
     file: &str,
     cause: Cause,

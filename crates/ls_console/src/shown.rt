@@ -1,9 +1,9 @@
-//! Files' names, and other words, as they are shown.
+//! Shows file names and other words on a terminal.
 use std::fmt;
 
-/// Shows a file's name so that it stays on its line and moves nothing on a terminal: as it is, if all its characters
-/// are printable, and else in the form of the shell's `$'..'`, which bash takes for the name again. An empty name is
-/// shown as `''`.
+/// Shows a file name so that it stays on its line and moves nothing on a terminal: as it is, if all its characters
+/// are printable, and else in the shell's form `$'..'`, which bash reads as the same name. An empty name is shown as
+/// `''`.
 #[derive(Clone, Copy)]
 pub struct Shown<'a>(pub &'a str);
 
@@ -21,7 +21,7 @@ impl fmt::Display for Shown<'_> {
     }
 }
 
-/// Shows a text as [`Shown`] does within the quotes, also one that is printable.
+/// Shows a text as [`Shown`] does between its quotes, even if it is printable.
 #[derive(Clone, Copy)]
 pub struct Escaped<'a>(pub &'a str);
 
@@ -34,7 +34,7 @@ impl fmt::Display for Escaped<'_> {
     }
 }
 
-/// Shows bytes that aren't text in the form of the shell's `$'..'`, each from 0x80 on by its number.
+/// Shows bytes that aren't text in the shell's form `$'..'`, those from 0x80 on in hexadecimal.
 #[derive(Clone, Copy)]
 pub struct ShownBytes<'a>(pub &'a [u8]);
 
@@ -53,8 +53,8 @@ pub fn is_shown_plain(text: &str) -> bool {
     text.chars().all(is_printable)
 }
 
-/// Whether a character is shown as it is: not if it is a control character, ends a line, turns the direction of what
-/// follows, or has no width and may begin a text (U+FEFF).
+/// Whether a character is shown as it is: not if it is a control character, ends a line, changes the direction of
+/// what follows, or has no width and may begin a text (U+FEFF).
 fn is_printable(character: char) -> bool {
     let code = u32::from(character);
     !(is_control(code) || is_directional(code) || code == 0xFEFF)
@@ -65,7 +65,7 @@ fn is_control(code: u32) -> bool {
     code < 0x20 || is_among(code, 0x7F, 0x9F) || is_among(code, 0x2028, 0x2029)
 }
 
-/// Whether this is the code of a character that turns the direction of what follows.
+/// Whether this is the code of a character that changes the direction of what follows.
 fn is_directional(code: u32) -> bool {
     code == 0x061C
         || is_among(code, 0x200E, 0x200F)
@@ -78,7 +78,7 @@ fn is_among(code: u32, first: u32, last: u32) -> bool {
     first <= code && code <= last
 }
 
-/// Writes a character as it stands in the shell's `$'..'`.
+/// Writes a character as in the shell's `$'..'`.
 fn write_escaped<W: fmt::Write>(character: char, f: &mut fmt::Formatter<W>) -> fmt::Result {
     match character {
         '\n' => f.write_str("\\n"),
@@ -91,7 +91,7 @@ fn write_escaped<W: fmt::Write>(character: char, f: &mut fmt::Formatter<W>) -> f
     }
 }
 
-/// Writes a byte of what isn't text.
+/// Writes a byte that may not be text.
 fn write_byte<W: fmt::Write>(byte: u8, f: &mut fmt::Formatter<W>) -> fmt::Result {
     if byte < 0x80 {
         write_escaped(char::from(byte), f)

@@ -1,4 +1,4 @@
-//! What becomes of a file that was written, at its end.
+//! Says how a file that was written ended.
 use crate::console::Console;
 use crate::output::FAILED;
 use crate::reader::Cause;
@@ -15,7 +15,8 @@ pub struct EndedIndex<'a, O: Opens> {
     pub target: Target<'a, O>,
 }
 
-/// Says why an index isn't whole, if it isn't: for a fault of this cause, or since it couldn't be brought onto the disk.
+/// Says why an index isn't whole, if it isn't: because of the fault `broken`, with its cause, or because it couldn't
+/// be synced.
 pub fn say_index_end<'a, O, X, E>(
     path: &str,
     index: Counted<Target<'a, O>>,
@@ -48,7 +49,7 @@ where
     EndedIndex { is_whole, target }
 }
 
-/// Says that what was written can't be brought onto the disk.
+/// Says that a file couldn't be synced to disk.
 pub fn say_unsynced<O, E>(
     path: &str,
     target: &Target<'_, O>,
@@ -65,7 +66,7 @@ where
     console.blame(path, Some(failure));
 }
 
-/// Says why a file can't be made, and gives the status.
+/// Says why a file can't be made, and returns the status.
 pub fn say_unmade<E: Outlet>(path: &str, fault: io::Error, console: &mut Console<'_, E>) -> u8 {
     if fault.kind() == io::ErrorKind::WouldBlock {
         let shown = Shown(path);
