@@ -1,4 +1,4 @@
-//! The commands and options: a table of them, and what tells `clap` of it.
+//! The table of commands and options, and how `clap` is given them.
 use crate::texts::{
     CAPACITY_HELP, CHECK_HELP, CHECKERS_HELP, CODE_HELP, FILM_HELP, FILMS_HELP, FRAMES_HELP,
     INDEX_FILE_HELP, INDEX_HELP, INDEX_OF_CODE_HELP, INDEX_OF_RECORDING_HELP,
@@ -11,7 +11,7 @@ use clap::builder::ValueParser;
 use clap::{Arg, ArgAction, Command};
 use std::alloc::{AllocError, Global};
 
-/// A command, with its help in a line and at length.
+/// A command, with its short and its long help.
 #[derive(Clone, Copy)]
 struct Entry {
     name: &'static str,
@@ -20,20 +20,20 @@ struct Entry {
     arguments: &'static [Argument],
 }
 
-/// An argument of a command: its name first, and what the help says of it last.
+/// An argument of a command: its name first, and its help last.
 #[derive(Clone, Copy)]
 enum Argument {
-    /// A file, which has to be named.
+    /// A file, required.
     File(&'static str, &'static str),
-    /// The same, of one file or more.
+    /// One file or more, required.
     Files(&'static str, &'static str),
     /// An option without a value.
     Flag(&'static str, &'static str),
-    /// An option with a value, and the name by which the help shows the value.
+    /// An option with a value, and the value's name in the help.
     Text(&'static str, &'static str, &'static str),
-    /// An option whose value is a number: the least and the most, and what it is if the option is left out.
+    /// An option whose value is a number: the least and the greatest, and the default.
     Number(&'static str, (i64, i64), &'static str, &'static str),
-    /// The same of an option that may not be left out.
+    /// The same, but required.
     RequiredNumber(&'static str, (i64, i64), &'static str),
 }
 
@@ -134,7 +134,7 @@ const COMMANDS: [Entry; 8] = [
     },
 ];
 
-/// The option of every command that has it told why a device failed.
+/// The option of every command to say why a device failed.
 const REASONS: Argument = Argument::Flag("reasons", REASONS_HELP);
 
 /// The least and the most workers.
@@ -149,7 +149,7 @@ pub fn command<'a>(alloc: Global) -> Result<Command<'a>, AllocError> {
     bare_command(alloc)?.subcommands(commands)
 }
 
-/// The command of this name, as it stands below the program; or the program, if it has none of this name.
+/// The command of this name, called `jlsrec NAME` in messages; or the program, if it has no such command.
 pub fn command_named<'a>(alloc: Global, name: &str) -> Result<Command<'a>, AllocError> {
     for entry in COMMANDS {
         if entry.name == name {
@@ -210,7 +210,7 @@ fn flag<'a>(alloc: Global, name: &'a str, help: &'a str) -> Arg<'a> {
         .help(help)
 }
 
-/// An option whose value is shown in the help by the name `value`.
+/// An option whose value is called `value` in the help.
 fn option<'a>(alloc: Global, name: &'a str, value: &'a str, help: &'a str) -> Arg<'a> {
     Arg::new(alloc, name)
         .long(name)
@@ -218,7 +218,7 @@ fn option<'a>(alloc: Global, name: &'a str, value: &'a str, help: &'a str) -> Ar
         .help(help)
 }
 
-/// An option whose value is a number from the first of `range` to the second.
+/// An option whose value is a number in `range`, both ends included.
 fn number<'a>(alloc: Global, name: &'a str, range: (i64, i64), help: &'a str) -> Arg<'a> {
     let (least, most) = range;
     option(alloc, name, "N", help).value_parser(ValueParser::signed(least, most))

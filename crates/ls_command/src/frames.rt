@@ -1,14 +1,14 @@
-//! The frames that are asked for by their numbers.
+//! Reads the frame numbers of `--frames`.
 
-/// The frames from `first` to `last`, both of them among them, or to the end; numbered from 0.
+/// The frames from `first` to `last` inclusive, or to the end; numbered from 0.
 #[derive(Clone, Copy, Debug, PartialEq, Eq)]
 pub struct Frames {
     pub first: u32,
     pub last: Option<u32>,
 }
 
-/// The frames of `A`, `A..`, `..B` or `A..B`, where A and B are numbers below 4,294,967,295 and A is no greater than B;
-/// `None` of another text.
+/// Reads `A`, `A..`, `..B` or `A..B`, where A and B are numbers below 4,294,967,295 and A is no greater than B;
+/// `None` for another text.
 pub fn read_frames(text: &str) -> Option<Frames> {
     match text.split_once("..") {
         None => {
@@ -38,7 +38,7 @@ fn between(first: u32, last: u32) -> Option<Frames> {
     })
 }
 
-/// A frame's number: digits, and no more than the greatest number that a frame has.
+/// Reads a frame's number: digits, at most the greatest number that a frame has.
 fn number(text: &str) -> Option<u32> {
     if text.starts_with('+') {
         return None;

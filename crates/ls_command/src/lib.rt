@@ -1,4 +1,4 @@
-//! The words of the command line: what they ask for, or what is answered in its place.
+//! Reads the words of the command line: the request that they make, or the help or error to show in its place.
 //!
 //! ```
 //! use ls_command::{Request, read_words};
@@ -13,9 +13,9 @@
 //! }
 //! ```
 //!
-//! The words are read by `clap`, of which nothing is seen outside: `commands` tells it the commands and options, and
-//! `texts` holds what `--help` says of them. The tests of the whole program show which words are taken and what is
-//! answered to the others.
+//! The words are parsed by `clap`, which isn't seen outside: `commands` gives it the commands and options, and
+//! `texts` holds their help. `frames` and `preset` read the values of `--frames` and `--preset`. The tests of the
+//! whole program show which words are accepted, and how others are answered.
 #![tactic(auto)]
 
 mod commands;
@@ -35,50 +35,50 @@ use texts::{
     BEGINNING, CHECKERS_WANTED, COMMAND_WANTED, FRAMES_WANTED, PLAYERS_WANTED, SALVAGE_WANTED,
 };
 
-/// What the words ask for.
+/// A request, one variant for each command.
 #[derive(Drop)]
 pub enum Request<'a> {
-    /// The lines of a film's frames.
+    /// List the frames of a film.
     List {
         file: &'a str,
     },
-    /// The codestreams of a film's frames, and their index if a file is named for it.
+    /// Code the frames of a film, and write their index if a file is named for it.
     Code {
         file: &'a str,
         index: Option<&'a str>,
     },
-    /// The frames of a recording: all, or some; or past damage.
+    /// Play a recording: all frames, or some; or past damage.
     Play {
         file: &'a str,
         frames: Option<Frames>,
         salvage: bool,
-        /// The recording's index, by whose numbers gaps are told past damage.
+        /// The recording's index, which gives the frame numbers of gaps past damage.
         index: Option<&'a str>,
-        /// How many workers decode; one, if it is some or past damage.
+        /// The number of workers that decode; one if only some frames are played, or past damage.
         workers: u8,
     },
-    /// The lines of a recording's codestreams, with their sums or without.
+    /// List the codestreams of a recording, with their sums or without.
     Index {
         file: &'a str,
         sums: bool,
     },
-    /// What is damaged of a recording, by itself or by its index.
+    /// Look for damage in a recording, by itself or by its index.
     Check {
         file: &'a str,
         index: Option<&'a str>,
-        /// How many workers decode; one, if it is by itself.
+        /// The number of workers that decode; one without an index.
         workers: u8,
     },
-    /// Whether a recording's frames are a film's.
+    /// Compare a recording with a film.
     Verify {
         film: &'a str,
         recording: &'a str,
-        /// How many workers decode.
+        /// The number of workers that decode.
         workers: u8,
     },
-    /// Recordings of films, side by side.
+    /// Record films, side by side.
     Record(Recording<'a>),
-    /// The replies of a queue to the steps of a file.
+    /// Replay the steps of a file on a queue.
     Replay {
         sources: u8,
         capacity: u32,
@@ -86,10 +86,10 @@ pub enum Request<'a> {
     },
 }
 
-/// The most films of a recording.
+/// The most films that are recorded side by side.
 pub const MOST_FILMS: usize = 16;
 
-/// Recordings of films that are asked for.
+/// A request to record films.
 #[derive(Drop)]
 pub struct Recording<'a> {
     pub workers: u8,
@@ -99,31 +99,31 @@ pub struct Recording<'a> {
     pub tuning: Tuning,
     /// The folder for the recordings.
     pub into: Option<&'a str>,
-    /// Whether recordings that are there are removed.
+    /// Whether existing recordings are removed.
     pub replace: bool,
-    /// Whether it is said meanwhile how far they are.
+    /// Whether progress is shown.
     pub progress: bool,
     /// The file for a report.
     pub report: Option<&'a str>,
     /// Whether each recording gets an index.
     pub index: bool,
-    /// The films: one at least, and no more than `MOST_FILMS`.
+    /// The films, 1 to `MOST_FILMS`.
     pub files: Vec<&'a str>,
 }
 
-/// What is answered to words that ask for nothing that the program does.
+/// The answer to words that make no request: help, or an error.
 #[derive(Drop)]
 pub enum Answer {
     /// The help or the version that was asked for, for standard output.
     Shown(String),
-    /// What is wrong with the words, for standard error.
+    /// The error in the words, for standard error.
     Misused(String),
     /// An allocation failed.
     NoMemory,
 }
 
-/// What the words after the program's name ask for, and whether they ask that it is told why a device failed. Without
-/// words it is answered what the program is and how to begin.
+/// Reads the words after the program's name: the request, and whether `--reasons` asks to say why a device failed.
+/// Without words, the answer says what the program is and how to begin.
 pub fn read_words<'a>(alloc: Global, words: &'a [String]) -> Result<(Request<'a>, bool), Answer> {
     if words.is_empty() {
         return Err(beginning(alloc));
@@ -135,12 +135,12 @@ pub fn read_words<'a>(alloc: Global, words: &'a [String]) -> Result<(Request<'a>
     }
 }
 
-/// What the program is and how to begin.
+/// The answer without words: what the program is and how to begin.
 fn beginning(alloc: Global) -> Answer {
     misused(alloc, BEGINNING)
 }
 
-/// The answer that is this text.
+/// The answer `Misused` with this text.
 fn misused(alloc: Global, text: &str) -> Answer {
     match text.to_string(alloc) {
         Ok(text) => Answer::Misused(text),
@@ -148,12 +148,12 @@ fn misused(alloc: Global, text: &str) -> Answer {
     }
 }
 
-/// Why words ask for nothing that the program does.
+/// The reason why words make no request.
 #[derive(Drop)]
 enum Refusal {
-    /// What `clap` has to say of them, or is to say in its manner.
+    /// An error of `clap`, or one in its form.
     Clap(Error),
-    /// A limit of the program, as the line that is said of it.
+    /// A fault that the program says in its own line.
     Limit(&'static str),
 }
 
@@ -162,7 +162,7 @@ pub fn misuse(alloc: Global, message: &str) -> Answer {
     answer_of(alloc, &usage_fault(command(alloc), message))
 }
 
-/// What the words ask for, and whether they ask for reasons.
+/// Reads the request, and whether reasons are asked for.
 fn parse<'a>(alloc: Global, words: &'a [String]) -> Result<(Request<'a>, bool), Refusal> {
     match match_words(alloc, words) {
         Ok(matches) => request_of_matches(alloc, &matches),
@@ -170,12 +170,12 @@ fn parse<'a>(alloc: Global, words: &'a [String]) -> Result<(Request<'a>, bool), 
     }
 }
 
-/// The words as `clap` matches them to its commands and options.
+/// Has `clap` match the words to its commands and options.
 fn match_words<'a>(alloc: Global, words: &'a [String]) -> Result<ArgMatches<'a>, Error> {
     command(alloc)?.try_get_matches_from(words)
 }
 
-/// What matched words ask for.
+/// Converts matched words to the request, and whether reasons are asked for.
 fn request_of_matches<'a>(
     alloc: Global,
     matches: &ArgMatches<'a>,
@@ -194,12 +194,12 @@ fn request_of_matches<'a>(
     }
 }
 
-/// That the words name no command.
+/// The refusal of words that name no command.
 fn no_command(alloc: Global) -> Refusal {
     Refusal::Clap(usage_fault(command(alloc), COMMAND_WANTED))
 }
 
-/// What the words of another command than `record` ask for, which `clap` has looked at.
+/// The request of a command other than `record`, from its matched words.
 fn clap_request<'a>(
     alloc: Global,
     name: &str,
@@ -211,7 +211,7 @@ fn clap_request<'a>(
     }
 }
 
-/// What is answered where `clap` has an error.
+/// Converts an error of `clap` to an answer.
 fn answer_of(alloc: Global, error: &Error) -> Answer {
     if error.kind() == ErrorKind::OutOfMemory {
         return Answer::NoMemory;
@@ -223,7 +223,7 @@ fn answer_of(alloc: Global, error: &Error) -> Answer {
     }
 }
 
-/// The same, whose faults are errors of `clap`.
+/// The request of a command other than `record`; `None` for an unknown name. Its faults are errors of `clap`.
 fn request_of<'a>(
     alloc: Global,
     name: &str,
@@ -241,7 +241,7 @@ fn request_of<'a>(
     }
 }
 
-/// What the words of `code` ask for, which `clap` has looked at.
+/// The request of `code`, from its matched words.
 fn code_request<'a>(words: &ArgMatches<'a>) -> Option<Request<'a>> {
     Some(Request::Code {
         file: words.get_str("FILE")?,
@@ -249,7 +249,7 @@ fn code_request<'a>(words: &ArgMatches<'a>) -> Option<Request<'a>> {
     })
 }
 
-/// What the words of `play` ask for, which `clap` has looked at.
+/// The request of `play`, from its matched words.
 fn play_request<'a>(alloc: Global, words: &ArgMatches<'a>) -> Result<Option<Request<'a>>, Error> {
     let salvage = words.get_flag("salvage");
     let frames = match words.get_str("frames") {
@@ -284,7 +284,7 @@ fn play_request<'a>(alloc: Global, words: &ArgMatches<'a>) -> Result<Option<Requ
     )
 }
 
-/// What the words of `index` ask for, which `clap` has looked at.
+/// The request of `index`, from its matched words.
 fn index_request<'a>(words: &ArgMatches<'a>) -> Option<Request<'a>> {
     Some(Request::Index {
         file: words.get_str("FILE")?,
@@ -292,7 +292,7 @@ fn index_request<'a>(words: &ArgMatches<'a>) -> Option<Request<'a>> {
     })
 }
 
-/// What the words of `check` ask for, which `clap` has looked at.
+/// The request of `check`, from its matched words.
 fn check_request<'a>(alloc: Global, words: &ArgMatches<'a>) -> Result<Option<Request<'a>>, Error> {
     let index = words.get_str("index");
     let workers = words.get_one("workers").unwrap_or(1);
@@ -308,7 +308,7 @@ fn check_request<'a>(alloc: Global, words: &ArgMatches<'a>) -> Result<Option<Req
     )
 }
 
-/// What the words of `verify` ask for, which `clap` has looked at.
+/// The request of `verify`, from its matched words.
 fn verify_request<'a>(words: &ArgMatches<'a>) -> Option<Request<'a>> {
     Some(Request::Verify {
         film: words.get_str("FILM")?,
@@ -317,7 +317,7 @@ fn verify_request<'a>(words: &ArgMatches<'a>) -> Option<Request<'a>> {
     })
 }
 
-/// What the words of `record` ask for, which `clap` has looked at.
+/// The request of `record`, from its matched words.
 fn record_request<'a>(
     alloc: Global,
     words: &ArgMatches<'a>,
@@ -334,7 +334,7 @@ fn record_request<'a>(
     }
 }
 
-/// The same, of the films that the words name.
+/// The request of `record`, with this tuning and these films.
 fn recording_of<'a>(
     words: &ArgMatches<'a>,
     tuning: Tuning,
@@ -354,7 +354,7 @@ fn recording_of<'a>(
     }))
 }
 
-/// What the words of `replay` ask for, which `clap` has looked at.
+/// The request of `replay`, from its matched words.
 fn replay_request<'a>(words: &ArgMatches<'a>) -> Option<Request<'a>> {
     Some(Request::Replay {
         sources: words.get_one("sources")?,
@@ -363,13 +363,13 @@ fn replay_request<'a>(words: &ArgMatches<'a>) -> Option<Request<'a>> {
     })
 }
 
-/// A usage fault of a command that `clap` doesn't find by itself; an error of kind `OutOfMemory` if an allocation fails,
-/// as that of the command.
+/// A usage fault that `clap` doesn't find by itself; an error of kind `OutOfMemory` if an allocation fails, also that
+/// of the command.
 fn usage_fault(used: Result<Command<'_>, AllocError>, message: &str) -> Error {
     fault_of_kind(ErrorKind::InvalidValue, used, message)
 }
 
-/// The same, of another kind.
+/// The same, of any kind.
 fn fault_of_kind(kind: ErrorKind, used: Result<Command<'_>, AllocError>, message: &str) -> Error {
     let made = match used {
         Ok(mut used) => used.error(kind, message),
@@ -381,7 +381,8 @@ fn fault_of_kind(kind: ErrorKind, used: Result<Command<'_>, AllocError>, message
     }
 }
 
-/// An error of `clap`; of a command that doesn't exist one that says which may be meant, if there is one.
+/// Adds a tip to the error for an unknown command: the command that may be meant, if there is one. Other errors stay
+/// as they are.
 fn with_tip(alloc: Global, words: &[String], error: Error) -> Error {
     if error.kind() != ErrorKind::InvalidSubcommand {
         return error;
@@ -398,7 +399,7 @@ fn with_tip(alloc: Global, words: &[String], error: Error) -> Error {
     }
 }
 
-/// The command that is meant by a word for what it does.
+/// The command that is meant by another word for what it does.
 fn meant_by(word: &str) -> Option<&'static str> {
     match word {
         "decode" => Some("play"),
@@ -407,7 +408,7 @@ fn meant_by(word: &str) -> Option<&'static str> {
     }
 }
 
-/// A usage fault, in the words of `clap`: a command that doesn't exist, in place of which `meant` may be meant.
+/// A usage fault in the words of `clap`: an unknown command, with `meant` as its tip.
 fn unknown_command(alloc: Global, word: &str, meant: &str) -> Error {
     let message = format!(in alloc;
         "unrecognized subcommand '{word}'\n\n  tip: a similar subcommand exists: '{meant}'"
@@ -424,7 +425,8 @@ fn unknown_command(alloc: Global, word: &str, meant: &str) -> Error {
     }
 }
 
-/// What `clap` says of the word after `help` by itself, if it knows no such command: it gives a tip only so.
+/// Has `clap` look at the word after `help` by itself, since it gives a tip for an unknown command only then. Without
+/// a tip, `error`.
 fn tip_of_clap(alloc: Global, words: &[String], error: Error) -> Error {
     match words.get(1..2) {
         Some(word) => tip_or(match_words(alloc, word), error),
@@ -432,7 +434,7 @@ fn tip_of_clap(alloc: Global, words: &[String], error: Error) -> Error {
     }
 }
 
-/// The error of words that are no command, if there is one; else another.
+/// The error for an unknown command, if `matched` is one; else `error`.
 fn tip_or(matched: Result<ArgMatches<'_>, Error>, error: Error) -> Error {
     match matched {
         Ok(_matches) => error,

@@ -1,7 +1,8 @@
-//! The coding parameters that `--preset` names.
+//! Reads the coding parameters of `--preset`.
 use ls_frame::Tuning;
 
-/// The tuning that was chosen: four numbers of 0 to 65535 in decimal digits, with a comma between.
+/// Reads a tuning: four numbers from 0 to 65535 in decimal digits, with commas between; `None` for another text.
+/// Without a preset all four are 0.
 pub fn tuning_of(preset: Option<&str>) -> Option<Tuning> {
     let mut numbers = preset.unwrap_or("0,0,0,0").split(',');
     let tuning = Tuning {
@@ -16,7 +17,7 @@ pub fn tuning_of(preset: Option<&str>) -> Option<Tuning> {
     }
 }
 
-/// A number of 0 to 65535 in decimal digits, with any leading zeros and no sign.
+/// Reads a number from 0 to 65535 in decimal digits, with any leading zeros and no sign.
 fn number_of(text: &str) -> Option<u16> {
     if text.starts_with('+') {
         return None;

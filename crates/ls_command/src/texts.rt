@@ -1,4 +1,4 @@
-//! What `--help` says, and what is said where there are no words.
+//! The texts of `--help`, the text without words, and messages about misuse.
 
 pub const BEGINNING: &str = "\
 jlsrec records films without loss, several side by side, as JPEG-LS (ITU-T T.87), and plays them back.
