@@ -1,4 +1,4 @@
-//! What is asked of a recording that is kept: its index, whether it is damaged, and whether it is of a film.
+//! The commands `index`, `check` and `verify`: a recording is listed, checked for damage, and compared with its film.
 use crate::cause::conclude;
 use ls_archive::{
     CheckFault, Checked, Difference, Finding, Findings, IndexFault, Verdict, VerifyFault, Wanted,
@@ -43,7 +43,7 @@ where
     finish_lines(status, lines, console)
 }
 
-/// Writes the index of a recording that is lent, to lines that are lent.
+/// Writes the index of a recording, over any reader and writer.
 fn index_to<R: Feed, L: Outlet>(
     alloc: Global,
     recording: &mut R,
@@ -53,8 +53,8 @@ fn index_to<R: Feed, L: Outlet>(
     write_index(alloc, recording, lines, sums)
 }
 
-/// Looks for what is damaged of a recording, by its index if one is named, and then with so many workers that decode;
-/// and writes a line of each by way of a buffer.
+/// Looks for damage in a recording, by its index if one is named, and then with this number of workers that decode.
+/// Writes a line for each finding, through a buffer.
 pub fn check_recording<R, W, E>(
     rt: &R,
     file: &str,
@@ -84,7 +84,7 @@ where
     finish_lines(status, lines, console)
 }
 
-/// Looks for what is damaged of a recording, which so many workers decode, by its index.
+/// Looks for damage in a recording by its index, with this number of workers that decode.
 fn check_with<R, L, E>(
     rt: &R,
     file: &str,
@@ -134,9 +134,9 @@ where
     conclude(file, Err(fault), &recording, None, console)
 }
 
-/// The places at which codestreams that were found to be damaged stand elsewhere in the recording, of each one or none;
-/// nothing where none has a sum, or the recording can't be read once more. `end` is the offset at which the last one
-/// should end. If that fails it is said why, and the status given.
+/// Looks elsewhere in the recording for the codestreams that were found to be damaged: one place or none for each.
+/// Empty if none has a sum, or the recording can't be read once more. `end` is the offset at which the last one
+/// should end. On failure says why and returns the status.
 fn find_moved<R, E>(
     rt: &R,
     file: &str,
@@ -157,7 +157,7 @@ where
     find_all(rt, file, &wanted, end, console)
 }
 
-/// The place at which a codestream was found, if it isn't its own: one that stands at its own place is damaged itself.
+/// The place at which a codestream was found, unless it is its own: one at its own place is damaged itself.
 fn elsewhere(found: Option<u64>, own: u64) -> Option<u64> {
     match found {
         Some(place) if place != own => Some(place),
@@ -165,7 +165,7 @@ fn elsewhere(found: Option<u64>, own: u64) -> Option<u64> {
     }
 }
 
-/// What is looked for of findings.
+/// Converts findings to the codestreams that are looked for.
 fn wanted_of(alloc: Global, findings: &[Finding]) -> Result<Vec<Wanted>, AllocError> {
     let mut wanted = Vec::new(alloc);
     for finding in findings {
@@ -180,8 +180,8 @@ fn wanted_of(alloc: Global, findings: &[Finding]) -> Result<Vec<Wanted>, AllocEr
     Ok(wanted)
 }
 
-/// The places at which codestreams stand in a recording, of each that is wanted one or none; or says why they can't be
-/// looked for, and gives the status.
+/// Looks for codestreams in a recording: one place or none for each in `wanted`. On failure says why and returns the
+/// status.
 pub fn find_all<R, E>(
     rt: &R,
     file: &str,
@@ -200,7 +200,7 @@ where
     }
 }
 
-/// The same in a recording that is lent.
+/// The same, over any reader.
 fn find_lent<R: Feed>(
     alloc: Global,
     recording: &mut Buffered<R>,
@@ -210,7 +210,7 @@ fn find_lent<R: Feed>(
     find_places(alloc, recording, wanted, end)
 }
 
-/// Whether a file gives the same bytes when it is opened once more, as a pipe doesn't.
+/// Whether a file gives the same bytes when it is opened once more: a regular file does, a pipe doesn't.
 pub fn is_read_anew<R: Files>(rt: &R, file: &str) -> bool {
     match fs::metadata(rt, file) {
         Ok(metadata) => metadata.is_file(),
@@ -218,7 +218,7 @@ pub fn is_read_anew<R: Files>(rt: &R, file: &str) -> bool {
     }
 }
 
-/// Looks for what is damaged of a recording that is lent, which so many workers decode, by its index.
+/// Looks for damage in a recording by its index, over any readers, with this number of workers that decode.
 fn check_lent<Rt: Threads + Sync, I: Feed, R: Feed, F: Findings>(
     rt: &Rt,
     alloc: Global,
@@ -235,7 +235,7 @@ fn check_lent<Rt: Threads + Sync, I: Feed, R: Feed, F: Findings>(
     }
 }
 
-/// Whether a check stopped for its index.
+/// Whether a check stopped because of its index.
 fn is_of_index(fault: CheckFault) -> bool {
     matches!(
         fault,
@@ -243,7 +243,7 @@ fn is_of_index(fault: CheckFault) -> bool {
     )
 }
 
-/// Looks for what can't be decoded of a recording, and says that there is no index to compare it with.
+/// Looks for what can't be decoded in a recording, and says that no index is named.
 fn check_alone<R, L, E>(rt: &R, file: &str, lines: &mut L, console: &mut Console<'_, E>) -> u8
 where
     R: Eprint + Files + AllocGlobal,
@@ -274,7 +274,7 @@ where
     }
 }
 
-/// Decodes what stands whole of a recording that is lent, shows nothing of it, and tells of what it passes over.
+/// Decodes the intact frames of a recording, over any reader, writes none of them, and reports the gaps between them.
 fn decode_only<R: Feed, G: Gaps>(
     alloc: Global,
     recording: &mut Buffered<R>,
@@ -284,7 +284,7 @@ fn decode_only<R: Feed, G: Gaps>(
     salvage::<NoText, _, _, _>(alloc, recording, &mut nothing, gaps)
 }
 
-/// Compares a recording, which so many workers decode, with its film, and says where they differ.
+/// Compares a recording, decoded by this number of workers, with its film, and says where they differ.
 pub fn verify_files<R, E>(
     rt: &R,
     film: &str,
@@ -311,7 +311,7 @@ where
     }
 }
 
-/// Compares a recording that is lent, which so many workers decode, with its film.
+/// Compares a recording with its film, over any readers, with this number of workers that decode.
 fn verify_lent<Rt: Threads + Sync, F: Feed, R: Feed>(
     rt: &Rt,
     alloc: Global,
@@ -327,7 +327,7 @@ fn verify_lent<Rt: Threads + Sync, F: Feed, R: Feed>(
     }
 }
 
-/// Says how a recording differs from its film, if it does, and answers the status.
+/// Says how a recording differs from its film, if it does, and returns the status.
 fn say_verdict<E: Outlet>(recording: &str, verdict: Verdict, console: &mut Console<'_, E>) -> u8 {
     let recording = Shown(recording);
     match verdict {
@@ -345,7 +345,7 @@ fn say_verdict<E: Outlet>(recording: &str, verdict: Verdict, console: &mut Conso
     FAILED
 }
 
-/// Says what the frames of this number of a recording and of its film differ in, the recording's first.
+/// Says how the frame of this number of a recording differs from that of its film, the recording's value first.
 fn say_difference<E: Outlet>(
     recording: Shown<'_>,
     number: u64,
@@ -377,12 +377,12 @@ fn kind_text(kind: Kind) -> &'static str {
     }
 }
 
-/// The lines of a check.
+/// Writes the lines of a check.
 #[derive(Drop)]
 struct Report<'l, L> {
     alloc: Global,
     lines: &'l mut L,
-    /// How many gaps were told of.
+    /// The number of gaps reported so far.
     gaps: u64,
 }
 
@@ -395,15 +395,15 @@ impl<'l, L: Outlet> Report<'l, L> {
         }
     }
 
-    /// Writes a line. That it can't be written is seen at the end.
+    /// Writes a line. A failure is seen at the end.
     fn write<D: Display + Drop>(&mut self, text: D) -> Result<(), AllocError> {
         let line = format!(in self.alloc; "{text}\n")?;
         let _refused = write_bytes(self.lines, line.as_bytes());
         Ok(())
     }
 
-    /// Writes the lines of findings, each with the place at which its codestream stands elsewhere, if there is one, and
-    /// what the check came to; and says the status.
+    /// Writes a line for each finding, with the place at which its codestream was found, if there is one, and then
+    /// the totals. Returns the status.
     fn end_by<E: Outlet>(
         &mut self,
         file: &str,
@@ -418,7 +418,7 @@ impl<'l, L: Outlet> Report<'l, L> {
         }
     }
 
-    /// Writes the lines of findings; the status where memory is refused.
+    /// Writes a line for each finding; the status if memory runs out.
     fn tell_all<E: Outlet>(
         &mut self,
         findings: &[Finding],
@@ -430,7 +430,7 @@ impl<'l, L: Outlet> Report<'l, L> {
         }
     }
 
-    /// Writes the lines of findings, each with its place or without, and says how many have one.
+    /// Writes a line for each finding, with its place or without, and returns the number of those that have one.
     fn write_all(
         &mut self,
         findings: &[Finding],
@@ -450,7 +450,7 @@ impl<'l, L: Outlet> Report<'l, L> {
         Ok(moved)
     }
 
-    /// Writes the line of a finding, whose codestream stands at another place, or nowhere.
+    /// Writes the line of a finding, whose codestream was found at another place, or nowhere.
     fn write_finding(&mut self, finding: &Finding, stands: Option<u64>) -> Result<(), AllocError> {
         let Finding {
             number,
@@ -465,8 +465,7 @@ impl<'l, L: Outlet> Report<'l, L> {
         }
     }
 
-    /// Writes what the check came to, where so many of those that are damaged at their places stand elsewhere, and says
-    /// the status.
+    /// Writes the totals of a check; `moved` of the damaged codestreams were found elsewhere. Returns the status.
     fn end<E: Outlet>(
         &mut self,
         file: &str,

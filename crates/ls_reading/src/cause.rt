@@ -1,4 +1,4 @@
-//! What faults come of, and what is said of one that an engine over a file stops with.
+//! The causes of faults, and what is said when an engine over a file stops.
 use ls_archive::{CheckFault, IndexFault, VerifyFault};
 use ls_console::{Cause, Console, DONE, FAILED, Reader, Shown, cause_of_input, explain};
 use ls_files::Opens;
@@ -85,8 +85,8 @@ impl Caused for VerifyFault {
     }
 }
 
-/// Says why an engine over a file stopped, if it did, and answers the status. `written` is the last failure of what it
-/// wrote to.
+/// Says why an engine over a file stopped, if it did, and returns the status. `written` is the last failure of its
+/// output.
 pub fn conclude<O, X, E>(
     file: &str,
     outcome: Result<u64, X>,

@@ -1,4 +1,4 @@
-//! Listing a film, and coding it, with the index of its codestreams or without.
+//! The commands `list` and `code`, the latter with an index of its codestreams or without.
 use crate::cause::{Caused, conclude};
 use crate::indexing::{IndexFile, make_index};
 use ls_archive::{Follower, IndexFault, Indexing};
@@ -10,7 +10,7 @@ use std::alloc::Global;
 use std::io::{BufWriter, Write};
 use std::rt::Files;
 
-/// Lists a film by way of a buffer.
+/// Lists a film, through a buffer.
 pub fn list<R, W, E>(
     rt: &R,
     file: &str,
@@ -36,8 +36,8 @@ where
     finish_lines(status, lines, console)
 }
 
-/// Lists a film that is lent, to lines that are lent. (Engines are called by functions of their own, over any reader
-/// and any writer: where those are known, it takes a quarter of a minute to prove what calls an engine.)
+/// Lists a film, over any reader and writer. (Each engine is called by such a function: if reader and writer are
+/// known, it takes a quarter of a minute to prove what calls an engine.)
 fn list_to<R: Feed, W: Outlet>(
     alloc: Global,
     film: &mut R,
@@ -66,7 +66,7 @@ where
     conclude(file, result, &film, output.last_failure(), console)
 }
 
-/// Codes a film that is lent, to an output that is lent.
+/// Codes a film, over any reader and writer.
 fn code_to<R: Feed, W: Outlet>(
     alloc: Global,
     film: &mut R,
@@ -116,8 +116,8 @@ where
     if ended.is_whole { status } else { FAILED }
 }
 
-/// Codes a film that is lent, to an output that is lent, and has a follower write the index: that comes back, with why
-/// the index broke off, if it did.
+/// Codes a film, over any reader and writer, while a follower writes the index. The follower comes back, with the
+/// fault that broke the index off, if there was one.
 fn code_followed<R: Feed, W: Outlet, I: Outlet + Drop>(
     alloc: Global,
     film: &mut R,

@@ -1,17 +1,17 @@
-//! The file of an index that is written while its recording is.
+//! The file of an index that is written together with its recording.
 use ls_console::{Console, Reader, Shown, USAGE, say_unmade};
 use ls_files::{Keeper, Locks, Makes, Opener, Place, Target};
 use ls_frame::Outlet;
 use std::rt::Files;
 
-/// The file of an index that is written, and what keeps it.
+/// The file of an index, and its keeper.
 #[derive(Drop)]
 pub struct IndexFile<'a, O: Makes> {
     pub target: Target<'a, O>,
     pub keeper: Keeper<O>,
 }
 
-/// Makes the file for the index of a film's codestreams; or says why it can't be made, and gives the status.
+/// Makes the file for the index of a film's codestreams. On failure says why and returns the status.
 pub fn make_index<'a, R, E>(
     rt: &'a R,
     path: &'a str,

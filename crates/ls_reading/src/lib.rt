@@ -1,9 +1,14 @@
-//! The commands that read a film or a recording and record none: each answers the status that the program ends with.
+//! The commands that read a film or a recording and record none: `list`, `code`, `play`, `index`, `check`, `verify`
+//! and `replay`.
 //!
-//! In reading order: `cause` (what faults come of), `films` (`list` and `code`), `indexing` (the file of an index that
-//! is written while its recording is), `playing` (`play`), `recorded` (the recorded
-//! numbers of what is played past damage), `archive` (`index`, `check` and `verify`), `replaying`
-//! (`replay`). No contract says what is written and said; the tests of the whole program show it.
+//! What it hands on: a function for each command, or two (`show` and `show_whole` are `play`). Each opens its files,
+//! runs an engine of the crates below over them, says on the console what stopped it, and returns the status that the
+//! program exits with.
+//!
+//! In reading order: `cause` (the causes of faults), `films` (`list` and `code`), `indexing` (the file of an index
+//! that is written together with its recording), `playing` (`play`), `recorded` (the recorded numbers of gaps, and
+//! lost frames), `archive` (`index`, `check` and `verify`), `replaying` (`replay`). No contract says what is written
+//! and said; the tests of the whole program show it.
 #![tactic(auto)]
 
 mod archive;

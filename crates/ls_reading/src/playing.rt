@@ -1,4 +1,4 @@
-//! Playing a recording: all of it, a part, or what stands whole of one that is damaged.
+//! The command `play`: all of a recording, a part of it, or the intact frames of a damaged one.
 use crate::cause::conclude;
 use crate::recorded::Recorded;
 use ls_console::{Cause, Console, DONE, FAILED, Shown, explain, open_film};
@@ -11,7 +11,7 @@ use std::io::Write;
 use std::rt::Files;
 use std::thread::Threads;
 
-/// Plays a recording, by so many workers, or the part of it that is asked for.
+/// Plays a recording with this number of workers, or the part of it that is asked for.
 pub fn show<R, W, E>(
     rt: &R,
     file: &str,
@@ -36,8 +36,8 @@ where
     conclude(file, result, &recording, output.last_failure(), console)
 }
 
-/// Plays a recording that is lent to a writer that is lent, by so many workers: by one, each image is out before the
-/// next codestream is read.
+/// Plays a recording, over any reader and writer, with this number of workers. With one, each image is written before
+/// the next codestream is read.
 fn play_all<Rt: Threads + Sync, R: Feed, W: Outlet>(
     rt: &Rt,
     alloc: Global,
@@ -57,7 +57,7 @@ fn play_all<Rt: Threads + Sync, R: Feed, W: Outlet>(
     }
 }
 
-/// Plays the frames that are asked for; of ones that are out of order, which the words can't ask for, none.
+/// Plays the frames of `part`; none if they are out of order or too high, which the words can't ask for.
 fn play_frames<R: Feed, W: Outlet>(
     alloc: Global,
     part: Part,
@@ -71,8 +71,8 @@ fn play_frames<R: Feed, W: Outlet>(
     play_part(alloc, part, recording, output)
 }
 
-/// Plays what stands whole of a recording, and says what is passed over; with an index by the recorded numbers, and
-/// also which of the recorded frames are lost.
+/// Plays the intact frames of a recording, and reports the gaps between them. With an index, gaps have the recorded
+/// frame numbers, and lost frames are reported too.
 pub fn show_whole<R, W, E>(
     rt: &R,
     file: &str,
@@ -119,7 +119,7 @@ where
     }
 }
 
-/// Plays what stands whole of a recording that is lent, to an output that is lent.
+/// Plays the intact frames of a recording, over any reader and writer.
 fn play_whole<R: Feed, W: Outlet, G: Gaps>(
     alloc: Global,
     recording: &mut Buffered<R>,
@@ -129,14 +129,14 @@ fn play_whole<R: Feed, W: Outlet, G: Gaps>(
     salvage::<ImageText, _, _, _>(alloc, recording, output, gaps)
 }
 
-/// Gaps of a file that are said on standard error.
+/// Reports the gaps of a file on standard error.
 #[derive(Drop)]
 struct SaidGaps<'f, 'c, 'e, E> {
     file: &'f str,
     console: &'c mut Console<'e, E>,
-    /// How many were told of.
+    /// The number of gaps reported so far.
     gaps: u64,
-    /// The frames that were recorded, if an index says it.
+    /// The recorded frames, if an index gives them.
     recorded: Option<Recorded>,
 }
 

@@ -1,4 +1,4 @@
-//! The recorded numbers of what is played past damage, by the recording's index: which frames were lost.
+//! Finds, by a recording's index, the recorded numbers of gaps in it, and the frames that were lost.
 use crate::archive::{find_all, is_read_anew};
 use crate::cause::conclude;
 use ls_archive::{CheckFault, Wanted, read_index};
@@ -8,23 +8,23 @@ use ls_salvage::Gap;
 use std::alloc::{AllocError, Global};
 use std::rt::Files;
 
-/// The frames that were recorded, and where they stand in the recording as it is.
+/// The recorded frames, and where they are in the recording now.
 #[derive(Drop)]
 pub struct Recorded {
     /// The lines of the index.
     lines: Vec<Wanted>,
-    /// The frames that stand somewhere, in the order of their places: the place first.
+    /// The frames that were found, ordered by place: the place, then the number.
     standing: Vec<(u64, usize)>,
-    /// Of each frame whether it isn't played.
+    /// For each frame, whether it isn't played.
     lost: Vec<bool>,
-    /// How many of those that stand somewhere do so before the last gap's end.
+    /// The number of found frames before the end of the last gap.
     passed: usize,
-    /// The number of the line that the last gap was told by.
+    /// The number of the index line that gave the last gap its number.
     line: usize,
 }
 
 impl Recorded {
-    /// The frames of an index, as they stand in a recording; or says why it can't be told, and gives the status.
+    /// Finds the frames of an index in a recording. On failure says why and returns the status.
     pub fn find<R, E>(
         rt: &R,
         file: &str,
@@ -71,8 +71,8 @@ impl Recorded {
         })
     }
 
-    /// The number of the recorded frame that should stand where a gap does, as far as the frame before it tells; the
-    /// gaps come in the order of their places. Frames that stand in the gap aren't played.
+    /// The number of the recorded frame that should be at a gap, judged by the frame before it. Gaps are given in the
+    /// order of their places. Frames that begin in the gap aren't played.
     pub fn number_of(&mut self, gap: &Gap) -> u64 {
         self.pass(gap.place, false);
         let offset = self.offset_of(gap.place);
@@ -87,7 +87,7 @@ impl Recorded {
         number as u64
     }
 
-    /// Whether the line that the last gap was told by is of a codestream that ends at this offset or before.
+    /// Whether the codestream of the current index line ends at this offset or before.
     fn ends_before(&self, offset: u64) -> bool {
         match self.lines.get(self.line) {
             Some(line) => line.place.saturating_add(line.count) <= offset,
@@ -95,7 +95,7 @@ impl Recorded {
         }
     }
 
-    /// Passes the frames that stand before a place; they are lost, if they stand in a gap.
+    /// Passes the found frames before a place; they are lost if they are in a gap.
     fn pass(&mut self, place: u64, lost: bool) {
         for _frame in 0..self.standing.len() {
             let Some(number) = self.next_before(place) else {
@@ -108,7 +108,7 @@ impl Recorded {
         }
     }
 
-    /// The next frame, if it stands before a place.
+    /// The next found frame, if it is before a place.
     fn next_before(&self, place: u64) -> Option<usize> {
         match self.standing.get(self.passed) {
             Some((stands, number)) => { if *stands < place { Some(*number) } else { None } }
@@ -116,19 +116,20 @@ impl Recorded {
         }
     }
 
-    /// Takes in that a frame is lost.
+    /// Marks a frame as lost.
     fn lose(&mut self, number: usize) {
         if let Some(lost) = self.lost.get_mut(number) {
             *lost = true;
         }
     }
 
-    /// The frame that stands last before the gap: where it stands, and its number.
+    /// The last found frame before the gap: its place and its number.
     fn last(&self) -> Option<(u64, usize)> {
         self.standing.get(self.passed.checked_sub(1)?).copied()
     }
 
-    /// Which place of the recording as it was a place is of, by the frame that stands last before it.
+    /// Converts a place in the recording now to the offset at which it was recorded, by the last found frame before
+    /// it, and takes the index line after that frame, if it isn't further on.
     fn offset_of(&mut self, place: u64) -> u64 {
         let Some((stands, number)) = self.last() else {
             return place;
@@ -140,8 +141,7 @@ impl Recorded {
         line.place.saturating_add(place.saturating_sub(stands))
     }
 
-    /// The greatest number that a gap can have: the one before that of the next frame that stands somewhere, if there
-    /// is one between.
+    /// The greatest number that a gap can have: the one before the next found frame's, if there is one between.
     fn most(&self) -> usize {
         let first = match self.last() {
             Some((_, number)) => number.saturating_add(1),
@@ -163,7 +163,7 @@ impl Recorded {
     /// Says which frames are lost, and whether any is.
     pub fn say_lost<E: Outlet>(&self, file: &str, console: &mut Console<'_, E>) -> bool {
         let mut any = false;
-        // How many frames before this one are lost in a row.
+        // The number of lost frames just before this one, in a row.
         let mut run: usize = 0;
         for (number, lost) in self.lost.iter().enumerate() {
             if *lost {
@@ -179,7 +179,7 @@ impl Recorded {
     }
 }
 
-/// Says that as many frames before the one of this number are lost, if any is.
+/// Says that the `run` frames before the one of this number are lost, if `run` isn't 0.
 fn say_run<E: Outlet>(file: &str, number: usize, run: usize, console: &mut Console<'_, E>) {
     if run == 0 {
         return;
@@ -196,7 +196,7 @@ fn say_run<E: Outlet>(file: &str, number: usize, run: usize, console: &mut Conso
     }
 }
 
-/// The lines of an index with sums; or says what is wrong with it, and gives the status.
+/// Reads the lines of an index with sums. On failure says what is wrong and returns the status.
 fn lines_of<R, E>(rt: &R, index: &str, console: &mut Console<'_, E>) -> Result<Vec<Wanted>, u8>
 where
     R: Eprint + Files + AllocGlobal,
@@ -217,7 +217,7 @@ where
     }
 }
 
-/// The lines of an index that is lent.
+/// Reads the lines of an index, over any reader.
 fn read_lent<I: Feed>(alloc: Global, index: &mut I) -> Result<Vec<Wanted>, CheckFault> {
     read_index(alloc, index)
 }

@@ -1,4 +1,4 @@
-//! The replies of a queue to the steps of a file.
+//! The command `replay`: a queue's replies to the steps of a file.
 use ls_console::{Console, DONE, FAILED, Shown, finish_lines, misused, no_memory};
 use ls_files::{Opener, Source};
 use ls_frame::{Counted, Outlet};
@@ -8,7 +8,7 @@ use std::alloc::Global;
 use std::io::{BufWriter, Write};
 use std::rt::Files;
 
-/// Writes the replies of a queue to the steps of a file, and answers the status.
+/// Writes the replies of a queue to the steps of a file, and returns the status.
 pub fn replay_file<R, W, E>(
     rt: &R,
     sources: u8,
@@ -28,8 +28,8 @@ where
     }
 }
 
-/// The replies to the steps of a file; or says why there are none, and gives the status. The file is read before the
-/// numbers are looked at.
+/// The replies to the steps of a file. On failure says why and returns the status. The file is read before the
+/// numbers are checked.
 fn replies_to<R, E>(
     rt: &R,
     sources: u8,
@@ -61,7 +61,7 @@ where
     }
 }
 
-/// The bytes of a steps file; or says why they can't be had, and gives the status.
+/// Reads the bytes of a steps file. On failure says why and returns the status.
 fn read_steps_text<R, E>(rt: &R, file: &str, console: &mut Console<'_, E>) -> Result<Vec<u8>, u8>
 where
     R: Eprint + Files + AllocGlobal,
@@ -84,7 +84,7 @@ where
     }
 }
 
-/// Writes the lines of replies by way of a buffer.
+/// Writes the lines of replies, through a buffer.
 fn write_replies<W, E>(
     alloc: Global,
     file: &str,
