@@ -1,4 +1,4 @@
-//! What came of each film, said once its recording has ended and is on the disk.
+//! Says how each film ended, once its recording has ended and is on the disk.
 pub mod kept;
 pub mod report;
 mod table;
@@ -20,7 +20,7 @@ use std::alloc::{AllocError, Global};
 use std::io::Write;
 use std::time::Clock;
 
-/// Says how each film's recording ended, unless that was told while it was watched, or why none began; answers the
+/// Says how each film's recording ended, unless that was said while it was watched, or why none began. Returns the
 /// status.
 pub fn say_recorded<R, O, W, E>(
     alloc: Global,
@@ -48,7 +48,7 @@ where
     }
 }
 
-/// A recording whose lane has ended: how many frames it has, if it is whole, its file, and its index.
+/// A recording whose lane has ended: its number of frames, if it is whole, its file, and its index.
 #[derive(Drop)]
 struct Ended<'a, O: Opens> {
     frames: Option<u64>,
@@ -56,8 +56,8 @@ struct Ended<'a, O: Opens> {
     index: Option<EndedIndex<'a, O>>,
 }
 
-/// Settles each film's files that aren't yet, and says of each film whose recording stopped why it did, unless that was
-/// told, then of each other film how many frames were recorded; answers the status.
+/// Settles each film's files that aren't settled yet, and says why it stopped, if it did and that wasn't said; then
+/// says the number of recorded frames of each other film. Returns the status.
 fn say_tracks<R, O, W, E>(
     alloc: Global,
     watch: &Watch<'_, R>,
@@ -80,8 +80,7 @@ where
     status
 }
 
-/// Settles each film's files that aren't yet, and says of each film whose recording stopped why it did, unless that was
-/// told.
+/// Settles each film's files that aren't settled yet, and says why it stopped, if it did and that wasn't said.
 fn end_tracks<'a, R, O, E>(
     alloc: Global,
     watch: &Watch<'_, R>,
@@ -115,7 +114,7 @@ fn release<O: Opens + Drop>(recordings: Vec<Ended<'_, O>>) {
     }
 }
 
-/// Whether it was told why the recording of the film of this number stopped.
+/// Whether it was said why the film of this number stopped.
 fn is_told(told: &[bool], film: usize) -> bool {
     match told.get(film) {
         Some(was_told) => *was_told,
@@ -123,7 +122,7 @@ fn is_told(told: &[bool], film: usize) -> bool {
     }
 }
 
-/// Settles a film's files, unless they are, and says why its recording stopped, if it did and that wasn't told.
+/// Settles a film's files, if they aren't settled yet, and says why it stopped, if it did and that wasn't said.
 fn say_end<'a, O, E>(
     kept: &mut Kept<'_, O>,
     track: FilmTrack<'a, O>,
@@ -205,7 +204,7 @@ fn cause_of(fault: LaneFault) -> Cause {
     }
 }
 
-/// Says how many frames each recording has that is whole, unless that was told; answers the status of all.
+/// Says the number of frames of each whole recording, unless that was said. Returns the status of all.
 fn say_counts<O, W, E>(
     alloc: Global,
     kept: &[Kept<'_, O>],
@@ -220,7 +219,7 @@ where
 {
     let mut status = DONE;
     for (kept, recording) in kept.iter().zip(recordings) {
-        // After a line that couldn't be written, none is.
+        // After a line that couldn't be written, no more are written.
         if Outlet::failures(output) > 0 {
             return FAILED;
         }
@@ -249,7 +248,7 @@ fn is_broken<O: Opens>(index: &Option<EndedIndex<'_, O>>) -> bool {
     }
 }
 
-/// Says how many frames of a film were recorded, and answers the status.
+/// Says the number of recorded frames of a film, and returns the status.
 pub fn say_count<W: Write, E: Outlet>(
     alloc: Global,
     file: &str,

@@ -1,9 +1,13 @@
-//! The command `record`: films are opened, recorded side by side and watched meanwhile, and how each ended is said.
+//! The command `record`: opens films, records them side by side and watches them meanwhile, and says how each ended.
 //!
-//! In reading order: `opening` (the films that are given, opened, and the files for what is made of them), `recording`
-//! (the command), `watching` (what is seen of films while they are recorded, done meanwhile and said), `ending` (what is
-//! done and said once a film has ended, and the report). No contract says what is said; the tests of the whole program
-//! show it.
+//! What it hands on: `record_films`, which returns the status that the program exits with. The recording itself is
+//! done by `ls_recorder::record`; this crate makes and settles the files, and writes progress, results and the
+//! report.
+//!
+//! In reading order: `opening` (opens the films and makes the files of their recordings), `recording` (the command),
+//! `watching` (counts and times of films while they are recorded, their files settled as each ends, and progress),
+//! `ending` (says how each film ended, and writes the report). No contract says what is said; the tests of the whole
+//! program show it.
 #![tactic(auto)]
 
 mod ending;

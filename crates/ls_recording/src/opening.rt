@@ -1,5 +1,5 @@
-//! What `record` begins with: its films, opened under names of which none is given twice, and the files for what is made
-//! of them.
+//! Opens the films of `record`, and makes the files for their recordings, for the indexes of those and for a report,
+//! of which none may be a duplicate.
 mod given;
 
 use crate::ending::kept::{Kept, kept_of};
@@ -19,10 +19,10 @@ use std::sync::Wait;
 use std::thread::Parker;
 use std::time::Duration;
 
-/// What a film's codestreams are written through: the file of its recording, and that of their index, if there is one.
+/// The writer of a film's codestreams: to the file of its recording, and to that of their index, if there is one.
 pub type Writer<'a, O> = Indexing<Counted<Target<'a, O>>, Counted<Target<'a, O>>>;
 
-/// Where a report goes: its file, and how that is called.
+/// A report's path and its file.
 #[derive(Drop)]
 pub struct Report<'a, O: Makes> {
     pub path: &'a str,
@@ -30,8 +30,8 @@ pub struct Report<'a, O: Makes> {
     pub keeper: Keeper<O>,
 }
 
-/// The films, each with what it is read by, what its codestreams are written through and by which parameters it is coded;
-/// the files of each; and where the report goes, if there is to be one.
+/// The films, each with its reader, its writer and its coding parameters; the files of each; and the report, if there
+/// is to be one.
 #[derive(Drop)]
 pub struct Opened<'a, O: Makes> {
     pub films: Vec<(Reader<'a, O>, Writer<'a, O>, Tuning)>,
@@ -39,13 +39,13 @@ pub struct Opened<'a, O: Makes> {
     pub report: Option<Report<'a, O>>,
 }
 
-/// How often a folder that another program has locked is tried, and how many milliseconds are waited in between: a
+/// The number of times that a folder which another program has locked is tried, and the milliseconds between them: a
 /// second in all.
 const TRIES: u32 = 100;
 
 const PAUSE: u64 = 10;
 
-/// The names of what is made of the films, if none is given twice; or says so, and gives the status.
+/// The names of the films and of the files made for them. If one is a duplicate, says so and returns the status.
 pub fn names_once<'a, E: Outlet>(
     alloc: Global,
     asked: &Asked<'a>,
@@ -60,7 +60,7 @@ pub fn names_once<'a, E: Outlet>(
     }
 }
 
-/// The first name that is given twice: of a film, or else of the report.
+/// The first duplicate name: of a film, or else of the report.
 fn name_twice<'a>(names: &[Names<'a>], report: Option<&'a str>) -> Option<&'a str> {
     match named_twice(names) {
         Some(file) => Some(file),
@@ -68,8 +68,8 @@ fn name_twice<'a>(names: &[Names<'a>], report: Option<&'a str>) -> Option<&'a st
     }
 }
 
-/// Opens each film but the named pipes, and only then makes a file for the report and for the recording of each, once
-/// none is given twice and none is made by another program; or says why not, and gives the status.
+/// Opens each film but the named pipes. Only then, if no file is a duplicate or is being made by another program,
+/// makes the files of the report and of each recording. On failure says why and returns the status.
 pub fn open_films<'a, R, O, E>(
     rt: &R,
     opener: O,
@@ -123,7 +123,7 @@ where
     }
 }
 
-/// What the films are and where their recordings are to be made, if none is given twice; or says so, and gives the
+/// Looks at the films' files, and at the places of their recordings. If one is a duplicate, says so and returns the
 /// status.
 fn given_once<'a, R, O, E>(
     rt: &R,
@@ -146,7 +146,8 @@ where
     }
 }
 
-/// The films, each with its writer and with the tuning of all. Or gives the status, if memory is refused.
+/// The films, each with its reader, its writer and the tuning of all. If memory runs out, says so and returns the
+/// status.
 fn films_of<'a, O, E>(
     alloc: Global,
     names: &'a [Names<'a>],
@@ -169,7 +170,7 @@ where
     Ok(films)
 }
 
-/// What a film is read by, by way of a buffer; says who is waited for.
+/// The reader of a film, with a buffer. On a terminal, says if its pipe is waited for.
 fn reader_of<'a, O, E>(
     alloc: Global,
     names: &'a Names<'a>,
@@ -188,7 +189,7 @@ where
     buffered(alloc, names.file, source, console)
 }
 
-/// Opens the films; or says of the first that can't be opened, and gives the status.
+/// Opens the films. If one can't be opened, says why and returns the status.
 fn open_sources<'a, R, O, E>(
     rt: &R,
     opener: O,
@@ -217,8 +218,9 @@ where
     Ok(sources)
 }
 
-/// Locks the folders in which files are to be made, so that programs which begin at once make theirs one after the
-/// other. What another program has locked for long is left: by what stands there it is seen, too, who has a file.
+/// Locks the folders in which files are to be made, so that programs that begin at once make theirs one after the
+/// other. A folder that another program keeps locked is skipped: the locks of its files still show which of them are
+/// in use.
 fn lock_folders<R, O>(
     rt: &R,
     opener: O,
@@ -239,7 +241,7 @@ where
     Ok(folders)
 }
 
-/// The same, of the folder of a path.
+/// Locks the folder of a path likewise.
 fn lock_folder<R, O>(
     rt: &R,
     opener: O,
@@ -260,7 +262,7 @@ where
     Ok(())
 }
 
-/// Where the report goes, if there is to be one; or says that it is given twice, and gives the status.
+/// The place of the report, if there is to be one. If it is a duplicate, says so and returns the status.
 fn report_place<'a, R, E>(
     rt: &R,
     asked: &Asked<'a>,
@@ -282,7 +284,7 @@ where
     Ok(Some(place))
 }
 
-/// Locks what stands where the report goes; or says why it can't, and gives the status.
+/// Locks an existing file at the report's place. On failure says why and returns the status.
 fn claim_report<O, E>(
     alloc: Global,
     opener: O,
@@ -300,8 +302,8 @@ where
     }
 }
 
-/// Locks what stands where recordings and their indexes go; or says of the first that can't be locked, and gives the
-/// status.
+/// Locks existing files at the places of recordings and their indexes. If one can't be locked, says why and returns
+/// the status.
 fn claim_all<O, E>(
     alloc: Global,
     opener: O,
@@ -332,7 +334,7 @@ where
     Ok(keepers)
 }
 
-/// Says which file of a film can't be made, and why; gives the status.
+/// Says which file of a film can't be made, and why; returns the status.
 fn say_film_unmade<E: Outlet>(
     names: &Names<'_>,
     unmade: Unmade,
@@ -346,7 +348,7 @@ fn say_film_unmade<E: Outlet>(
     say_unmade(path, unmade.fault, console)
 }
 
-/// Makes the file of the report; or says why it can't be made, and gives the status.
+/// Makes the file of the report. On failure says why and returns the status.
 fn make_report<'a, O, E>(
     alloc: Global,
     path: &'a str,
@@ -370,8 +372,8 @@ where
     }
 }
 
-/// Makes the file of each recording, and that of its index if it is to have one, and gives what is written through them;
-/// or says of the first that can't be made, and gives the status.
+/// Makes the file of each recording, and that of its index if it is to have one, and returns their writers. If one
+/// can't be made, says why and returns the status.
 fn make_recordings<'a, O, E>(
     alloc: Global,
     given: &[Given<'a>],
@@ -392,14 +394,14 @@ where
     Ok(writers)
 }
 
-/// What a film's codestreams are written through to the files of its recording.
+/// The writer to the files of a recording.
 fn writer_of<'a, O: Opens + Drop>(alloc: Global, targets: Targets<'a, O>) -> Writer<'a, O> {
     let Targets { recording, index } = targets;
     let follower = index.map(|target| Follower::new(alloc, Counted::new(target)));
     Indexing::new(Counted::new(recording), follower)
 }
 
-/// The same, of one film.
+/// Makes the files of one recording, and says what was renamed for them. On failure says why and returns the status.
 fn make_recording<'a, O, E>(
     alloc: Global,
     names: &'a Names<'a>,
@@ -425,14 +427,14 @@ where
     }
 }
 
-/// Says how what stood at a path is called now, if it was renamed and that is told.
+/// Says that the file at `path` was renamed, if it was and reasons are on.
 fn mention<E: Outlet>(path: &str, renamed: Option<&str>, console: &mut Console<'_, E>) {
     if let Some(name) = renamed {
         console.mention(path, name);
     }
 }
 
-/// Says that a film, or the file of a recording, is given twice.
+/// Says that a film, or the file of a recording, is a duplicate; returns the status.
 fn given_twice<E: Outlet>(file: &str, console: &mut Console<'_, E>) -> u8 {
     let file = Shown(file);
     console.say(format_args!("{file}: given twice"));

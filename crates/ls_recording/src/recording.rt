@@ -1,4 +1,4 @@
-//! The command `record`: films are opened, their recordings made, and what came of each is said.
+//! The command `record`: opens the films, records them, and says how each ended.
 use crate::ending::report::write_report;
 use crate::ending::say_recorded;
 use crate::opening::{Names, Opened, Writer, names_once, open_films};
@@ -17,14 +17,14 @@ use std::thread;
 use std::thread::Threads;
 use std::time::Clock;
 
-/// What came of a film.
+/// The outcome of a film: its reader, its writer and the result.
 pub type FilmTrack<'a, O> = Track<Reader<'a, O>, Writer<'a, O>>;
 
-/// What came of all films; or why nothing did.
+/// The outcomes of all films; or the fault that kept them from being recorded, and the films.
 pub type Recorded<R, W> = Result<Tracks<R, W>, (RecordFault, Vec<(R, W, Tuning)>)>;
 
-/// Records the films that are asked for, says what came of each, and answers the status. How far they are is said on a
-/// terminal in any case.
+/// Records the films that are asked for, says how each ended, and returns the status. On a terminal progress is
+/// always shown.
 pub fn record_films<R, O, W, E>(
     rt: &R,
     opener: O,
@@ -46,7 +46,7 @@ where
     }
 }
 
-/// Records films under names of which none is given twice, says what came of each, and answers the status.
+/// Records films that have no duplicates among their names, says how each ended, and returns the status.
 fn record_named<'a, R, O, W, E>(
     rt: &R,
     opener: O,
@@ -102,7 +102,8 @@ where
     }
 }
 
-/// Records films; meanwhile another thread looks after them. If none can be made for that, it is done at the end.
+/// Records films while another thread watches them. If none can be started for that, their files are settled at the
+/// end.
 fn record_told<'s, 'a, 'e, R, O, W, E>(
     films: Vec<(Reader<'a, O>, Writer<'a, O>, Tuning)>,
     sizes: Sizes,
@@ -125,7 +126,7 @@ where
     recorded
 }
 
-/// Records films that are watched, and lets those know that wait for the end.
+/// Records films under a watch, and wakes the thread that waits for the end.
 fn record_watched<Rt, R, F>(
     rt: &Rt,
     alloc: Global,

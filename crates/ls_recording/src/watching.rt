@@ -1,5 +1,5 @@
-//! What is seen of a recording while it goes on: a gate that counts and takes times, so that each film's files are
-//! settled when it ends, and for progress and a report.
+//! Watches a recording while it goes on: a gate that counts and takes times, so that each film's files are settled
+//! when it ends, and for progress and a report.
 mod film;
 mod pace;
 pub mod progress;
@@ -14,26 +14,27 @@ use std::sync::atomic::{AtomicBool, AtomicU64, Ordering};
 use std::thread::Parker;
 use std::time::{Clock, Duration, Instant};
 
-/// What is seen of a recording. Its lanes and its workers write it, and any thread may read it meanwhile.
+/// The counts and times of a recording. Its lanes and workers update them, and any thread may read them meanwhile.
 ///
-/// Times are nanoseconds since it was made; where the clock can't be read, or no times are wanted, none passes.
+/// Times are nanoseconds since it was made; they stay 0 if the clock can't be read, or no times are wanted.
 #[derive(Drop)]
 pub struct Watch<'r, R> {
     clock: &'r R,
     made: Option<Instant>,
     films: Vec<FilmWatch>,
-    /// The times at which codings ended, less those at which they began, modulo 2^64: once none goes on, how long all
-    /// took.
+    /// The sum of the times at which codings ended, less those at which they began, modulo 2^64: once none goes on,
+    /// the time that all took.
     coding: AtomicU64,
     /// Whether the recording has ended, and when it did.
     over: AtomicBool,
     lasted: AtomicU64,
-    /// Wakes who waits when a film has its first codestream, stops or ends, and when the recording ends.
+    /// Wakes the thread that waits when a film's first codestream is written, a film stops or ends, or the recording
+    /// ends.
     bell: Parker,
 }
 
 impl<'r, R: Clock> Watch<'r, R> {
-    /// What is seen of so many films before anything has come of them, with times or without.
+    /// A watch over `films` films, of which nothing is seen yet, with times or without.
     pub fn new(
         clock: &'r R,
         alloc: Global,
@@ -59,7 +60,7 @@ impl<'r, R: Clock> Watch<'r, R> {
         })
     }
 
-    /// The time.
+    /// The time now.
     pub fn now(&self) -> u64 {
         let Some(made) = self.made else {
             return 0;
@@ -70,17 +71,17 @@ impl<'r, R: Clock> Watch<'r, R> {
         }
     }
 
-    /// What is seen of the film of this number, if there is one.
+    /// The counts and times of the film of this number, if there is one.
     pub fn seen(&self, film: usize) -> Option<Seen> {
         Some(self.films.get(film)?.seen())
     }
 
-    /// How the film of this number ended, if its lane has: nothing more is written of it then.
+    /// The outcome of the film of this number, if its lane has ended: nothing more is written of it then.
     pub fn ended(&self, film: usize) -> Option<Result<u64, LaneFault>> {
         self.films.get(film)?.ended()
     }
 
-    /// The number of codestreams that were written of the film of this number.
+    /// The number of codestreams written for the film of this number.
     pub fn written(&self, film: usize) -> u64 {
         match self.films.get(film) {
             Some(film) => film.written(),
@@ -88,25 +89,26 @@ impl<'r, R: Clock> Watch<'r, R> {
         }
     }
 
-    /// Why the recording of the film of this number stopped, if it did and no call has answered that before: so it is
-    /// told once.
+    /// The fault that stopped the film of this number, if it stopped and no call has given that before: so it is
+    /// reported once.
     pub fn news(&self, film: usize) -> Option<LaneFault> {
         self.films.get(film)?.news()
     }
 
-    /// Puts into `told`, of each film in order, whether `news` has told why its recording stopped.
+    /// Puts into `told`, for each film in order, whether `news` has given the fault that stopped it.
     pub fn told(&self, told: &mut [bool]) {
         for (film, told) in self.films.iter().zip(told.iter_mut()) {
             *told = film.was_told();
         }
     }
 
-    /// How long all codings took together. Of one that goes on nothing can be said.
+    /// The time that all codings took together. While one goes on, it means nothing.
     pub fn coding(&self) -> u64 {
         self.coding.load(Ordering::SeqCst)
     }
 
-    /// Waits so long at most, and less if a film has its first codestream, stops or ends, or the recording ends.
+    /// Waits `longest` at most; less if a film's first codestream is written, a film stops or ends, or the recording
+    /// ends.
     pub fn wait(&self, longest: Duration)
     where
         R: Wait,
@@ -114,14 +116,14 @@ impl<'r, R: Clock> Watch<'r, R> {
         self.bell.park_timeout(self.clock, longest);
     }
 
-    /// Takes in that the recording has ended.
+    /// Marks the recording as ended.
     pub fn end(&self) {
         self.lasted.store(self.now(), Ordering::SeqCst);
         self.over.store(true, Ordering::SeqCst);
         self.bell.unpark();
     }
 
-    /// How long the recording lasted that has ended.
+    /// The time that the recording lasted, once it has ended.
     pub fn lasted(&self) -> u64 {
         self.lasted.load(Ordering::SeqCst)
     }
@@ -151,7 +153,7 @@ impl<'r, R: Clock + Sync> Gate for Watch<'r, R> {
     }
 }
 
-/// Whether this is worth to be seen at once.
+/// Whether a notice wakes the thread that waits.
 fn rings(notice: Notice) -> bool {
     match notice {
         Notice::Ended(_) | Notice::Stops(_) => true,

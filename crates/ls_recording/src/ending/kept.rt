@@ -1,5 +1,5 @@
-//! The files of the films, kept beside what writes to them: synced when a film ends, and what stood in their places
-//! removed or given back.
+//! The files of the films, kept beside their writers: synced when a film ends, and earlier files removed or given
+//! their names back.
 use crate::opening::Names;
 use ls_files::{Keeper, Makes};
 use ls_frame::Failed;
@@ -14,13 +14,13 @@ pub struct Kept<'a, O: Makes> {
     keeper: Keeper<O>,
     /// Whether the recording and its index are on the disk, once the film has ended.
     synced: Option<Synced>,
-    /// Why the recording couldn't be brought onto the disk while it went on. (The system says so once.)
+    /// The failure to sync the recording while it went on. (The system says so only once.)
     unsynced: Option<Failed>,
-    /// Whether the line with its number of frames is out.
+    /// Whether the line with its number of frames was written.
     pub is_told: bool,
 }
 
-/// Whether a recording and its index were brought onto the disk, or why not.
+/// Whether a recording and its index were synced to disk, or why not.
 #[derive(Clone, Copy)]
 pub struct Synced {
     pub recording: Result<(), Failed>,
@@ -47,7 +47,7 @@ pub fn kept_of<'a, O: Makes + Drop>(
 }
 
 impl<'a, O: Makes + Copy + Drop> Kept<'a, O> {
-    /// Removes what is to be replaced, once the recording has a codestream and is on the disk.
+    /// Removes earlier files that are to be replaced, once the recording has a codestream and is synced.
     pub fn replace(&mut self, written: u64) {
         if written > 0 && self.unsynced.is_none() && self.keeper.replaces() {
             match self.keeper.sync() {
@@ -57,9 +57,9 @@ impl<'a, O: Makes + Copy + Drop> Kept<'a, O> {
         }
     }
 
-    /// Settles the files of a film that has ended so, with this number of codestreams written: brings them onto the
-    /// disk, and removes what is to be replaced; or gives all back, if it stopped before anything was recorded. Says
-    /// whether they are on the disk, as it did at the first call.
+    /// Settles the files of a film that has ended with this outcome and this number of codestreams: syncs them, and
+    /// removes earlier files that are to be replaced; or, if it stopped before anything was recorded, removes the new
+    /// files and gives earlier ones their names back. Returns whether they are on the disk, as at the first call.
     pub fn settle(&mut self, outcome: Result<u64, LaneFault>, written: u64) -> Synced {
         match self.synced {
             Some(synced) => synced,
@@ -80,8 +80,8 @@ impl<'a, O: Makes + Copy + Drop> Kept<'a, O> {
         }
     }
 
-    /// What stood in the recording's place is called now, if it was to be replaced and stays, since the film has ended
-    /// with no frame.
+    /// The earlier recording's new name, if it was to be replaced and stays, since the film has ended without a frame
+    /// or its recording couldn't be synced.
     pub fn left_over(&mut self) -> Option<&str> {
         if !self.keeper.replaces() {
             return None;
@@ -90,7 +90,7 @@ impl<'a, O: Makes + Copy + Drop> Kept<'a, O> {
         self.keeper.renamed()
     }
 
-    /// Removes the files that were made, if nothing was recorded, and gives what stood there its name back.
+    /// If nothing was recorded, removes the files that were made, and gives earlier ones their names back.
     pub fn give_back(&mut self) {
         self.keeper.give_back();
     }
@@ -111,7 +111,7 @@ impl<'a, O: Makes + Copy + Drop> Kept<'a, O> {
     }
 }
 
-/// A failure of the system, as it is told.
+/// Converts an error of the system to a failure.
 pub fn failed_of(outcome: io::Result<()>) -> Result<(), Failed> {
     match outcome {
         Ok(()) => Ok(()),

@@ -1,4 +1,4 @@
-//! The report of a recording: a table of what came of each film, and how busy the workers were.
+//! The report of a recording: a table of how each film went, and how busy the workers were.
 use super::kept::failed_of;
 use super::table::{add_film, add_workers, head};
 use crate::opening::Report;
@@ -9,8 +9,8 @@ use ls_frame::{Counted, Outlet, write_bytes};
 use std::alloc::{AllocError, Global};
 use std::time::Clock;
 
-/// Writes the report of a recording that has ended, of films by their names, and brings it onto the disk; or says that
-/// it can't. Answers the status.
+/// Writes the report of a recording that has ended, of films by their names, and syncs it to disk; or says that it
+/// can't. Returns the status.
 pub fn write_report<R, O, E>(
     alloc: Global,
     report: Report<'_, O>,

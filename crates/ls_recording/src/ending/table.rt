@@ -3,7 +3,7 @@ use crate::watching::seen::{Doing, Seen};
 use ls_console::Shown;
 use std::alloc::{AllocError, Global};
 
-/// The columns' names, with their units. Each name ends where its numbers do, but for the last.
+/// The columns' names, with their units. Each name but the last ends where its numbers end.
 const HEAD: &str =
     "    frames         bytes-in        bytes-out    ratio      seconds   frames/s   delay-ms   window-s    queue-s film\n";
 
@@ -23,7 +23,7 @@ pub fn add_film(
     add_name(alloc, table, file, seen)
 }
 
-/// Adds the line of the workers, who coded for so long together, each for as long as the recording lasted at most.
+/// Adds the line of the workers, which coded for `coding` nanoseconds together, each for at most `lasted`.
 pub fn add_workers(
     alloc: Global,
     table: &mut String,
@@ -53,7 +53,7 @@ fn add_numbers(alloc: Global, table: &mut String, seen: &Seen) -> Result<(), All
     add_times(alloc, table, seen, time)
 }
 
-/// Adds the times of a film, which took so many nanoseconds.
+/// Adds the times of a film, which took `time` nanoseconds.
 fn add_times(alloc: Global, table: &mut String, seen: &Seen, time: u64) -> Result<(), AllocError> {
     let seconds = seconds_text(alloc, time)?;
     let speed = hundredths(alloc, seen.written.saturating_mul(1_000_000), time / 1000)?;
@@ -64,7 +64,7 @@ fn add_times(alloc: Global, table: &mut String, seen: &Seen, time: u64) -> Resul
     add_waits(alloc, table, seen)
 }
 
-/// Adds how long a film waited.
+/// Adds the times that a film waited.
 fn add_waits(alloc: Global, table: &mut String, seen: &Seen) -> Result<(), AllocError> {
     let window = seconds_text(alloc, seen.window_wait)?;
     let queue = seconds_text(alloc, seen.queue_wait)?;
@@ -93,7 +93,7 @@ fn hundredths(alloc: Global, dividend: u64, divisor: u64) -> Result<String, Allo
     }
 }
 
-/// So many nanoseconds, in seconds with three decimals, rounded down.
+/// `time` nanoseconds, in seconds with three decimals, rounded down.
 fn seconds_text(alloc: Global, time: u64) -> Result<String, AllocError> {
     let (seconds, thousandth) = (time / 1_000_000_000, time / 1_000_000 % 1000);
     format!(in alloc; "{seconds}.{thousandth:03}")

@@ -1,4 +1,4 @@
-//! The films that are given, by which names and which files, and whether one of them is given twice.
+//! The names and the files of the films, and which of them are duplicates.
 use ls_command::Recording as Asked;
 use ls_console::{Shown, cleared};
 use ls_files::identity::last_part;
@@ -6,20 +6,20 @@ use ls_files::{INDEX, Identity, Opens, Place, Source, Spot};
 use std::alloc::{AllocError, Global};
 use std::rt::Files;
 
-/// How a film is called, and what is made for it, and what is said of it on a terminal once its pipe is open.
+/// The names of a film, of its recording and of the index of that, and the line for a terminal once the film's pipe
+/// is open.
 #[derive(Drop)]
 pub struct Names<'a> {
     pub file: &'a str,
     pub recording: String,
-    /// Of the recording's index.
+    /// The name of the recording's index.
     pub index: String,
     /// Whether an index is made.
     pub is_indexed: bool,
     pub notice: String,
 }
 
-/// A film that is given: which file it is, where its name stands, and where its recording and the index of that stand
-/// or are to be made.
+/// A film's file, the folder and name at which it is, and the places of its recording and of the index of that.
 #[derive(Clone, Copy)]
 pub struct Given<'a> {
     pub names: &'a Names<'a>,
@@ -29,7 +29,7 @@ pub struct Given<'a> {
     pub index: Place<'a>,
 }
 
-/// The names of each film, for a terminal whose lines have so many columns.
+/// The names of each film, for a terminal with progress lines of `columns` characters.
 pub fn names_of<'a>(
     alloc: Global,
     asked: &Asked<'a>,
@@ -52,7 +52,7 @@ fn film_names<'a>(
 ) -> Result<Names<'a>, AllocError> {
     let recording = recording_name(alloc, file, into)?;
     let index = format!(in alloc; "{recording}{INDEX}")?;
-    // It goes over the line in its place that may be shown by then.
+    // It goes over the progress line that may be shown by then.
     let (blanks, shown) = (cleared(alloc, columns)?, Shown(file));
     let notice = format!(in alloc; "{blanks}jlsrec: {shown}: opened")?;
     Ok(Names {
@@ -76,7 +76,7 @@ fn recording_name(alloc: Global, file: &str, into: Option<&str>) -> Result<Strin
     }
 }
 
-/// Which files the films are, and what stands where their recordings are to be made.
+/// Looks at the films' files, and at the places of their recordings and indexes.
 pub fn look_at<'a, R, O>(
     rt: &R,
     names: &'a [Names<'a>],
@@ -93,7 +93,7 @@ where
     Ok(given)
 }
 
-/// The same, of one film.
+/// The same for one film.
 fn given_of<'a, R, O>(rt: &R, names: &'a Names<'a>, source: &Source<'a, O>) -> Given<'a>
 where
     R: Files + AllocGlobal,
@@ -108,8 +108,8 @@ where
     }
 }
 
-/// The first name that is given twice, or is the name of another film's recording or of an index, or has a recording of
-/// a name with another's.
+/// The first film whose name is that of another film, of another's recording or of an index, or whose recording has
+/// the name of another's.
 pub fn named_twice<'a>(names: &[Names<'a>]) -> Option<&'a str> {
     for (place, film) in names.iter().enumerate() {
         for (other, one) in names.iter().enumerate() {
@@ -121,12 +121,12 @@ pub fn named_twice<'a>(names: &[Names<'a>]) -> Option<&'a str> {
     None
 }
 
-/// Whether the index of a film is to be called so.
+/// Whether an index that is to be made for a film has this name.
 fn is_index_of(name: &str, film: &Names<'_>) -> bool {
     film.is_indexed && film.index.as_str() == name
 }
 
-/// Whether a film has the name of another or of its recording, or their recordings have one name.
+/// Whether a film has the name of another or of its recording, or their recordings have the same name.
 fn are_named_alike(film: &Names<'_>, other: &Names<'_>) -> bool {
     film.file == other.file
         || film.file == other.recording.as_str()
@@ -144,8 +144,8 @@ pub fn named_as_report<'a>(names: &[Names<'_>], report: Option<&'a str>) -> Opti
     None
 }
 
-/// The first film whose recording or index would be one file with another's, or that is another's recording or an
-/// index, or that a recording or an index would be written into.
+/// The first film whose recording or index would be the same file as another's, or that is another's recording or an
+/// index, or into which a recording or an index would be written.
 pub fn written_twice<'a>(given: &[Given<'a>], replace: bool) -> Option<&'a str> {
     for (place, film) in given.iter().enumerate() {
         for (other, one) in given.iter().enumerate() {
@@ -168,7 +168,8 @@ fn is_overwritten(film: &Given<'_>, other: &Given<'_>, replace: bool) -> bool {
     }
 }
 
-/// Whether two films have one recording or one index, or the first is where the other's recording is to be made.
+/// Whether two films have the same recording or the same index, or the first is where the other's recording is to be
+/// made.
 fn are_one(film: &Given<'_>, other: &Given<'_>) -> bool {
     film.place.is_one_with(&other.place)
         || (film.spot.is_some() && film.spot == other.place.spot())
@@ -180,13 +181,13 @@ pub fn has_index_at(film: &Given<'_>, place: &Place<'_>) -> bool {
     film.names.is_indexed && film.index.is_one_with(place)
 }
 
-/// Whether the index of `other` would be one file with this film's recording, is where the film stands, or would be
+/// Whether the index of `other` would be the same file as this film's recording, is where the film is, or would be
 /// written into the film.
 fn meets_index(film: &Given<'_>, other: &Given<'_>, replace: bool) -> bool {
     other.names.is_indexed && is_met(film, &other.index, replace)
 }
 
-/// Whether a report or an index would be one file with a film's recording, is where the film stands, or would be
+/// Whether a report or an index would be the same file as a film's recording, is where the film is, or would be
 /// written into the film.
 pub fn is_met(film: &Given<'_>, place: &Place<'_>, replace: bool) -> bool {
     film.place.is_one_with(place)
@@ -196,19 +197,20 @@ pub fn is_met(film: &Given<'_>, place: &Place<'_>, replace: bool) -> bool {
             .is_some_and(|identity| place.would_write_into(identity, replace))
 }
 
-/// Whether what stands where a film's index would be goes where its recording goes: unless no index is made, and the
-/// recording is written into a pipe or a device, or that is one of the films or where the report goes.
+/// Whether a film's index is claimed with its recording: if one is made; and if none is, so that an existing one is
+/// renamed with the recording, unless the recording is written into a pipe, a device or an open file, or the index is
+/// one of the films or the report.
 pub fn has_index(film: &Given<'_>, given: &[Given<'_>], report: Option<&Place<'_>>) -> bool {
     film.names.is_indexed || !(film.place.is_written_into() || is_given(&film.index, given, report))
 }
 
-/// Whether what stands at a place is one of the films, or where the report goes.
+/// Whether the file at a place is one of the films or the report.
 fn is_given(place: &Place<'_>, given: &[Given<'_>], report: Option<&Place<'_>>) -> bool {
     given.iter().any(|film| is_at(film, place))
         || report.is_some_and(|report| report.is_one_with(place))
 }
 
-/// Whether a film stands at a place.
+/// Whether a film is at a place.
 fn is_at(film: &Given<'_>, place: &Place<'_>) -> bool {
     (film.spot.is_some() && film.spot == place.spot())
         || (film.identity.is_some() && film.identity == place.identity())

@@ -1,15 +1,16 @@
-//! What is seen of one film.
+//! The counts and times of one film.
 use super::seen::{Doing, Seen};
 use ls_recorder::{LaneFault, MOST_WINDOW, Notice};
 use std::alloc::{AllocError, Global};
 use std::sync::OnceLock;
 use std::sync::atomic::{AtomicBool, AtomicU64, Ordering};
 
-/// What is seen of a film. Each word is written by one thread at a time: `bytes_out`, `written` and `delay` by the half
-/// of its lane that writes, all others by the half that reads.
+/// The counts and times of a film. Each is updated by one thread at a time: `bytes_out`, `written` and `delay` by the
+/// half of its lane that writes, the others by the half that reads. Either half sets `end`, and the thread that
+/// watches sets `told`.
 #[derive(Drop)]
 pub struct FilmWatch {
-    /// How many frames the reader was asked for, how many it read, and how many are in the queue.
+    /// The number of frames that the reader was asked for, that it read, and that were put into the queue.
     asked: AtomicU64,
     read: AtomicU64,
     put: AtomicU64,
@@ -22,17 +23,17 @@ pub struct FilmWatch {
     delay: AtomicU64,
     window_wait: AtomicU64,
     queue_wait: AtomicU64,
-    /// When each frame that isn't written was read, by its number modulo the widest window.
+    /// When each frame that isn't written yet was read, at its number modulo the widest window.
     read_at: Vec<AtomicU64>,
     end: OnceLock<Result<u64, LaneFault>>,
     /// Whether its lane has ended.
     is_over: AtomicBool,
-    /// Whether it was told why its recording stopped.
+    /// Whether `news` has given the fault that stopped it.
     told: AtomicBool,
 }
 
 impl FilmWatch {
-    /// What is seen of a film before anything has come of it.
+    /// A film of which nothing is seen yet.
     pub fn new(alloc: Global) -> Result<FilmWatch, AllocError> {
         let mut read_at = Vec::new(alloc);
         for _place in 0..MOST_WINDOW {
@@ -57,7 +58,7 @@ impl FilmWatch {
         })
     }
 
-    /// Takes in what has come of the film by now.
+    /// Updates the counts and times by a notice.
     pub fn take(&self, notice: Notice, now: u64) {
         match notice {
             Notice::Began => self.since.store(now, Ordering::SeqCst),
@@ -80,12 +81,12 @@ impl FilmWatch {
         }
     }
 
-    /// Takes in how the film ends, unless that was known before.
+    /// Sets the outcome, unless it is set already.
     fn end_so(&self, outcome: Result<u64, LaneFault>) {
         let _known = self.end.try_set(outcome);
     }
 
-    /// Takes in that a frame was read.
+    /// Counts a frame that was read.
     fn take_read(&self, number: u64, bytes: u64, now: u64) {
         let _since = self.turn(now);
         if number == 0 {
@@ -98,7 +99,7 @@ impl FilmWatch {
         add(&self.read, 1);
     }
 
-    /// Takes in that a frame was written.
+    /// Counts a frame that was written.
     fn take_written(&self, number: u64, bytes: u64, now: u64) {
         if let Some(read_at) = self.place_of(number) {
             let delay = now.saturating_sub(read_at.load(Ordering::SeqCst));
@@ -108,19 +109,19 @@ impl FilmWatch {
         add(&self.written, 1);
     }
 
-    /// Where it stands when the frame of this number was read.
+    /// The place of the time at which the frame of this number was read.
     fn place_of(&self, number: u64) -> Option<&AtomicU64> {
         self.read_at.get((number % MOST_WINDOW as u64) as usize)
     }
 
-    /// Has the lane begin to do something else, and says how long it did what it did before.
+    /// Has the lane begin something else, and returns the time that it was at the last.
     fn turn(&self, now: u64) -> u64 {
         now.saturating_sub(self.since.swap(now, Ordering::SeqCst))
     }
 
-    /// What is seen of it now.
+    /// The counts and times now.
     pub fn seen(&self) -> Seen {
-        // What is written was read before: in this order no frame is seen as written that isn't seen as read.
+        // A frame is written after it was read: in this order none is seen as written that isn't seen as read.
         let written = self.written.load(Ordering::SeqCst);
         let bytes_out = self.bytes_out.load(Ordering::SeqCst);
         Seen {
@@ -141,7 +142,7 @@ impl FilmWatch {
         if let Some(result) = self.end.get() {
             return Doing::Ended(*result);
         }
-        // In this order, since no count goes back: what is seen as less is less.
+        // In this order, since no count falls: one that is seen to be less is less.
         let asked = self.asked.load(Ordering::SeqCst);
         let read = self.read.load(Ordering::SeqCst);
         if self.put.load(Ordering::SeqCst) < read {
@@ -153,7 +154,7 @@ impl FilmWatch {
         }
     }
 
-    /// How it ended, if its lane has.
+    /// The outcome, if its lane has ended.
     pub fn ended(&self) -> Option<Result<u64, LaneFault>> {
         if !self.is_over.load(Ordering::SeqCst) {
             return None;
@@ -169,7 +170,7 @@ impl FilmWatch {
         self.written.load(Ordering::SeqCst)
     }
 
-    /// Why its recording stopped, if it did and no call has answered that before.
+    /// The fault that stopped it, if it stopped and no call has given that before.
     pub fn news(&self) -> Option<LaneFault> {
         match self.end.get() {
             Some(Err(fault)) if !self.told.swap(true, Ordering::SeqCst) => Some(*fault),
@@ -177,7 +178,7 @@ impl FilmWatch {
         }
     }
 
-    /// Whether `news` has told why its recording stopped.
+    /// Whether `news` has given the fault that stopped it.
     pub fn was_told(&self) -> bool {
         self.told.load(Ordering::SeqCst)
     }

@@ -1,37 +1,37 @@
-//! How far films are, in words.
+//! The progress of films, in words.
 use super::seen::{Doing, Seen};
 use ls_console::Shown;
 use std::alloc::{AllocError, Global};
 
-/// So many nanoseconds a film may give no frame before that is said.
+/// The nanoseconds for which a film may give no frame before that is said.
 const SILENCE: u64 = 2_000_000_000;
 
-/// So many lines begin with the same film, where not all films have room in a line.
+/// The number of lines that begin with the same film, if not all films fit into a line.
 const LINES_A_FILM: usize = 4;
 
-/// How many characters each name has at least, or all of its own, however little room there is in a line.
+/// The least characters of a name that are shown, or all of a shorter one, however narrow the line.
 const LEAST_NAME: usize = 8;
 
-/// What stands in a line in front of the end of a name that is shortened, after each name, and between films.
+/// The marks in a line: before the end of a name that is shortened, after each name, and between films.
 const CUT: &str = "..";
 
 const AFTER_NAME: &str = ": ";
 
 const BETWEEN: &str = "; ";
 
-/// How far a film is and how fast it goes, at the last look.
+/// The progress and the speed of a film, at the last look.
 #[derive(Drop)]
 pub struct Pace {
     bytes_in: u64,
     bytes_out: u64,
-    /// Bytes a second of late.
+    /// Bytes per second lately.
     speed_in: u64,
     speed_out: u64,
     text: String,
 }
 
 impl Pace {
-    /// Before the first look.
+    /// The pace before the first look.
     pub fn new(alloc: Global) -> Pace {
         Pace {
             bytes_in: 0,
@@ -42,12 +42,13 @@ impl Pace {
         }
     }
 
-    /// How far the film is, in words.
+    /// The progress of the film, in words.
     pub fn text(&self) -> &str {
         self.text.as_str()
     }
 
-    /// Takes in what is seen now, `time` nanoseconds after the last look; whether that makes other words.
+    /// Updates the pace by what is seen now, `time` nanoseconds after the last look. Returns whether the words
+    /// changed.
     pub fn step(
         &mut self,
         alloc: Global,
@@ -68,8 +69,7 @@ impl Pace {
     }
 }
 
-/// The speed after so many bytes in so many nanoseconds: it goes a quarter of the way to theirs, or all of it if there
-/// was none.
+/// The speed after `bytes` in `time` nanoseconds: it moves a quarter of the way to theirs, or all of it if it was 0.
 fn speed_after(speed: u64, bytes: u64, time: u64) -> u64 {
     let milliseconds = time / 1_000_000;
     let now = bytes
@@ -83,7 +83,7 @@ fn speed_after(speed: u64, bytes: u64, time: u64) -> u64 {
     }
 }
 
-/// How far a film is, by what is seen of it now and how fast it goes.
+/// The progress of a film, by its counts and times now and its speeds.
 fn text_of(
     alloc: Global,
     seen: &Seen,
@@ -110,7 +110,7 @@ fn text_of(
     }
 }
 
-/// So many seconds, in whole minutes from one on, so that a camera that rests isn't told of every second.
+/// The seconds, or whole minutes from one minute on, so that a camera that rests isn't reported every second.
 fn rough(seconds: u64) -> (u64, &'static str) {
     if seconds < 60 {
         (seconds, "s")
@@ -119,7 +119,7 @@ fn rough(seconds: u64) -> (u64, &'static str) {
     }
 }
 
-/// What is full, so that the lane waits.
+/// Names what is full, if the lane waits for that.
 fn fullness(doing: Doing) -> &'static str {
     match doing {
         Doing::AwaitsWindow => ", window full",
@@ -128,18 +128,18 @@ fn fullness(doing: Doing) -> &'static str {
     }
 }
 
-/// Bytes a second in and out, in MB with a decimal.
+/// The speeds in and out, in MB/s with one decimal.
 fn speeds_text(alloc: Global, speed_in: u64, speed_out: u64) -> Result<String, AllocError> {
     let (whole_in, tenth_in) = (speed_in / 1_000_000, speed_in / 100_000 % 10);
     let (whole_out, tenth_out) = (speed_out / 1_000_000, speed_out / 100_000 % 10);
     format!(in alloc; "{whole_in}.{tenth_in} MB/s in, {whole_out}.{tenth_out} out")
 }
 
-/// All films in a line of at most `columns` characters, after so many lines before.
+/// The progress line of all films, of at most `columns` characters, after `lines` lines before.
 ///
-/// If they have no room there, their names are shortened to their ends, no more than they have to be. If there is room
-/// for all only with less of a name than `LEAST_NAME`, each line goes round from another film on, the same for some
-/// lines, and has as many films as have room.
+/// If they don't fit, their names are shortened to their ends, no more than they have to be. If all would fit only
+/// with less of a name than `LEAST_NAME`, the line has as many films as fit, and every `LINES_A_FILM` lines it begins
+/// with the next one.
 pub fn line_of(
     alloc: Global,
     files: &[&str],
@@ -164,7 +164,7 @@ pub fn line_of(
     line_from(alloc, films, first)
 }
 
-/// Films that are to be put into a line of so many characters, each by no more than so many of its name.
+/// The films for a line of `columns` characters, with at most `longest` characters of each name.
 #[derive(Clone, Copy)]
 struct Films<'a> {
     names: &'a [String],
@@ -182,7 +182,7 @@ fn names_of(alloc: Global, files: &[&str]) -> Result<Vec<String>, AllocError> {
     Ok(names)
 }
 
-/// The most characters of each name with which all films have room in a line, if that is `LEAST_NAME` at least.
+/// The most characters of each name with which all films fit into a line, if that is at least `LEAST_NAME`.
 fn longest_within(
     alloc: Global,
     names: &[String],
@@ -202,7 +202,7 @@ fn longest_within(
     Ok(None)
 }
 
-/// How many characters a line of all films has but for their names.
+/// The number of characters in a line of all films, without their names.
 fn length_without_names(paces: &[Pace]) -> usize {
     let mut length: usize = 0;
     for pace in paces {
@@ -215,7 +215,7 @@ fn length_without_names(paces: &[Pace]) -> usize {
     length
 }
 
-/// How many characters each name has.
+/// The number of characters in each name.
 fn lengths_of(alloc: Global, names: &[String]) -> Result<Vec<usize>, AllocError> {
     let mut lengths = Vec::new(alloc);
     for name in names {
@@ -224,7 +224,7 @@ fn lengths_of(alloc: Global, names: &[String]) -> Result<Vec<usize>, AllocError>
     Ok(lengths)
 }
 
-/// How many characters names of these lengths have together, if none has more than so many.
+/// The number of characters in names of these lengths together, at most `longest` of each.
 fn shortened_length(lengths: &[usize], longest: usize) -> usize {
     let mut together: usize = 0;
     for length in lengths {
@@ -233,7 +233,7 @@ fn shortened_length(lengths: &[usize], longest: usize) -> usize {
     together
 }
 
-/// Films in a line, from the one of this number on and round to it, as far as they have room.
+/// A line of films, from the one of this number on and round to it, as far as they fit.
 fn line_from(alloc: Global, films: Films<'_>, first: usize) -> Result<String, AllocError> {
     let mut line = String::new(alloc);
     if add_films(alloc, &mut line, films, first, usize::MAX)? {
@@ -242,7 +242,7 @@ fn line_from(alloc: Global, films: Films<'_>, first: usize) -> Result<String, Al
     Ok(line)
 }
 
-/// Adds so many films to a line, or as many as there are, from the one of this number on; whether all had room.
+/// Adds `count` films to a line, or as many as there are, from the one of this number on; whether all fitted.
 fn add_films(
     alloc: Global,
     line: &mut String,
@@ -265,7 +265,7 @@ fn add_films(
     Ok(true)
 }
 
-/// A film's name, in no more than so many characters, and how far it is.
+/// A film's name, in at most `longest` characters, and its progress.
 fn film_text(alloc: Global, name: &str, longest: usize, pace: &Pace) -> Result<String, AllocError> {
     let mut text = String::new(alloc);
     push_shortened(&mut text, name, longest)?;
@@ -274,7 +274,7 @@ fn film_text(alloc: Global, name: &str, longest: usize, pace: &Pace) -> Result<S
     Ok(text)
 }
 
-/// Adds a name, or `..` and its end if it has more than so many characters.
+/// Adds a name, or `..` and its end if it has more than `longest` characters.
 fn push_shortened(text: &mut String, name: &str, longest: usize) -> Result<(), AllocError> {
     let length = name.chars().count();
     if length <= longest {
@@ -288,8 +288,8 @@ fn push_shortened(text: &mut String, name: &str, longest: usize) -> Result<(), A
     Ok(())
 }
 
-/// Adds a film to a line of so many characters, if it has room there; whether it had. Of the first film as much is added
-/// as has room, so that no number is cut.
+/// Adds a film to a line of at most `columns` characters, if it fits; whether it did. Of the first film as much is
+/// added as fits, so that no number is cut.
 fn add_film(line: &mut String, film: &str, columns: usize) -> Result<bool, AllocError> {
     if line.is_empty() {
         let fitting = fitting(film, columns);
@@ -307,7 +307,8 @@ fn add_film(line: &mut String, film: &str, columns: usize) -> Result<bool, Alloc
     Ok(true)
 }
 
-/// What has room in so many characters of what is said of a film: some of its parts, which stand between commas.
+/// The beginning of a film's text that fits into `columns` characters: as many of its parts, which are between
+/// commas, as fit, and one at least.
 fn fitting(film: &str, columns: usize) -> &str {
     let mut kept = film;
     for _part in 0..film.len() {

@@ -1,5 +1,5 @@
-//! What is done and said while films are recorded: each film's files are settled as soon as it ends, and progress is
-//! said on standard error: on a terminal as a line in its place, elsewhere as lines.
+//! The thread that watches a recording: it settles each film's files as soon as the film ends, and says progress on
+//! standard error: on a terminal in a progress line, elsewhere as lines.
 use super::Watch;
 use super::pace::{Pace, line_of};
 use crate::ending::kept::Kept;
@@ -12,10 +12,10 @@ use std::io::Write;
 use std::sync::Wait;
 use std::time::{Clock, Duration};
 
-/// After so many nanoseconds progress is said again: a little less than the wait, which may end a little early.
+/// The nanoseconds after which progress is said again: a little less than the wait, which may end a little early.
 const DUE: u64 = 450_000_000;
 
-/// Looks after films while they are recorded, and says how far they are, if that is wanted.
+/// Watches films while they are recorded, and says their progress, if that is wanted.
 #[derive(Drop)]
 pub struct Teller<'s, 'a, 'e, R, O: Makes, W, E> {
     pub rt: &'s R,
@@ -26,7 +26,7 @@ pub struct Teller<'s, 'a, 'e, R, O: Makes, W, E> {
     pub kept: &'s mut [Kept<'a, O>],
     pub output: &'s mut Counted<W>,
     pub console: &'s mut Console<'e, E>,
-    /// Whether it is said how far they are.
+    /// Whether progress is said.
     pub is_telling: bool,
 }
 
@@ -37,10 +37,10 @@ where
     W: Write,
     E: Outlet,
 {
-    /// Until the recording ends, settles the files of each film that ends; and says, if that is wanted, which film has
-    /// ended or stopped, at once, and twice a second how far each is.
+    /// Until the recording ends, settles the files of each film that ends. If progress is wanted, says immediately
+    /// which film has ended or stopped, and twice a second how far each is.
     ///
-    /// What memory is refused for isn't said that time.
+    /// If memory runs out at the beginning, does nothing; later, what it ran out for isn't said that time.
     pub fn tell(self) {
         let Teller {
             rt,
@@ -83,7 +83,7 @@ where
     }
 }
 
-/// How long to wait where nothing happens.
+/// The longest wait if nothing happens.
 fn longest_wait(is_telling: bool) -> Duration {
     if is_telling {
         Duration::from_millis(500)
@@ -92,7 +92,8 @@ fn longest_wait(is_telling: bool) -> Duration {
     }
 }
 
-/// Settles the files of each film that has ended since, and removes what each that goes on has replaced.
+/// Settles the files of each film that has ended since, and removes earlier files that the recordings of the others
+/// have replaced.
 fn settle_ended<R, O>(watch: &Watch<'_, R>, kept: &mut [Kept<'_, O>])
 where
     R: Clock,
@@ -143,7 +144,7 @@ fn paces_for(alloc: Global, films: usize) -> Result<Vec<Pace>, AllocError> {
     Ok(paces)
 }
 
-/// Says why recordings stopped that have stopped since.
+/// Says why each film stopped that has stopped since.
 fn tell_news<R: Clock, E: Outlet>(
     watch: &Watch<'_, R>,
     files: &[&str],
@@ -157,8 +158,8 @@ fn tell_news<R: Clock, E: Outlet>(
     }
 }
 
-/// Looks how far each film is, `time` nanoseconds after the last look; and says it, where there is no terminal, if it
-/// is something else than was said last.
+/// Looks at the progress of each film, `time` nanoseconds after the last look. Where there is no terminal, says it if
+/// its words have changed.
 fn tell_paces<R: Clock, E: Outlet>(
     alloc: Global,
     watch: &Watch<'_, R>,
@@ -181,7 +182,7 @@ fn tell_paces<R: Clock, E: Outlet>(
     Ok(())
 }
 
-/// Shows how far all films are in a line, after so many lines before.
+/// Shows the progress of all films in a line, after `lines` lines before.
 fn show_line<E: Outlet>(
     alloc: Global,
     files: &[&str],
