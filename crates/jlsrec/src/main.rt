@@ -1,9 +1,9 @@
 //! `jlsrec`: a lossless recorder of image sequences.
 //!
-//! `program` is the whole program over words, files and its two streams. The words of the command line are read in
-//! `ls_command`, and what they ask for is done in `ls_reading`; but for `record`, which is in `ls_recording`. What is
-//! said on standard error, and by what files are read, is in `ls_console`. `streams` takes the place of standard streams
-//! that are closed, and `words` has the words as they came.
+//! `program` is the whole program over words, files and its two streams. `ls_command` reads the words of the command
+//! line, and `ls_reading` does what they ask for; but `ls_recording` does `record`. `ls_console` has the messages on
+//! standard error, and the readers of files. `streams` takes the place of standard streams that are closed, and
+//! `words` gets the words of the command line.
 #![tactic(auto)]
 
 mod program;
@@ -19,7 +19,7 @@ use std::process::ExitCode;
 use std::rt::Env;
 use streams::take_closed;
 
-/// The least and the most characters that a terminal's line is taken to have.
+/// The least and the greatest width that a terminal is taken to have.
 const LEAST_WIDTH: usize = 20;
 
 const MOST_WIDTH: usize = 1000;
@@ -33,7 +33,8 @@ fn main(rt: HostRuntime) -> ExitCode {
     ExitCode::from(program::start(&rt, Opener::new(&rt), &mut output, &mut console))
 }
 
-/// How many characters a line in its place has: one less than the terminal, whose width the environment's COLUMNS says.
+/// The number of characters in a progress line: one less than the terminal's width, which is in the environment's
+/// COLUMNS.
 fn columns<R: Env + AllocGlobal>(rt: &R) -> usize {
     match env::var(rt, "COLUMNS") {
         Ok(text) => match text.parse::<usize>() {

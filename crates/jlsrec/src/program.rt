@@ -20,7 +20,7 @@ use std::time::Clock;
 
 /// Reads the words, runs the program and flushes its output.
 ///
-/// The opener is of the same files as the runtime; it opens pipes in the threads of their lanes.
+/// The opener opens the files of the same runtime; lanes open pipes with it, in their threads.
 pub fn start<R, O, W, E>(
     rt: &R,
     opener: O,
@@ -46,11 +46,11 @@ where
     finish(status, output, console)
 }
 
-/// The program over the words after its name: writes to `output` what goes to standard output, says on the console what
-/// goes to standard error, and answers the status.
+/// Runs the program over the words after its name: writes to `output` what goes to standard output, says on the
+/// console what goes to standard error, and returns the status.
 ///
-/// `code` writes each codestream to `output` itself, and `play` each image, so that what was written is out. `list` and
-/// `replay` write by way of a buffer, which is flushed at the end.
+/// `code` writes each codestream to `output` itself, and `play` each image, so nothing is held back. `list`, `index`,
+/// `check` and `replay` write through a buffer, which is flushed at the end.
 pub fn run<R, O, W, E>(
     rt: &R,
     opener: O,
@@ -76,7 +76,7 @@ where
     }
 }
 
-/// What is answered in place of a request, in which the words are shown printable.
+/// The answer in place of a request, with its words made printable.
 fn printable(alloc: Global, words: &[String], other: Answer) -> Answer {
     if words.iter().all(|word| is_shown_plain(word)) {
         return other;
@@ -90,7 +90,7 @@ fn printable(alloc: Global, words: &[String], other: Answer) -> Answer {
     }
 }
 
-/// The words, with what isn't printable in them escaped.
+/// The words, each escaped if it isn't printable.
 fn escaped(alloc: Global, words: &[String]) -> Result<Vec<String>, AllocError> {
     let mut escaped = Vec::new(alloc);
     for word in words {
@@ -108,7 +108,7 @@ fn shown_word(alloc: Global, word: &str) -> Result<String, AllocError> {
     }
 }
 
-/// Does what the words ask for, and answers the status.
+/// Does what is asked for, and returns the status.
 fn do_request<R, O, W, E>(
     rt: &R,
     opener: O,
@@ -165,7 +165,7 @@ fn part_of(frames: Frames) -> Part {
     }
 }
 
-/// Shows what is answered in place of a request, and answers the status.
+/// Shows the answer in place of a request, and returns the status.
 fn answer<W: Write, E: Outlet>(
     other: Answer,
     output: &mut Counted<W>,

@@ -1,10 +1,10 @@
-//! The words of the command line, and which of them isn't UTF-8.
+//! Gets the words of the command line, or says which of them isn't UTF-8.
 use ls_console::ShownBytes;
 use std::alloc::AllocError;
 use std::rt::Env;
 use std::{env, io, str};
 
-/// How many bytes the system passes in a word at most, with the NUL at its end.
+/// The most bytes that the system passes in a word, with the NUL at its end.
 const LONGEST_WORD: usize = 131_072;
 
 /// The words after the program's name.
@@ -12,8 +12,7 @@ pub fn words<R: Env + AllocGlobal>(rt: &R) -> io::Result<Vec<String>> {
     Ok(env::args(rt)?.skip(1).collect(rt.alloc())?)
 }
 
-/// What is wrong with the words, of which one isn't UTF-8: its number, from 1 after the program's name, and how it can be
-/// done without.
+/// Says which of the words isn't UTF-8, by its number from 1 after the program's name, and how to do without it.
 pub fn fault_of_words<R: Env + AllocGlobal>(rt: &R) -> Result<String, AllocError> {
     let alloc = rt.alloc();
     let mut bytes = vec![in alloc; 0; LONGEST_WORD]?;
