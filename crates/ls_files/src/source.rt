@@ -1,5 +1,5 @@
 //! A file that is read.
-ghost use Rattle.std.specs.Prelude.{◌≤◌};
+ghost use Rattle.std.specs.Prelude.{◌≤◌, ◌≡◌, Some};
 ghost use Rattle.ls_files.specs.declared.source.TheConstants.{FRONT};
 
 use crate::identity::Identity;
@@ -98,7 +98,9 @@ impl<'a, O: Opens> Source<'a, O> {
         &self.front[..self.kept]
     }
 
-    fn open_late(&mut self) -> io::Result<()> {
+    fn open_late(&mut self) -> io::Result<()>
+        ensures kept { (file : O.File) → self.old.file ≡ Some file → self.new.file ≡ Some file }
+    {
         if self.file.is_none() {
             self.file = Some(self.opener.open(self.path)?);
             if let Some(notice) = self.notice {
@@ -109,7 +111,9 @@ impl<'a, O: Opens> Source<'a, O> {
     }
 
     /// Adds bytes to the front until that is full.
-    fn keep(&mut self, bytes: &[u8]) {
+    fn keep(&mut self, bytes: &[u8])
+        ensures file { self.new.file ≡ self.old.file }
+    {
         let start = self.kept;
         let count = bytes.len().min(FRONT - start);
         self.front[start..start + count].copy_from_slice(&bytes[..count]);
@@ -118,6 +122,10 @@ impl<'a, O: Opens> Source<'a, O> {
 }
 
 impl<'a, O: Opens> Read for Source<'a, O> {
+    ghost use Rattle.ls_files.specs.View.Opened.{known_of};
+
+    ghost remaining = { λ source. known_of O.File.remaining source.file };
+
     fn read(&mut self, buf: &mut [u8]) -> io::Result<usize> {
         self.open_late()?;
         let given = match &mut self.file {

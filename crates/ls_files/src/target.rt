@@ -1,4 +1,6 @@
 //! A file that is written.
+ghost use Rattle.std.specs.Prelude.{◌≡◌, Some};
+
 use crate::opener::Opens;
 use std::io;
 use std::io::Write;
@@ -53,7 +55,9 @@ impl<'a, O: Opens> Target<'a, O> {
         }
     }
 
-    fn open(&mut self) -> io::Result<()> {
+    fn open(&mut self) -> io::Result<()>
+        ensures kept { (file : O.File) → self.old.file ≡ Some file → self.new.file ≡ Some file }
+    {
         if self.file.is_none() {
             self.is_refused = true;
             self.file = Some(self.opener.open_to_write(self.path)?);
@@ -64,6 +68,10 @@ impl<'a, O: Opens> Target<'a, O> {
 }
 
 impl<'a, O: Opens> Write for Target<'a, O> {
+    ghost use Rattle.ls_files.specs.View.Opened.{known_of};
+
+    ghost contents = { λ target. known_of O.File.contents target.file };
+
     fn write(&mut self, buf: &[u8]) -> io::Result<usize> {
         self.open()?;
         let taken = match &mut self.file {
