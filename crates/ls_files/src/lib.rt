@@ -23,8 +23,9 @@
 //! that is read), `target` (a file that is written), `place` (the place of a file that is to be made, and what is
 //! there already), `held` (a file that is made, from the lock of the earlier one to the last sync), `keeper` (a
 //! recording's file and that of its index, together), `folders` (locks the folders in which files are made),
-//! `likeness` (guesses formats). No contract says what a file holds: the tests of the whole program show how these
-//! calls work.
+//! `likeness` (guesses formats). The known bytes of a source or a target are those of its file, once that is open
+//! (`specs/View/Opened.antt`). No contract says more of files: the tests of the whole program show how these calls
+//! work.
 #![tactic(auto)]
 
 pub mod folders;
