@@ -60,7 +60,7 @@ fn checked(frames: u64, damaged: u64, more: bool) -> Checked {
     Checked {
         frames,
         damaged,
-        bytes: 28 * frames,
+        bytes: frames.saturating_mul(28),
         more,
     }
 }

@@ -25,7 +25,7 @@ fn wanted(rt: &impl Abort, alloc: Global, sums: &[[u8; 32]]) -> Vec<Wanted> {
 fn try_wanted(alloc: Global, sums: &[[u8; 32]]) -> Result<Vec<Wanted>, AllocError> {
     let mut wanted = Vec::new(alloc);
     for sum in sums {
-        let place = 28 * wanted.len() as u64;
+        let place = (wanted.len() as u64).saturating_mul(28);
         wanted.push(Wanted {
             place,
             count: 28,
