@@ -136,6 +136,11 @@ impl<F: OpenFile + Drop> Held<F> {
         }
     }
 
+    /// Whether there is no new file, since what is at the path is written into: a pipe, a device or an open file.
+    pub fn is_written_into(&self) -> bool {
+        self.standing.is_written_into()
+    }
+
     /// Syncs the file to disk, and its folder too if that can be synced. Does nothing for a pipe or a device.
     pub fn sync<O: Makes<File = F>>(&self, opener: &O) -> io::Result<()> {
         if let Some(made) = &self.made {

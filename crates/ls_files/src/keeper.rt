@@ -238,7 +238,7 @@ impl<O: Makes + Copy + Drop> Keeper<O> {
             // While the recording's new file is there and locked, no other program takes its place.
             self.give_index_back();
             let _is_back = self.recording.give_back(&self.opener);
-        } else if self.recording.give_back(&self.opener) {
+        } else if self.recording.is_written_into() || self.recording.give_back(&self.opener) {
             self.give_index_back();
         }
     }

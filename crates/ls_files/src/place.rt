@@ -58,10 +58,7 @@ impl<'a> Place<'a> {
 
     /// Whether output goes into the existing file there: a pipe, a device or a file that is already open.
     pub fn is_written_into(&self) -> bool {
-        matches!(
-            self.standing,
-            Standing::Pipe(_) | Standing::Other(_) | Standing::Open(_)
-        )
+        self.standing.is_written_into()
     }
 
     /// Whether files at both places would be the same: one name in one folder, or one existing file.
@@ -96,6 +93,14 @@ impl<'a> Place<'a> {
 }
 
 impl Standing {
+    /// Whether output goes into it: into a pipe, a device or a file that is already open.
+    pub fn is_written_into(&self) -> bool {
+        matches!(
+            self,
+            Standing::Pipe(_) | Standing::Other(_) | Standing::Open(_)
+        )
+    }
+
     /// Whether it is renamed before a file is made in its place.
     pub fn is_kept(&self) -> bool {
         matches!(
