@@ -23,6 +23,7 @@ int main(int argc, char **argv) {
     fputs(LEVEL, told);
     for (int i = 1; i < argc; i++) fprintf(told, " <%s>", argv[i]);
     for (int i = 0; i < 3; i++) fprintf(told, " %s", at[i]);
+    fputc('\n', told);
     fclose(told);
     return 7;
 }
