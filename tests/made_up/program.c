@@ -1,5 +1,6 @@
 /* A made-up program of a release, for the processors that LEVEL names. Says its version; by other words it leaves in the
- * file that the variable TOLD names its level, its words and what its standard streams are, and ends with status 7. */
+ * file that the variable TOLD names its level, its words and what its standard streams are, and in a second line which
+ * process it is; and ends with status 7. */
 #include <fcntl.h>
 #include <stdio.h>
 #include <stdlib.h>
@@ -23,7 +24,7 @@ int main(int argc, char **argv) {
     fputs(LEVEL, told);
     for (int i = 1; i < argc; i++) fprintf(told, " <%s>", argv[i]);
     for (int i = 0; i < 3; i++) fprintf(told, " %s", at[i]);
-    fputc('\n', told);
+    fprintf(told, "\n%d\n", getpid());
     fclose(told);
     return 7;
 }
