@@ -6,6 +6,9 @@ or (height, width, 3), colour. Calls hold no lock of Python's while they code, s
     import jlsrec
     data = jlsrec.encode(array)
     assert (jlsrec.decode(data) == array).all()
+
+The library is the one in the package or below the same prefix, or that of the checkout, for this machine's processor.
+JLSREC_LIBRARY names another one, and JLSREC_CPU another level of processors, x86-64-v2 or x86-64-v3.
 """
 
 from __future__ import annotations

@@ -4,8 +4,10 @@ from __future__ import annotations
 
 import ctypes
 import ctypes.util
+import filecmp
 import functools
 import os
+from collections.abc import Iterator
 from pathlib import Path
 
 OK = 0
@@ -15,6 +17,13 @@ BAD_SIZE = 4
 BAD_MAXVAL = 6
 BAD_PRESET = (10, 11, 12, 13)
 TRUNCATED = 20
+
+_SONAME = "libjlsrec.so.0"
+_RELEASED = "libjlsrec.so.0.1.0"
+
+# The levels of processors that libraries are compiled for, and what the second adds, as the system names it.
+_V2, _V3 = "x86-64-v2", "x86-64-v3"
+_V3_FLAGS = frozenset("avx avx2 bmi1 bmi2 f16c fma abm movbe xsave".split())
 
 
 class Form(ctypes.Structure):
@@ -58,17 +67,63 @@ class JlsrecError(ValueError):
         return error
 
 
+def _has_v3() -> bool:
+    """Whether the processor has what x86-64-v3 adds to x86-64-v2, by the same names as the command jlsrec looks for."""
+    try:
+        with open("/proc/cpuinfo", encoding="utf-8", errors="replace") as lines:
+            for line in lines:
+                if line.startswith("flags"):
+                    return _V3_FLAGS <= set(line.partition(":")[2].split())
+    except OSError:
+        pass
+    return False
+
+
+def _levels() -> tuple[str, ...]:
+    """The levels of processors whose libraries are for this one, the best first; or as JLSREC_CPU says."""
+    named = os.environ.get("JLSREC_CPU") or (_V3 if _has_v3() else _V2)
+    if named not in (_V2, _V3):
+        raise ImportError(f"JLSREC_CPU is to be {_V2} or {_V3}, or not set, and it is {named}")
+    return (_V3, _V2) if named == _V3 else (_V2,)
+
+
+def _places() -> Iterator[Path]:
+    """Where the library may be, in the order in which it is looked for."""
+    levels = _levels()
+    here = Path(__file__).resolve().parent
+    # In the package, of a wheel.
+    for level in levels:
+        yield here / level / _RELEASED
+    # Below the same prefix: ./install puts it into lib, and Debian's package into a folder there.
+    if here.parent.name in ("site-packages", "dist-packages"):
+        lib = here.parent.parent.parent
+        for folder in (lib, lib / "x86_64-linux-gnu"):
+            if _V3 in levels:
+                yield folder / "glibc-hwcaps" / _V3 / _SONAME
+            yield folder / _SONAME
+        return
+    # In the checkout, built there or of its release. What library/build leaves of the release isn't built there, and is
+    # for x86-64-v2 alone.
+    checkout = here.parent.parent
+    built, released = checkout / "out" / "library" / _SONAME, checkout / "release"
+    if not _is_same(built, released / _V2 / _RELEASED):
+        yield built
+    for level in levels:
+        yield released / level / _RELEASED
+
+
+def _is_same(one: Path, other: Path) -> bool:
+    """Whether both files exist and hold the same bytes."""
+    return one.exists() and other.exists() and filecmp.cmp(one, other, shallow=False)
+
+
 def _load() -> ctypes.CDLL:
-    """The library of JLSREC_LIBRARY, that which ./install put below the same prefix, this checkout's, or the system's."""
+    """The library that JLSREC_LIBRARY names; the package's own; the one below the same prefix; the checkout's, built
+    there or released; or the system's. Where there are two it is the one for this processor."""
     named = os.environ.get("JLSREC_LIBRARY")
     if named:
         return ctypes.CDLL(named)
-    here = Path(__file__).resolve().parent
-    for path in (
-        here / "libjlsrec.so.0",
-        here.parents[2] / "libjlsrec.so.0",
-        here.parents[1] / "out" / "library" / "libjlsrec.so.0",
-    ):
+    for path in _places():
         if path.exists():
             return ctypes.CDLL(str(path))
     found = ctypes.util.find_library("jlsrec")

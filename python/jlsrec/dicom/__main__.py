@@ -7,16 +7,15 @@ import errno
 import importlib.util
 import os
 import sys
-from typing import Optional
 
 from . import Refused
 
 
-def main(program: Optional[str] = None) -> int:
-    """Runs one of the two. The status is 0, or 1 if a film or a file can't be made, with a line that says why."""
+def main(program: str = "jlsrec-dicom") -> int:
+    """Runs one of the two, for what is called so. The status is 0, or 1 if a film or a file can't be made, with a line that says why."""
     hold_standard_streams()
     parser = argparse.ArgumentParser(
-        prog=program or "python3 -m jlsrec.dicom",
+        prog=program,
         description="DICOM files as films of their stored values, and recordings back in DICOM files.",
     )
     commands = parser.add_subparsers(dest="command", required=True)
@@ -75,4 +74,4 @@ def hold_standard_streams() -> None:
 
 
 if __name__ == "__main__":
-    sys.exit(main())
+    sys.exit(main("python3 -m jlsrec.dicom"))
