@@ -14,7 +14,7 @@ use Rattle.ls_stream.proofs.StepLemmas.{same_ok}
 use Rattle.ls_stream.proofs.MostLemmas.{first_of, left_of}
 use Rattle.ls_stream.proofs.GrownLemmas.{changed, left_more, outline_grown}
 use Rattle.ls_film.specs.Film.{most_frames, IsFilm}
-use Rattle.ls_film.specs.View.Playing.{BeginsWithNone}
+use Rattle.ls_film.specs.View.Codestreams.{BeginsWithNone}
 use Rattle.ls_archive.specs.declared.faults.IndexFault.{IndexFault}
 use Rattle.ls_archive.specs.declared.faults.IndexFault.TheVariants.{Stream, Io, Output, NoMemory, TooMany}
 use Rattle.ls_archive.specs.Index.{Entry, joined}

@@ -6,7 +6,7 @@ use Rattle.ls_frame.specs.View.Devices.{count_after}
 use Rattle.ls_frame.specs.View.Known.{Gave}
 use Rattle.ls_stream.specs.declared.faults.StreamFault.{StreamFault}
 use Rattle.ls_stream.specs.Grammar.{Spells}
-use Rattle.ls_film.specs.declared.playing.Unread.TheVariants.{Stream}
+use Rattle.ls_film.specs.declared.codestreams.Unread.TheVariants.{Stream}
 use Rattle.ls_player.specs.declared.ahead.Ahead.{Ahead}
 use Rattle.ls_player.specs.View.Ahead.{IsUnread, GivesNext}
 use Rattle.ls_archive.specs.declared.faults.VerifyFault.{VerifyFault}

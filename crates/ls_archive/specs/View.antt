@@ -7,5 +7,5 @@ pub mod Followed
 pub mod Following
 pub mod Indexing
 pub mod Places
-pub mod SideBySide
+pub mod Comparing
 pub mod Verifying

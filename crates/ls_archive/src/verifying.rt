@@ -1,27 +1,24 @@
 //! Whether a recording has a film's frames, frame by frame, whatever the headers' form.
-ghost use Rattle.std.specs.Prelude.{◌≡◌, ◌<◌, ◌≤◌, ◌^◌, ◌⊎◌, ℕ, true, false, List, Option, Ok, length, IfOk, IfErr, MatchResult};
+ghost use Rattle.std.specs.Prelude.{◌≡◌, ◌≤◌, ◌⊎◌, ◌||◌, ℕ, false, List, Option, length, IfOk, IfErr, MatchResult};
 ghost use Rattle.ls_frame.specs.Netpbm.{IsImageOf};
 ghost use Rattle.ls_frame.specs.Picture.{Picture};
 ghost use Rattle.ls_frame.specs.View.Devices.{count_after};
 ghost use Rattle.ls_stream.specs.Grammar.{Spells};
 ghost use Rattle.ls_film.specs.Film.{most_frames, IsFilm};
-ghost use Rattle.ls_player.specs.View.Ahead.{IsAhead, GivesNext};
-ghost use Rattle.ls_player.specs.View.Batches.{failed_after};
 ghost use Rattle.ls_archive.specs.Verify.{Compares, difference_of};
-ghost use Rattle.ls_archive.specs.View.SideBySide.{IsSame, HasCompared, FindsAhead, HasReadAhead};
-ghost use Rattle.ls_archive.specs.View.Verifying.{Finds, Stops, GaveNext, IsCompared, StopsFilm, StopsRecording, verdict_at, at_most, failed_film, failed_recording, FindsIn, StopsIn};
+ghost use Rattle.ls_archive.specs.View.Comparing.{GivesCoded, HasCompared, HasFound, FindsAhead, HasReadAhead};
+ghost use Rattle.ls_archive.specs.View.Verifying.{Finds, Stops, GaveNext, StopsFilm, StopsRecording, verdict_at, at_most, failed_film, failed_recording, FindsIn, StopsIn};
 
 use crate::faults::VerifyFault;
 use ls_film::MOST_FRAMES;
-use ls_film::playing::Unread;
+use ls_film::ahead::SideBySide;
+use ls_film::codestreams::{OneByOne, Recorded, Unread};
+use ls_film::engine::Images;
 use ls_frame::laws::{
     bytes_break_or_hold_an_image, images_have_one_frame, no_image_begins_another,
 };
 use ls_frame::{Feed, Frame, Kind, next_frame};
-use ls_player::ahead::{Ahead, next_made};
-use ls_player::job::Frames;
 use ls_stream::laws::{no_codestream_begins_another, one_frame_each};
-use ls_stream::{NextFault, StreamFault, decode_frame, next_stream};
 use std::alloc::Global;
 use std::thread::Threads;
 
@@ -66,22 +63,13 @@ pub fn verify<F: Feed, R: Feed>(
     ensures film_reads { F.failed_reads film.new ≡ count_after (failed_film result) (F.failed_reads film.old) }
     ensures recording_reads { R.failed_reads recording.new ≡ count_after (failed_recording result) (R.failed_reads recording.old) }
 {
-    for number in 0..MOST_FRAMES + 1 {
-        let compared = compare(alloc, film, recording, number)?;
-        if number == MOST_FRAMES {
-            return at_most(compared);
-        }
-        if let Some(verdict) = compared {
-            return Ok(verdict);
-        }
-    }
-    unreachable!()
+    compare_all::<OneByOne, F, R>(alloc, film, &mut OneByOne, recording)
 }
 
-/// The same, where so many threads at most decode the recording's codestreams side by side (`ls_player`).
+/// The same, where at most this number of threads decode the recording's codestreams side by side.
 ///
-/// The recording may be read further than the verdict tells, and a read of it may have failed after the frames that it
-/// is of. It requires at least one worker, and no more than 2^32.
+/// The recording may be read further than the verdict says, and a read of it after the frames compared may have failed.
+/// No workers count as one.
 pub fn verify_by<Rt: Threads + Sync, F: Feed, R: Feed>(
     rt: &Rt,
     alloc: Global,
@@ -89,25 +77,14 @@ pub fn verify_by<Rt: Threads + Sync, F: Feed, R: Feed>(
     film: &mut F,
     recording: &mut R,
 ) -> Result<Verdict, VerifyFault>
-    requires some { 0 < workers }
-    requires few { workers ≤ 2 ^ 32 }
     ensures finds { IfOk result (FindsAhead
         (F.remaining film.old) (F.remaining film.new) (R.remaining recording.old)) }
     ensures stops { IfErr result (Stops (F.remaining film.old) (R.remaining recording.old)) }
     ensures film_reads { F.failed_reads film.new ≡ count_after (failed_film result) (F.failed_reads film.old) }
     ensures recording_reads { HasReadAhead (R.failed_reads recording.old) (R.failed_reads recording.new) result }
 {
-    let mut ahead = Ahead::new(alloc);
-    for number in 0..MOST_FRAMES + 1 {
-        let compared = compare_by(rt, alloc, workers, film, recording, &mut ahead, number)?;
-        if number == MOST_FRAMES {
-            return at_most(compared);
-        }
-        if let Some(verdict) = compared {
-            return Ok(verdict);
-        }
-    }
-    unreachable!()
+    let mut source = SideBySide::new(rt, alloc, workers);
+    compare_all::<SideBySide<'_, Rt, Frame>, F, R>(alloc, film, &mut source, recording)
 }
 
 /// Whether a recording in memory has the frames of a film in memory.
@@ -131,75 +108,52 @@ pub fn verify_bytes(alloc: Global, film: &[u8], recording: &[u8]) -> Result<Verd
     verify(alloc, &mut images, &mut codestreams)
 }
 
-/// Reads the frames of this number, and says what they show; nothing, if they are equal.
-fn compare<F: Feed, R: Feed>(
+/// Compares a film with a recording, whose frames come from a source.
+fn compare_all<S: Recorded<Frame>, F: Feed, R: Feed>(
     alloc: Global,
     film: &mut F,
+    source: &mut S,
     recording: &mut R,
-    number: u64,
-) -> Result<Option<Verdict>, VerifyFault>
-    ensures compared { IfOk result (IsCompared
-        (F.remaining film.old) (F.remaining film.new) (R.remaining recording.old) (R.remaining recording.new) number) }
-    ensures stops { IfErr result (λ fault. StopsFilm (F.remaining film.old) number fault ⊎ StopsRecording (R.remaining recording.old) number fault) }
+) -> Result<Verdict, VerifyFault>
+    ensures finds { (place : Option (List ℕ)) → S.Images.stands source.old place (R.remaining recording.old)
+        → IfOk result (HasFound S.Images.stands (F.remaining film.old) (F.remaining film.new) place (R.remaining recording.new) source.new) }
+    ensures stops { (place : Option (List ℕ)) → S.Images.stands source.old place (R.remaining recording.old)
+        → IfErr result (Stops (F.remaining film.old) place) }
     ensures film_reads { F.failed_reads film.new ≡ count_after (failed_film result) (F.failed_reads film.old) }
-    ensures recording_reads { R.failed_reads recording.new ≡ count_after (failed_recording result) (R.failed_reads recording.old) }
+    ensures recording_reads { (failed : ℕ) → R.failed_reads recording.old ≡ count_after (S.Images.owes source.old) failed
+        → R.failed_reads recording.new ≡ count_after (failed_recording result || S.Images.owes source.new) failed }
 {
-    let image = next_image(alloc, film, number)?;
-    let coded = next_coded(alloc, recording, number)?;
-    Ok(verdict_at(number, &image, &coded))
+    for number in 0..MOST_FRAMES + 1 {
+        let compared = compare::<S, F, R>(alloc, film, source, recording, number)?;
+        if number == MOST_FRAMES {
+            return at_most(compared);
+        }
+        if let Some(verdict) = compared {
+            return Ok(verdict);
+        }
+    }
+    unreachable!()
 }
 
-/// The same, where the recording's frame comes of codestreams that are taken ahead.
-fn compare_by<Rt: Threads + Sync, F: Feed, R: Feed>(
-    rt: &Rt,
+/// Reads the frames of this number, and returns the verdict on them; `None` if they are equal.
+fn compare<S: Recorded<Frame>, F: Feed, R: Feed>(
     alloc: Global,
-    workers: usize,
     film: &mut F,
+    source: &mut S,
     recording: &mut R,
-    ahead: &mut Ahead<Frame>,
     number: u64,
 ) -> Result<Option<Verdict>, VerifyFault>
-    requires some { 0 < workers }
-    requires few { workers ≤ 2 ^ 32 }
-    ensures compared { (place : Option (List ℕ)) → IsAhead IsSame place (R.remaining recording.old) ahead.old
-        → IfOk result (HasCompared (F.remaining film.old) (F.remaining film.new) place (R.remaining recording.new) ahead.new number) }
-    ensures stops { (place : Option (List ℕ)) → IsAhead IsSame place (R.remaining recording.old) ahead.old
+    ensures compared { (place : Option (List ℕ)) → S.Images.stands source.old place (R.remaining recording.old)
+        → IfOk result (HasCompared S.Images.stands (F.remaining film.old) (F.remaining film.new) place (R.remaining recording.new) source.new number) }
+    ensures stops { (place : Option (List ℕ)) → S.Images.stands source.old place (R.remaining recording.old)
         → IfErr result (λ fault. StopsFilm (F.remaining film.old) number fault ⊎ StopsRecording place number fault) }
     ensures film_reads { F.failed_reads film.new ≡ count_after (failed_film result) (F.failed_reads film.old) }
-    ensures recording_reads { (failed : ℕ) → R.failed_reads recording.old ≡ count_after (failed_after ahead.old.after) failed
-        → R.failed_reads recording.new ≡ count_after (failed_after ahead.new.after) failed }
-    ensures io { failed_recording result ≡ true → failed_after ahead.new.after ≡ true }
+    ensures recording_reads { (failed : ℕ) → R.failed_reads recording.old ≡ count_after (S.Images.owes source.old) failed
+        → R.failed_reads recording.new ≡ count_after (failed_recording result || S.Images.owes source.new) failed }
 {
     let image = next_image(alloc, film, number)?;
-    let coded = next_coded_by(rt, alloc, workers, recording, ahead, number)?;
+    let coded = next_coded::<S, R>(alloc, source, recording, number)?;
     Ok(verdict_at(number, &image, &coded))
-}
-
-/// The recording's frame of this number, of codestreams that are taken ahead; `None` exactly at its end.
-fn next_coded_by<Rt: Threads + Sync, R: Feed>(
-    rt: &Rt,
-    alloc: Global,
-    workers: usize,
-    recording: &mut R,
-    ahead: &mut Ahead<Frame>,
-    number: u64,
-) -> Result<Option<Frame>, VerifyFault>
-    requires some { 0 < workers }
-    requires few { workers ≤ 2 ^ 32 }
-    ensures next { (place : Option (List ℕ)) → IsAhead IsSame place (R.remaining recording.old) ahead.old
-        → IfOk result (λ next. GivesNext IsSame place (R.remaining recording.new) ahead.new (Ok next)) }
-    ensures stops { (place : Option (List ℕ)) → IsAhead IsSame place (R.remaining recording.old) ahead.old
-        → IfErr result (StopsRecording place number) }
-    ensures film_reads { failed_film result ≡ false }
-    ensures recording_reads { (failed : ℕ) → R.failed_reads recording.old ≡ count_after (failed_after ahead.old.after) failed
-        → R.failed_reads recording.new ≡ count_after (failed_after ahead.new.after) failed }
-    ensures io { failed_recording result ≡ true → failed_after ahead.new.after ≡ true }
-{
-    match next_made::<Frame, Frames, Rt, R>(ahead, rt, alloc, workers, recording) {
-        Ok(next) => Ok(next),
-        Err(Unread::Stream(fault)) => Err(VerifyFault::of_recording(number, fault)),
-        Err(Unread::Io) => Err(VerifyFault::RecordingIo(number)),
-    }
 }
 
 /// The film's frame of this number; `None` exactly at its end.
@@ -219,29 +173,24 @@ fn next_image<F: Feed>(
 }
 
 /// The recording's frame of this number; `None` exactly at its end.
-fn next_coded<R: Feed>(
+fn next_coded<S: Recorded<Frame>, R: Feed>(
     alloc: Global,
+    source: &mut S,
     recording: &mut R,
     number: u64,
 ) -> Result<Option<Frame>, VerifyFault>
-    ensures next { IfOk result (GaveNext Spells (R.remaining recording.old) (R.remaining recording.new)) }
-    ensures stops { IfErr result (StopsRecording (R.remaining recording.old) number) }
-    ensures recording_reads { R.failed_reads recording.new ≡ count_after (failed_recording result) (R.failed_reads recording.old) }
+    ensures next { (place : Option (List ℕ)) → S.Images.stands source.old place (R.remaining recording.old)
+        → IfOk result (GivesCoded S.Images.stands place (R.remaining recording.new) source.new) }
+    ensures stops { (place : Option (List ℕ)) → S.Images.stands source.old place (R.remaining recording.old)
+        → IfErr result (StopsRecording place number) }
+    ensures film_reads { failed_film result ≡ false }
+    ensures recording_reads { (failed : ℕ) → R.failed_reads recording.old ≡ count_after (S.Images.owes source.old) failed
+        → R.failed_reads recording.new ≡ count_after (failed_recording result || S.Images.owes source.new) failed }
 {
-    let mut bytes = match next_stream(alloc, recording) {
-        Ok(Some(bytes)) => bytes,
-        Ok(None) => return Ok(None),
-        Err(NextFault::TooLarge) => {
-            return Err(VerifyFault::Recording(number, StreamFault::TooLarge));
-        }
-        Err(NextFault::Io) => return Err(VerifyFault::RecordingIo(number)),
-        Err(NextFault::NoMemory) => return Err(VerifyFault::NoMemory),
-    };
-    // The frame's memory can begin behind the codestream then, and not behind room for more of it.
-    bytes.shrink_to_fit();
-    match decode_frame(alloc, &bytes) {
-        Ok(decoded) => Ok(Some(decoded.frame)),
-        Err(fault) => Err(VerifyFault::of_recording(number, fault)),
+    match source.next(alloc, recording) {
+        Ok(next) => Ok(next),
+        Err(Unread::Stream(fault)) => Err(VerifyFault::of_recording(number, fault)),
+        Err(Unread::Io) => Err(VerifyFault::RecordingIo(number)),
     }
 }
 

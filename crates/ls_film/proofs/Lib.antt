@@ -1,3 +1,5 @@
+pub mod AheadLemmas
+pub mod CodestreamLemmas
 pub mod EngineLemmas
 pub mod FileLemmas
 pub mod FilmLemmas

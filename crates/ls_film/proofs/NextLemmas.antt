@@ -9,7 +9,7 @@ use Rattle.ls_stream.specs.Grammar.{Spells, most_bytes}
 use Rattle.ls_stream.specs.View.Outlines.{IsFirstFault}
 use Rattle.ls_stream.specs.declared.faults.StreamFault.{StreamFault}
 use Rattle.ls_stream.specs.declared.next.NextFault.TheVariants as next_fault
-use Rattle.ls_film.specs.View.Playing.{BreaksBy}
+use Rattle.ls_film.specs.View.Codestreams.{BreaksBy}
 
 -- a codestream at the front of the bytes that were read is all of them
 pub gave_codestream : (read read' : Option (List ℕ)) (bytes : List ℕ) (used : ℕ) (f : Picture) (P : List ℕ → Type 0)

@@ -14,7 +14,8 @@ use Rattle.std.specs.Io.KnownBytes.{Appends}
 use Rattle.ls_film.specs.Showing.{show}
 use Rattle.ls_stream.proofs.ExtentLaws.{next_is}
 use Rattle.ls_film.specs.Film.{most_frames, IsFilm}
-use Rattle.ls_film.specs.View.Playing.{BreaksBy, Stops}
+use Rattle.ls_film.specs.View.Codestreams.{BreaksBy}
+use Rattle.ls_film.specs.View.Playing.{Stops}
 use Rattle.ls_film.specs.View.Parts.{joined, ArePassed, GavePassed, ShowsNext, ShowsPart, EndsEarly, StopsPassing, LacksPart, StopsShowing, IsShortOf, IsNoneOfStreams, later, unpassed}
 use Rattle.ls_film.specs.declared.playing.PlayFault.{PlayFault}
 use Rattle.ls_film.specs.declared.playing.PlayFault.TheVariants.{Stream, Io, Output, NoMemory, TooMuch}

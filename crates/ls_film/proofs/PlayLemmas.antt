@@ -1,6 +1,8 @@
 -- What the engine's end over codestreams is to a recording.
-use Rattle.std.proofs.Common.{◌≡◌, ◌⊎◌, ℕ, Bool, true, false, inl, inr, List, ◌++◌, length, Option, refl, ap, ◌∙◌, append_assoc}
-use Rattle.ls_frame.specs.View.Known.{Tells, known}
+use Rattle.std.proofs.Common.{◌≡◌, ◌⊎◌, ℕ, Bool, true, false, inl, inr, List, ◌++◌, length, Option, refl, ap, ◌∙◌, append_assoc, arith}
+use Rattle.std.specs.Prelude.{◌||◌}
+use Rattle.ls_frame.specs.View.Devices.{count_after}
+use Rattle.ls_frame.specs.View.Known.{Tells, HadBytes, known}
 use Rattle.ls_stream.specs.declared.faults.StreamFault.{StreamFault}
 use Rattle.ls_stream.specs.declared.faults.StreamFault.TheVariants as stream
 use Rattle.ls_stream.specs.Grammar.{Spells}
@@ -11,11 +13,12 @@ use Rattle.ls_film.specs.View.Steps.{IsSomeImage, HasStopped}
 use Rattle.ls_film.specs.declared.engine.Stopped.{Stopped}
 use Rattle.ls_film.specs.declared.engine.Stopped.TheVariants.{Input, Output, NoMemory, TooMany}
 use Rattle.ls_film.proofs.FilmLemmas.{IsBrokenAfter-next, BeginsWithFrames-gave}
-use Rattle.ls_film.specs.declared.playing.Unread.{Unread}
-use Rattle.ls_film.specs.declared.playing.PlayFault.TheVariants.{Io}
-use Rattle.ls_film.specs.declared.playing.Unread.TheVariants as unread
+use Rattle.ls_film.specs.declared.codestreams.Unread.{Unread}
+use Rattle.ls_film.specs.declared.playing.PlayFault.{PlayFault}
+use Rattle.ls_film.specs.declared.codestreams.Unread.TheVariants as unread
 use Rattle.ls_film.specs.Showing.{show}
-use Rattle.ls_film.specs.View.Playing.{BreaksBy, IsUnread, Stops, play_fault, stream_fault}
+use Rattle.ls_film.specs.View.Codestreams.{BreaksBy, IsUnread}
+use Rattle.ls_film.specs.View.Playing.{Stops, HasReadAhead, blames_reader, play_fault}
 
 abbrev wants_memory : StreamFault → Bool
 wants_memory stream.Truncated = false
@@ -47,9 +50,9 @@ module _ (read read' written written' : Option (List ℕ)) where
 
   -- the next codestream can't be decoded
   at_codestream : (mid : Option (List ℕ)) (m bytes : ℕ) (fault : StreamFault) → wants_memory fault ≡ false → HasRun Spells show read mid written written' m bytes
-      → (fault ≡ stream.NoMemory) ⊎ (Tells mid → BreaksBy fault (known mid))
+      → ((fault ≡ stream.NoMemory) × HadBytes mid) ⊎ (Tells mid → BreaksBy fault (known mid))
       → StopsAtInput Spells show read read' written written' m (BreaksBy fault) × (fault ≡ stream.NoMemory → ⊥)
-  at_codestream mid m bytes fault other run (inl memory) = absurd (other_than_memory fault other memory)
+  at_codestream mid m bytes fault other run (inl memory) = absurd (other_than_memory fault other memory.0)
   at_codestream mid m bytes fault other run (inr none) = (stops_after mid m bytes (BreaksBy fault) run none, other_than_memory fault other)
 
   -- memory was refused for the image of a frame
@@ -68,7 +71,7 @@ module _ (read read' written written' : Option (List ℕ)) where
         wrote = run.wrote;
       }
 
-  pub play-stops : (stopped : Stopped Unread) → HasStopped Spells IsUnread show read read' written written' stopped → Stops read read' written written' (play_fault stopped)
+  pub play-stops : (stopped : Stopped Unread) → HasStopped Spells (λ fault place place'. IsUnread fault place) show read read' written written' stopped → Stops read read' written written' (play_fault stopped)
   play-stops (Input m (unread.Stream stream.Truncated)) why = at_codestream why.0 m why.1 stream.Truncated refl why.2 why.3
   play-stops (Input m (unread.Stream stream.NotSoi)) why = at_codestream why.0 m why.1 stream.NotSoi refl why.2 why.3
   play-stops (Input m (unread.Stream stream.BadSegment)) why = at_codestream why.0 m why.1 stream.BadSegment refl why.2 why.3
@@ -83,10 +86,13 @@ module _ (read read' written written' : Option (List ℕ)) where
   play-stops NoMemory why = (length why.frames, at_image why)
   play-stops TooMany why = why
 
-  -- the next codestream can't be decoded, or memory was refused for it; or a read failed
-  pub stream-stops : (mid : Option (List ℕ)) (m bytes : ℕ) (fault : StreamFault) → HasRun Spells show read mid written written' m bytes
-      → (fault ≡ stream.NoMemory) ⊎ (Tells mid → BreaksBy fault (known mid)) → Stops read read' written written' (stream_fault m fault)
-  stream-stops mid m bytes fault run why = play-stops (Input m (unread.Stream fault)) (mid, bytes, run, why)
+-- ---- reads that failed ahead of their turn
 
-  pub io-stops : (mid : Option (List ℕ)) (m bytes : ℕ) → HasRun Spells show read mid written written' m bytes → Stops read read' written written' (Io m)
-  io-stops mid m bytes run = play-stops (Input m unread.Io) (mid, bytes, run, tt)
+-- no read of bytes in memory fails
+pub none-failed : (fault : PlayFault) → HasReadAhead 0 0 fault → 0 ≡ count_after (blames_reader fault) 0
+none-failed fault (inl none) = none
+none-failed fault (inr one) = absurd (omega (arith, one))
+
+pub or-false : (b : Bool) → b || false ≡ b
+or-false true = refl
+or-false false = refl

@@ -14,7 +14,8 @@ use Rattle.ls_film.proofs.OneFilmLemmas.{more_frames, one_film}
 use Rattle.ls_film.specs.declared.playing.PlayFault.{PlayFault}
 use Rattle.ls_film.specs.declared.playing.PlayFault.TheVariants.{Stream, Io, Output, NoMemory, TooMuch}
 use Rattle.ls_film.specs.Showing.{show}
-use Rattle.ls_film.specs.View.Playing.{BeginsWithNone, Stops, IsOutOfMemory, IsCodable, frames_of, blames_reader}
+use Rattle.ls_film.specs.View.Codestreams.{BeginsWithNone}
+use Rattle.ls_film.specs.View.Playing.{Stops, IsOutOfMemory, IsCodable, frames_of, blames_reader}
 
 -- ---- a writer into memory
 

@@ -8,7 +8,7 @@ use Rattle.ls_frame.specs.Faults.{IsBroken, blames_bytes, blames_memory}
 use Rattle.ls_frame.specs.View.Known.{Gave}
 use Rattle.ls_film.specs.Film.{most_frames}
 use Rattle.ls_film.specs.View.Engine.{HasRun, StopsAtInput, StopsForMemory}
-use Rattle.ls_film.specs.View.Steps.{IsSomeImage, HasStopped, StopsNext, StopsChunk}
+use Rattle.ls_film.specs.View.Steps.{IsSomeImage, HasStopped, StopsChunk}
 use Rattle.ls_film.specs.View.Stopping.{IsUnread, IsHeadingOrImage, Stops, film_fault}
 use Rattle.ls_film.specs.declared.engine.Stopped.{Stopped}
 use Rattle.ls_film.specs.declared.engine.Stopped.TheVariants.{Input, Output, NoMemory, TooMany}
@@ -18,14 +18,6 @@ use Rattle.ls_film.proofs.FilmLemmas.{GaveFrames-and, IsBrokenAfter-next, Begins
 -- ---- the engine
 
 module _ {E : Type 0} (IsImage : List ℕ → Picture → Type 0) (Unread : E → Option (List ℕ) → Option (List ℕ) → Type 0) (text : List Picture → List ℕ) where
-  -- an end at the next frame
-  pub stops-next : (read mid new written out : Option (List ℕ)) (n bytes : ℕ) (stopped : Stopped E) → HasRun IsImage text read mid written out n bytes
-      → StopsNext Unread mid new n stopped → HasStopped IsImage Unread text read new written out stopped
-  stops-next read mid new written out n bytes (Input m fault) run why = (mid, bytes, rw why.0 run, why.1)
-  stops-next read mid new written out n bytes (Output count) run why = absurd why
-  stops-next read mid new written out n bytes NoMemory run why = absurd why
-  stops-next read mid new written out n bytes TooMany run why = absurd why
-
   -- an end at the chunk of a frame
   pub stops-chunk : (read mid new written midway out : Option (List ℕ)) (n bytes : ℕ) (f : Picture) (chunk : List ℕ) (stopped : Stopped E)
       (run : HasRun IsImage text read mid written midway n bytes) → n < most_frames → IsFrame f × Gave mid new (λ image. IsImage image f) → text (run.frames ++ f ∷ []) ≡ text run.frames ++ chunk

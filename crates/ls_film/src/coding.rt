@@ -47,11 +47,11 @@ pub fn code_bytes(alloc: Global, film: &[u8]) -> (Vec<u8>, Result<u64, FilmFault
 /// A codestream for each frame.
 struct CodestreamText;
 
-impl Text for CodestreamText {
+impl Text<Frame> for CodestreamText {
     ghost text = { default_file };
 
-    fn chunk(alloc: Global, _number: u64, frame: &Frame) -> Result<Vec<u8>, AllocError> {
-        encode_frame(alloc, frame)
+    fn chunk(alloc: Global, _number: u64, frame: Frame) -> Result<Vec<u8>, AllocError> {
+        encode_frame(alloc, &frame)
     }
 
     ghost empty = { refl };

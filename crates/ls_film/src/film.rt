@@ -1,5 +1,5 @@
 //! The engine over films of Netpbm images.
-ghost use Rattle.std.specs.Prelude.{◌≡◌, IfOk, IfErr};
+ghost use Rattle.std.specs.Prelude.{◌≡◌, IfOk, IfErr, false};
 ghost use Rattle.ls_frame.specs.Faults.{blames_device};
 ghost use Rattle.ls_frame.specs.Netpbm.{IsImageOf};
 ghost use Rattle.ls_frame.specs.View.Devices.{count_after};
@@ -12,10 +12,10 @@ use crate::faults::FilmFault;
 use ls_frame::{Counted, Feed, Frame, NetpbmFault, Outlet, next_frame};
 use std::alloc::Global;
 
-/// Netpbm images.
+/// Reads Netpbm images one by one.
 struct NetpbmImages;
 
-impl Images for NetpbmImages {
+impl Images<Frame> for NetpbmImages {
     type Fault = NetpbmFault;
 
     ghost image = { IsImageOf };
@@ -24,7 +24,11 @@ impl Images for NetpbmImages {
 
     ghost of_device = { blames_device };
 
-    fn next<R: Feed>(alloc: Global, reader: &mut R) -> Result<Option<Frame>, NetpbmFault> {
+    ghost stands = { λ source place read. place ≡ read };
+
+    ghost owes = { λ source. false };
+
+    fn next<R: Feed>(&mut self, alloc: Global, reader: &mut R) -> Result<Option<Frame>, NetpbmFault> {
         match next_frame(alloc, reader) {
             Ok(Some(frame)) => {
                 prove!(frame.maxval() > 0);
@@ -40,7 +44,7 @@ impl Images for NetpbmImages {
 ///
 /// If the bytes of reader and writer are known (as in memory), the clauses say which were read and written. After
 /// `FilmFault::Input` nothing is said of the reader's place.
-pub fn write_film<T: Text, R: Feed, W: Outlet>(
+pub fn write_film<T: Text<Frame>, R: Feed, W: Outlet>(
     alloc: Global,
     reader: &mut R,
     writer: &mut W,
@@ -52,14 +56,14 @@ pub fn write_film<T: Text, R: Feed, W: Outlet>(
     ensures reads { R.failed_reads reader.new ≡ count_after (failed_reader result) (R.failed_reads reader.old) }
     ensures writes { W.failed_writes writer.new ≡ count_after (failed_writer result) (W.failed_writes writer.old) }
 {
-    match write_text::<NetpbmImages, T, R, W>(alloc, reader, writer) {
+    match write_text::<Frame, T, NetpbmImages, R, W>(alloc, &mut NetpbmImages, reader, writer) {
         Ok(frames) => Ok(frames),
         Err(stopped) => Err(FilmFault::of(stopped)),
     }
 }
 
 /// The text of a film in memory, as far as it was written, and how the writing ended.
-pub fn text_of_bytes<T: Text>(alloc: Global, film: &[u8]) -> (Vec<u8>, Result<u64, FilmFault>)
+pub fn text_of_bytes<T: Text<Frame>>(alloc: Global, film: &[u8]) -> (Vec<u8>, Result<u64, FilmFault>)
     ensures completes { IfOk result.1 (IsTextOf T.text film.now result.0.items) }
     ensures stops { IfErr result.1 (StopsOver T.text film.now result.0.items) }
 {

@@ -34,9 +34,13 @@
 //!
 //! In reading order: `faults` (why a film stopped), `listing` (the line of a frame), `coding` (its codestream), `film`
 //! (under both: Netpbm images are read and a chunk written for each frame), `playing` (codestreams are read and images
-//! written), `engine` (under all of them: any images, and any text of their frames), `laws`.
+//! written), `part` (of a part of a recording alone), `codestreams` (the next codestream, and what is made of it),
+//! `ahead` (codestreams that threads decode before their turn), `engine` (under all of them: any source of images, and
+//! any text of their frames), `laws`.
 #![tactic(auto)]
 
+pub mod ahead;
+pub mod codestreams;
 pub mod coding;
 pub mod engine;
 pub mod faults;
@@ -50,4 +54,4 @@ pub use coding::{code_bytes, code_film};
 pub use faults::{FilmFault, MOST_FRAMES};
 pub use listing::{list_bytes, list_film};
 pub use part::{Part, PartFault, play_part};
-pub use playing::{PlayFault, play, play_bytes};
+pub use playing::{PlayFault, play, play_by, play_bytes, play_bytes_by};

@@ -46,11 +46,11 @@ pub fn list_bytes(alloc: Global, film: &[u8]) -> (Vec<u8>, Result<u64, FilmFault
 /// A line for each frame.
 struct LineText;
 
-impl Text for LineText {
+impl Text<Frame> for LineText {
     ghost text = { lines };
 
-    fn chunk(alloc: Global, number: u64, frame: &Frame) -> Result<Vec<u8>, AllocError> {
-        Ok(line(alloc, number, frame)?.into_bytes())
+    fn chunk(alloc: Global, number: u64, frame: Frame) -> Result<Vec<u8>, AllocError> {
+        Ok(line(alloc, number, &frame)?.into_bytes())
     }
 
     ghost empty = { refl };

@@ -10,9 +10,10 @@ ghost use Rattle.ls_film.specs.Showing.{show};
 ghost use Rattle.ls_film.specs.View.Parts.{GavePassed, ShowsNext, ShowsPart, StopsPassing, StopsPart, IsPartOf, unpassed, failed_play, failed_show, failed_reader, failed_writer};
 ghost use Rattle.ls_film.specs.View.Playing.{Stops};
 
+use crate::codestreams::OneByOne;
 use crate::engine::{Run, write_at_most, write_text};
 use crate::faults::MOST_FRAMES;
-use crate::playing::{Codestreams, ImageText, PlayFault};
+use crate::playing::{Image, ImageText, PlayFault};
 use ls_frame::{Feed, Outlet};
 use ls_stream::laws::{no_codestream_begins_another, one_frame_each};
 use ls_stream::{NextFault, StreamFault, next_stream};
@@ -105,7 +106,7 @@ fn show_next<R: Feed, W: Outlet>(
     ensures writes { W.failed_writes writer.new ≡ count_after (failed_show result) (W.failed_writes writer.old) }
 {
     let Some(last) = part.last else {
-        return match write_text::<Codestreams, ImageText, R, W>(alloc, reader, writer) {
+        return match write_text::<Image, ImageText, OneByOne, R, W>(alloc, &mut OneByOne, reader, writer) {
             Ok(frames) => Ok(Run {
                 frames,
                 ended: true,
@@ -114,7 +115,7 @@ fn show_next<R: Feed, W: Outlet>(
         };
     };
     let most = last - part.first + 1;
-    match write_at_most::<Codestreams, ImageText, R, W>(alloc, reader, writer, most) {
+    match write_at_most::<Image, ImageText, OneByOne, R, W>(alloc, &mut OneByOne, reader, writer, most) {
         Ok(run) => Ok(run),
         Err(stopped) => Err(PlayFault::of(stopped)),
     }

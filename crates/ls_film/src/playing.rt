@@ -1,24 +1,24 @@
 //! Playing a recording: codestream after codestream is decoded, and its frame written as a Netpbm image.
-ghost use Rattle.std.specs.Prelude.{◌≡◌, ◌≤◌, ◌<◌, ◌+◌, ◌^◌, ℕ, List, [], length, Option, Some, IfOk, IfErr, MatchResult, false, refl};
-ghost use Rattle.std.specs.List.{AllByRecursion};
-ghost use Rattle.ls_frame.specs.Picture.{Picture};
-ghost use Rattle.ls_frame.specs.Parameters.{Parameters};
+ghost use Rattle.std.specs.Prelude.{◌≡◌, ◌<◌, ◌+◌, ◌^◌, ℕ, List, length, IfOk, IfErr, MatchResult, refl};
+ghost use Rattle.ls_frame.specs.Canonical.{canonical};
 ghost use Rattle.ls_frame.specs.View.Devices.{count_after};
 ghost use Rattle.ls_stream.specs.Grammar.{Spells};
-ghost use Rattle.ls_film.specs.Film.{most_frames, IsFilm};
-ghost use Rattle.ls_film.specs.Coding.{file};
 ghost use Rattle.ls_film.specs.View.Engine.{Completes};
 ghost use Rattle.ls_film.specs.Showing.{show};
-ghost use Rattle.ls_film.specs.View.Playing.{IsUnread, is_io, play_fault, Stops, blames_reader, blames_writer, IsShownOf, IsOutOfMemory, IsCodable, frames_of};
+ghost use Rattle.ls_film.specs.View.Playing.{play_fault, Stops, StopsAhead, HasReadAhead, Plays, blames_reader, blames_writer};
 
-use crate::engine::{Images, Stopped, Text, write_text};
+use crate::ahead::SideBySide;
+use crate::codestreams::{OneByOne, Unread};
+use crate::engine::{Made, Stopped, Text, write_text};
 use ls_frame::laws::canonical_texts_are_short;
 use ls_frame::{Counted, Feed, Frame, Outlet, write_frame};
+use ls_stream::StreamFault;
 use ls_stream::laws::{
     codestreams_spell_their_frames, no_codestream_begins_another, one_frame_each,
 };
-use ls_stream::{NextFault, StreamFault, decode_frame, next_stream};
 use std::alloc::{AllocError, Global};
+use std::marker::Model;
+use std::thread::Threads;
 use thiserror::Error;
 
 /// Why the playing of a recording stopped.
@@ -45,7 +45,7 @@ pub enum PlayFault {
 }
 
 impl PlayFault {
-    /// What the engine's end over codestreams is to a recording.
+    /// Converts why the engine stopped over codestreams.
     pub fn of(stopped: Stopped<Unread>) -> PlayFault
         ensures { result ≡ play_fault stopped }
     {
@@ -97,7 +97,40 @@ pub fn play<R: Feed, W: Outlet>(
     ensures writes { MatchResult result (λ played. W.failed_writes played.2 ≡ W.failed_writes writer)
         (λ stopped. W.failed_writes stopped.2 ≡ count_after (blames_writer stopped.0) (W.failed_writes writer)) }
 {
-    match write_text::<Codestreams, ImageText, R, W>(alloc, &mut reader, &mut writer) {
+    match write_text::<Image, ImageText, OneByOne, R, W>(alloc, &mut OneByOne, &mut reader, &mut writer) {
+        Ok(frames) => Ok((frames, reader, writer)),
+        Err(stopped) => Err((PlayFault::of(stopped), reader, writer)),
+    }
+}
+
+/// The same, where at most this number of threads decode codestreams side by side.
+///
+/// Twice as many codestreams as workers are taken at once, and their images are written in order before the next are
+/// taken. Where no thread can be started, the calling one decodes them all; no workers count as one. After a fault
+/// nothing is said of the reader's place, and a read after the codestream at fault may have failed.
+pub fn play_by<Rt: Threads + Sync, R: Feed, W: Outlet>(
+    rt: &Rt,
+    alloc: Global,
+    workers: usize,
+    mut reader: R,
+    mut writer: W,
+) -> Result<(u64, R, W), (PlayFault, R, W)>
+    ensures completes { IfOk result (λ played. Completes Spells show
+        (R.remaining reader) (R.remaining played.1) (W.contents writer) (W.contents played.2) played.0) }
+    ensures stops { IfErr result (λ stopped. StopsAhead
+        (R.remaining reader) (W.contents writer) (W.contents stopped.2) stopped.0) }
+    ensures reads { MatchResult result (λ played. R.failed_reads played.1 ≡ R.failed_reads reader)
+        (λ stopped. HasReadAhead (R.failed_reads reader) (R.failed_reads stopped.1) stopped.0) }
+    ensures writes { MatchResult result (λ played. W.failed_writes played.2 ≡ W.failed_writes writer)
+        (λ stopped. W.failed_writes stopped.2 ≡ count_after (blames_writer stopped.0) (W.failed_writes writer)) }
+{
+    let mut source = SideBySide::new(rt, alloc, workers);
+    match write_text::<Image, ImageText, SideBySide<'_, Rt, Image>, R, W>(
+        alloc,
+        &mut source,
+        &mut reader,
+        &mut writer,
+    ) {
         Ok(frames) => Ok((frames, reader, writer)),
         Err(stopped) => Err((PlayFault::of(stopped), reader, writer)),
     }
@@ -105,18 +138,11 @@ pub fn play<R: Feed, W: Outlet>(
 
 /// What a recording in memory shows, as far as it was written, and how the playing ended.
 ///
-/// A fault says what `play` says of it. It is never `Io`, since memory is read, and `Output` says that memory was
-/// refused for what is written. If the recording is the codestreams of frames, whatever their parameters, these are
-/// shown and nothing else; or memory was refused.
+/// A fault says what `play` says of it. It is never `Io`, since memory is read, and `Output` says that an allocation
+/// failed for what is written. If the recording is the codestreams of frames, whatever their parameters, these are
+/// shown and nothing else; or an allocation failed.
 pub fn play_bytes(alloc: Global, recording: &[u8]) -> (Vec<u8>, Result<u64, PlayFault>)
-    ensures completes { IfOk result.1 (IsShownOf recording.now result.0.items) }
-    ensures stops { IfErr result.1 (λ fault. (left : Option (List ℕ)) × Stops (Some recording.now) left (Some []) (Some result.0.items) fault) }
-    ensures device { IfErr result.1 (λ fault. blames_reader fault ≡ false) }
-    ensures of_frames { (frames : List Picture) → length frames ≤ most_frames → IsFilm Spells recording.now frames
-        → MatchResult result.1 (λ n. (n ≡ length frames) × (result.0.items ≡ show frames)) IsOutOfMemory }
-    ensures recorded { (frames : List (Picture × Parameters)) → length frames ≤ most_frames → AllByRecursion IsCodable frames
-        → recording.now ≡ file frames
-        → MatchResult result.1 (λ n. (n ≡ length frames) × (result.0.items ≡ show (frames_of frames))) IsOutOfMemory }
+    ensures { Plays recording.now result.0.items result.1 }
 {
     no_codestream_begins_another();
     one_frame_each();
@@ -127,58 +153,74 @@ pub fn play_bytes(alloc: Global, recording: &[u8]) -> (Vec<u8>, Result<u64, Play
     }
 }
 
-/// Why the next codestream gives no frame.
-#[derive(Clone, Copy, Drop)]
-pub enum Unread {
-    /// It can't be decoded, or memory was refused for it.
-    Stream(StreamFault),
-    /// A read failed.
-    Io,
+/// The same, where at most this number of threads decode codestreams side by side. No workers count as one.
+pub fn play_bytes_by<Rt: Threads + Sync>(
+    rt: &Rt,
+    alloc: Global,
+    workers: usize,
+    recording: &[u8],
+) -> (Vec<u8>, Result<u64, PlayFault>)
+    ensures { Plays recording.now result.0.items result.1 }
+{
+    no_codestream_begins_another();
+    one_frame_each();
+    codestreams_spell_their_frames();
+    match play_by(rt, alloc, workers, recording, Counted::new(Vec::new(alloc))) {
+        Ok((frames, _rest, shown)) => (shown.into_inner(), Ok(frames)),
+        Err((fault, _rest, shown)) => (shown.into_inner(), Err(fault)),
+    }
 }
 
-/// What a recording is of.
-pub(crate) struct Codestreams;
+/// The canonical Netpbm image of a frame: shorter than 2^32 bytes.
+#[derive(Drop)]
+pub struct Image {
+    bytes: Vec<u8>,
+}
 
-impl Images for Codestreams {
-    type Fault = Unread;
+impl Model for Image {
+    ghost use Rattle.std.specs.Prelude.{◌<◌, ◌^◌, ℕ, List, length};
 
-    ghost image = { Spells };
+    ghost Value = { List ℕ };
 
-    ghost unread = { IsUnread };
+    ghost view = { λ image. image.bytes.items };
 
-    ghost of_device = { is_io };
+    ghost invariant = { λ image. length image.bytes.items < 2 ^ 32 };
+}
 
-    fn next<R: Feed>(alloc: Global, reader: &mut R) -> Result<Option<Frame>, Unread> {
-        let mut bytes = match next_stream(alloc, reader) {
-            Ok(Some(bytes)) => bytes,
-            Ok(None) => return Ok(None),
-            Err(NextFault::TooLarge) => return Err(Unread::Stream(StreamFault::TooLarge)),
-            Err(NextFault::Io) => return Err(Unread::Io),
-            Err(NextFault::NoMemory) => return Err(Unread::Stream(StreamFault::NoMemory)),
-        };
-        // The frame's memory can begin behind the codestream then, and not behind room for more of it.
-        bytes.shrink_to_fit();
-        match decode_frame(alloc, &bytes) {
-            Ok(decoded) => Ok(Some(decoded.frame)),
-            Err(fault) => Err(Unread::Stream(fault)),
+impl Image {
+    /// Its bytes.
+    pub fn into_bytes(self) -> Vec<u8>
+        ensures value { result.items ≡ self }
+        ensures short { length result.items < 2 ^ 32 }
+    {
+        self.bytes
+    }
+}
+
+impl Made for Image {
+    ghost made = { λ f image. image ≡ canonical f };
+
+    fn make(alloc: Global, frame: Frame) -> Result<Image, AllocError> {
+        canonical_texts_are_short();
+        let room = Vec::with_capacity(alloc, 32 + 2 * frame.samples().len())?;
+        let mut image = Counted::new(room);
+        match write_frame(&mut image, &frame) {
+            Ok(()) => Ok(Image {
+                bytes: image.into_inner(),
+            }),
+            Err(_) => Err(AllocError),
         }
     }
 }
 
-/// A canonical Netpbm image for each frame.
+/// The images of frames.
 pub struct ImageText;
 
-impl Text for ImageText {
+impl Text<Image> for ImageText {
     ghost text = { show };
 
-    fn chunk(alloc: Global, _number: u64, frame: &Frame) -> Result<Vec<u8>, AllocError> {
-        canonical_texts_are_short();
-        let room = Vec::with_capacity(alloc, 32 + 2 * frame.samples().len())?;
-        let mut image = Counted::new(room);
-        match write_frame(&mut image, frame) {
-            Ok(()) => Ok(image.into_inner()),
-            Err(_) => Err(AllocError),
-        }
+    fn chunk(_alloc: Global, _number: u64, image: Image) -> Result<Vec<u8>, AllocError> {
+        Ok(image.into_bytes())
     }
 
     ghost empty = { refl };

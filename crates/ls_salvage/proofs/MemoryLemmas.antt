@@ -15,7 +15,7 @@ use Rattle.ls_salvage.specs.Salvage.{Part, frame, gap, frames_of, gaps_of}
 use Rattle.ls_salvage.specs.View.Salvaged.{AreParts}
 use Rattle.ls_salvage.specs.View.Ends.{most_place, blames_reader, failed_reader}
 use Rattle.ls_salvage.specs.View.Memory.{IsSalvageOf, IsOutOfMemory}
-use Rattle.ls_film.specs.View.Playing.{BeginsWithNone}
+use Rattle.ls_film.specs.View.Codestreams.{BeginsWithNone}
 use Rattle.ls_salvage.specs.View.Runs.{Completes, StopsAfter, IsEndless, IsTooMuch, BeginsWithOne, Stops}
 use Rattle.ls_salvage.proofs.SalvageLemmas.{some_bytes, one_front, whole_ones, undamaged, parts_length}
 

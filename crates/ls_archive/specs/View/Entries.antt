@@ -7,7 +7,7 @@ use Rattle.ls_stream.specs.declared.faults.StreamFault.{StreamFault}
 use Rattle.ls_stream.specs.declared.faults.StreamFault.TheVariants as stream
 use Rattle.ls_stream.specs.Grammar.{most_bytes}
 use Rattle.ls_stream.specs.View.Outlines.{Outline, outline_of}
-use Rattle.ls_film.specs.View.Playing.{BeginsWithNone}
+use Rattle.ls_film.specs.View.Codestreams.{BeginsWithNone}
 use Rattle.ls_archive.specs.declared.entry.Headers.{Headers}
 use Rattle.ls_archive.specs.Index.{Entry, joined}
 

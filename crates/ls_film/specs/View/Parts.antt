@@ -15,7 +15,8 @@ use Rattle.ls_film.specs.declared.playing.PlayFault.{PlayFault}
 use Rattle.ls_film.specs.declared.playing.PlayFault.TheVariants.{Stream, Io, Output, NoMemory, TooMuch}
 use Rattle.ls_film.specs.Showing.{show}
 use Rattle.ls_film.specs.View.Given.{GaveFrames}
-use Rattle.ls_film.specs.View.Playing.{BreaksBy, Stops, blames_reader as reader_at_fault, blames_writer as writer_at_fault}
+use Rattle.ls_film.specs.View.Codestreams.{BreaksBy}
+use Rattle.ls_film.specs.View.Playing.{Stops, blames_reader as reader_at_fault, blames_writer as writer_at_fault}
 
 -- ---- codestreams that are passed over
 

@@ -1,49 +1,24 @@
 -- Why the playing of a recording stopped, and what had happened then; and what is said where nothing is left unknown.
-use Rattle.std.specs.Prelude.{◌≡◌, ◌≢◌, ◌⊎◌, ◌<◌, ◌≤◌, ℕ, Bool, true, false, List, ◌++◌, length, map, Option}
+use Rattle.std.specs.Prelude.{◌≡◌, ◌≢◌, ◌⊎◌, ◌≤◌, ℕ, Bool, true, false, List, [], length, map, Option, Some, Result, IfOk, IfErr, MatchResult}
+use Rattle.std.specs.List.{AllByRecursion}
 use Rattle.ls_frame.specs.Picture.{Picture, IsFrame}
 use Rattle.ls_frame.specs.Parameters.{Parameters, IsLegal}
-use Rattle.ls_frame.specs.View.Known.{Tells, known}
+use Rattle.ls_frame.specs.View.Devices.{count_after}
 use Rattle.ls_stream.specs.declared.faults.StreamFault.{StreamFault}
 use Rattle.ls_stream.specs.declared.faults.StreamFault.TheVariants as stream
-use Rattle.ls_bits.specs.Bits.{AreBytes}
-use Rattle.ls_stream.specs.Grammar.{Spells, most_bytes}
-use Rattle.ls_stream.specs.View.Outlines.{IsFirstFault}
+use Rattle.ls_stream.specs.Grammar.{Spells}
+use Rattle.ls_film.specs.Coding.{file}
 use Rattle.ls_film.specs.Film.{most_frames, IsFilm}
+use Rattle.ls_film.specs.View.Codestreams.{BreaksBy}
 use Rattle.ls_film.specs.View.Engine.{StopsAtInput, StopsAtOutput, StopsAtMost}
 use Rattle.ls_film.specs.View.Memory.{AnyBytes}
 use Rattle.ls_film.specs.declared.engine.Stopped.{Stopped}
 use Rattle.ls_film.specs.declared.engine.Stopped.TheVariants as engine
-use Rattle.ls_film.specs.declared.playing.Unread.{Unread}
-use Rattle.ls_film.specs.declared.playing.Unread.TheVariants as unread
+use Rattle.ls_film.specs.declared.codestreams.Unread.{Unread}
+use Rattle.ls_film.specs.declared.codestreams.Unread.TheVariants as unread
 use Rattle.ls_film.specs.declared.playing.PlayFault.{PlayFault}
 use Rattle.ls_film.specs.declared.playing.PlayFault.TheVariants.{Stream, Io, Output, NoMemory, TooMuch}
 use Rattle.ls_film.specs.Showing.{show}
-
--- ---- the next codestream
-
--- There are bytes, and no front of them is a codestream of a frame.
-pub record BeginsWithNone (bytes : List ℕ) : Type 0 where
-  pub some : 0 < length bytes
-  pub none : (front rest : List ℕ) (f : Picture) → bytes ≡ front ++ rest → Spells front f → ⊥
-
--- It is the first fault of the bytes; or there are as many as a codestream may have, and it says that they are too many. (Of exactly
--- so many, that break off, the first fault is that they are truncated.)
-abbrev pub IsFaultOf : List ℕ → StreamFault → Type 0
-IsFaultOf bytes fault = (AreBytes bytes → IsFirstFault bytes fault) ⊎ ((fault ≡ stream.TooLarge) × (most_bytes ≤ length bytes))
-
--- They begin with no codestream, and have this fault.
-abbrev pub BreaksBy : StreamFault → List ℕ → Type 0
-BreaksBy fault bytes = BeginsWithNone bytes × IsFaultOf bytes fault
-
--- What a fault of the next codestream says of the reader's bytes: unless memory was refused or a read failed, what was left
--- begins with no codestream, and has this fault.
-abbrev pub IsUnread : Unread → Option (List ℕ) → Option (List ℕ) → Type 0
-IsUnread (unread.Stream fault) read read' = (fault ≡ stream.NoMemory) ⊎ (Tells read → BreaksBy fault (known read))
-IsUnread unread.Io read read' = Unit {0}
-
-abbrev pub is_io : Unread → Bool
-is_io (unread.Stream fault) = false
-is_io unread.Io = true
 
 -- ---- a recording
 
@@ -90,6 +65,14 @@ blames_writer (Output bytes) = true
 blames_writer NoMemory = false
 blames_writer TooMuch = false
 
+-- What playing codestream by codestream says of this fault, but for the reader's place: it may be further on.
+abbrev pub StopsAhead : Option (List ℕ) → Option (List ℕ) → Option (List ℕ) → PlayFault → Type 0
+StopsAhead read written written' fault = (place : Option (List ℕ)) × Stops read place written written' fault
+
+-- The reads that failed: one where the fault is a failed read; else none, or one after the codestream at fault.
+abbrev pub HasReadAhead : ℕ → ℕ → PlayFault → Type 0
+HasReadAhead failed failed' fault = (failed' ≡ count_after (blames_reader fault) failed) ⊎ (failed' ≡ count_after true failed)
+
 -- ---- in memory
 
 -- The recording is codestreams of n frames, and out shows these.
@@ -117,3 +100,13 @@ pub record IsCodable (one : Picture × Parameters) : Type 0 where
 -- the frames alone
 abbrev pub frames_of : List (Picture × Parameters) → List Picture
 frames_of frames = map (λ one. one.0) frames
+
+-- What the playing of a recording in memory ended in, and what it shows.
+pub record Plays (recording shown : List ℕ) (result : Result ℕ PlayFault) : Type 0 where
+  pub completes : IfOk result (IsShownOf recording shown)
+  pub stops : IfErr result (λ fault. (left : Option (List ℕ)) × Stops (Some recording) left (Some []) (Some shown) fault)
+  pub device : IfErr result (λ fault. blames_reader fault ≡ false)
+  pub of_frames : (frames : List Picture) → length frames ≤ most_frames → IsFilm Spells recording frames
+      → MatchResult result (λ n. (n ≡ length frames) × (shown ≡ show frames)) IsOutOfMemory
+  pub recorded : (frames : List (Picture × Parameters)) → length frames ≤ most_frames → AllByRecursion IsCodable frames → recording ≡ file frames
+      → MatchResult result (λ n. (n ≡ length frames) × (shown ≡ show (frames_of frames))) IsOutOfMemory

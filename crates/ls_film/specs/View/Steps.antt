@@ -46,13 +46,6 @@ module _ {E : Type 0} (IsImage : List ℕ → Picture → Type 0) (Unread : E �
   HasStopped text read read' written written' NoMemory = StopsForMemory IsImage text read read' written written' (IsSomeImage IsImage)
   HasStopped text read read' written written' TooMany = StopsAtMost IsImage text read read' written written'
 
--- what an end at the next frame, of number n, says: it can't be read
-abbrev pub StopsNext : {E : Type 0} → (E → Option (List ℕ) → Option (List ℕ) → Type 0) → Option (List ℕ) → Option (List ℕ) → ℕ → Stopped E → Type 0
-StopsNext Unread read read' n (Input m fault) = (m ≡ n) × Unread fault read read'
-StopsNext Unread read read' n (Output bytes) = ⊥
-StopsNext Unread read read' n NoMemory = ⊥
-StopsNext Unread read read' n TooMany = ⊥
-
 -- what an end at a chunk that is written after so many bytes says: its first bytes went out
 abbrev pub StopsChunk : {E : Type 0} → Option (List ℕ) → Option (List ℕ) → ℕ → List ℕ → Stopped E → Type 0
 StopsChunk written written' bytes chunk (Input m fault) = ⊥

@@ -5,7 +5,7 @@ use Rattle.ls_frame.specs.View.Known.{Tells, Gave, known}
 use Rattle.ls_stream.specs.declared.faults.StreamFault.{StreamFault}
 use Rattle.ls_stream.specs.declared.faults.StreamFault.TheVariants as stream
 use Rattle.ls_stream.specs.Grammar.{Spells, most_bytes}
-use Rattle.ls_film.specs.View.Playing.{BeginsWithNone}
+use Rattle.ls_film.specs.View.Codestreams.{BeginsWithNone}
 use Rattle.ls_salvage.specs.declared.parts.Found.{Found}
 use Rattle.ls_salvage.specs.declared.parts.Found.TheVariants as found
 use Rattle.ls_salvage.specs.declared.parts.NextPart.{NextPart}

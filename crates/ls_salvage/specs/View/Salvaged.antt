@@ -4,7 +4,7 @@ use Rattle.ls_bits.specs.Bits.{AreBytes}
 use Rattle.ls_stream.specs.declared.faults.StreamFault.{StreamFault}
 use Rattle.ls_stream.specs.Grammar.{Spells}
 use Rattle.ls_stream.specs.View.Outlines.{IsFirstFault}
-use Rattle.ls_film.specs.View.Playing.{BeginsWithNone}
+use Rattle.ls_film.specs.View.Codestreams.{BeginsWithNone}
 use Rattle.ls_salvage.specs.declared.gaps.Gap.{Gap}
 use Rattle.ls_salvage.specs.Starts.{to_next}
 use Rattle.ls_salvage.specs.Salvage.{Part, frame, gap}

@@ -1,0 +1,52 @@
+-- The next codestream of a recording: what is made of it, or its fault, says the same of what the reader had left.
+use Rattle.std.proofs.Common.{◌≡◌, ◌⊎◌, ℕ, inl, inr, List, [], ◌∷◌, ◌++◌, take, length, ◌<◌, Option, refl, ap, ◌∙◌, append-nil}
+use Rattle.std.proofs.lemmas.List.Concat.{flat_map-append}
+use Rattle.ls_frame.specs.Canonical.{canonical}
+use Rattle.ls_frame.specs.Picture.{Picture, IsFrame}
+use Rattle.ls_frame.specs.View.Known.{Tells, Gave, HadBytes, known}
+use Rattle.ls_stream.specs.declared.faults.StreamFault.{StreamFault}
+use Rattle.ls_stream.specs.declared.faults.StreamFault.TheVariants as stream
+use Rattle.ls_stream.specs.declared.next.NextFault.{NextFault}
+use Rattle.ls_stream.specs.declared.next.NextFault.TheVariants as next
+use Rattle.ls_stream.specs.Grammar.{Spells, most_bytes}
+use Rattle.ls_stream.specs.View.Extents.{IsNext}
+use Rattle.ls_stream.specs.View.Outlines.{IsFirstFault}
+use Rattle.ls_film.specs.Showing.{show}
+use Rattle.ls_film.specs.View.Codestreams.{IsTaken, IsUnmade, IsUnread, BreaksBy, unread_of}
+use Rattle.ls_film.specs.declared.codestreams.Unread.TheVariants.{Stream}
+use Rattle.ls_film.proofs.NextLemmas.{gave_codestream, gave_some, breaks_by}
+use Rattle.ls_film.proofs.PartLemmas.{too-large-breaks}
+
+-- why the next can't be taken
+pub untaken : (read read' : Option (List ℕ)) (fault : NextFault) → (fault ≡ next.TooLarge → Gave read read' (λ bytes. length bytes ≡ most_bytes))
+    → (Tells read → (front rest : List ℕ) (f : Picture) → known read ≡ front ++ rest → Spells front f → (fault ≡ next.Io) ⊎ (fault ≡ next.NoMemory)) → (fault ≡ next.NoMemory → HadBytes read) → IsUnread (unread_of fault) read
+untaken read read' next.TooLarge large complete memory = inr (too-large-breaks read read' next.TooLarge refl large complete)
+untaken read read' next.Io large complete memory = tt
+untaken read read' next.NoMemory large complete memory = inl (refl, memory refl)
+
+module _ (read read' : Option (List ℕ)) (bytes : List ℕ) (taken : IsTaken read read' bytes) where
+  -- what was taken had bytes
+  pub had-bytes : HadBytes read
+  had-bytes = gave_some read read' (λ front. (bytes ≡ front) × IsNext front (known read')) taken.gave (λ front next. next.1.some)
+
+  -- a codestream at the front of what was taken is all that the reader gave
+  pub taken_frame : (used : ℕ) (f : Picture) → Spells (take used bytes) f → IsFrame f × Gave read read' (λ image. Spells image f)
+  taken_frame used f spells = (spells.frame, gave_codestream read read' bytes used f (λ front. IsNext front (known read')) taken.gave taken.complete spells)
+
+  -- a fault of what was taken is one of all that the reader had
+  pub taken_fault : (fault : StreamFault) → IsUnmade bytes fault → IsUnread (Stream fault) read
+  taken_fault fault (inl memory) = inl (memory, had-bytes)
+  taken_fault fault (inr why) =
+      breaks_by (Tells read) ((fault ≡ stream.NoMemory) × HadBytes read) (known read) bytes fault had-bytes
+      taken.complete taken.fault (inr why.0) (inr why.1)
+
+-- what decoding says of its fault
+pub fault-is : (bytes : List ℕ) (fault : StreamFault) → (fault ≡ stream.NoMemory) ⊎ ((front rest : List ℕ) (f : Picture) → bytes ≡ front ++ rest → Spells front f → ⊥)
+    → (fault ≡ stream.NoMemory) ⊎ IsFirstFault bytes fault → IsUnmade bytes fault
+fault-is bytes fault (inl memory) first = inl memory
+fault-is bytes fault (inr none) (inl memory) = inl memory
+fault-is bytes fault (inr none) (inr first) = inr (none, first)
+
+-- what is shown grows by the image of a frame
+pub show-more : (frames : List Picture) (f : Picture) → show (frames ++ f ∷ []) ≡ show frames ++ canonical f
+show-more frames f = flat_map-append canonical frames (f ∷ []) ∙ ap (λ s. show frames ++ s) (append-nil (canonical f))

@@ -1,0 +1,64 @@
+-- The next codestream of a recording: what is taken off a reader, what is made of its frame, and why there is none.
+use Rattle.std.specs.Prelude.{◌≡◌, ◌⊎◌, ◌↔◌, ◌<◌, ◌≤◌, ℕ, Bool, true, false, List, ◌++◌, length, take, Option}
+use Rattle.ls_bits.specs.Bits.{AreBytes}
+use Rattle.ls_frame.specs.Picture.{Picture}
+use Rattle.ls_frame.specs.View.Known.{Tells, Gave, HadBytes, known}
+use Rattle.ls_stream.specs.declared.faults.StreamFault.{StreamFault}
+use Rattle.ls_stream.specs.declared.faults.StreamFault.TheVariants as stream
+use Rattle.ls_stream.specs.declared.next.NextFault.{NextFault}
+use Rattle.ls_stream.specs.declared.next.NextFault.TheVariants as next_fault
+use Rattle.ls_stream.specs.Grammar.{Spells, most_bytes}
+use Rattle.ls_stream.specs.View.Extents.{IsNext}
+use Rattle.ls_stream.specs.View.Outlines.{IsFirstFault}
+use Rattle.ls_film.specs.declared.codestreams.Unread.{Unread}
+use Rattle.ls_film.specs.declared.codestreams.Unread.TheVariants.{Stream, Io}
+
+-- ---- why there is none
+
+-- There are bytes, and no front of them is a codestream of a frame.
+pub record BeginsWithNone (bytes : List ℕ) : Type 0 where
+  pub some : 0 < length bytes
+  pub none : (front rest : List ℕ) (f : Picture) → bytes ≡ front ++ rest → Spells front f → ⊥
+
+-- It is the first fault of the bytes; or there are as many as a codestream may have, and it says that they are too many. (Of exactly
+-- so many, that break off, the first fault is that they are truncated.)
+abbrev pub IsFaultOf : List ℕ → StreamFault → Type 0
+IsFaultOf bytes fault = (AreBytes bytes → IsFirstFault bytes fault) ⊎ ((fault ≡ stream.TooLarge) × (most_bytes ≤ length bytes))
+
+-- They begin with no codestream, and have this fault.
+abbrev pub BreaksBy : StreamFault → List ℕ → Type 0
+BreaksBy fault bytes = BeginsWithNone bytes × IsFaultOf bytes fault
+
+-- What a fault says of the known bytes that were left: they begin with no codestream, and have this fault; or an allocation failed, of which
+-- there is none at the end, or a read.
+abbrev pub IsUnread : Unread → Option (List ℕ) → Type 0
+IsUnread (Stream fault) read = ((fault ≡ stream.NoMemory) × HadBytes read) ⊎ (Tells read → BreaksBy fault (known read))
+IsUnread Io read = Unit {0}
+
+abbrev pub is_io : Unread → Bool
+is_io (Stream fault) = false
+is_io Io = true
+
+-- why the next codestream can't be taken
+abbrev pub unread_of : NextFault → Unread
+unread_of next_fault.TooLarge = Stream stream.TooLarge
+unread_of next_fault.Io = Io
+unread_of next_fault.NoMemory = Stream stream.NoMemory
+
+-- ---- what is taken and made
+
+-- These bytes are the next codestream of a reader, which gave exactly them: where a codestream of a frame begins what it had left,
+-- they are that one, and else they have the first fault of all that was left.
+pub record IsTaken (read read' : Option (List ℕ)) (bytes : List ℕ) : Type 0 where
+  pub gave : Gave read read' (λ taken. (bytes ≡ taken) × IsNext taken (known read'))
+  pub complete : Tells read → (front rest : List ℕ) (f : Picture) → known read ≡ front ++ rest → Spells front f → bytes ≡ front
+  pub fault : Tells read → AreBytes (known read) → (fault : StreamFault) → IsFirstFault bytes fault ↔ IsFirstFault (known read) fault
+
+-- It was made of a frame whose codestream the bytes begin with. Of which frame it is made is said by a parameter.
+abbrev pub IsMadeOf : {T : Type 0} → (Picture → T → Type 0) → List ℕ → T → Type 0
+IsMadeOf made bytes x = (f : Picture) × (used : ℕ) × Spells (take used bytes) f × made f x
+
+-- An allocation failed; or the bytes begin with no codestream of a frame, and it is their first fault.
+abbrev pub IsUnmade : List ℕ → StreamFault → Type 0
+IsUnmade bytes fault =
+    (fault ≡ stream.NoMemory) ⊎ (((front rest : List ℕ) (f : Picture) → bytes ≡ front ++ rest → Spells front f → ⊥) × IsFirstFault bytes fault)

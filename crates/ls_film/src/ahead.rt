@@ -1,0 +1,253 @@
+//! Reading a recording ahead: codestreams are taken off the reader before they are asked for, and threads decode them
+//! side by side.
+//!
+//! What it gives is what `OneByOne` gives of the same recording, whatever the threads do.
+ghost use Rattle.std.specs.Prelude.{◌≡◌, ◌<◌, ◌≤◌, ◌^◌, ◌||◌, [], length, Option, List, ℕ, IfOk, IfErr, IfNone, true, false, refl};
+ghost use Rattle.std.specs.List.{AllByRecursion};
+ghost use Rattle.ls_frame.specs.View.Devices.{count_after};
+ghost use Rattle.ls_stream.specs.Grammar.{Spells};
+ghost use Rattle.ls_film.specs.View.Codestreams.{IsUnread, is_io};
+ghost use Rattle.ls_film.specs.View.Steps.{failed_input};
+ghost use Rattle.ls_film.specs.View.Ahead.{IsMade, IsBatch, IsAhead, GivesAhead, codestreams_of, failed_after, IsFull};
+
+use crate::codestreams::{Recorded, Unread, made_of, take_codestream};
+use crate::engine::{Images, Made};
+use ls_frame::Feed;
+use ls_stream::StreamFault;
+use std::alloc::Global;
+use std::thread;
+use std::thread::Threads;
+
+/// Reads a recording ahead by threads.
+///
+/// Once all codestreams that were taken are given, it takes twice as many as there are workers. Where no thread can be
+/// started, the calling one decodes them all.
+pub struct SideBySide<'rt, Rt, T> {
+    rt: &'rt Rt,
+    workers: usize,
+    ahead: Ahead<T>,
+}
+
+/// Codestreams that were taken off a reader, one after the other, and not yet given.
+#[derive(Drop)]
+pub struct Ahead<T> {
+    pub jobs: Vec<Job<T>>,
+    pub after: After,
+}
+
+/// A codestream, and what was made of its frame.
+#[derive(Drop)]
+pub struct Job<T> {
+    /// The codestream's bytes.
+    pub bytes: Vec<u8>,
+    /// What was made of its frame, or why there is none. `NoMemory` before it is worked on.
+    pub made: Result<T, StreamFault>,
+}
+
+/// What comes after codestreams that were taken.
+#[derive(Clone, Copy)]
+pub enum After {
+    /// Nothing after them was read yet.
+    More,
+    /// The end of the recording.
+    End,
+    /// A codestream that can't be taken.
+    Fault(Unread),
+}
+
+/// The most workers: more count as this number.
+const MOST_WORKERS: usize = 4_294_967_296;
+
+/// Bytes of codestreams that justify one more thread.
+const BYTES_A_THREAD: usize = 8192;
+
+impl<'rt, Rt, T> SideBySide<'rt, Rt, T> {
+    /// A recording of which nothing was read yet, for this number of threads at most, of which the calling one is one.
+    /// No workers count as one.
+    pub fn new(rt: &'rt Rt, alloc: Global, workers: usize) -> SideBySide<'rt, Rt, T>
+        ensures jobs { result.ahead.jobs.items ≡ [] }
+        ensures after { result.ahead.after ≡ After.More }
+    {
+        SideBySide {
+            rt,
+            workers,
+            ahead: Ahead {
+                jobs: Vec::new(alloc),
+                after: After::More,
+            },
+        }
+    }
+}
+
+impl<'rt, Rt: Threads + Sync, T: Made + Send + Drop> Images<T> for SideBySide<'rt, Rt, T> {
+    type Fault = Unread;
+
+    ghost image = { Spells };
+
+    ghost unread = { λ fault place place'. IsUnread fault place };
+
+    ghost of_device = { is_io };
+
+    ghost stands = { λ source place read. IsAhead T.made place read source.ahead };
+
+    ghost owes = { λ source. failed_after source.ahead.after };
+
+    fn next<R: Feed>(&mut self, alloc: Global, reader: &mut R) -> Result<Option<T>, Unread> {
+        let workers = self.workers.max(1).min(MOST_WORKERS);
+        refill::<T, Rt, R>(&mut self.ahead, self.rt, alloc, workers, reader);
+        give::<T>(&mut self.ahead)
+    }
+}
+
+impl<'rt, Rt: Threads + Sync, T: Made + Send + Drop> Recorded<T> for SideBySide<'rt, Rt, T> {
+    ghost image_is = { refl };
+
+    ghost unread_is = { refl };
+
+    ghost of_device_is = { refl };
+}
+
+/// Gives what was made of the frame of the first codestream; or what comes after all, if none is left.
+///
+/// It requires that something was read after them if none is left.
+fn give<T: Made + Drop>(ahead: &mut Ahead<T>) -> Result<Option<T>, Unread>
+    requires { ahead.jobs.items ≡ [] → ahead.after ≡ After.More → ⊥ }
+    ensures gives { (place read : Option (List ℕ)) → IsAhead T.made place read ahead.old → GivesAhead T.made place read ahead.new result }
+    ensures after { ahead.new.after ≡ ahead.old.after }
+    ensures end { IfOk result (λ next. IfNone next (failed_after ahead.new.after ≡ false)) }
+    ensures io { IfErr result (λ fault. is_io fault ≡ true → failed_after ahead.new.after ≡ true) }
+{
+    if ahead.jobs.is_empty() {
+        return match ahead.after {
+            After::Fault(fault) => Err(fault),
+            After::End => Ok(None),
+            After::More => unreachable!(),
+        };
+    }
+    let job = ahead.jobs.remove(0);
+    let Job {
+        bytes: _codestream,
+        made,
+    } = job;
+    match made {
+        Ok(made) => Ok(Some(made)),
+        Err(fault) => Err(Unread::Stream(fault)),
+    }
+}
+
+/// Takes the next codestreams and works on them, if all that were taken are given and more may come.
+fn refill<T: Made + Send + Drop, Rt: Threads + Sync, R: Feed>(
+    ahead: &mut Ahead<T>,
+    rt: &Rt,
+    alloc: Global,
+    workers: usize,
+    reader: &mut R,
+)
+    requires some { 0 < workers }
+    requires few { workers ≤ 2 ^ 32 }
+    ensures ahead { (place : Option (List ℕ)) → IsAhead T.made place (R.remaining reader.old) ahead.old
+        → IsAhead T.made place (R.remaining reader.new) ahead.new }
+    ensures full { ahead.new.jobs.items ≡ [] → ahead.new.after ≡ After.More → ⊥ }
+    ensures reads { (failed : ℕ) → R.failed_reads reader.old ≡ count_after (failed_after ahead.old.after) failed
+        → R.failed_reads reader.new ≡ count_after (failed_after ahead.new.after) failed }
+{
+    if !ahead.jobs.is_empty() {
+        return;
+    }
+    let After::More = ahead.after else {
+        return;
+    };
+    let mut taken = take(alloc, reader, 2 * workers);
+    let threads = threads_for(&taken.jobs, workers);
+    work_on_all::<T, Rt>(rt, alloc, &mut taken.jobs, threads);
+    *ahead = taken;
+}
+
+/// Takes this number of codestreams off a reader, or all there are before the end or a fault.
+fn take<T: Drop, R: Feed>(alloc: Global, reader: &mut R, most: usize) -> Ahead<T>
+    requires { 0 < most }
+    ensures taken { IsBatch (R.remaining reader.old) (R.remaining reader.new) result }
+    ensures full { IsFull most result }
+    ensures failures { R.failed_reads reader.new ≡ count_after (failed_after result.after) (R.failed_reads reader.old) }
+{
+    let mut jobs = Vec::new(alloc);
+    for _place in 0..most {
+        let job = match take_codestream(alloc, reader) {
+            Ok(Some(bytes)) => Job {
+                bytes,
+                made: Err(StreamFault::NoMemory),
+            },
+            Ok(None) => {
+                return Ahead {
+                    jobs,
+                    after: After::End,
+                };
+            }
+            Err(fault) => {
+                return Ahead {
+                    jobs,
+                    after: After::Fault(fault),
+                };
+            }
+        };
+        if jobs.push(job).is_err() {
+            return Ahead {
+                jobs,
+                after: After::Fault(Unread::Stream(StreamFault::NoMemory)),
+            };
+        }
+    }
+    Ahead {
+        jobs,
+        after: After::More,
+    }
+}
+
+/// Works on jobs by this number of threads at most.
+fn work_on_all<T: Made + Send + Drop, Rt: Threads + Sync>(
+    rt: &Rt,
+    alloc: Global,
+    jobs: &mut [Job<T>],
+    threads: usize,
+)
+    requires { 0 < threads }
+    ensures { AllByRecursion (IsMade T.made) jobs.new × (codestreams_of jobs.new ≡ codestreams_of jobs.old) }
+{
+    thread::for_each_mut(
+        rt,
+        jobs,
+        threads,
+        &|_place: usize, job: &mut Job<T>|
+            ensures { (job.new.bytes ≡ job.old.bytes) × IsMade T.made job.new }
+        { work::<T>(alloc, job) },
+    );
+}
+
+/// Decodes a job's codestream, and makes of its frame what is to be made.
+fn work<T: Made + Drop>(alloc: Global, job: &mut Job<T>)
+    ensures bytes { job.new.bytes ≡ job.old.bytes }
+    ensures made { IsMade T.made job.new }
+{
+    job.made = made_of::<T>(alloc, &job.bytes);
+}
+
+/// The number of threads that jobs justify: at most that of the workers.
+fn threads_for<T>(jobs: &[Job<T>], workers: usize) -> usize
+    requires { 0 < workers }
+    ensures { (0 < result) × (result ≤ workers) }
+{
+    let mut bytes = 0usize;
+    for job in jobs {
+        bytes = bytes.saturating_add(job.bytes.len());
+    }
+    threads_worth(bytes, workers)
+}
+
+/// The number of threads that this number of bytes of codestreams justifies where they are to be decoded: at most that
+/// of the workers, of which it requires at least one.
+pub fn threads_worth(bytes: usize, workers: usize) -> usize
+    requires { 0 < workers }
+    ensures { (0 < result) × (result ≤ workers) }
+{
+    workers.min(1 + bytes / BYTES_A_THREAD)
+}

@@ -1,0 +1,116 @@
+//! The codestreams of a recording: the next is taken off a reader, and its frame decoded.
+ghost use Rattle.std.specs.Prelude.{◌≡◌, Bool, List, ℕ, Option, false, refl, IfOk, IfErr, IfSome, IfNone, MatchResult};
+ghost use Rattle.ls_frame.specs.Picture.{Picture};
+ghost use Rattle.ls_frame.specs.View.Devices.{count_after};
+ghost use Rattle.ls_frame.specs.View.Known.{WasAtEnd};
+ghost use Rattle.ls_stream.specs.Grammar.{Spells};
+ghost use Rattle.ls_film.specs.View.Codestreams.{IsTaken, IsMadeOf, IsUnmade, is_io, unread_of, IsUnread};
+ghost use Rattle.ls_film.specs.View.Steps.{failed_input};
+
+use crate::engine::{Images, Made};
+use ls_frame::Feed;
+use ls_stream::{NextFault, StreamFault, decode_frame, next_stream};
+use std::alloc::Global;
+
+/// Why the next codestream gives no frame.
+#[derive(Clone, Copy, Drop)]
+pub enum Unread {
+    /// It can't be decoded, or an allocation failed for it.
+    Stream(StreamFault),
+    /// A read failed.
+    Io,
+}
+
+impl Unread {
+    /// Why the next codestream can't be taken.
+    fn of(fault: NextFault) -> Unread
+        ensures { result ≡ unread_of fault }
+    {
+        match fault {
+            NextFault::TooLarge => Unread::Stream(StreamFault::TooLarge),
+            NextFault::Io => Unread::Io,
+            NextFault::NoMemory => Unread::Stream(StreamFault::NoMemory),
+        }
+    }
+}
+
+/// Takes the bytes of the next codestream off a reader, and not a byte more; `None` exactly at the end.
+pub fn take_codestream<R: Feed>(alloc: Global, reader: &mut R) -> Result<Option<Vec<u8>>, Unread>
+    ensures taken { IfOk result (λ next. IfSome next (λ bytes. IsTaken (R.remaining reader.old) (R.remaining reader.new) bytes.items)) }
+    ensures end { IfOk result (λ next. IfNone next (WasAtEnd (R.remaining reader.old) (R.remaining reader.new))) }
+    ensures stops { IfErr result (λ fault. IsUnread fault (R.remaining reader.old)) }
+    ensures failures { R.failed_reads reader.new ≡ count_after (failed_input is_io result) (R.failed_reads reader.old) }
+{
+    match next_stream(alloc, reader) {
+        Ok(Some(mut bytes)) => {
+            // Memory that is taken later can begin after the codestream then, and not after room for more of it.
+            bytes.shrink_to_fit();
+            Ok(Some(bytes))
+        }
+        Ok(None) => Ok(None),
+        Err(fault) => Err(Unread::of(fault)),
+    }
+}
+
+/// What is made of the frame that these bytes begin with the codestream of; or the fault of decoding them.
+pub fn made_of<T: Made>(alloc: Global, bytes: &[u8]) -> Result<T, StreamFault>
+    ensures { MatchResult result (IsMadeOf T.made bytes.now) (IsUnmade bytes.now) }
+{
+    let decoded = match decode_frame(alloc, bytes) {
+        Ok(decoded) => decoded,
+        Err(fault) => return Err(fault),
+    };
+    match T::make(alloc, decoded.frame) {
+        Ok(made) => Ok(made),
+        Err(_) => Err(StreamFault::NoMemory),
+    }
+}
+
+/// A source of a recording's frames.
+pub trait Recorded<T: Made>: Images<T, Fault = Unread> {
+    /// An image is a codestream.
+    ghost image_is: { Self.Images.image ≡ Spells };
+
+    /// A fault is said of the codestream at fault.
+    ghost unread_is: { Self.Images.unread ≡ (λ fault place place'. IsUnread fault place) };
+
+    /// The device's fault is a failed read.
+    ghost of_device_is: { Self.Images.of_device ≡ is_io };
+}
+
+/// Reads codestream by codestream: no byte is read before it is asked for.
+pub struct OneByOne;
+
+impl<T: Made> Images<T> for OneByOne {
+    type Fault = Unread;
+
+    ghost image = { Spells };
+
+    ghost unread = { λ fault place place'. IsUnread fault place };
+
+    ghost of_device = { is_io };
+
+    ghost stands = { λ source place read. place ≡ read };
+
+    ghost owes = { λ source. false };
+
+    fn next<R: Feed>(&mut self, alloc: Global, reader: &mut R) -> Result<Option<T>, Unread> {
+        let bytes = match take_codestream(alloc, reader) {
+            Ok(Some(bytes)) => bytes,
+            Ok(None) => return Ok(None),
+            Err(fault) => return Err(fault),
+        };
+        match made_of::<T>(alloc, &bytes) {
+            Ok(made) => Ok(Some(made)),
+            Err(fault) => Err(Unread::Stream(fault)),
+        }
+    }
+}
+
+impl<T: Made> Recorded<T> for OneByOne {
+    ghost image_is = { refl };
+
+    ghost unread_is = { refl };
+
+    ghost of_device_is = { refl };
+}

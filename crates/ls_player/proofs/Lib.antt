@@ -1,4 +1,0 @@
-pub mod AheadLemmas
-pub mod BatchLemmas
-pub mod JobLemmas
-pub mod ShowLemmas
