@@ -53,7 +53,7 @@ pub record TakesWord (k glimit qbpp : ℕ) (bits : List Bool) (v : ℕ) (rest : 
 abbrev pub NoWord : ℕ → ℕ → ℕ → List Bool → Type 0
 NoWord k glimit qbpp bits = (v : ℕ) → v ≤ most_value qbpp → BeginsWith (code_word k glimit qbpp v) bits → ⊥
 
--- what a fault says of the bits: NotCanonical, that they can't begin with a code word; OutOfBits, that they begin with none and it isn't so
+-- what a fault says of the bits: NotCanonical, that they are uncanonical; OutOfBits, that they begin with no code word and aren't uncanonical
 abbrev pub GolombFault : ℕ → ℕ → ℕ → List Bool → CodeFault → Type 0
 GolombFault k glimit qbpp bits NotCanonical = IsUncanonical k glimit qbpp bits
 GolombFault k glimit qbpp bits OutOfBits = NoWord k glimit qbpp bits × (IsUncanonical k glimit qbpp bits → ⊥)

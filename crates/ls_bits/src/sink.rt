@@ -67,8 +67,8 @@ impl BitSink {
         Ok(())
     }
 
-    /// Stuffs the bits into bytes (T.87 C.1): the last byte is filled with bits 0, and a last byte FF is followed by
-    /// 00. A sink without bits gives no bytes.
+    /// Stuffs the bits into bytes (T.87 C.1). The last byte is filled with bits 0, and 00 follows it if it is FF. A
+    /// sink without bits gives no bytes.
     ///
     /// Fails only if an allocation fails; the sink is consumed, and its bits are lost then.
     pub fn finish(mut self) -> Result<Vec<u8>, AllocError>

@@ -157,8 +157,8 @@ impl<'a> BitSource<'a> {
     }
 
     /// The value of the short code word at a place (T.87 A.5.3), and the place after the word. None if the bits there
-    /// begin with `most` zeros, or if fewer than 57 bits are un-stuffed from there on. Words can be read so from place
-    /// to place; where that gives None, `go_to` and `take_golomb` read any word.
+    /// begin with `most` zeros, or if fewer than 57 bits are un-stuffed from there on. Words can be read one after the
+    /// other so, without moving the source; where that gives None, `go_to` and `take_golomb` read any word.
     ///
     /// Requires a place as `go_to` does, `k` of at most 17, and `most` of at most 24.
     #[inline(always)]

@@ -12,7 +12,7 @@ median neighbours =
     else (if nat_le neighbours.c (min neighbours.a neighbours.b) then max neighbours.a neighbours.b
     else neighbours.a + neighbours.b - neighbours.c)
 
--- the prediction corrected by the context's C, and clamped to 0 to MAXVAL (A.4.2)
+-- the prediction corrected by the context's C, and clamped to the range 0 to MAXVAL (A.4.2)
 abbrev pub predicted : Parameters → Bool → ℤ → Neighbours → ℤ
 predicted p negative c neighbours = clamped (pos 0) (pos p.maxval) (pos (median neighbours) +ℤ signed negative c)
 

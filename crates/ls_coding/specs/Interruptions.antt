@@ -16,7 +16,7 @@ pub record Counts : Type 0 where
 abbrev pub counts : ℕ → ℕ → ℕ → Counts
 counts a n nn = record { a = a; n = n; nn = nn }
 
--- sound counters: N is from 1 to RESET, A is at most N errors of magnitude `bound`, and fewer than N errors are negative
+-- sound counters: N is from 1 to RESET, A is at most N * bound, and fewer than N errors are negative
 pub record AreSoundCounts (reset bound : ℕ) (counters : Counts) : Type 0 where
   pub some : 1 ≤ counters.n
   pub few : counters.n ≤ reset

@@ -6,7 +6,7 @@ abbrev pub halved : ℤ → ℤ
 halved (pos number) = pos (number / 2)
 halved (negsuc number) = negsuc (number / 2)
 
--- number, clamped to low to high
+-- number, clamped to the range low to high
 abbrev pub clamped : ℤ → ℤ → ℤ → ℤ
 clamped low high number = if int_lt number low then low else (if int_lt high number then high else number)
 

@@ -17,7 +17,7 @@ stats a b c n = record { a = a; b = b; c = c; n = n }
 abbrev pub error_bound : ℕ → ℕ
 error_bound maxval = max 2 (range_of maxval / 2)
 
--- sound counters: N is from 1 to RESET, A is at most N errors of magnitude `bound`, B is above -N and at most 0, C is from -128 to 127
+-- sound counters: N is from 1 to RESET, A is at most N * bound, B is above -N and at most 0, C is from -128 to 127
 pub record AreSound (reset bound : ℕ) (counters : Stats) : Type 0 where
   pub some : 1 ≤ counters.n
   pub few : counters.n ≤ reset

@@ -48,7 +48,7 @@ pub fn mirrored_error(presets: Presets, bias: i32, prediction: u16, sample: u16)
     reduced(presets.range(), i32::from(sample) - i32::from(corrected))
 }
 
-/// A prediction corrected by a context's C, and clamped to 0 to MAXVAL (A.4.2).
+/// A prediction corrected by a context's C, and clamped to the range 0 to MAXVAL (A.4.2).
 fn corrected(presets: Presets, bias: i32, prediction: u16) -> u16
     requires prediction { prediction ≤ presets.maxval }
     requires low { neg_ℤ (pos 128) ≤ℤ bias }
@@ -242,7 +242,7 @@ pub fn median_by(a: u16, b: u16, rise: u16, fall: u16) -> u32
     most.max(i32::from(a) - i32::from(fall)) as u32
 }
 
-/// `number`, clamped to 0 to `greatest`.
+/// `number`, clamped to the range 0 to `greatest`.
 fn clamped(number: i32, greatest: u16) -> u16
     requires low { neg_ℤ (pos 131072) ≤ℤ number }
     requires high { number ≤ℤ pos 131072 }

@@ -120,8 +120,8 @@ fn map_is_one(maps_negative: bool, error: i32) -> bool
     error > 0
 }
 
-/// The error of magnitude (`twice` + map) / 2, where map is 1 if `twice` is odd: negative if map is 1 and
-/// `maps_negative`, or if neither.
+/// The error of magnitude (`twice` + map) / 2, where map is 1 if `twice` is odd, else 0: negative if map is 1 and
+/// `maps_negative` holds, or if neither is so.
 fn signed_half(maps_negative: bool, twice: u32) -> i32
     requires { twice ≤ 65537 }
     ensures { result ≡ (if if maps_negative then twice % 2 == 1 else not (twice % 2 == 1)

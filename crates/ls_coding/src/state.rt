@@ -234,8 +234,8 @@ impl State {
         }
     }
 
-    /// Codes the sample that interrupts a run (A.7.2): returns its word, which follows the run's bits: LG(k, LIMIT - J
-    /// - 1) of EMErrval, in at most LIMIT - J - 1 bits, with J at the RUNindex that the run left.
+    /// Codes the sample that interrupts a run (A.7.2): returns its word, which follows the run's bits: LG(k, glimit) of
+    /// EMErrval, in at most glimit bits, where glimit is LIMIT - J - 1 with J at the RUNindex that the run left.
     ///
     /// Requires the neighbours of this very sample, these and the sample at most MAXVAL, the sample other than Ra, and
     /// that `interrupted` is true. Afterwards RUNindex is 1 lower unless it was 0, and `interrupted` is false. Cannot
@@ -422,7 +422,7 @@ impl State {
     }
 
     /// Whether the sample that interrupts a run comes next: true after `code_run` of a run that doesn't end with its
-    /// line, and after `accept_break` and `accept_run` that took the end of one.
+    /// line, and after `accept_break` or `accept_run` decoded the end of such a run.
     pub fn interrupted(&self) -> bool
         ensures { result ≡ self.now.interrupted }
     {

@@ -36,8 +36,8 @@ pub fn update(
 }
 
 /// Whether k is the Golomb parameter of N and A (A.5.1), by one comparison: N * 2^k is at least A, and half of that is
-/// less. After one more error this mostly still holds of the parameter before. True is always right; false may be wrong
-/// for a k of 0, where half of N may be at least A too.
+/// less. Mostly so for the parameter from before the last error. True is always right; false may be wrong for a k of 0,
+/// where half of N may be at least A too.
 fn is_parameter(k: u32, n: u32, a: u32) -> bool
     requires some { 0 < n }
     requires few { a < 2 ^ 31 }
@@ -96,8 +96,8 @@ fn correct_bias(b: &mut i32, c: &mut i32, n: u32)
     *c = corrected_bias(*c, low);
 }
 
-/// B moved by N towards 0, and then clamped to 1 - N to 0 (A.6.2). Requires a B that isn't above -N and at most 0
-/// already.
+/// B moved by N towards 0, and then clamped to the range 1 - N to 0 (A.6.2). Requires a B that isn't above -N and at
+/// most 0 already.
 fn corrected_mean(b: i32, n: u32) -> i32
     requires low { neg_ℤ (pos 131072) ≤ℤ b }
     requires high { b ≤ℤ pos 131072 }
