@@ -129,7 +129,7 @@ contents_fail d m bytes fault f are (fails contents rest whole unmet) inside =
     step_is (contents_at bytes) f (contents, rest) (ap contents_at whole ∙ contents_again contents rest (segment_short contents rest (subst AreBytes whole are)))
     ∙ inside contents rest unmet
 
--- ---- miscellaneous segments, and what stands after them
+-- ---- miscellaneous segments, and what follows them
 
 -- Reading fails where something is due: before another marker; or that marker may not come there; or its segment breaks.
 data AheadFails (d : Due) (ahead : Ahead) (fault : StreamFault) : Type 0 where

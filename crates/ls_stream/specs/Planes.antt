@@ -57,7 +57,7 @@ pub data Span : Type 0 where
   sample_span : (row column : ℕ) → Span
   run_span : (row column count : ℕ) → (interrupted : Bool) → Span
 
--- how many consecutive samples, from a column on, equal a value; `most` of them are looked at
+-- how many consecutive samples, from a column on, equal a value; at most `most` are looked at
 abbrev pub equal_from : Plane → ℕ → ℕ → ℕ → ℕ → ℕ
 equal_from plane i value zero j = 0
 equal_from plane i value (suc most) j = if at plane i j == value then suc (equal_from plane i value most (suc j)) else 0

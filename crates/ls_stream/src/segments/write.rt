@@ -108,8 +108,8 @@ fn precision(picture: &PictureView) -> u8
     Presets::default_of(picture.maxval()).bpp() as u8
 }
 
-/// Appends the fields of this number of components: identifiers from 1 on, sampling factors 1, and no quantization
-/// table.
+/// Appends the fields of this number of components: identifiers from 1 on, sampling factors 1, and quantization table
+/// 0.
 fn put_components<R: Room>(bytes: &mut R, count: u8)
     requires few { count ≤ 3 }
     requires room { length (R.items bytes.old) + 3 * count ≤ R.capacity bytes.old }
