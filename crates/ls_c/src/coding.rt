@@ -252,8 +252,8 @@ pub fn decode_bytes(
     }
 }
 
-/// Opens the codestream at the front of `bytes`, if its frame fits in `room` samples of at most `most`. Sets `form`, or
-/// sets `fault` to the details of the first fault.
+/// Opens the codestream at the front of `bytes`, if its frame fits in `room` samples of at most `most`. Sets `form` if
+/// the bytes begin with a legal opening, else sets `fault` to the details of the first fault.
 fn open<'a>(
     bytes: &'a [u8],
     most: u16,

@@ -38,7 +38,7 @@ pub struct SourceSeat<T> {
 /// The right to take jobs.
 #[derive(Drop)]
 pub struct WorkerSeat<T> {
-    /// Whether a take by it returned Done.
+    /// Whether `take` has returned Done to this seat.
     done: bool,
     patience: Patience,
     pass: SeatPass<T>,
@@ -83,7 +83,7 @@ pub enum FinishFault<T> {
 pub enum SettleCause {
     /// There are fewer seats than workers.
     MissingSeat,
-    /// Some seat's takes haven't returned Done yet.
+    /// To some seat `take` hasn't returned Done yet.
     NotEmpty,
 }
 
@@ -393,7 +393,7 @@ fn send_mark<T: Drop, R: Wait>(
 
 /// Settles a queue whose workers are all done: returns the number of items that each source put, all of which were
 /// taken. `finished` and `seats` must be this queue's. Fails with `MissingSeat` if there are fewer seats than workers,
-/// else with `NotEmpty` if some seat's takes haven't returned Done; then everything is returned.
+/// else with `NotEmpty` if `take` hasn't returned Done to some seat; then everything that was passed is returned.
 pub fn settle<T: Drop, R: Wait>(
     _rt: &R,
     queue: Queue<T>,
@@ -433,7 +433,7 @@ pub fn settle<T: Drop, R: Wait>(
     })
 }
 
-/// Whether the takes of each of these seats have returned Done.
+/// Whether `take` has returned Done to each of these seats.
 fn all_done<T>(seats: &[WorkerSeat<T>]) -> bool
     ensures { result ≡ all_done seats.now }
 {

@@ -25,18 +25,18 @@ pub struct Takes<T> {
 
 /// What the holder of a pass knows. It exists only in proofs: no value of it is made.
 pub struct View<T> {
-    /// Its part of 64 shares. A pass that has them all is the only one left.
+    /// The shares of the pass, of 64 in all. A pass that has them all is the only one left.
     pub shares: u64,
     /// What was put by the source seats whose passes are joined in this one.
     pub puts: LinkedList<Puts<T>>,
     /// What was taken by the worker seats whose passes are joined in this one.
     pub takes: LinkedList<Takes<T>>,
-    /// Whether it is the closer's. The closer makes the seats and sends the end marks.
+    /// Whether this is the closer's view. The closer makes the seats and sends the end marks.
     pub closes: bool,
-    /// In the closer's, the number of source seats it made; in a worker's, the number of sources.
+    /// In the closer's view, the number of source seats it made; in a worker's, the number of sources.
     pub sources: u64,
-    /// In the closer's, the number of worker seats it made.
+    /// In the closer's view, the number of worker seats it made.
     pub workers: u64,
-    /// In the closer's, the number of end marks it sent.
+    /// In the closer's view, the number of end marks it sent.
     pub marks: u64,
 }

@@ -36,14 +36,14 @@ impl Patience {
         Patience { looks: MOST_LOOKS }
     }
 
-    /// Doubles the polls, up to the most: a poll has found a message.
+    /// Doubles the number of polls, up to the most, after polling has found a message.
     fn grow(&mut self)
         ensures { self.new.looks ≡ looks_after_service self.old.looks }
     {
         self.looks = self.looks.saturating_mul(2).min(MOST_LOOKS);
     }
 
-    /// Halves the polls, down to the fewest: no poll has found a message.
+    /// Halves the number of polls, down to the fewest, after polling has found none.
     fn shrink(&mut self)
         ensures { self.new.looks ≡ looks_after_sleep self.old.looks }
     {

@@ -39,7 +39,7 @@ module _ {X : Type 0} where
   abbrev pub jobs_taken : WorkerSeat X → List (Job X)
   jobs_taken seat = jobs_in_first (view seat.pass).takes
 
-  -- whether a take by it returned Done
+  -- whether `take` has returned Done to it
   abbrev pub is_done : WorkerSeat X → Bool
   is_done seat = seat.done
 
