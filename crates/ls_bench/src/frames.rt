@@ -116,7 +116,8 @@ fn encode_times(
     Ok(bytes)
 }
 
-/// Encodes a frame in place of these bytes. Allocates only if they have no capacity for the codestream.
+/// Encodes a frame into the memory of these bytes, which it replaces. Allocates only if they have no capacity for the
+/// codestream.
 fn encode(frame: &Frame, lines: &mut Lines, mut bytes: Vec<u8>) -> Result<Vec<u8>, AllocError>
     requires width { frame.now.width ≤ lines.old }
     ensures lines { lines.new ≡ lines.old }

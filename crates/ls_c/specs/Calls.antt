@@ -17,7 +17,7 @@ use Rattle.ls_c.specs.Refusals.{status_by, fault_number, details_of, no_details}
 
 -- Samples of at most `most`, in rows that start `stride` samples apart, were encoded into a buffer.
 pub record IsEncoding (most : ℕ) (form : JlsrecForm) (stride : ℕ) (samples old new : List ℕ) (written status : ℕ) : Type 0 where
-  -- the status, unless an allocation failed, which can only be if all but the samples' values is right
+  -- the status, unless an allocation failed, which can happen only if everything but the samples' values is right
   pub status_is : (status ≡ 1) ⊎ (status ≡ status_by (encode_refusal most form stride samples (length old)))
   pub memory : status ≡ 1 → request_refusal most form stride (length samples) ≡ None
   -- status 0: the codestream of the picture is at the front, and the rest of the buffer is unchanged
@@ -85,7 +85,7 @@ pub record IsDecoding (most : ℕ) (bytes old new : List ℕ) (form : JlsrecForm
   -- status 0: the first `used` bytes spell a frame, and its samples are at the front
   pub done : status ≡ 0 → (f : Picture) × (used ≤ length bytes) × Spells (take used bytes) f × IsOfForm f form × HaveForm bytes form
       × (new ≡ laid f.samples old) × (length f.samples ≤ length old) × (f.maxval ≤ most)
-  -- if the bytes begin with a codestream of a frame, the result is that frame's
+  -- if the bytes begin with a codestream of a frame, the result is that frame's, unless an allocation failed
   pub complete : (front rest : List ℕ) (f : Picture) → bytes ≡ front ++ rest → Spells front f
       → (status ≡ 1) ⊎ ((status ≡ status_by (within most f (length old))) × IsOfForm f form × (status ≡ 0 → (used ≡ length front) × (new ≡ laid f.samples old)))
   -- status 20 and above: the first fault
@@ -96,7 +96,7 @@ pub record IsDecoding (most : ℕ) (bytes old new : List ℕ) (form : JlsrecForm
   pub too_deep : status ≡ 14 → HaveForm bytes form × (most < form.maxval)
   -- an allocation is tried only after a complete legal opening
   pub memory : status ≡ 1 → BeginsWithOpening (take most_bytes bytes)
-  -- there is no other status; and what each leaves
+  -- there is no other status; and what the caller's memory holds after each
   pub statuses : (status ≡ 0) ⊎ (status ≡ 1) ⊎ (status ≡ 2) ⊎ (status ≡ 14) ⊎ (20 ≤ status)
   pub kept : status ≢ 0 → status < 20 → new ≡ old
   pub beyond : 20 ≤ status → KeepsBeyond bytes old new

@@ -54,7 +54,7 @@ narrowed number = if nat_le number greatest then number else 0
 abbrev pub row_of : JlsrecForm → ℕ
 row_of form = form.width * components (kind_of form.components)
 
--- the number of samples from the start of a row to that of the next; a stride of 0 means a row's own number
+-- the number of samples from the start of a row to that of the next; a stride of 0 means the number of samples in a row
 abbrev pub stride_by : ℕ → ℕ → ℕ
 stride_by row stride = if stride == 0 then row else stride
 

@@ -105,7 +105,7 @@ details_of TooLarge = no_details
 details_of (BadCode component) = details component 0 0
 details_of (LeftoverBits component) = details component 0 0
 
--- the details include what a refusal says beside its status; nothing is asked of the other details
+-- the details agree with what a refusal says beside its status; the other details may be anything
 abbrev pub IsNamedWhat : What → JlsrecFault → Type 0
 IsNamedWhat (what.Marker code) d = code ≡ d.marker
 IsNamedWhat (what.Components count) d = count ≡ d.number

@@ -102,7 +102,7 @@ lawful_reply sources capacity before (step.Put s x) = reply.Put (if was_closed s
 lawful_reply sources capacity before (step.Close s) = reply.Close (if was_closed s before then close.Already (length (sent s before)) else close.Now (length (sent s before)))
 lawful_reply sources capacity before step.Take = reply.Take (take_of (held before) (all_were_closed sources before))
 
--- after the events before, each later event has its lawful reply
+-- each later event has the reply that is lawful after the events before it
 abbrev pub AreLawful : ℕ → ℕ → List Event → List Event → Type 0
 AreLawful sources capacity before [] = Unit {0}
 AreLawful sources capacity before (event ∷ later) =

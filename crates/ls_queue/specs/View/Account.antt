@@ -60,7 +60,7 @@ pub record Past (X : Type 0) : Type 0 where
   pub marks : List (List ℕ)
   -- the messages received so far, in order
   pub received : List (Message X)
-  -- passes are numbered: the number of the closer's, and by source the number of the pass that has its items
+  -- passes are numbered: the number of the closer's pass, and for each source that of the pass with its items
   pub closer : ℕ
   pub keeper : ℕ → ℕ
   -- the numbers of seats made

@@ -107,7 +107,7 @@ module _ {X : Type 0} where
   abbrev pub AreAllWorkers : Queue X → List (WorkerSeat X) → Type 0
   AreAllWorkers queue seats = AreNewWorkers queue.channel seats × (length seats ≡ workers_of queue)
 
-  -- worker seats, and ends, of that queue, any number of them
+  -- any number of worker seats, or of ends, of that queue
   abbrev pub AreWorkerSeats : Queue X → List (WorkerSeat X) → Type 0
   AreWorkerSeats queue seats = AllByRecursion (IsWorkerAt queue.channel) seats
 
