@@ -15,11 +15,11 @@ AreFrom n (inbox ∷ inboxes) = (inbox.source ≡ n) × AreFrom (suc n) inboxes
 abbrev pub LeadTo : List Inbox → List Door → Type 0
 LeadTo inboxes doors = map (λ (door : Door). sends_on door.entrance) doors ≡ map (λ (inbox : Inbox). receives_on inbox.exit) inboxes
 
--- each inbox holds at most `window` answers
+-- each inbox holds at most `window` results
 abbrev pub HaveRoom : ℕ → List Inbox → Type 0
 HaveRoom window inboxes = AllByRecursion (λ (inbox : Inbox). ruled_capacity (receives_on inbox.exit) ≡ window) inboxes
 
--- There is an inbox for each source, in order from source 0, each of which holds at most `window` answers; and an outbox for each worker, with a door
+-- There is an inbox for each source, in order from source 0, each of which holds at most `window` results; and an outbox for each worker, with a door
 -- to each inbox.
 pub record AreBoxes (sources workers window : ℕ) (inboxes : List Inbox) (outboxes : List Outbox) : Type 0 where
   pub sources_are : length inboxes ≡ sources
