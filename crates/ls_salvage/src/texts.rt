@@ -6,7 +6,7 @@ pub use ls_film::playing::ImageText;
 use ls_frame::Frame;
 use std::alloc::{AllocError, Global};
 
-/// Nothing, for callers that look for damage alone.
+/// A text with nothing in it, for callers that only look for damage.
 pub struct NoText;
 
 impl Text for NoText {
