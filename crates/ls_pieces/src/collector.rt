@@ -12,7 +12,7 @@ use thiserror::Error;
 /// The largest window: the most orders that a collector may hold.
 pub const MOST_WINDOW: usize = 64;
 
-/// Why no collector was made.
+/// The reason why no collector was made.
 #[derive(Clone, Copy, Debug, Drop, PartialEq, Eq, Error)]
 pub enum CollectorFault {
     /// The window isn't 1 to 64.
@@ -34,7 +34,7 @@ impl From<AllocError> for CollectorFault {
     }
 }
 
-/// Why a coded frame isn't accepted: the first of these that applies, in this order.
+/// The reason why a coded frame isn't accepted: the first of these that applies, in this order.
 #[derive(Clone, Copy, Debug, Drop, PartialEq, Eq, Error)]
 pub enum Misfit {
     /// It is of another source.
@@ -146,7 +146,7 @@ impl Collector {
         Ok(())
     }
 
-    /// Why a coded frame doesn't fit: the first `Misfit` that applies, or `None` if it fits.
+    /// The first `Misfit` that applies to a coded frame, or `None` if it fits.
     fn misfit_of(&self, piece: &Coded) -> Option<Misfit>
         ensures reply { result ≡ misfit_of self.now piece.now }
         ensures lawful { IsCollection self.now }

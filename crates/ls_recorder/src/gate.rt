@@ -1,7 +1,7 @@
-//! What can be observed of a recording while it runs.
+//! Observing a recording while it runs.
 use crate::lane::LaneFault;
 
-/// When a worker calls `Gate::pass`.
+/// The moment at which a worker calls `Gate::pass`.
 #[derive(Clone, Copy, Debug, PartialEq, Eq)]
 pub enum Moment {
     /// Before the job is coded.

@@ -33,7 +33,7 @@ use std::thread::{Promise, Scope, Threads};
 use thiserror::Error;
 use writing::{Writing, WritingEnd, write_film};
 
-/// Why a lane stopped.
+/// The reason why a lane stopped.
 #[derive(Clone, Copy, Debug, Drop, PartialEq, Eq, Error)]
 pub enum LaneFault {
     /// The frame of this number, from 0, can't be read; the fault is never `NetpbmFault::NoMemory`. The codestreams of
@@ -67,7 +67,7 @@ pub enum LaneFault {
     Tuning(u64, PresetFault),
 }
 
-/// What a lane returns: the end of its source, its reader and its writer, and the number of frames recorded, or why it
+/// The result of a lane: the end of its source, its reader and its writer, and the number of frames recorded, or why it
 /// stopped.
 #[derive(Drop)]
 pub struct LaneEnd<F, W> {
@@ -124,7 +124,7 @@ pub fn lane<F: Feed + Drop, W: Outlet + Send + Drop, R: Threads + Wait + Sync>(
     watched_lane(rt, alloc, queue, &OpenGate, start)
 }
 
-/// What a lane starts with: the seat and the inbox of its source, its window, and its film.
+/// The input of a lane: the seat and the inbox of its source, its window, and its film.
 #[derive(Drop)]
 pub struct Start<F, W> {
     pub seat: SourceSeat<Order>,
@@ -133,7 +133,7 @@ pub struct Start<F, W> {
     pub film: (F, W, Tuning),
 }
 
-/// What both halves of a lane share. It doesn't change.
+/// The values that both halves of a lane share.
 #[derive(Drop)]
 struct Setting<'s, R, G> {
     rt: &'s R,
@@ -250,7 +250,7 @@ fn outcome(read: Result<u64, LaneFault>, wrote: Result<(), LaneFault>) -> Result
     }
 }
 
-/// What the two halves of a lane need besides its film, its seat and its inbox.
+/// The parts that the two halves of a lane need besides its film, its seat and its inbox.
 #[derive(Drop)]
 pub struct Parts {
     pub booked: SourceSeat<Order>,

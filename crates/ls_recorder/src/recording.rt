@@ -23,7 +23,7 @@ use std::sync::atomic::AtomicBool;
 use std::thread::Threads;
 use threads::{Parts, Ran, Room, Shared, flags_for, room_for, run_in_scope};
 
-/// What the lane of a film returns: its reader and writer, and the number of frames recorded, or why it stopped.
+/// The result of a film's lane: its reader and writer, and the number of frames recorded, or why it stopped.
 #[derive(Drop)]
 pub struct Track<R, W> {
     pub reader: R,
@@ -90,8 +90,8 @@ pub fn record<Rt: Threads + Wait + Sync, R: Feed + Send + Drop, W: Outlet + Send
     }
 }
 
-/// What a recording allocates before it starts a thread: its queue with the seats and boxes, a flag for each source,
-/// and buffers for its threads' results.
+/// The parts of a recording that are allocated before it starts a thread: its queue with the seats and boxes, a flag
+/// for each source, and buffers for its threads' results.
 #[derive(Drop)]
 struct Prepared<R: Feed + Drop, W: Outlet + Drop> {
     queue: Queue<Order>,

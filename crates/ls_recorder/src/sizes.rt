@@ -16,7 +16,7 @@ pub struct Sizes {
 }
 
 impl Sizes {
-    /// Why a recording of `sources` films can't have these sizes, or `None` if it can.
+    /// The first fault of a recording of `sources` films with these sizes, or `None` if it can be made.
     pub fn fault(self, sources: usize) -> Option<RecordFault>
         ensures { result ≡ record_fault sources self.workers self.capacity self.window }
     {

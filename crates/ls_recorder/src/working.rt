@@ -1,4 +1,4 @@
-//! What a worker does: it takes jobs, codes them, and sends the results to the inboxes of their sources.
+//! A worker: it takes jobs, codes them, and sends the results to the inboxes of their sources.
 ghost use Rattle.std.specs.Prelude.{◌≡◌, ◌+◌, ◌≤◌, true, length};
 ghost use Rattle.ls_queue.specs.View.Running.{IsWorkerSeat, jobs_taken, is_done, sources_of};
 
@@ -9,7 +9,7 @@ use ls_queue::{Queue, Taken, WorkerSeat};
 use std::alloc::Global;
 use std::sync::Wait;
 
-/// What a worker did.
+/// The result of a worker.
 #[derive(Drop)]
 pub struct Worked {
     /// Its seat, whose last take returned Done.

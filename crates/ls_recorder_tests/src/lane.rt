@@ -167,7 +167,7 @@ const CASES: &[Case] = &[
     },
 ];
 
-/// What a worker would send. `None` if an allocation fails.
+/// Makes the result that a worker would send. `None` if an allocation fails.
 fn answer_of(alloc: Global, sent: Sent) -> Option<Answer> {
     match sent {
         Sent::Piece(number, sample) => Some(Ok(pixel_piece(alloc, 0, number, sample, 64)?)),

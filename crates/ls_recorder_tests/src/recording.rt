@@ -37,7 +37,7 @@ fn beside(alloc: Global, first: Film, other: &'static [u8]) -> Option<Vec<Film>>
     Some(films)
 }
 
-/// How a lane ended, and what it wrote.
+/// The result of a lane, and the bytes that it wrote.
 type Outcome<'a> = (Result<u64, LaneFault>, &'a [u8]);
 
 /// The track of such a film.

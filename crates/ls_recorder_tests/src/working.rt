@@ -97,7 +97,8 @@ fn put_two<R: Wait>(
     Some(queue.end(rt, source))
 }
 
-/// How many of two pixels a worker codes, and how many results come back to it. `None` if an allocation fails.
+/// Gives a worker two pixels. Returns the number that it codes, and the number of results that come back to it; `None`
+/// if an allocation fails.
 fn code_two<R: Wait, G: Gate>(
     rt: &R,
     alloc: Global,

@@ -1,5 +1,5 @@
-//! What the recorder is for, in one function: films that are recorded side by side come back, however the threads that
-//! code and those that decode run (`record_and_play`, `specs/View/RoundTrips.antt`).
+//! The purpose of the recorder, in one function: films that are recorded side by side come back, however the threads
+//! that code and those that decode run (`record_and_play`, `specs/View/RoundTrips.antt`).
 //!
 //! No program calls it. Its contract combines those of `ls_recorder` and `ls_player`, for films in memory, where all
 //! bytes are known.

@@ -1,11 +1,11 @@
-//! Why the reading of a recording stopped.
+//! The reasons why the reading of a recording stopped, and why its salvage did.
 ghost use Rattle.std.specs.Prelude.{◌≡◌, ℕ};
 ghost use Rattle.ls_salvage.specs.View.Ends.{salvage_fault};
 
 use std::alloc::AllocError;
 use thiserror::Error;
 
-/// Why reading stopped.
+/// The reason why reading stopped.
 #[derive(Clone, Copy, Debug, Drop, PartialEq, Eq)]
 pub enum ReadFault {
     /// A read failed.
@@ -29,7 +29,7 @@ impl From<AllocError> for ReadFault {
     }
 }
 
-/// Why the salvage of a recording stopped.
+/// The reason why the salvage of a recording stopped.
 ///
 /// Exactly the text of the frames of the parts before was written, except after `Output`, and exactly their gaps were
 /// reported.

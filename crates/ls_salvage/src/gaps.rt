@@ -6,7 +6,7 @@ ghost use Rattle.ls_salvage.specs.View.Telling.{TellsMore};
 use ls_stream::StreamFault;
 use std::alloc::AllocError;
 
-/// Bytes of a recording that were passed over, one after the other.
+/// Consecutive bytes of a recording that were passed over.
 #[derive(Clone, Copy, Debug, Drop, PartialEq, Eq)]
 pub struct Gap {
     /// The number of frames shown before it.

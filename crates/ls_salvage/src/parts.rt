@@ -13,12 +13,12 @@ use ls_frame::{Buffered, Feed, Frame};
 use ls_stream::{NextFault, StreamFault, decode_frame, next_stream};
 use std::alloc::Global;
 
-/// What is found where a codestream should begin.
+/// A frame or a fault, found where a codestream should begin.
 #[derive(Drop)]
 enum Found {
     /// A frame, and the number of bytes of its codestream.
     Frame(Frame, u64),
-    /// Why there is none, and the bytes that were read.
+    /// The fault, and the bytes that were read.
     Fault(StreamFault, Vec<u8>),
 }
 

@@ -28,7 +28,7 @@ pub struct Salvaged {
     pub gaps: u64,
 }
 
-/// How far a salvage has come.
+/// The progress of a salvage.
 #[derive(Clone, Copy)]
 struct Progress {
     /// The frames that were written.

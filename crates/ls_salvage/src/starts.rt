@@ -39,7 +39,7 @@ const MOST_AT_ONCE: usize = 65_536;
 /// After this many bytes the search for a start gives up; after parts of this many bytes a salvage does: 2^62.
 pub const MOST_PLACE: u64 = 4_611_686_018_427_387_904;
 
-/// How much of a start was just read, up to the FF after SOI.
+/// The part of a start, up to the FF after SOI, that was just read.
 #[derive(Clone, Copy)]
 enum Matched {
     Nothing,
@@ -121,7 +121,7 @@ impl Matched {
         }
     }
 
-    /// How much is matched after one more byte; `None` if that byte completes a start.
+    /// Matches one more byte. Returns how much is matched then; `None` if the byte completes a start.
     #[tactic(auto, using(crate::proofs::SkipLemmas::after_lemmas))]
     fn after(self, byte: u8) -> Option<Matched>
         ensures goes_on { IfSome result (λ next. GoesOn self byte next) }

@@ -1,4 +1,4 @@
-//! What is written of the frames of a recording.
+//! The text that is written of the frames of a recording.
 ghost use Rattle.std.specs.Prelude.{[], refl};
 
 use ls_film::engine::Text;

@@ -13,7 +13,7 @@ use std::sync::Wait;
 /// A worker's result for a job: the coded frame, or that it couldn't be coded.
 pub type Answer = Result<Coded, Uncoded>;
 
-/// How a pass of a box is split in two. Passes of boxes say nothing, and so do those split off them.
+/// The split of a box's pass in two. Passes of boxes say nothing, and so do those split off them.
 pub struct Another;
 
 impl Split<()> for Another {
@@ -40,7 +40,7 @@ pub struct Door {
     ghost own: { IsSeatAt (sends_on entrance) pass },
 }
 
-/// Where one worker sends its results, whatever their source.
+/// The senders of one worker: it sends its results here, whatever their source.
 #[derive(Drop)]
 pub struct Outbox {
     /// A sender for each source, in order from source 0.

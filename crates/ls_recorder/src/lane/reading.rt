@@ -22,7 +22,7 @@ use ls_queue::{Closer, Ended, Finished, Queue, SourceSeat};
 use std::alloc::Global;
 use std::sync::{Arc, Wait};
 
-/// What the reading half begins with: its seats at the queue and at the bookings, the closer of the bookings, the free
+/// The input of the reading half: its seats at the queue and at the bookings, the closer of the bookings, the free
 /// places, an empty vector with capacity for one end, and the reader.
 #[derive(Drop)]
 pub struct Reading<F> {
@@ -34,8 +34,8 @@ pub struct Reading<F> {
     pub reader: F,
 }
 
-/// What the reading half returns: its seat at the queue, the finished bookings, the reader, and the number of frames in
-/// the film, or why reading stopped.
+/// The result of the reading half: its seat at the queue, the finished bookings, the reader, and the number of frames
+/// in the film, or why reading stopped.
 #[derive(Drop)]
 pub struct ReadingEnd<F> {
     pub seat: SourceSeat<Order>,

@@ -20,8 +20,8 @@ use ls_pieces::{Coded, Collector, Misfit, Order};
 use ls_queue::{Queue, Taken, WorkerSeat};
 use std::sync::Wait;
 
-/// What the writing half begins with: its seat at the bookings, the inbox of its source, a collector with nothing
-/// booked, the end that gives places back, and the writer.
+/// The input of the writing half: its seat at the bookings, the inbox of its source, a collector with nothing booked,
+/// the end that gives places back, and the writer.
 #[derive(Drop)]
 pub struct Writing<W> {
     pub seat: WorkerSeat<Order>,
@@ -31,7 +31,8 @@ pub struct Writing<W> {
     pub writer: W,
 }
 
-/// What the writing half returns: its seat, whose last take returned Done, the writer, and why it stopped, if it did.
+/// The result of the writing half: its seat, whose last take returned Done, the writer, and why writing stopped, if it
+/// did.
 #[derive(Drop)]
 pub struct WritingEnd<W> {
     pub seat: WorkerSeat<Order>,
@@ -39,7 +40,7 @@ pub struct WritingEnd<W> {
     pub result: Result<(), LaneFault>,
 }
 
-/// Why writing stops.
+/// The reason why writing stops.
 #[derive(Drop)]
 pub enum Halt {
     Fault(LaneFault),

@@ -19,7 +19,7 @@ use std::sync::atomic::AtomicBool;
 use std::thread;
 use std::thread::{PromisedHandle, Scope, Threads};
 
-/// What all threads of a recording share.
+/// The values that all threads of a recording share.
 #[derive(Drop)]
 pub struct Shared<'s, Rt, G> {
     pub rt: &'s Rt,

@@ -1,4 +1,4 @@
--- Which bytes are the parts of a salvage. What a fault is, is defined with the codestreams.
+-- Which bytes are the parts of a salvage. The first fault of bytes is defined in ls_stream (`IsFirstFault`).
 use Rattle.std.specs.Prelude.{◌≡◌, ℕ, ◌<◌, ◌≤◌, List, [], ◌∷◌, length, take, drop}
 use Rattle.ls_bits.specs.Bits.{AreBytes}
 use Rattle.ls_stream.specs.declared.faults.StreamFault.{StreamFault}
