@@ -1,4 +1,4 @@
-//! The codestreams of a file, which stand one behind the other, decoded from memory.
+//! Decodes the codestreams of a file, which follow one another, from memory.
 use crate::tell;
 use anyhow::{Context, Result, bail};
 use ls_frame::Frame;
@@ -11,8 +11,8 @@ use std::time::{Duration, Instant};
 /// The most codestreams of a file.
 const MOST_FRAMES: u64 = 4_294_967_295;
 
-/// What decoding a file takes: how many frames and samples it has and a checksum of these, each counted once, and how
-/// long it took.
+/// The result of decoding a file: the numbers of its frames and samples and a checksum of the samples, each counted
+/// once, and the time taken.
 #[derive(Drop)]
 struct Decoding {
     frames: u64,
@@ -21,7 +21,7 @@ struct Decoding {
     took: Duration,
 }
 
-/// Decodes each codestream of a file so many times, and prints what it takes.
+/// Decodes each codestream of a file `times` times, and prints the result and the time.
 pub fn measure<R: Files + Clock + Print + Eprint + AllocGlobal>(
     rt: &R,
     times: u32,
@@ -36,7 +36,7 @@ pub fn measure<R: Files + Clock + Print + Eprint + AllocGlobal>(
     Ok(())
 }
 
-/// Decodes each codestream so many times, after once before the clock starts.
+/// Decodes each codestream `times` times, and once before the clock starts.
 fn decode_all<R: Clock + AllocGlobal>(rt: &R, times: u32, bytes: &[u8]) -> Result<Decoding> {
     let mut decoding = Decoding {
         frames: 0,
@@ -57,14 +57,14 @@ fn decode_all<R: Clock + AllocGlobal>(rt: &R, times: u32, bytes: &[u8]) -> Resul
     bail!("too many frames");
 }
 
-/// How long it takes to decode the codestream in front so many times.
+/// Returns the time that it takes to decode the first codestream `times` times.
 fn time_decoding<R: Clock + AllocGlobal>(rt: &R, times: u32, bytes: &[u8]) -> Result<Duration> {
     let start = Instant::now(rt)?;
     decode_times(rt.alloc(), times, bytes)?;
     Ok(start.elapsed(rt)?)
 }
 
-/// Decodes the codestream in front so many times.
+/// Decodes the first codestream `times` times.
 fn decode_times(alloc: Global, times: u32, bytes: &[u8]) -> Result<(), StreamFault> {
     for _ in 0..times {
         decode_frame(alloc, bytes)?;
@@ -73,7 +73,7 @@ fn decode_times(alloc: Global, times: u32, bytes: &[u8]) -> Result<(), StreamFau
 }
 
 impl Decoding {
-    /// With one frame more, which took so long.
+    /// Returns the result with one more frame, which took this time.
     fn after(self, frame: &Frame, took: Duration) -> Decoding {
         Decoding {
             frames: self.frames.saturating_add(1),
@@ -84,7 +84,7 @@ impl Decoding {
     }
 }
 
-/// An FNV-1a with samples more, of two bytes each, the upper one first.
+/// Continues an FNV-1a checksum with samples, of two bytes each, the upper one first.
 fn with_samples(fnv: u64, samples: &[u16]) -> u64 {
     samples.iter().fold(fnv, |fnv: u64, sample| {
         let upper = (fnv ^ u64::from(*sample >> 8)).wrapping_mul(0x100_0000_01b3);

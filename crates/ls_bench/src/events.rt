@@ -1,22 +1,23 @@
-//! A table of events such as a coder of 8-bit samples has: values of eight contexts, each with its Golomb parameter.
+//! A table of events like those of a coder of 8-bit samples: values of eight contexts, each with its Golomb parameter.
 //! It is the same in each run.
 ghost use Rattle.std.specs.Prelude.{◌<◌, ◌≤◌};
 
 use std::alloc::{AllocError, Global};
 
-/// How many events a table has where none says otherwise.
+/// The default number of events in a table.
 pub const USUAL_COUNT: u32 = 1 << 20;
 
 /// The greatest value: an error of 8 bits, mapped.
 pub const MOST_VALUE: u16 = 256;
 
-/// The greatest Golomb parameter that a context here comes to.
+/// The greatest Golomb parameter that a context here can have.
 const MOST_K: u8 = 8;
 
-/// Counters are halved when a context has had so many errors.
+/// The number of errors after which a context's counters are halved.
 const RESET: u32 = 64;
 
-/// Of 65536, how often a value of each context is followed by one more: means of about 1/2, 1, 3, 6, 12, 24, 48 and 96.
+/// For each context, the ratio, times 65536, of the geometric distribution of its values: means of about 1/2, 1, 3, 6,
+/// 12, 24, 48 and 96.
 const GOES_ON: [u64; 8] = [21845, 32768, 49152, 56174, 60495, 62915, 64199, 64860];
 
 /// A value to be coded, and the Golomb parameter to code it with.
@@ -43,7 +44,7 @@ impl Random {
     }
 }
 
-/// What a context knows: the sum of its errors' magnitudes, and their count.
+/// The counters of a context: the sum of its errors' magnitudes, and their number.
 #[derive(Clone, Copy)]
 struct Counters {
     sum: u32,
@@ -53,7 +54,7 @@ struct Counters {
 impl Counters {
     const START: Counters = Counters { sum: 4, count: 1 };
 
-    /// The least k with count * 2^k at least the sum (T.87 A.5.1).
+    /// Returns the least k with count * 2^k at least the sum (T.87 A.5.1); 8 if no smaller k has that.
     fn k(&self) -> u8
         ensures { result ≤ 8 }
     {
@@ -65,7 +66,7 @@ impl Counters {
         MOST_K
     }
 
-    /// After one more error, which is mapped to this value.
+    /// Returns the counters after one more error, which is mapped to this value.
     fn after(&self, value: u16) -> Counters {
         let sum = self.sum.saturating_add((u32::from(value) + 1) / 2);
         if self.count >= RESET {
@@ -82,7 +83,7 @@ impl Counters {
     }
 }
 
-/// The table of `count` events.
+/// Makes the table of `count` events.
 pub fn table(alloc: Global, count: usize) -> Result<Vec<Event>, AllocError> {
     let mut random = Random {
         state: 0x6a6c_7372_6563,
@@ -100,12 +101,12 @@ pub fn table(alloc: Global, count: usize) -> Result<Vec<Event>, AllocError> {
     Ok(events)
 }
 
-/// The value at this place, of 2^32, in a geometric distribution.
+/// Returns the value at this place, of 2^32, in a geometric distribution.
 fn value_at(place: u64, goes_on: u64) -> u16
     requires { goes_on < 65536 }
     ensures { result ≤ 256 }
 {
-    // The part of the values that are greater.
+    // The share of the values, of 2^32, that are greater.
     let mut tail = goes_on << 16;
     for value in 0..MOST_VALUE {
         if place >= tail {

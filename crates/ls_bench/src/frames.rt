@@ -1,4 +1,4 @@
-//! The frames of a film, encoded as codestreams into room that is there.
+//! Encodes the frames of a film as codestreams, into memory that is allocated beforehand.
 ghost use Rattle.std.specs.Prelude.{◌≡◌, ◌≤◌, All};
 ghost use Rattle.ls_frame.specs.Parameters.{default_parameters};
 ghost use Rattle.ls_stream.specs.Layout.{bound};
@@ -15,14 +15,14 @@ use std::time::{Duration, Instant};
 /// The most frames of a film.
 const MOST_FRAMES: u64 = 4_294_967_295;
 
-/// What encoding a film takes: how many bytes its codestreams have, each counted once, and how long it took.
+/// The result of encoding a film: the number of bytes of its codestreams, each counted once, and the time taken.
 #[derive(Drop)]
 struct Encoding {
     bytes: u64,
     took: Duration,
 }
 
-/// Encodes each frame of a film so many times, and prints what it takes.
+/// Encodes each frame of a film `times` times, and prints the result and the time.
 pub fn measure<R: Files + Clock + Print + Eprint + AllocGlobal>(
     rt: &R,
     times: u32,
@@ -37,14 +37,14 @@ pub fn measure<R: Files + Clock + Print + Eprint + AllocGlobal>(
     Ok(())
 }
 
-/// The frames of a file.
+/// Reads the frames of a file.
 fn read_film<R: Files + AllocGlobal>(rt: &R, name: &str) -> Result<Vec<Frame>> {
     let opened = File::open(rt, name).context(format_args!("{name} can't be opened"))?;
     let mut reader = Buffered::new(rt.alloc(), Counted::new(opened))?;
     frames_of(rt.alloc(), &mut reader).context(format_args!("{name} is no film"))
 }
 
-/// All frames of a film, from the first to the last.
+/// Reads all frames of a film, from the first to the last.
 fn frames_of<R: Feed>(alloc: Global, reader: &mut R) -> Result<Vec<Frame>> {
     let mut frames = Vec::new(alloc);
     for _ in 0..MOST_FRAMES {
@@ -56,7 +56,7 @@ fn frames_of<R: Feed>(alloc: Global, reader: &mut R) -> Result<Vec<Frame>> {
     bail!("too many frames");
 }
 
-/// Encodes each frame so many times. What it takes memory for is there before the clock starts.
+/// Encodes each frame `times` times. All memory is allocated before the clock starts.
 fn encode_all<R: Clock + AllocGlobal>(rt: &R, times: u32, frames: &[Frame]) -> Result<Encoding> {
     let mut lines = Lines::new(rt.alloc(), widest(frames))?;
     let mut bytes = written_room(rt.alloc(), frames)?;
@@ -73,14 +73,14 @@ fn encode_all<R: Clock + AllocGlobal>(rt: &R, times: u32, frames: &[Frame]) -> R
     Ok(encoding)
 }
 
-/// How many samples the frames have. In colour a pixel has three.
+/// Returns the number of samples of the frames. In colour a pixel has three.
 fn samples_of(frames: &[Frame]) -> u64 {
     frames.iter().fold(0, |samples: u64, frame| {
         samples.saturating_add(frame.samples().len() as u64)
     })
 }
 
-/// The greatest width of the frames.
+/// Returns the greatest width of the frames.
 fn widest(frames: &[Frame]) -> u16
     ensures { All (λ f. f.width ≤ result) frames.now }
 {
@@ -91,7 +91,8 @@ fn widest(frames: &[Frame]) -> u16
     widest
 }
 
-/// No bytes, with room for the codestream of any of the frames. All of it has been written to.
+/// Returns an empty vector with capacity for the codestream of any of the frames. All of its memory has been written
+/// to.
 fn written_room(alloc: Global, frames: &[Frame]) -> Result<Vec<u8>, AllocError> {
     let most = frames.iter().map(room_for).max().unwrap_or(0);
     let mut bytes = vec![in alloc; 1u8; most]?;
@@ -99,7 +100,7 @@ fn written_room(alloc: Global, frames: &[Frame]) -> Result<Vec<u8>, AllocError> 
     Ok(bytes)
 }
 
-/// The codestream of a frame, so many times over in the place of the bytes that are there.
+/// Encodes a frame `times` times, each time in place of the bytes before.
 fn encode_times(
     times: u32,
     frame: &Frame,
@@ -115,7 +116,8 @@ fn encode_times(
     Ok(bytes)
 }
 
-/// The codestream of a frame in the place of the bytes that are there. Takes memory only where there is no room for it.
+/// Encodes a frame into the memory of these bytes, which it replaces. Allocates only if they have no capacity for the
+/// codestream.
 fn encode(frame: &Frame, lines: &mut Lines, mut bytes: Vec<u8>) -> Result<Vec<u8>, AllocError>
     requires width { frame.now.width ≤ lines.old }
     ensures lines { lines.new ≡ lines.old }
@@ -126,7 +128,7 @@ fn encode(frame: &Frame, lines: &mut Lines, mut bytes: Vec<u8>) -> Result<Vec<u8
     Ok(encode_within(frame, &presets, lines, bytes))
 }
 
-/// The most bytes that a frame's codestream with the default parameters may have.
+/// Returns the most bytes that a frame's codestream with the default parameters may have.
 fn room_for(frame: &Frame) -> usize
     ensures { result ≡ bound frame.now (default_parameters frame.now.maxval) }
 {

@@ -1,15 +1,15 @@
-//! `ls_bench` measures. Its first word says what:
+//! `ls_bench` measures speed. Its first argument says of what:
 //!
 //! - `ls_bench words [TIMES [WORDS]]`: code words, put into stuffed bytes and taken back (`words`).
 //! - `ls_bench events [TIMES [SIDE]]`: the samples of regular mode of a picture of SIDE lines, coded and accepted back
 //!   (`regular`).
-//! - `ls_bench frames TIMES FILM..`: the frames of films in Netpbm's binary forms, encoded whole (`frames`).
-//! - `ls_bench decode TIMES FILE..`: the codestreams of files, which stand one behind the other, decoded whole
+//! - `ls_bench frames TIMES FILM..`: the frames of films in Netpbm's binary forms, each encoded as a whole (`frames`).
+//! - `ls_bench decode TIMES FILE..`: the codestreams of files, which follow one another, each decoded as a whole
 //!   (`codestreams`).
 //! - `ls_bench queue [JOBS]`: jobs passed through a queue by four threads to four others (`queue`).
 //!
-//! What it prints to standard output is the same in each run; times go to standard error. `bench/` runs it beside its
-//! twins in C++.
+//! What it prints to standard output is the same in each run; times go to standard error. `bench/` runs it beside C++
+//! programs that do the same.
 #![tactic(auto)]
 
 mod codestreams;
@@ -57,7 +57,7 @@ fn run<R: Threads + Wait + Sync + Env + Files + Clock + Print + Eprint + AllocGl
     }
 }
 
-/// Encodes each film that the words name from the third on.
+/// Encodes each film named by the words from the third on.
 fn measure_films<R: Files + Clock + Print + Eprint + AllocGlobal>(
     rt: &R,
     words: &[String],
@@ -69,7 +69,7 @@ fn measure_films<R: Files + Clock + Print + Eprint + AllocGlobal>(
     Ok(())
 }
 
-/// Decodes each file that the words name from the third on.
+/// Decodes each file named by the words from the third on.
 fn measure_files<R: Files + Clock + Print + Eprint + AllocGlobal>(
     rt: &R,
     words: &[String],
@@ -81,7 +81,7 @@ fn measure_files<R: Files + Clock + Print + Eprint + AllocGlobal>(
     Ok(())
 }
 
-/// The number that a word says, or the usual one where the word is left out.
+/// Returns the number that the word at this place says, or the usual one if there is no such word.
 fn number(words: &[String], place: usize, usual: u32) -> Result<u32> {
     match words.get(place) {
         Some(word) => Ok(
@@ -92,7 +92,7 @@ fn number(words: &[String], place: usize, usual: u32) -> Result<u32> {
     }
 }
 
-/// Prints how long one of so many took, to standard error.
+/// Prints the mean time of one of `count`, to standard error; nothing if `count` is 0.
 fn tell<R: Eprint>(rt: &R, what: &str, took: &Duration, count: u64, one: &str) -> io::Result<()> {
     if count == 0 {
         return Ok(());

@@ -1,5 +1,5 @@
-//! A picture of 8-bit samples such as a camera gives, and the samples of it that are coded in regular mode. It is the
-//! same in each run, and is made by integers alone.
+//! A picture of 8-bit samples like a camera's, and those of its samples that are coded in regular mode. It is the same
+//! in each run, and is made with integers alone.
 ghost use Rattle.std.specs.Prelude.{◌≡◌, ◌<◌, ◌≤◌, false};
 ghost use Rattle.ls_coding.specs.Contexts.{is_run};
 ghost use Rattle.ls_coding.specs.Samples.{AreSamples};
@@ -7,13 +7,13 @@ ghost use Rattle.ls_coding.specs.Samples.{AreSamples};
 use ls_coding::{Mode, Neighbours, mode_of};
 use std::alloc::{AllocError, Global};
 
-/// How many samples a line has, and how many lines there are, where none says otherwise.
+/// The default number of samples in a line, and of lines.
 pub const USUAL_SIDE: u32 = 1024;
 
-/// Which bits of a number are counted for noise: 8, 16, 32 or 64 of them.
+/// The bits of a number that are counted for noise: 8, 16, 32 or 64 of them.
 const COUNTED: [u64; 4] = [0xff, 0xffff, 0xffff_ffff, u64::MAX];
 
-/// A sample and those around it, which aren't all equal.
+/// A sample of regular mode and its neighbours, which aren't all equal.
 #[derive(Clone, Copy)]
 pub struct Sample {
     pub neighbours: Neighbours,
@@ -23,7 +23,7 @@ pub struct Sample {
     ghost regular: { is_run neighbours ≡ false },
 }
 
-/// The samples of a picture of `side` lines that are coded in regular mode, line by line (T.87 A.3).
+/// Returns the samples of a picture of `side` lines that are coded in regular mode, line by line (T.87 A.3).
 pub fn regular_samples(alloc: Global, side: u32) -> Result<Vec<Sample>, AllocError> {
     let mut samples = Vec::new(alloc);
     for y in 0..side {
@@ -38,7 +38,7 @@ pub fn regular_samples(alloc: Global, side: u32) -> Result<Vec<Sample>, AllocErr
     Ok(samples)
 }
 
-/// The samples around one, as they are at the picture's edges too (A.2.1).
+/// Returns the neighbours of a sample, also at the picture's edges (A.2.1).
 fn neighbours_at(side: u32, x: u32, y: u32) -> Neighbours
     requires across { x < side }
     requires down { y < side }
@@ -71,7 +71,8 @@ fn neighbours_at(side: u32, x: u32, y: u32) -> Neighbours
     Neighbours { a: b, b, c, d }
 }
 
-/// The sample at a place: two smooth fields, tilted patches that end in edges, and noise, which is of four strengths.
+/// Returns the sample at a place: the sum of two smooth fields, of tilted patches with sharp edges, and of noise, which
+/// has four strengths.
 fn sample_at(x: u32, y: u32) -> u16
     ensures { result ≤ 255 }
 {
@@ -91,7 +92,8 @@ fn sample_at(x: u32, y: u32) -> u16
     bright.saturating_sub(middle).min(255) as u16
 }
 
-/// A field of 0 to 255, drawn at the corners of squares of 2^order samples, and between them by their distances.
+/// Returns the value of a field of 0 to 255, which is drawn at the corners of squares with sides of 2^order samples,
+/// and interpolated between them.
 fn smooth(stream: u64, order: u32, x: u64, y: u64) -> u64
     requires { order < 32 }
 {
@@ -114,18 +116,19 @@ fn smooth(stream: u64, order: u32, x: u64, y: u64) -> u64
     between(side, under, upper, lower) >> (2 * order)
 }
 
-/// What is `part` of `whole` on the way from one number to another, times `whole`.
+/// Interpolates between two numbers, at `part` of `whole` of the way; the result is multiplied by `whole`.
 fn between(whole: u64, part: u64, from: u64, to: u64) -> u64 {
     let rest = whole.wrapping_sub(part);
     from.wrapping_mul(rest).wrapping_add(to.wrapping_mul(part))
 }
 
-/// The number at a corner, 0 to 255.
+/// Returns the number at a corner, 0 to 255.
 fn corner(stream: u64, x: u64, y: u64) -> u64 {
     draw(stream, x, y) % 256
 }
 
-/// A number for a place, one in each stream: the number of splitmix64 that is so far from its start at 0.
+/// Returns a pseudo-random number for a place in a stream: the one with the index that these make, from 0, of
+/// splitmix64 started at 0.
 fn draw(stream: u64, x: u64, y: u64) -> u64 {
     let place = (stream << 56) ^ (y << 28) ^ x;
     let state = place.wrapping_add(1).wrapping_mul(0x9e37_79b9_7f4a_7c15);

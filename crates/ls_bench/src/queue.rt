@@ -1,4 +1,4 @@
-//! Jobs of a number each, passed through a queue from four threads to four others.
+//! Passes jobs, of one number each, through a queue from four threads to four others.
 ghost use Rattle.std.specs.Prelude.{◌≡◌, IfOk, IfSome};
 ghost use Rattle.ls_queue.specs.View.Running.{IsSourceSeat, IsWorkerSeat, IsEnded, IsCloser, IsFinished, AreAllSources, AreAllWorkers, AreWorkerSeats};
 
@@ -12,7 +12,7 @@ use std::thread;
 use std::thread::Threads;
 use std::time::Instant;
 
-/// How many jobs are passed unless it is said.
+/// The default number of jobs to pass.
 pub const USUAL_JOBS: u32 = 1_000_000;
 
 const SOURCES: u8 = 4;
@@ -21,15 +21,14 @@ const WORKERS: usize = 4;
 
 const CAPACITIES: [(usize, &str); 2] = [(8, "capacity 8"), (256, "capacity 256")];
 
-/// What was taken: how many jobs, and the sum of their items.
+/// What was taken: the number of jobs, and the sum of their items.
 #[derive(Clone, Copy, Drop)]
 struct Total {
     jobs: u64,
     sum: u64,
 }
 
-/// Passes so many jobs, a quarter by each source, through a queue of each capacity; prints what came of it, and the
-/// times.
+/// Passes `jobs` jobs, a quarter by each source, through a queue of each capacity; prints the totals and the times.
 pub fn measure<R: Threads + Wait + Sync + Clock + Print + Eprint + AllocGlobal>(
     rt: &R,
     jobs: u32,
@@ -40,7 +39,7 @@ pub fn measure<R: Threads + Wait + Sync + Clock + Print + Eprint + AllocGlobal>(
     Ok(())
 }
 
-/// Each source puts so many items.
+/// Passes `items` items by each source through a queue of this capacity; prints the total and the time.
 fn measure_one<R: Threads + Wait + Sync + Clock + Print + Eprint + AllocGlobal>(
     rt: &R,
     capacity: usize,
@@ -58,7 +57,7 @@ fn measure_one<R: Threads + Wait + Sync + Clock + Print + Eprint + AllocGlobal>(
     Ok(())
 }
 
-/// Has each source put its items, and each worker take jobs, in a thread of its own.
+/// Puts the items of each source, and takes jobs with each worker, in a thread of its own.
 fn pass<R: Threads + Wait + Sync>(
     rt: &R,
     alloc: Global,
@@ -93,7 +92,7 @@ fn pass<R: Threads + Wait + Sync>(
     }
 }
 
-/// Has each source put its items in a thread of its own, and then finishes the queue.
+/// Puts the items of each source, in a thread of its own, and then finishes the queue.
 fn put_by_all<R: Threads + Wait + Sync>(
     rt: &R,
     queue: &Queue<u64>,
@@ -118,7 +117,7 @@ fn put_by_all<R: Threads + Wait + Sync>(
     queue.finish(rt, closer, ended).ok()
 }
 
-/// Puts the numbers below this one, and ends the source.
+/// Puts the numbers below `items`, and ends the source.
 fn put_items<R: Wait>(
     rt: &R,
     queue: &Queue<u64>,
@@ -136,7 +135,7 @@ fn put_items<R: Wait>(
     queue.end(rt, seat)
 }
 
-/// Has each worker take jobs in a thread of its own until it is answered Done.
+/// Takes jobs with each worker, in a thread of its own, until Done.
 fn take_by_all<R: Threads + Wait + Sync>(
     rt: &R,
     queue: &Queue<u64>,
@@ -157,7 +156,7 @@ fn take_by_all<R: Threads + Wait + Sync>(
     Ok(back)
 }
 
-/// Takes jobs until the answer is Done, and adds them up.
+/// Takes jobs until Done, and adds them up.
 fn take_jobs<R: Wait>(
     rt: &R,
     queue: &Queue<u64>,

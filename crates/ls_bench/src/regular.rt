@@ -1,4 +1,4 @@
-//! Samples of regular mode, coded by the counters of their contexts, and accepted back.
+//! Codes samples of regular mode by the counters of their contexts, and accepts them back.
 ghost use Rattle.std.specs.Prelude.{◌≡◌, ◌<◌, ◌≤◌, false};
 ghost use Rattle.ls_coding.specs.Contexts.{is_run};
 ghost use Rattle.ls_coding.specs.Samples.{AreSamples};
@@ -13,7 +13,7 @@ use std::alloc::Global;
 use std::rt::Clock;
 use std::time::{Duration, Instant};
 
-/// How many bits an error has.
+/// The number of bits of an error (qbpp).
 const QBPP: u32 = 8;
 
 /// The greatest value: an error of 8 bits, mapped.
@@ -28,7 +28,8 @@ struct Coder {
 }
 
 impl Coder {
-    /// The counters at a scan's start. Where they are used, the compiler isn't to know the parameters.
+    /// Returns the counters at the start of a scan. It isn't inlined, so that the compiler doesn't know the parameters
+    /// where they are used.
     #[inline(never)]
     fn new() -> Coder {
         Coder {
@@ -36,12 +37,12 @@ impl Coder {
         }
     }
 
-    /// The word of a sample.
+    /// Codes a sample, and returns its word.
     fn code(&mut self, at: &Sample) -> Word {
         self.state.code_regular(&at.neighbours, at.sample)
     }
 
-    /// The sample with these neighbours that has a value.
+    /// Returns the sample with these neighbours that has this value.
     fn accept(&mut self, neighbours: &Neighbours, value: u32) -> Result<u16, CodeFault>
         requires samples { AreSamples 255 neighbours.now }
         requires regular { is_run neighbours.now ≡ false }
@@ -60,8 +61,8 @@ struct Coded {
     ghost in_range: { value ≤ 256 },
 }
 
-/// What coding a picture gives: its samples with their values, the greatest Golomb parameter, and the bits of all words
-/// (T.87 A.5.3).
+/// The result of coding a picture: its samples with their values, the greatest Golomb parameter, and the number of bits
+/// of all words (T.87 A.5.3).
 #[derive(Drop)]
 struct Coding {
     samples: Vec<Coded>,
@@ -69,14 +70,14 @@ struct Coding {
     bits: u64,
 }
 
-/// How long coding and accepting took.
+/// The times that coding and accepting took.
 #[derive(Drop)]
 struct Took {
     coding: Duration,
     accepting: Duration,
 }
 
-/// Codes a picture of so many lines so many times, and accepts it back; prints what came of it, and the times.
+/// Codes a picture of `side` lines `times` times, and accepts it back; prints the result and the times.
 pub fn measure<R: Clock + Print + Eprint + AllocGlobal>(
     rt: &R,
     times: u32,
@@ -96,7 +97,7 @@ pub fn measure<R: Clock + Print + Eprint + AllocGlobal>(
     Ok(())
 }
 
-/// What all words come to in one number, each time the same.
+/// Codes and accepts all samples `times` times, and returns the checksum of all words, which is the same each time.
 fn code_and_accept<R: Clock>(
     rt: &R,
     times: u32,
@@ -130,7 +131,7 @@ fn print_sums<R: Print>(rt: &R, side: u32, coding: &Coding, sum: u64) -> Result<
     Ok(())
 }
 
-/// What all words come to in one number.
+/// Codes all samples, and returns a checksum of their words.
 fn code_all(samples: &[Sample]) -> u64 {
     let mut coder = Coder::new();
     let mut sum = 0u64;
@@ -144,7 +145,7 @@ fn code_all(samples: &[Sample]) -> u64 {
     sum
 }
 
-/// Whether each value stands for its sample, in order.
+/// Whether each value is accepted as its sample, in order.
 fn all_come_back(samples: &[Coded]) -> Result<bool, CodeFault> {
     let mut coder = Coder::new();
     for coded in samples {
@@ -155,7 +156,7 @@ fn all_come_back(samples: &[Coded]) -> Result<bool, CodeFault> {
     Ok(true)
 }
 
-/// Codes all samples, and keeps their values.
+/// Codes all samples, and returns them with their values.
 fn coding_of(alloc: Global, samples: &[Sample]) -> Result<Coding> {
     let mut coder = Coder::new();
     let mut coding = Coding {
@@ -178,7 +179,7 @@ fn coding_of(alloc: Global, samples: &[Sample]) -> Result<Coding> {
     Ok(coding)
 }
 
-/// How many bits a word has (A.5.3).
+/// Returns the number of bits of a word (A.5.3).
 fn length_of(word: &Word) -> u64 {
     let zeros = word.value.wrapping_shr(word.k);
     u64::from(if zeros < word.glimit.saturating_sub(QBPP + 1) {

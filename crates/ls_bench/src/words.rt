@@ -1,4 +1,4 @@
-//! Code words, put into stuffed bytes by both sinks and taken back by the source.
+//! Puts code words into stuffed bytes by both sinks, and takes them back by the source.
 ghost use Rattle.ls_bits.specs.Data.{IsData};
 
 use crate::events::{Event, table};
@@ -10,13 +10,13 @@ use std::alloc::{AllocError, Global};
 use std::rt::Clock;
 use std::time::{Duration, Instant};
 
-/// The most bits of a word, as T.87 has it for samples of 8 bits.
+/// The most bits of a word, LIMIT of T.87 for samples of 8 bits.
 const LIMIT: u32 = 32;
 
-/// How many bits an error has.
+/// The number of bits of an error (qbpp).
 const QBPP: u32 = 8;
 
-/// How long each part took, over all times.
+/// The time that each part took, over all repetitions.
 #[derive(Drop)]
 struct Took {
     growing: Duration,
@@ -24,7 +24,7 @@ struct Took {
     take: Duration,
 }
 
-/// Puts a table of so many events so many times, and takes it back; prints what came of it, and the times.
+/// Puts a table of `count` events `times` times, and takes it back; prints the result and the times.
 pub fn measure<R: Clock + Print + Eprint + AllocGlobal>(
     rt: &R,
     times: u32,
@@ -45,7 +45,7 @@ pub fn measure<R: Clock + Print + Eprint + AllocGlobal>(
     Ok(())
 }
 
-/// The bytes of all code words, which each part makes or reads so many times.
+/// Returns the bytes of all code words. Each part makes or reads them `times` times.
 fn put_and_take<R: Clock + AllocGlobal>(
     rt: &R,
     times: u32,
@@ -69,7 +69,7 @@ fn put_and_take<R: Clock + AllocGlobal>(
     Ok(bytes)
 }
 
-/// Takes all values back from the bytes. Where the data ends is found before the clock starts.
+/// Takes all values back from the bytes. The end of the data is found before the clock starts.
 fn take_back<R: Clock>(rt: &R, events: &[Event], bytes: &[u8], took: &mut Took) -> Result<()> {
     let data = &bytes[..data_of(bytes).len];
     let start = Instant::now(rt)?;
@@ -90,7 +90,7 @@ fn print_sums<R: Print>(rt: &R, events: &[Event], bytes: &[u8]) -> Result<()> {
     Ok(())
 }
 
-/// The bytes of all code words, in memory that grows.
+/// Returns the bytes of all code words, put into memory that grows.
 fn put_growing(alloc: Global, events: &[Event]) -> Result<Vec<u8>, AllocError> {
     let mut sink = BitSink::new(alloc);
     for event in events {
@@ -99,7 +99,7 @@ fn put_growing(alloc: Global, events: &[Event]) -> Result<Vec<u8>, AllocError> {
     sink.finish()
 }
 
-/// The bytes of all code words, in a vector that has room for them from the start.
+/// Returns the bytes of all code words, put into a vector that has capacity for them from the start.
 fn put_into_room(events: &[Event], mut bytes: Vec<u8>) -> Result<Vec<u8>, AllocError> {
     let Some(bits) = events.len().checked_mul(LIMIT as usize) else {
         return Err(AllocError);
@@ -127,7 +127,7 @@ fn comes_back(events: &[Event], bytes: &[u8]) -> Result<bool, CodeFault>
     Ok(true)
 }
 
-/// A checksum of bytes.
+/// Returns a checksum of bytes, FNV-1a.
 fn fnv1a(bytes: &[u8]) -> u64 {
     bytes.iter().fold(0xcbf2_9ce4_8422_2325, |hash: u64, byte| {
         (hash ^ u64::from(*byte)).wrapping_mul(0x100_0000_01b3)

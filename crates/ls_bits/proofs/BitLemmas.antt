@@ -65,7 +65,7 @@ shifted_left count keep width word e =
     let whole : word * 2 ^ count % 2 ^ width ≡ word * 2 ^ count % 2 ^ (keep + count) = ap (λ n. word * 2 ^ count % 2 ^ n) (sym e) in
     omega (arith, whole, parts, high, none)
 
--- what a word of 64 bits becomes if a value is shifted in from below
+-- the bits of a 64-bit word after a value is shifted in from below
 pub shifted_in : (held count word value : ℕ) → held + count ≤ 64 → value < 2 ^ count
     → bits_of (held + count) (bit_or (word * 2 ^ count % 2 ^ 64) value) ≡ bits_of held word ++ bits_of count value
 shifted_in held count word value fits small =
@@ -158,7 +158,7 @@ one_on_top low rest h =
     let whole : bits_of (suc low) (1 * 2 ^ low + rest) ≡ true ∷ bits_of low rest = cc in
     sym (ap (bits_of (suc low)) same) ∙ whole
 
--- so many zeros, a one, and a number in bits
+-- `count` zeros, a one, and a number in bits
 pub bits_of-word : (count low rest : ℕ) → rest < 2 ^ low → bits_of (count + suc low) (2 ^ low + rest) ≡ zeros count ++ true ∷ bits_of low rest
 bits_of-word count low rest h =
     let doubled : 2 ^ suc low ≡ 2 ^ low * 2 = pow-suc 2 low in
@@ -168,7 +168,7 @@ bits_of-word count low rest h =
     let one : bits_of (suc low) (2 ^ low + rest) ≡ true ∷ bits_of low rest = one_on_top low rest h in
     sym (ap (bits_of (count + suc low)) same) ∙ tail ∙ rw (bits_of-zero count, one) refl
 
--- the first one of a number, and what stands after it
+-- the first one of a number, and the bits after it
 pub bits_of-first_one : (count place n : ℕ) → 2 ^ place ≤ n → n < 2 ^ suc place → bits_of (count + suc place) n ≡ zeros count ++ true ∷ bits_of place n
 bits_of-first_one count place n low high =
     let doubled : 2 ^ suc place ≡ 2 ^ place * 2 = pow-suc 2 place in
@@ -183,7 +183,7 @@ bits_of-first_one count place n low high =
 mul_at_least : (a b : ℕ) → 1 ≤ a → b ≤ a * b
 mul_at_least a b h = grind arith
 
--- the highest one of a number that is at least 2 ^ shift stands no lower than there
+-- the highest one of a number of at least 2 ^ shift is at bit `shift` or above
 above_shift : (shift place n : ℕ) → 2 ^ shift ≤ n → n < 2 ^ suc place → shift ≤ place
 above_shift shift place n low high = elim (cases_lt place shift) [
   | inl below ↦ let grown : 2 ^ suc place ≤ 2 ^ shift = pow_mono below in absurd (omega arith)

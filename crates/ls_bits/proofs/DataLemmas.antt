@@ -6,7 +6,7 @@ use Rattle.std.proofs.lemmas.Bool.{cases_lt, and_parts, and_from, lt-ltb, le-ltb
 use Rattle.memchr.specs.Find.{IsFirstByte, Nowhere, Passes, is_byte}
 use Rattle.ls_bits.specs.Data.{goes_on, is_data, IsData, DataAtFront}
 
--- ---- data and what stands after it
+-- ---- data and what follows it
 
 goes_append_test : (test : Bool) (bytes more : List ℕ) → cond test (goes_on bytes) true ≡ true → cond test (goes_on (bytes ++ more)) true ≡ true
 goes_append_test false bytes more h = refl
@@ -128,6 +128,6 @@ data-all bytes len h so_far is =
 pub data-stop_end : (bytes : List ℕ) (len : ℕ) → len + 1 ≡ length bytes → goes_on (drop (len + 1) bytes) ≡ false
 data-stop_end bytes len e = ap goes_on (drop_all (len + 1) bytes (omega arith))
 
--- a marker stands there
+-- there is a marker
 pub data-stop_marker : (bytes : List ℕ) (len : ℕ) → len + 1 < length bytes → 128 ≤ get_or bytes (len + 1) 0 → goes_on (drop (len + 1) bytes) ≡ false
 data-stop_marker bytes len h high = ap goes_on (drop_more bytes (len + 1) 0 h) ∙ le-ltb (get_or bytes (len + 1) 0) 128 high

@@ -7,7 +7,7 @@ use Rattle.std.specs.Int.{bit_at}
 use lib.Bits.{bit_and}
 use Rattle.ls_bits.specs.View.Packing.{HasNoFf}
 
--- ones that have a one one place, two places, four places above them
+-- the bits that are one together with the bits one, two and four places above them
 pairs : ℕ → ℕ
 pairs word = bit_and word (word / 2)
 

@@ -1,4 +1,4 @@
--- No bits have two readings as code words.
+-- Bits can be read as a code word in at most one way.
 use Rattle.std.proofs.Common.{◌≡◌, ℕ, zero, suc, ◌+◌, ◌-◌, ◌*◌, ◌/◌, ◌%◌, ◌^◌, ◌<◌, ◌≤◌, inl, inr, Bool, true, Result, Ok, Err, IfOk, IfErr, List, ◌∷◌, ◌++◌, length, take, drop, refl, sym, ◌∙◌, ap, subst, arith, append_assoc, length-append}
 use Rattle.std.proofs.lemmas.List.{take_at, drop_at}
 use Rattle.std.proofs.lemmas.Bool.{cases_lt}
@@ -18,7 +18,7 @@ append_split : (n : ℕ) (p q x y : List Bool) → length p ≡ n → length q �
 append_split n p q x y a b e =
     (sym (take_at p x n a) ∙ ap (take n) e ∙ take_at q y n b, sym (drop_at p x n a) ∙ ap (drop n) e ∙ drop_at q y n b)
 
--- the zeros in front of a one are so many
+-- the number of zeros before the first one is unique
 zeros_unique : (a b : ℕ) (x y : List Bool) → zeros a ++ true ∷ x ≡ zeros b ++ true ∷ y → (a ≡ b) × (x ≡ y)
 zeros_unique zero zero x y e = (refl, cc)
 zeros_unique zero (suc b) x y e = absurd (cc)
@@ -36,7 +36,7 @@ zeros_most (suc a) (suc b) x y e =
     let rest : zeros a ++ true ∷ x ≡ zeros b ++ y = cc in
     omega (arith, zeros_most a b x y rest)
 
--- nothing but zeros has no one
+-- zeros alone contain no one
 zeros_alone : (a b : ℕ) (x : List Bool) → zeros a ++ true ∷ x ≡ zeros b → ⊥
 zeros_alone a zero x e = absurd (omega (arith, ap length e, length-append (zeros a) (true ∷ x)))
 zeros_alone zero (suc b) x e = cc
@@ -139,7 +139,7 @@ canonical k glimit qbpp bits v rest code takes un =
 
 -- ---- what a reader finds
 
--- the front is zeros and a one, and too little stands after it
+-- the bits begin with zeros and a one, and too few bits come after it
 pub record TooFew (k glimit qbpp count : ℕ) (left : List Bool) : Type 0 where
   pub enough_zeros : count ≤ escape_zeros glimit qbpp
   pub few_short : count < escape_zeros glimit qbpp → length left < k

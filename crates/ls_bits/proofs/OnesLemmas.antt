@@ -1,4 +1,4 @@
--- Ones in front of a number, and the bits of a run that a sample interrupts, in front of bits that are seen.
+-- Leading ones of a number, and the bits of an interrupted run at the front of known bits.
 use Rattle.std.proofs.Common.{◌≡◌, ℕ, zero, suc, ◌+◌, ◌-◌, ◌/◌, ◌%◌, ◌^◌, ◌<◌, ◌≤◌, Bool, true, false, not, eqb, List, [], ◌∷◌, ◌++◌, length, take, drop, replicate, inl, inr, refl, sym, ◌∙◌, ap, arith, append_assoc, length-append}
 use Rattle.std.proofs.lemmas.Bool.{cases_lt}
 use Rattle.std.proofs.lemmas.List.{length-replicate, replicate-append-replicate}
@@ -41,7 +41,7 @@ flipped-number (suc count) n fits few =
     let others : bits_of count (bit_not w64 n) ≡ flipped (bits_of count n) = flipped-number count n fits (omega arith) in
     cc
 
--- ---- ones in front
+-- ---- leading ones
 
 pub ones_and_more : (n count : ℕ) → n < 2 ^ 64 → LeadingZeros 64 (bit_not w64 n) count → count < 64
     → bits_of 64 n ≡ replicate count true ++ false ∷ bits_of (63 - count) n
@@ -60,7 +60,7 @@ ones_alone n count fits (found less e) many = absurd (omega arith)
 ones_alone n count fits (none all e) many =
     sym (flipped-twice (bits_of 64 n)) ∙ ap flipped (sym (flipped-number 64 n fits (omega arith)) ∙ e) ∙ flipped-zeros 64
 
--- ---- what is in front of bits that are seen
+-- ---- what bits begin with, by the first of them
 
 -- a run that a sample interrupts
 pub run_begun : (front ones width rest : ℕ) (bits : List Bool) → bits_of 64 front ≡ replicate ones true ++ false ∷ bits_of (63 - ones) front

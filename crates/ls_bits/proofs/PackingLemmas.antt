@@ -1,4 +1,4 @@
--- What a sink's steps do to its bits.
+-- What a packer's steps do to its bits.
 use Rattle.std.proofs.Common.{◌≡◌, ℕ, zero, suc, ◌+◌, ◌-◌, ◌*◌, ◌/◌, ◌%◌, ◌^◌, ◌<◌, ◌≤◌, ◌⊎◌, inl, inr, Bool, true, false, eqb, List, [], ◌∷◌, ◌++◌, length, take, drop, refl, sym, ◌∙◌, ap, subst, arith, append_assoc, length-append}
 use Rattle.std.proofs.lemmas.List.{append-nil, drop-append-le, take-append-drop, length-drop}
 use Rattle.std.proofs.lemmas.Bool.{ne_eqb, true≢false}
@@ -18,7 +18,7 @@ byte_bits-size false = inr refl
 
 -- ---- a byte put out
 
--- the byte that stands above the bits that still wait
+-- the byte above the bits that stay held
 pub record IsNextByte (word waiting : ℕ) (after_ff : Bool) (byte : ℕ) : Type 0 where
   pub is : byte ≡ word / 2 ^ waiting % 2 ^ byte_bits after_ff
 
@@ -60,7 +60,7 @@ packed_bits-byte start word held other waiting byte bytes after_ff packed sum ne
     ∙ append_assoc (unstuff stuffed) (bits_of (byte_bits after_ff) byte) (bits_of waiting word)
     ∙ ap (λ bits. unstuff stuffed ++ bits) (sym whole)
 
--- what one byte out leaves if it isn't FF
+-- what putting out one byte leaves, if it isn't FF
 pub record StillPacked (start word : ℕ) (before after : List ℕ) (held waiting : ℕ) : Type 0 where
   pub packed : IsPacked start after waiting false
   pub bits : packed_bits start after word waiting ≡ packed_bits start before word held
@@ -88,7 +88,7 @@ eight_out start word other bytes packed none =
     let eight = one_out start word 8 8 0 _ seven.packed refl (omega arith) none.at_0 in
     record { packed = eight.packed; bits = eight.bits ∙ seven.bits ∙ six.bits ∙ five.bits ∙ four.bits ∙ three.bits ∙ two.bits ∙ one.bits }
 
--- what a whole word out leaves, after a byte that isn't FF
+-- what putting out a word of 64 bits leaves, after a byte that isn't FF
 pub word_out : (start word other : ℕ) (after_ff : Bool) (before after : List ℕ) → IsPacked start before other after_ff → after_ff ≡ false → HasNoFf word
     → after ≡ with_word before word → StillPacked start word before after 64 0
 word_out start word other true before after packed e none out = absurd (true≢false e)
@@ -107,7 +107,7 @@ packed_bits-put start word held count value bytes fits small =
     ap (λ bits. unstuff (drop start bytes) ++ bits) (shifted_in held count word value fits small)
     ∙ sym (append_assoc (unstuff (drop start bytes)) (bits_of held word) (bits_of count value))
 
--- the first 64 of the bits that wait and those that are put, if they are so many, and those after them
+-- the first 64 of the bits held and put, if they are at least 64, and the rest
 pub full_bits : (held count waiting word value : ℕ) → held ≤ 63 → held + count ≡ 64 + waiting → count ≤ 64 → value < 2 ^ count
     → bits_of 64 (bit_or (word * 2 ^ (63 - held) % 2 ^ 64 * 2 ^ 1 % 2 ^ 64) (value / 2 ^ waiting)) ++ bits_of waiting value ≡ bits_of held word ++ bits_of count value
 full_bits held count waiting word value few sum most small =
@@ -129,7 +129,7 @@ full_bits held count waiting word value few sum most small =
     ∙ append_assoc (bits_of held word) (bits_of high (value / 2 ^ waiting)) (bits_of waiting value)
     ∙ ap (λ bits. bits_of held word ++ bits) (sym parts)
 
--- a full word out, and the rest of the value in its place
+-- a word of 64 bits is put out, and the rest of the value takes its place
 pub packed_bits-full : (start held count waiting word value : ℕ) (before after : List ℕ) → held ≤ 63 → held + count ≡ 64 + waiting → count ≤ 64 → value < 2 ^ count
     → packed_bits start after (bit_or (word * 2 ^ (63 - held) % 2 ^ 64 * 2 ^ 1 % 2 ^ 64) (value / 2 ^ waiting)) 0
     ≡ packed_bits start before (bit_or (word * 2 ^ (63 - held) % 2 ^ 64 * 2 ^ 1 % 2 ^ 64) (value / 2 ^ waiting)) 64
@@ -163,7 +163,7 @@ bits_of-wide front count value bits small =
 
 -- ---- the end
 
--- the bits stuffed are the bytes that are out, and the stuffing of those that wait
+-- the stuffed bits are the bytes put out, and after them the held bits stuffed
 pub stuff-packed : (start word held : ℕ) (bytes : List ℕ) (after_ff : Bool) → IsPacked start bytes held after_ff
     → take start bytes ++ stuff (packed_bits start bytes word held) ≡ bytes ++ stuff_into (byte_bits after_ff) (bits_of held word)
 stuff-packed start word held bytes after_ff packed =
@@ -174,7 +174,7 @@ stuff-packed start word held bytes after_ff packed =
     ∙ sym (append_assoc (take start bytes) stuffed (stuff_into (byte_bits after_ff) (bits_of held word)))
     ∙ ap (λ list. list ++ stuff_into (byte_bits after_ff) (bits_of held word)) (take-append-drop start bytes)
 
--- no bits wait after a byte that isn't FF
+-- no bits are held after a byte that isn't FF
 pub stuff-packed_whole : (start word held : ℕ) (bytes : List ℕ) (after_ff : Bool) → IsPacked start bytes held after_ff → held ≡ 0 → after_ff ≡ false
     → take start bytes ++ stuff (packed_bits start bytes word held) ≡ bytes
 stuff-packed_whole start word held bytes after_ff packed none other =
@@ -197,14 +197,14 @@ some_of : (held : ℕ) (after_ff : Bool) → (1 ≤ held) ⊎ (after_ff ≡ true
 some_of held after_ff (inl h) = inl h
 some_of held after_ff (inr e) = inr (ap byte_bits e)
 
--- bits that wait, or an FF in front, make one byte more
+-- held bits, or an FF before them, make one more byte
 pub stuff-packed_last : (start word held : ℕ) (bytes : List ℕ) (after_ff : Bool) → IsPacked start bytes held after_ff → held ≤ 7 → (1 ≤ held) ⊎ (after_ff ≡ true)
     → take start bytes ++ stuff (packed_bits start bytes word held) ≡ bytes ++ word % 2 ^ held * 2 ^ (byte_bits after_ff - held) ∷ []
 stuff-packed_last start word held bytes after_ff packed few some =
     stuff-packed start word held bytes after_ff packed
     ∙ ap (λ list. bytes ++ list) (last_byte (byte_bits after_ff) held word (byte_bits-size after_ff) few (some_of held after_ff some))
 
--- how many bits a sink has
+-- a lower bound on a packer's bits
 pub length-packed_bits : (start word held : ℕ) (bytes : List ℕ) → start ≤ length bytes
     → 7 * (length bytes - start) + held ≤ length (packed_bits start bytes word held)
 length-packed_bits start word held bytes h =
@@ -220,7 +220,7 @@ some_byte : (bytes : List ℕ) → next_byte_bits 8 bytes ≡ 7 → 1 ≤ length
 some_byte [] e = absurd (omega arith)
 some_byte (byte ∷ bytes) e = omega arith
 
--- there are some if any wait, or if FF is the last byte
+-- it has some if any are held, or if the last byte is FF
 pub some_bits : (start word held : ℕ) (bytes : List ℕ) (after_ff : Bool) → IsPacked start bytes held after_ff → (1 ≤ held) ⊎ (after_ff ≡ true)
     → 0 < length (packed_bits start bytes word held)
 some_bits start word held bytes after_ff packed (inl some) = omega (arith, length-packed_bits start word held bytes packed.within)

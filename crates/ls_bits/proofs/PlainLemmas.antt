@@ -1,4 +1,4 @@
--- Un-stuffed bytes as bits, and bits in front of a place.
+-- Un-stuffed bytes as bits, and the bits from a place on.
 use Rattle.std.proofs.Common.{◌≡◌, ℕ, zero, suc, ◌+◌, ◌-◌, ◌*◌, ◌/◌, ◌%◌, ◌^◌, ◌<◌, ◌≤◌, ◌⊎◌, inl, inr, ⊎_elim, Bool, true, false, List, [], ◌∷◌, ◌++◌, length, take, drop, set, get_or, refl, sym, ◌∙◌, ap, arith, append_assoc, length-append, take-append-drop, length-set, length-drop, ◌≢◌}
 use Rattle.std.proofs.lemmas.List.{take_all, take_at, drop_at, take-append-le, drop-append-le, take-take, drop-take, drop-drop, drop_more, drop_all, get_or-set_same, get_or-set_other, get_or-take, get_or-drop, ext_get_or, length-take-le, append-nil, replicate-append-replicate}
 use lib.Seq.{take-append-add}
@@ -38,7 +38,7 @@ drop-plain (suc n) (byte ∷ bytes) =
 
 -- ---- the bits from a place on
 
--- the first bits of a word that is shifted so far to the left are those of what begins with it, from so far on
+-- the first bits of a word shifted left by s are those from s on of any bits that begin with the word
 pub aligned : (n width s word : ℕ) (more : List Bool) → s + n ≤ width
     → take n (bits_of width (word * 2 ^ s % 2 ^ width)) ≡ take n (drop s (bits_of width word ++ more))
 aligned n width s word more h =
@@ -192,7 +192,7 @@ at_front bytes moved place end order within long same =
     ∙ ap (λ bits. take n (drop q bits)) (sym (drop-plain from bytes))
     ∙ ap (take n) (drop-drop q (8 * from) (plain_bits bytes) ∙ ap (λ k. drop k (plain_bits bytes)) parts)
 
--- ---- the bytes of a number more
+-- ---- the bytes of a number, appended
 
 pow-bytes : (k : ℕ) → 256 ^ k ≡ 2 ^ (8 * k)
 pow-bytes zero = refl
@@ -247,7 +247,7 @@ bytes_more bytes place end count new whole within order few =
 abbrev pub ahead_of : List ℕ → List Bool → Ahead
 ahead_of bytes bits = record { bytes = bytes; bits = bits }
 
--- bits are only taken behind whole bytes
+-- bits are only added after complete bytes
 still_whole : (end count : ℕ) (front old new : List Bool) → old ≡ take count front ++ new → count ≤ length front → (count ≡ 0 → ⊥)
     → (end % 8 ≡ 0) ⊎ (old ≡ []) → end % 8 ≡ 0
 still_whole end count front old new e few some (inl whole) = whole
@@ -257,7 +257,7 @@ still_whole end count front old new e few some (inr nothing_left) =
     let nothing : count ≡ 0 = omega (arith, size, all, ap length nothing_left) in
     absurd (some nothing)
 
--- what is seen of bytes that were added is what is seen before
+-- adding bytes doesn't change the bits that the source has left
 pub record IsLonger (bytes longer : List ℕ) (place end later : ℕ) (old new : List Bool) : Type 0 where
   pub ahead : IsAhead (ahead_of longer new) place later
   pub bits : bits_from (ahead_of longer new) place later ≡ bits_from (ahead_of bytes old) place end
@@ -321,9 +321,9 @@ skipped ahead place end count are there =
     ∙ ap (λ bits. bits ++ ahead.bits) (ap (λ n. drop count (take n all)) (sym parts) ∙ drop-take count (end - (place + count)) all
     ∙ ap (take (end - (place + count))) (drop-drop count place (plain_bits ahead.bytes))))
 
--- ---- what is in front of bits that are seen
+-- ---- what bits begin with, by the first of them
 
--- bits that begin as those that are seen do
+-- what the first n of other bits say, when the first n of both are the same
 pub begun : (n : ℕ) (seen bits front rest : List Bool) → take n seen ≡ take n bits → seen ≡ front ++ rest → length front ≤ n
     → bits ≡ front ++ drop (length front) bits
 begun n seen bits front rest same begins short =
@@ -337,7 +337,7 @@ pub length-from : (ahead : Ahead) (place end : ℕ) → IsAhead ahead place end 
 length-from ahead place end are =
     length-append (take (end - place) (drop place (plain_bits ahead.bytes))) ahead.bits ∙ ap (λ n. n + length ahead.bits) (length-ahead ahead place end are)
 
--- a number in front
+-- a number at the front
 pub number_begun : (front count value : ℕ) (bits : List Bool) → count ≤ 32 → value ≡ front / 2 ^ 32 / 2 ^ (32 - count) % 2 ^ count
     → take count (bits_of 64 front) ≡ take count bits → bits ≡ bits_of count value ++ drop count bits
 number_begun front count value bits few is same =
@@ -358,7 +358,7 @@ length-short k value lead high =
     length-append (zero_bits (value / 2 ^ k)) (true ∷ bits_of k value)
     ∙ omega (arith, length-zeros (value / 2 ^ k), length-bits_of k value, high)
 
--- a short word in front
+-- a short word at the front
 pub short_begun : (k front lead low value : ℕ) (bits : List Bool) → LeadingZeros 64 front lead → lead + 1 + k ≤ 57
     → low ≡ front / 2 ^ (64 - (lead + 1) - k) % 2 ^ k → value ≡ lead * 2 ^ k + low
     → take (lead + 1 + k) (bits_of 64 front) ≡ take (lead + 1 + k) bits → bits ≡ short_word k value ++ drop (lead + 1 + k) bits
@@ -371,7 +371,7 @@ short_begun k front lead low value bits leading room low_is value_is same =
     begun (lead + 1 + k) (bits_of 64 front) bits (short_word k value) rest same split (omega (arith, size))
     ∙ ap (λ n. short_word k value ++ drop n bits) size
 
--- zeros in front, and a one
+-- zeros and a one at the front
 pub one_begun : (front lead seen : ℕ) (bits : List Bool) → LeadingZeros 64 front lead → lead < seen → seen ≤ 57
     → take (lead + 1) (bits_of 64 front) ≡ take (lead + 1) bits → bits ≡ zero_bits lead ++ true ∷ drop (lead + 1) bits
 one_begun front lead seen bits (none all e) less few same = absurd (omega arith)

@@ -27,7 +27,7 @@ short-taken k word held zeros low value after_ff rest zeros_are room low_is valu
       high = ap (λ n. n / 2 ^ k) value_is ∙ parts.0;
     }
 
--- the 1 behind the zeros in front stands above what is after it
+-- the 1 after the leading zeros is the top bit above what follows it
 pub one_on_top : (word count k : ℕ) → word < 2 ^ 64 → LeadingZeros 64 word count → count + k < 64
     → word / 2 ^ (63 - count - k) ≡ 2 ^ k + word / 2 ^ (63 - count - k) % 2 ^ k
 one_on_top word count k small (found less bits) room =

@@ -1,4 +1,4 @@
--- Bits taken 32 at a time.
+-- Bits taken 32 or 64 at a time.
 use Rattle.std.proofs.Common.{◌≡◌, ℕ, suc, ◌+◌, ◌-◌, ◌*◌, ◌/◌, ◌%◌, ◌^◌, ◌<◌, ◌≤◌, ◌⊎◌, inl, inr, Bool, true, false, ◌==◌, List, [], ◌∷◌, ◌++◌, length, take, drop, get_or, append_assoc, refl, sym, ◌∙◌, ap, subst, arith}
 use Rattle.std.proofs.lemmas.List.{take_all, take_at}
 use lib.Bits.{bit_or}
@@ -48,7 +48,7 @@ rest_taken word held low after_ff rest few is =
     let same : bits_of held word ≡ bits_of held low = sym (ap (bits_of held) is ∙ bits_of-mod held held word (omega arith)) in
     ap (λ bits. bits ++ unstuff_from (byte_bits after_ff) rest) (same ∙ sym front)
 
--- where fewer than 32 bits are held after bytes were taken in, no more are left
+-- if fewer than 32 bits are held after a refill, no more are left
 pub no_more : (word held : ℕ) (after_ff : Bool) (rest : List ℕ) (seen : BitsLeft) → held < 32
     → ◌≡◌ {A = BitsLeft} (record { bits = bits_left word held after_ff rest; held = held }) seen
     → (32 ≤ seen.held) ⊎ (length seen.bits ≤ seen.held) → unstuff_from (byte_bits after_ff) rest ≡ []
@@ -125,7 +125,7 @@ small_bytes size (byte ∷ bytes) h keeps =
     let most : 2 ^ size ≤ 2 ^ 8 = pow_mono h in
     (omega (arith, keeps.0, most), small_bytes (bits_after byte) bytes (bits_after-most byte) keeps.1)
 
--- eight bytes of which none is FF, after another such
+-- eight bytes of which none is FF, after a byte that isn't FF
 eight_taken_in : (word held bits a b c d e f g h eight : ℕ) (rest : List ℕ) → IsWindow held false (a ∷ b ∷ c ∷ d ∷ e ∷ f ∷ g ∷ h ∷ rest) → HasNoFf eight
     → eight ≡ (((a * 256 + b) * 256 + c) * 256 + d) * 4294967296 + (((e * 256 + f) * 256 + g) * 256 + h)
     → bits_of 64 bits ≡ bits_of held word ++ bits_of (64 - held) (eight / 2 ^ held)

@@ -118,7 +118,7 @@ stuff_into-step size bits r h =
     groups-enough (length bits) (suc (length (drop size bits))) (bits_after group) (drop size bits) (omega (arith, some.0)) (omega arith) (omega arith) in
     groups-step (length bits) size bits h ∙ ap (λ bytes. group ∷ bytes) same
 
--- a byte's bits are the group that it is
+-- the bits of a byte are the group that it was made of
 pub stuff_into-byte : (size byte : ℕ) (more : List Bool) → 1 ≤ size → byte < 2 ^ size
     → stuff_into size (bits_of size byte ++ more) ≡ byte ∷ stuff_into (bits_after byte) more
 stuff_into-byte size byte more r h =
@@ -152,7 +152,7 @@ stuff_into-last size held word r some few =
     let rest : drop size bits ≡ [] = drop_all size bits (omega (arith, range.0)) in
     stuff_into-step size bits (omega (arith, range.0)) (omega arith) ∙ rw (next, rest, stuff_into-none, group) refl
 
--- bytes as stuffing makes them are the stuffing of their bits
+-- bytes that keep the rules of stuffing are what their bits are stuffed into
 pub stuff_into-front : (size : ℕ) (bytes : List ℕ) (rest : List Bool) → 1 ≤ size → KeepsStuffing size bytes
     → stuff_into size (unstuff_from size bytes ++ rest) ≡ bytes ++ stuff_into (next_byte_bits size bytes) rest
 stuff_into-front size [] rest r keeps = refl
@@ -182,7 +182,7 @@ pub KeepsStuffing-append : (size : ℕ) (bytes more : List ℕ) → KeepsStuffin
 KeepsStuffing-append size [] more keeps others = others
 KeepsStuffing-append size (byte ∷ bytes) more keeps others = (keeps.0, KeepsStuffing-append (bits_after byte) bytes more keeps.1 others)
 
--- each byte holds seven bits at least
+-- each byte holds at least seven bits
 pub length-unstuff_from : (size : ℕ) (bytes : List ℕ) → IsSize size → 7 * length bytes ≤ length (unstuff_from size bytes)
 length-unstuff_from size [] r = omega arith
 length-unstuff_from size (byte ∷ bytes) r =
@@ -229,7 +229,7 @@ unstuffed_whole most size bits count whole some more =
     ∙ sym (append_assoc (take size bits) (drop size bits) (zeros count))
     ∙ ap (λ front. front ++ zeros count) (take-append-drop size bits)
 
--- un-stuffing gives the bits back, and fewer than eight zeros after them
+-- un-stuffing gives the bits back, followed by fewer than eight zeros
 pub groups-unstuffed : (most size : ℕ) (bits : List Bool) → IsSize size → length bits < most
     → (count : ℕ) × (count ≤ 7) × (unstuff_from size (groups most size bits) ≡ bits ++ zeros count)
 groups-unstuffed zero size bits r h = absurd (omega arith)
@@ -248,7 +248,7 @@ length_end : (size : ℕ) → IsSize size → length {A = ℕ} (cond (eqb size 7
 length_end size (inl e) = rw e (omega arith)
 length_end size (inr e) = rw e (omega arith)
 
--- a byte for each seven bits, and one
+-- at most one byte for each seven bits, and one more
 pub length-groups : (most size : ℕ) (bits : List Bool) → IsSize size → length (groups most size bits) ≤ length bits / 7 + 1
 unfolding groups
 length-groups zero size bits r = omega arith
@@ -276,7 +276,7 @@ data_end : (size : ℕ) → IsSize size → (is_data (cond (eqb size 7) (0 ∷ [
 data_end size (inl e) = rw e (refl, λ h. refl)
 data_end size (inr e) = (rw e refl, λ h. absurd (omega arith))
 
--- stuffed bits are data, and after FF they go on
+-- stuffed bits are data, and may follow FF if the first byte holds seven bits
 pub groups-data : (most size : ℕ) (bits : List Bool) → IsSize size → length bits < most
     → (is_data (groups most size bits) ≡ true) × (size ≡ 7 → goes_on (groups most size bits) ≡ true)
 unfolding groups
@@ -323,7 +323,7 @@ byte_keeps : (size byte : ℕ) (bytes : List ℕ) → IsSize size → byte < 256
 byte_keeps size byte bytes (inl seven) h on = subst (λ n. byte < 2 ^ n) (sym seven) (ltb-true byte 128 (on seven))
 byte_keeps size byte bytes (inr eight) h on = subst (λ n. byte < 2 ^ n) (sym eight) h
 
--- bytes that are data are as stuffing makes them
+-- bytes that are data keep the rules of stuffing
 pub data-keeps : (size : ℕ) (bytes : List ℕ) → IsSize size → AreBytes bytes → is_data bytes ≡ true → (size ≡ 7 → goes_on bytes ≡ true) → KeepsStuffing size bytes
 data-keeps size [] r bytes data_is on = tt
 data-keeps size (byte ∷ bytes) r each data_is on =

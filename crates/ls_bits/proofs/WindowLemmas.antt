@@ -1,4 +1,4 @@
--- What a source's steps do to the bits that it has left.
+-- What the steps of a `Stuffed` do to the bits that it has left.
 use Rattle.std.proofs.Common.{◌≡◌, ℕ, suc, ◌+◌, ◌-◌, ◌*◌, ◌/◌, ◌%◌, ◌^◌, ◌<◌, ◌≤◌, inr, Bool, true, false, eqb, List, [], ◌∷◌, ◌++◌, length, take, drop, get_or, refl, sym, ◌∙◌, ap, Fits, w8, subst, arith, append_assoc, length-append}
 use Rattle.std.proofs.lemmas.List.{append-nil, take_all, replicate-append-replicate, drop_more}
 use Rattle.std.proofs.lemmas.Bool.{true≢false}
@@ -52,7 +52,7 @@ byte_in word held size value after_ff (byte ∷ bytes) some window few e v =
 last_byte : (high a b : ℕ) (more : List Bool) → b < 256 → bits_of (high + 8) (a * 256 + b) ++ more ≡ bits_of high a ++ (bits_of 8 b ++ more)
 last_byte high a b more small = ap (λ bits. bits ++ more) (bits_of-cat high 8 a b small) ∙ append_assoc (bits_of high a) (bits_of 8 b) more
 
--- the bits of four bytes that are a number, with more bits after them
+-- the bits of a number in four bytes, with more bits after them
 pub bits_of-four : (first second third fourth value : ℕ) (more : List Bool) → second < 256 → third < 256 → fourth < 256
     → value ≡ ((first * 256 + second) * 256 + third) * 256 + fourth
     → bits_of 32 value ++ more ≡ bits_of 8 first ++ (bits_of 8 second ++ (bits_of 8 third ++ (bits_of 8 fourth ++ more)))
@@ -62,7 +62,7 @@ bits_of-four first second third fourth value more b c d e =
     ∙ last_byte 16 (first * 256 + second) third (bits_of 8 fourth ++ more) c
     ∙ last_byte 8 first second (bits_of 8 third ++ (bits_of 8 fourth ++ more)) b
 
--- four bytes of which none is FF, after another such
+-- four bytes of which none is FF, after a byte that isn't FF
 four_taken_in : (word held first second third fourth value : ℕ) (rest : List ℕ) → IsWindow held false (first ∷ second ∷ third ∷ fourth ∷ rest)
     → (first ≡ 255 → ⊥) → (second ≡ 255 → ⊥) → (third ≡ 255 → ⊥) → (fourth ≡ 255 → ⊥) → held ≤ 31
     → value ≡ ((first * 256 + second) * 256 + third) * 256 + fourth
@@ -105,7 +105,7 @@ four_in word held value (first ∷ second ∷ third ∷ fourth ∷ bytes) some w
 
 -- ---- bits taken
 
--- what was left before a refill is what the refilled word and the other bytes hold
+-- the bits left before a refill are those of the refilled word and the other bytes
 pub refilled : (word held : ℕ) (after_ff : Bool) (rest : List ℕ) (before after : BitsLeft) → after.bits ≡ before.bits
     → ◌≡◌ {A = BitsLeft} (record { bits = bits_left word held after_ff rest; held = held }) after → before.bits ≡ bits_left word held after_ff rest
 refilled word held after_ff rest before after same seen = sym same ∙ sym (ap (λ (w : BitsLeft). w.bits) seen)
@@ -121,7 +121,7 @@ bits_left-take word held count value after_ff rest h e =
     ∙ ap (λ bits. bits ++ more) (bits_of-split count (held - count) word ∙ ap (λ bits. bits ++ bits_of (held - count) word) same)
     ∙ append_assoc (bits_of count value) (bits_of (held - count) word) more
 
--- if no bytes are left, what is held is all
+-- if no bytes are left, all bits left are held
 length-bits_left : (word held : ℕ) (after_ff : Bool) (rest : List ℕ) → rest ≡ [] → length (bits_left word held after_ff rest) ≡ held
 length-bits_left word held after_ff rest e =
     ap (λ bytes. length (bits_left word held after_ff bytes)) e ∙ ap length (append-nil (bits_of held word)) ∙ length-bits_of held word

@@ -1,8 +1,8 @@
--- How bits, bytes and numbers are said in every crate from here up.
+-- How this crate and those above it represent bits, bytes and numbers.
 --
 -- A bit list is a `List Bool`, the first bit first; true is a bit 1.
 -- Bytes are a `List ℕ`, each below 256. An unsigned number is a ℕ, a signed one, such as an error, a ℤ.
--- A number stands in bits, and in bytes, with the most significant in front.
+-- In bits as in bytes, the most significant part of a number comes first.
 use Rattle.std.specs.Prelude.{◌≡◌, ℕ, zero, suc, ◌+◌, ◌*◌, ◌/◌, ◌%◌, ◌^◌, ◌<◌, Bool, true, false, eqb, List, [], ◌∷◌, ◌++◌, length, replicate}
 use Rattle.std.specs.List.{AllByRecursion}
 
@@ -19,16 +19,16 @@ abbrev pub bit_value : Bool → ℕ
 bit_value false = 0
 bit_value true = 1
 
--- the number that bits say
+-- the number that bits represent
 abbrev pub number_of : List Bool → ℕ
 number_of [] = 0
 number_of (bit ∷ bits) = bit_value bit * 2 ^ length bits + number_of bits
 
--- so many bits 0
+-- count zeros
 abbrev pub zeros : ℕ → List Bool
 zeros count = replicate count false
 
--- the bits have these in front
+-- bits begin with front
 abbrev pub BeginsWith : List Bool → List Bool → Type 0
 BeginsWith front bits = (rest : List Bool) × (bits ≡ front ++ rest)
 
@@ -36,6 +36,6 @@ BeginsWith front bits = (rest : List Bool) × (bits ≡ front ++ rest)
 abbrev pub AreBytes : List ℕ → Type 0
 AreBytes bytes = AllByRecursion (λ byte. byte < 256) bytes
 
--- a number below 2 ^ 16 in two bytes, as the fields of a marker segment have it (T.87 Annex C)
+-- a number below 2 ^ 16 in two bytes, as in the fields of a marker segment (T.87 Annex C)
 abbrev pub two_bytes : ℕ → List ℕ
 two_bytes n = n / 256 ∷ n % 256 ∷ []

@@ -3,16 +3,16 @@
 use Rattle.std.specs.Prelude.{ℕ, zero, suc, ◌==◌, Bool, if◌then◌else◌, List, [], ◌∷◌, ◌++◌, length, take, drop}
 use Rattle.ls_bits.specs.Bits.{bits_of, number_of, zeros}
 
--- how many bits the byte after this one holds: seven after FF, else eight
+-- the number of bits that the byte after this one holds: seven after FF, else eight
 abbrev pub bits_after : ℕ → ℕ
 bits_after byte = if byte == 255 then 7 else 8
 
--- the byte of the first group of `size` bits, filled with zeros if there are fewer
+-- the byte of the first group of `size` bits, filled with zeros if fewer bits are left
 abbrev pub first_group : ℕ → List Bool → ℕ
 first_group size bits = number_of (take size (bits ++ zeros size))
 
--- The bytes of bits, of which the first holds `size`: each group, and at the end 00 if it stands after FF.
--- There are at most `most` bytes; one more than there are bits is always enough.
+-- The bytes that bits are stuffed into, of which the first holds `size` bits: one for each group, and 00 at the end if
+-- the last one is FF. At most `most` bytes are made; one more than the number of bits is always enough.
 unfoldable pub groups : ℕ → ℕ → List Bool → List ℕ
 groups zero size bits = []
 groups (suc most) size [] = if size == 7 then 0 ∷ [] else []
@@ -20,7 +20,7 @@ groups (suc most) size (bit ∷ bits) =
     first_group size (bit ∷ bits)
     ∷ groups most (bits_after (first_group size (bit ∷ bits))) (drop size (bit ∷ bits))
 
--- the bytes of bits, of which the first holds `size`
+-- the bytes that bits are stuffed into, of which the first holds `size` bits
 abbrev pub stuff_into : ℕ → List Bool → List ℕ
 stuff_into size bits = groups (suc (length bits)) size bits
 
@@ -33,6 +33,6 @@ abbrev pub unstuff_from : ℕ → List ℕ → List Bool
 unstuff_from size [] = []
 unstuff_from size (byte ∷ bytes) = bits_of size byte ++ unstuff_from (bits_after byte) bytes
 
--- the bits of bytes: all of each, but for the top bit of one that follows FF
+-- the bits of bytes: all of each, except the top bit of one that follows FF
 abbrev pub unstuff : List ℕ → List Bool
 unstuff bytes = unstuff_from 8 bytes

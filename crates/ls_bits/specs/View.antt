@@ -1,4 +1,4 @@
--- How the values of the code are seen as what the standard says.
+-- How the code's values are seen as the standard's.
 pub mod Packing
 pub mod Plain
 pub mod Room

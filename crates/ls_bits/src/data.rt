@@ -1,13 +1,13 @@
-//! The data at the front of bytes: what a scan's bits are stuffed into, up to the marker that ends it.
+//! The data at the front of bytes: a scan's stuffed bits, up to the marker that ends them.
 ghost use Rattle.std.specs.Prelude.{◌≡◌, ◌+◌, ◌<◌, ◌≤◌, ℕ, IsTrue, length, drop, slice_index};
 ghost use Rattle.ls_bits.specs.Data.{DataAtFront, stop_at};
 
 use memchr::memchr;
 
-/// Why data ends.
+/// Why the data ends.
 #[derive(Clone, Copy, Debug, Drop, PartialEq, Eq)]
 pub enum Stop {
-    /// A marker stands after it: FF and a byte of 80 or more, also a fill byte FF.
+    /// A marker follows: FF and a byte of 0x80 or more, which may be a fill byte FF.
     Marker,
     /// The bytes end, or their last one is a lone FF.
     End,
@@ -16,13 +16,13 @@ pub enum Stop {
 /// The data at the front of bytes (T.87 C.1).
 #[derive(Clone, Copy, Debug, Drop, PartialEq, Eq)]
 pub struct Data {
-    /// How many bytes it has.
+    /// Its length in bytes.
     pub len: usize,
     pub stop: Stop,
 }
 
-/// The longest front of `bytes` in which no FF is followed by a byte of 80 or more and whose last byte isn't FF (T.87
-/// C.1). Takes any bytes, allocates nothing and cannot fail.
+/// The longest prefix of `bytes` in which no FF is followed by a byte of 0x80 or more and whose last byte isn't FF
+/// (T.87 C.1). Takes any bytes, allocates nothing and cannot fail.
 pub fn data_of(bytes: &[u8]) -> Data
     ensures len { DataAtFront bytes.now result.len }
     ensures stop { result.stop ≡ stop_at (drop result.len bytes.now) }

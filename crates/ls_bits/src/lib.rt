@@ -1,9 +1,9 @@
-//! Bits, the stuffing of bits into bytes (T.87 C.1), and the Golomb words of T.87 (A.5.3).
+//! Bits, the stuffing of bits into bytes (T.87 C.1), and Golomb code words (T.87 A.5.3).
 //!
-//! A sink is a list of bits, and finishes as those bits stuffed (`specs/Stuffing.antt`); a source is the bits of
-//! stuffed bytes; a word is that of the standard (`specs/Golomb.antt`); `data_of` is the data at the front of bytes
-//! (`specs/Data.antt`). `specs/Bits.antt` has the words for bits, bytes and numbers that the crates above use;
-//! `specs/View` says how the code's values are seen as these.
+//! A sink collects bits, and stuffs them when it finishes (`specs/Stuffing.antt`); a source gives the bits of stuffed
+//! bytes; code words are the standard's (`specs/Golomb.antt`); `data_of` finds the data at the front of bytes
+//! (`specs/Data.antt`). `specs/Bits.antt` defines bits, bytes and numbers for the crates above too; `specs/View` says
+//! how the code's values are seen as the standard's.
 //!
 //! ```
 //! use ls_bits::{BitSink, BitSource, CodeFault, data_of};
@@ -23,9 +23,10 @@
 //! }
 //! ```
 //!
-//! In reading order: `sink` (into memory of its own), `room` and `slice_room` (memory of the caller's), `room_sink`
-//! (into such memory, with no allocation), `packer` (what both sinks hold), `data`, `source`, `plain` (the bytes of the
-//! bits that it has un-stuffed), `stuffed` (where these come from), `laws` (what follows from the definitions alone).
+//! In reading order: `sink` (allocates its own memory), `room` and `slice_room` (the caller's memory), `room_sink`
+//! (writes into such memory, without allocating), `packer` (what both sinks hold), `data`, `source`, `plain` (the
+//! source's buffer of un-stuffed bits), `stuffed` (the bytes that it un-stuffs), `laws` (what follows from the
+//! definitions alone).
 #![tactic(auto)]
 
 pub mod data;

@@ -1,4 +1,4 @@
-//! Packing bits into stuffed bytes, after the bytes that a room already has (T.87 C.1).
+//! Packing bits into stuffed bytes, after the bytes that a room already holds (T.87 C.1).
 ghost use Rattle.std.specs.Prelude.{◌≡◌, ◌+◌, ◌-◌, ◌*◌, ◌%◌, ◌^◌, ◌<◌, ◌≤◌, [], ◌∷◌, ◌++◌, true, false, length, OnOk};
 ghost use Rattle.ls_bits.specs.Bits.{bits_of, zeros as zero_bits};
 ghost use Rattle.ls_bits.specs.Stuffing.{stuff};
@@ -10,17 +10,17 @@ use std::alloc::AllocError;
 use std::marker::Model;
 use std::mem;
 
-/// The most bytes that the bits in the word and those of one put make.
+/// Bytes enough for the bits held, at most 63, and those of one put, at most 64, at seven bits a byte.
 const MOST_BYTES: usize = 20;
 
-/// Stuffed bytes, and the bits after them that aren't a whole byte yet.
+/// Stuffed bytes, and up to 63 bits after them that aren't stuffed yet.
 #[derive(Drop)]
 pub struct Packer<R: Room> {
-    /// The room that the bytes go into.
+    /// The room that the bytes are put into.
     bytes: R,
-    /// Where in it the stuffed bytes begin.
+    /// The place in it where the stuffed bytes begin.
     start: usize,
-    /// Its lowest `held` bits come after the stuffed bytes. Those above them mean nothing.
+    /// Its lowest `held` bits, at most 63, come after the stuffed bytes. The bits above them mean nothing.
     word: u64,
     held: u32,
     /// Whether the last stuffed byte is FF.
@@ -46,7 +46,8 @@ impl<R: Room> Model for Packer<R> {
 }
 
 impl Packer<Vec<u8>> {
-    /// Takes room for any one put, or for the last byte. Fails only if an allocation fails.
+    /// Reserves room for one put of at most 64 bits, or for `finish`. Fails only if an allocation fails; the bits are
+    /// unchanged either way.
     #[inline(always)]
     pub fn reserve(&mut self) -> Result<(), AllocError>
         ensures room { OnOk result (HasRoom self.new 64) }
@@ -58,7 +59,7 @@ impl Packer<Vec<u8>> {
 }
 
 impl<R: Room> Packer<R> {
-    /// No bits yet, after the bytes of the room.
+    /// A packer with no bits yet, which come after the bytes already in the room.
     pub fn new(bytes: R) -> Packer<R>
         ensures grown { R.Grown bytes result.room }
         ensures front { result.front ≡ R.items bytes }
@@ -78,7 +79,7 @@ impl<R: Room> Packer<R> {
         }
     }
 
-    /// Appends `value` in `count` bits.
+    /// Appends `value` in `count` bits, the most significant first.
     #[inline(always)]
     pub fn put(&mut self, value: u32, count: u32)
         requires room { HasRoom self.old count }
@@ -121,7 +122,7 @@ impl<R: Room> Packer<R> {
         }
     }
 
-    /// The room: the bytes that it had, and after them the bits, stuffed.
+    /// Returns the room: the bytes that it had, followed by the stuffed bits.
     pub fn finish(mut self) -> R
         requires room { 0 < length self.bits → HasRoom self 7 }
         ensures bytes { R.items result ≡ self.front ++ stuff self.bits }
@@ -136,7 +137,7 @@ impl<R: Room> Packer<R> {
         self.bytes
     }
 
-    /// So many zeros, a one, and `rest` in `count` bits.
+    /// Appends `zeros` zeros, a one, and `rest` in `count` bits.
     #[inline(always)]
     fn put_unary(&mut self, zeros: u32, rest: u32, count: u32)
         requires room { HasRoom self.old (zeros + 1 + count) }
@@ -149,7 +150,7 @@ impl<R: Room> Packer<R> {
         self.put(led_by_one(rest, count), zeros + 1 + count);
     }
 
-    /// As `put_unary`, out of the way of the words that are common.
+    /// As `put_unary`, off the fast path: for escape words, which are rare.
     #[inline(always)]
     fn put_escape(&mut self, zeros: u32, rest: u32, count: u32)
         requires room { HasRoom self.old (zeros + 1 + count) }
@@ -162,7 +163,7 @@ impl<R: Room> Packer<R> {
         self.put_by_bytes(led_by_one(rest, count), zeros + 1 + count);
     }
 
-    /// Appends `value` in `count` bits, which the word can hold.
+    /// Appends `value` in `count` bits to those held, which must stay below 64.
     #[inline(always)]
     fn append(&mut self, value: u32, count: u32)
         requires held { self.old.held + count < 64 }
@@ -174,7 +175,7 @@ impl<R: Room> Packer<R> {
         self.held += count;
     }
 
-    /// As `put`, byte by byte. The packer goes there and back by value, so that it can be in registers here.
+    /// As `put`, one byte at a time. The packer is moved out and back, so that the caller can keep it in registers.
     #[inline(always)]
     fn put_by_bytes(&mut self, value: u32, count: u32)
         requires room { HasRoom self.old count }
@@ -187,7 +188,7 @@ impl<R: Room> Packer<R> {
         *self = put_apart(packer, value, count);
     }
 
-    /// Takes the packer out of its place, and leaves one without places there.
+    /// Takes the packer, and leaves one over an empty room in its place.
     #[inline(always)]
     fn take(&mut self) -> Packer<R>
         ensures { result ≡ self.old }
@@ -196,7 +197,7 @@ impl<R: Room> Packer<R> {
         mem::replace(self, empty)
     }
 
-    /// Puts out whole bytes until fewer than eight bits wait.
+    /// Stuffs bits into bytes until fewer than eight bits are held.
     fn put_out_bytes(&mut self)
         requires room { HasRoom self.old 0 }
         ensures bits { self.new.bits ≡ self.old.bits }
@@ -208,7 +209,7 @@ impl<R: Room> Packer<R> {
         }
     }
 
-    /// Puts out one whole byte.
+    /// Stuffs the first of the held bits into one byte: seven after FF, else eight.
     fn put_out_byte(&mut self)
         requires room { 0 < self.old.capacity_left }
         requires held { 8 ≤ self.old.held }
@@ -224,7 +225,7 @@ impl<R: Room> Packer<R> {
     }
 }
 
-/// As `put`, byte by byte.
+/// As `put`, one byte at a time.
 #[cold]
 #[inline(never)]
 fn put_apart<R: Room>(mut packer: Packer<R>, value: u32, count: u32) -> Packer<R>
@@ -253,7 +254,7 @@ fn low_bits(value: u32, count: u32) -> u32
     value & ((1 << count) - 1)
 }
 
-/// A one, and `rest` in `count` bits.
+/// The number whose bits are a one, followed by `rest` in `count` bits.
 fn led_by_one(rest: u32, count: u32) -> u32
     requires count { count < 32 }
     requires rest { rest < 2 ^ count }
@@ -262,14 +263,14 @@ fn led_by_one(rest: u32, count: u32) -> u32
     (1 << count) | rest
 }
 
-/// How many bits the next byte holds: seven after FF, else eight.
+/// The number of bits that the next byte holds: seven after FF, else eight.
 pub fn byte_bits(after_ff: bool) -> u32
     ensures { result ≡ byte_bits after_ff }
 {
     if after_ff { 7 } else { 8 }
 }
 
-/// The byte of the lowest bits of `word`.
+/// The lowest bits of `word` that make a byte: seven after FF, else eight.
 fn group(word: u64, after_ff: bool) -> u8
     ensures { result ≡ word % 2 ^ byte_bits after_ff }
 {
@@ -280,7 +281,7 @@ fn group(word: u64, after_ff: bool) -> u8
     }
 }
 
-/// The byte of the lowest `held` bits of `word`, filled with zeros.
+/// The last byte: the lowest `held` bits of `word`, at most seven, filled with zeros after them.
 fn last_group(word: u64, held: u32, after_ff: bool) -> u8
     requires { held ≤ 7 }
     ensures { result ≡ (word % 2 ^ held) * 2 ^ (byte_bits after_ff - held) }

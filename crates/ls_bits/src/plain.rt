@@ -1,11 +1,12 @@
-//! Bytes in which un-stuffed bits stand, eight in each.
+//! A buffer of un-stuffed bits, eight to a byte.
 ghost use Rattle.std.specs.Prelude.{◌≡◌, ◌+◌, ◌-◌, ◌/◌, ◌≤◌, length, take, drop};
 ghost use Rattle.ls_bits.specs.Bits.{bits_of};
 ghost use Rattle.ls_bits.specs.View.Plain.{plain_bits, with_bytes};
 ghost use Rattle.std.specs.Int.{to_be_bytes};
 ghost use mir.Syntax.{w32, w64};
 
-/// The bits from a place on, in a number of 64 bits from its top on. The first 57 are there.
+/// The bits from bit `place` on, from the top bit of the result down. Only the first 57 are right. Requires eight bytes
+/// from the one with that bit on.
 #[inline(always)]
 pub fn front_of(bytes: &[u8], place: usize) -> u64
     requires { place / 8 + 8 ≤ length bytes.now }
@@ -25,7 +26,7 @@ pub fn front_of(bytes: &[u8], place: usize) -> u64
     word << (place % 8)
 }
 
-/// Moves the bytes from one place up to another to the front.
+/// Moves the bytes from `from` up to `end` to the front.
 pub fn move_to_front(bytes: &mut [u8], from: usize, end: usize)
     requires order { from ≤ end }
     requires within { end ≤ length bytes.old }
@@ -37,7 +38,7 @@ pub fn move_to_front(bytes: &mut [u8], from: usize, end: usize)
     }
 }
 
-/// Puts a number into eight bytes.
+/// Writes a number into the eight bytes from `at` on, the most significant byte first.
 #[inline(always)]
 pub fn put_eight(bytes: &mut [u8], at: usize, number: u64)
     requires { at + 8 ≤ length bytes.old }
@@ -46,7 +47,7 @@ pub fn put_eight(bytes: &mut [u8], at: usize, number: u64)
     bytes[at..at + 8].copy_from_slice(&number.to_be_bytes());
 }
 
-/// Puts a number into four bytes.
+/// Writes a number into the four bytes from `at` on, the most significant byte first.
 #[inline(always)]
 pub fn put_four(bytes: &mut [u8], at: usize, number: u32)
     requires { at + 4 ≤ length bytes.old }

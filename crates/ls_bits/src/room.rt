@@ -1,27 +1,27 @@
-//! Memory of a caller's that bytes are put into, one after the other, and that neither grows nor moves.
+//! The caller's memory, into which bytes are put one after the other. It neither grows nor moves.
 ghost use Rattle.std.specs.Prelude.{◌≡◌, ℕ, ◌+◌, ◌/◌, ◌%◌, ◌^◌, ◌<◌, ◌≤◌, [], ◌∷◌, ◌++◌, List, length};
 ghost use Rattle.ls_bits.specs.View.Packing.{with_word};
 
 use std::mem;
 
-/// A place for bytes with a fixed number of places: a vector's capacity, or a slice.
+/// Memory for a fixed number of bytes: a vector's capacity, or a slice.
 pub trait Room: Drop {
-    /// The bytes that are in it.
+    /// The bytes in it.
     ghost items: { Self → List ℕ };
 
-    /// How many bytes it can have in all.
+    /// The number of bytes that it can hold in all.
     ghost capacity: { Self → ℕ };
 
-    /// What putting bytes changes in the first makes at most the second: the same memory, and its free places but for
-    /// those taken.
+    /// Whether putting bytes can turn the first into the second: it is the same memory, and the free places after those
+    /// bytes are unchanged.
     ghost Grown: { Self → Self → Type 0 };
 
-    /// How many bytes are in it.
+    /// The number of bytes in it, at most its capacity.
     fn len(&self) -> usize
         ensures value { result ≡ length (items self.now) }
         ensures within { length (items self.now) ≤ capacity self.now };
 
-    /// Puts a byte behind them.
+    /// Appends a byte. Requires a free place.
     fn put_byte(&mut self, byte: u8)
         requires { length (items self.old) < capacity self.old }
         ensures items { items self.new ≡ items self.old ++ byte ∷ [] }
@@ -29,7 +29,7 @@ pub trait Room: Drop {
         ensures capacity { capacity self.new ≡ capacity self.old }
         ensures grown { Grown self.old self.new };
 
-    /// Puts the eight bytes of a word behind them, the most significant first.
+    /// Appends the eight bytes of a word, the most significant first. Requires eight free places.
     #[inline(always)]
     fn put_word(&mut self, word: u64)
         requires { length (items self.old) + 8 ≤ capacity self.old }
@@ -48,7 +48,7 @@ pub trait Room: Drop {
         self.put_byte(byte_at(word, 0));
     }
 
-    /// A room without places, to stand where this one stands while it is elsewhere.
+    /// A room of no capacity, left in place of this one while this one is moved elsewhere.
     fn empty(&self) -> Self;
 
     ghost grown_not: { (room : Self) → Grown room room };
@@ -56,7 +56,7 @@ pub trait Room: Drop {
     ghost grown_twice: { (a b c : Self) → Grown a b → Grown b c → Grown a c };
 }
 
-/// The capacity of a vector.
+/// A vector, up to its capacity.
 impl Room for Vec<u8> {
     ghost use Rattle.std.specs.Prelude.{vec_capacity};
 
@@ -85,7 +85,7 @@ impl Room for Vec<u8> {
     ghost grown_twice = { λ _ _ _ _ _. tt };
 }
 
-/// Takes a room out of its place, and leaves one without places there.
+/// Takes a room, and leaves an empty one of no capacity in its place.
 #[inline(always)]
 pub fn take_room<R: Room>(room: &mut R) -> R
     ensures { result ≡ room.old }

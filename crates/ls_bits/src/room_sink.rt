@@ -1,4 +1,4 @@
-//! A sink of bits into a room of the caller's that has places for them. It allocates nothing and cannot fail.
+//! A bit sink into the caller's memory, whose free places must suffice. It allocates nothing and cannot fail.
 ghost use Rattle.std.specs.Prelude.{◌≡◌, ◌+◌, ◌-◌, ◌^◌, ◌<◌, ◌≤◌, ◌++◌, [], length};
 ghost use Rattle.ls_bits.specs.Bits.{bits_of};
 ghost use Rattle.ls_bits.specs.Stuffing.{stuff};
@@ -9,8 +9,8 @@ use crate::packer::Packer;
 use crate::room::Room;
 use std::marker::Model;
 
-/// The bytes that a room had, the places that it had after them, and the bits put since, which `finish` stuffs into
-/// those places (T.87 C.1).
+/// The bits put so far, which `finish` stuffs into a room's free places, after the bytes that the room already had
+/// (T.87 C.1).
 #[derive(Drop)]
 pub struct RoomSink<R: Room = Vec<u8>> {
     packer: Packer<R>,
@@ -36,7 +36,7 @@ impl<R: Room> Model for RoomSink<R> {
 }
 
 impl<R: Room> RoomSink<R> {
-    /// No bits yet, after the bytes of the room.
+    /// A sink with no bits yet, which come after the bytes already in the room.
     pub fn new(bytes: R) -> RoomSink<R>
         ensures front { result.front ≡ R.items bytes }
         ensures room { result.capacity_left ≡ R.capacity bytes - length (R.items bytes) }
@@ -50,8 +50,8 @@ impl<R: Room> RoomSink<R> {
 
     /// Appends `value` in `count` bits, the most significant first. Allocates nothing and cannot fail.
     ///
-    /// `count` is at most 32, and `value` is below 2^count. With n bits in all after this put, the room is at least
-    /// n / 7 + 1 bytes.
+    /// `count` is at most 32, and `value` is below 2^count. Requires that the room had n / 7 + 1 free bytes or more
+    /// when the sink was made, where n is the number of bits put so far, these included.
     pub fn put(&mut self, value: u32, count: u32)
         requires count { count ≤ 32 }
         requires value { value < 2 ^ count }
@@ -67,8 +67,9 @@ impl<R: Room> RoomSink<R> {
     /// Appends the code word of `v`: LG(k, glimit) of T.87 A.5.3, of at most glimit bits. Allocates nothing and cannot
     /// fail.
     ///
-    /// `qbpp` is at most 16, `k` at most qbpp + 1, `glimit` from qbpp + 2 to 64, and `v` at most 2^qbpp. With n bits in
-    /// all after this word, the room is at least n / 7 + 1 bytes.
+    /// `qbpp` is at most 16, `k` at most qbpp + 1, `glimit` from qbpp + 2 to 64, and `v` at most 2^qbpp. Requires that
+    /// the room had n / 7 + 1 free bytes or more when the sink was made, where n is the number of bits put so far, this
+    /// word's included.
     pub fn put_golomb(&mut self, k: u32, glimit: u32, qbpp: u32, v: u32)
         requires code { IsGolomb k glimit qbpp }
         requires value { v ≤ most_value qbpp }
@@ -81,8 +82,9 @@ impl<R: Room> RoomSink<R> {
         self.packer.put_golomb(k, glimit, qbpp, v);
     }
 
-    /// The room: the bytes that it had, and after them the bits, stuffed (T.87 C.1) as `BitSink::finish` stuffs them.
-    /// Allocates nothing and cannot fail; the room is as large as it was, and its free places are as they were.
+    /// Returns the room: the bytes that it had, followed by the bits, stuffed (T.87 C.1) as `BitSink::finish` stuffs
+    /// them. Allocates nothing and cannot fail; the room's capacity is unchanged, and so are its free places after
+    /// those bytes.
     pub fn finish(self) -> R
         ensures bytes { R.items result ≡ self.front ++ stuff self.bits }
         ensures capacity { R.capacity result ≡ length self.front + self.capacity_left }

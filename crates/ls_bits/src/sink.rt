@@ -1,4 +1,4 @@
-//! A sink of bits into memory of its own.
+//! A bit sink that allocates its own memory.
 ghost use Rattle.std.specs.Prelude.{◌≡◌, ◌^◌, ◌<◌, ◌≤◌, ◌++◌, [], OnOk, OnErr, IfOk};
 ghost use Rattle.ls_bits.specs.Bits.{bits_of};
 ghost use Rattle.ls_bits.specs.Stuffing.{stuff};
@@ -8,10 +8,10 @@ use crate::packer::Packer;
 use std::alloc::{AllocError, Global};
 use std::marker::Model;
 
-/// The bits put so far, the first one first, which `finish` stuffs into bytes (T.87 C.1).
+/// The bits put so far, in order; `finish` stuffs them into bytes (T.87 C.1).
 ///
-/// The sink for callers that know no bound of their bits beforehand: it allocates as it grows. The coder itself uses
-/// `RoomSink`, into memory that it asked for at once.
+/// For callers that know no bound on their bits beforehand: it allocates as it grows. The encoder itself uses
+/// `RoomSink`, into memory whose size it knows beforehand.
 #[derive(Drop)]
 pub struct BitSink {
     packer: Packer<Vec<u8>>,
@@ -28,7 +28,7 @@ impl Model for BitSink {
 }
 
 impl BitSink {
-    /// No bits yet. `alloc` is for their bytes; nothing is allocated here.
+    /// A sink with no bits yet. `alloc` is for their bytes; nothing is allocated here.
     pub fn new(alloc: Global) -> BitSink
         ensures { result ≡ [] }
     {
@@ -67,10 +67,10 @@ impl BitSink {
         Ok(())
     }
 
-    /// The bits, stuffed (T.87 C.1): the last byte is filled with bits 0, and a last byte FF is followed by 00. No bits
-    /// make no bytes.
+    /// Stuffs the bits into bytes (T.87 C.1). The last byte is filled with bits 0, and 00 follows it if it is FF. A
+    /// sink without bits gives no bytes.
     ///
-    /// Fails only if an allocation fails; the sink and its bits are gone then.
+    /// Fails only if an allocation fails; the sink is consumed, and its bits are lost then.
     pub fn finish(mut self) -> Result<Vec<u8>, AllocError>
         ensures { IfOk result (λ bytes. bytes.items ≡ stuff self) }
     {

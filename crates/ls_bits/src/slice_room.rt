@@ -1,19 +1,19 @@
-//! A room in a slice.
+//! A room over a slice.
 ghost use Rattle.std.specs.Prelude.{◌≡◌, ◌≤◌, [], length, take, drop};
 
 use crate::room::Room;
 
-/// The first bytes of a slice, and behind them the places that are free.
+/// A slice that is filled from its front: the bytes put so far, then the free places.
 #[derive(Drop)]
 pub struct SliceRoom<'a> {
-    /// All its places. Their first `len` bytes have been put.
+    /// The whole slice. Its first `len` bytes have been put.
     pub places: &'a mut [u8],
     pub len: usize,
     ghost within: { len ≤ length places.now },
 }
 
 impl<'a> SliceRoom<'a> {
-    /// All of a slice, free.
+    /// An empty room over the whole slice.
     pub fn new(places: &'a mut [u8]) -> SliceRoom<'a>
         ensures places { result.places.now ≡ places.entry.now }
         ensures lent { result.places.ghost_name ≡ places.entry.ghost_name }

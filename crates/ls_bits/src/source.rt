@@ -1,4 +1,4 @@
-//! A source of the bits of stuffed bytes, of which some KiB are un-stuffed ahead of where they are read.
+//! A source of the bits of stuffed bytes, which un-stuffs up to 2 KiB ahead of where it is read.
 ghost use Rattle.std.specs.Prelude.{◌≡◌, ◌+◌, ◌-◌, ◌*◌, ◌/◌, ◌^◌, ◌<◌, ◌≤◌, ◌⊎◌, [], ◌∷◌, ◌++◌, ℕ, Bool, List, true, false, length, slice_index, replicate, take, drop, min, IfOk, IfErr, IfSome, IfNone, MatchResult, Ok, Err};
 ghost use Rattle.ls_bits.specs.Bits.{bits_of, zeros as zero_bits, BeginsWith};
 ghost use Rattle.ls_bits.specs.Stuffing.{unstuff};
@@ -12,19 +12,19 @@ use crate::stuffed::{Stuffed, joined, leading_ones, leading_zeros, low_bits, sho
 use std::marker::Model;
 use thiserror::Error;
 
-/// The most bits that are un-stuffed ahead: after each place up to there eight bytes stand.
+/// The most bits that are un-stuffed ahead. The buffer has eight bytes more, so that eight can be read at each place.
 const MOST: usize = 16384;
 
-/// So many bits in front are seen at once.
+/// The number of bits seen at once: those of eight bytes, less up to seven before the place.
 const SEEN: usize = 57;
 
-/// Why bits can't be taken. After a fault nothing is promised of where the source stands.
+/// Why bits can't be read. After a fault the place of a `BitSource` is unspecified.
 #[derive(Clone, Copy, Debug, Drop, PartialEq, Eq, Error)]
 pub enum CodeFault {
-    /// Fewer bits are left than were asked for, or than a word has.
+    /// Fewer bits are left than were asked for, or than the code word has.
     #[error("out of bits")]
     OutOfBits,
-    /// The bits that are left begin with no word of the code, whatever would follow them.
+    /// The bits left begin with no word of the code, whatever followed them.
     #[error("not canonical")]
     NotCanonical,
 }
@@ -32,26 +32,26 @@ pub enum CodeFault {
 /// A place among the bits that a source has un-stuffed.
 #[derive(Clone, Copy)]
 pub struct BitPlace {
-    /// How many bits are before it.
+    /// The number of bits before it in the source's buffer.
     place: usize,
 }
 
 /// The bits of a run that a sample interrupts (T.87 A.7.1.2): ones, a 0, and a number.
 #[derive(Clone, Copy)]
 pub struct InterruptedRun {
-    /// How many bits 1 come first.
+    /// The number of bits 1 that come first.
     pub ones: u32,
     /// The number after the 0.
     pub rest: u32,
-    /// The place after them.
+    /// The place after that number.
     pub after: BitPlace,
 }
 
-/// The bits that are left of stuffed bytes.
+/// The bits that haven't been read from stuffed bytes yet.
 #[derive(Drop)]
 pub struct BitSource<'a> {
     bytes: [u8; 2056],
-    /// The place of the next bit in the bytes, and of the first that isn't un-stuffed yet.
+    /// The place of the next bit in `bytes`, and the end of the un-stuffed bits there.
     place: usize,
     end: usize,
     stuffed: Stuffed<'a>,
@@ -72,9 +72,9 @@ impl<'a> Model for BitSource<'a> {
 }
 
 impl<'a> BitSource<'a> {
-    /// The bits of stuffed bytes (T.87 C.1): all of each byte, but for the top bit of one after FF.
+    /// A source of the bits of stuffed bytes (T.87 C.1): all bits of each byte, except the top bit of one after FF.
     ///
-    /// The bytes are data, as `data_of` cuts it: no FF is followed by a byte of 80 or more, and the last one isn't FF.
+    /// Requires data, as `data_of` cuts it: no FF is followed by a byte of 0x80 or more, and the last byte isn't FF.
     /// Allocates nothing.
     pub fn new(bytes: &'a [u8]) -> BitSource<'a>
         requires { IsData bytes.now }
@@ -97,8 +97,8 @@ impl<'a> BitSource<'a> {
         self.bits(1)
     }
 
-    /// Takes the next `count` bits, at most 32: the number that they are, the most significant first. OutOfBits exactly
-    /// if fewer are left.
+    /// Takes the next `count` bits, at most 32, as a number, the most significant bit first. OutOfBits exactly if fewer
+    /// are left.
     pub fn bits(&mut self, count: u32) -> Result<u32, CodeFault>
         requires { count ≤ 32 }
         ensures ok { IfOk result (λ value. bits_in self.old ≡ bits_of count value ++ bits_in self.new) }
@@ -114,18 +114,20 @@ impl<'a> BitSource<'a> {
         Ok(value)
     }
 
-    /// How many bits are left, stuffed ones not counted; 2^64 - 1 if they are more. Goes over all bytes that are left.
+    /// The number of bits left, not counting the zeros that stuffing inserted, or 2^64 - 1 if there are more. Goes over
+    /// all bytes that are left.
     pub fn left(&self) -> u64
         ensures { result ≡ min (length (bits_in self.now)) u64.MAX }
     {
         (self.held() as u64).saturating_add(self.stuffed.left())
     }
 
-    /// Takes the code word in front, of the code LG(k, glimit) of T.87 A.5.3: its value, at most 2^qbpp.
+    /// Takes the next code word, of the code LG(k, glimit) of T.87 A.5.3, and returns its value, at most 2^qbpp.
     ///
-    /// `qbpp` is at most 16, `k` at most qbpp + 1, and `glimit` from qbpp + 2 to 64. NotCanonical if the bits that are
-    /// left can't begin with a word of the code, whatever followed them: too many zeros are in front, or the escape
-    /// word of a small value, or a short word of a value over 2^qbpp. Else OutOfBits if no whole word is in front.
+    /// `qbpp` is at most 16, `k` at most qbpp + 1, and `glimit` from qbpp + 2 to 64. NotCanonical if the bits left
+    /// can't begin with a word of the code, whatever followed them: they begin with too many zeros, with the escape
+    /// word of a value that has a short word, or with a short word of a value over 2^qbpp. Else OutOfBits if they don't
+    /// begin with a complete word.
     pub fn take_golomb(&mut self, k: u32, glimit: u32, qbpp: u32) -> Result<u32, CodeFault>
         requires { IsGolomb k glimit qbpp }
         ensures ok { IfOk result (λ v. TakesWord k glimit qbpp (bits_in self.old) v (bits_in self.new)) }
@@ -145,7 +147,7 @@ impl<'a> BitSource<'a> {
         BitPlace { place: self.place }
     }
 
-    /// Goes on at a place, which is one of its own since bits were un-stuffed last.
+    /// Moves to a place. Requires one that this source has given since it last un-stuffed bits.
     #[inline(always)]
     pub fn go_to(&mut self, at: BitPlace)
         requires { IsAt self.old at }
@@ -154,11 +156,11 @@ impl<'a> BitSource<'a> {
         self.place = at.place;
     }
 
-    /// The short code word at a place (T.87 A.5.3) if it has fewer than `most` zeros: its value, and the place after it.
-    /// None also if fewer than 57 bits are un-stuffed from there on. So many words can be read from place to place, and
-    /// where that gives none, `go_to` and `take_golomb` read any.
+    /// The value of the short code word at a place (T.87 A.5.3), and the place after the word. None if the bits there
+    /// begin with `most` zeros, or if fewer than 57 bits are un-stuffed from there on. Words can be read one after the
+    /// other so, without moving the source; where that gives None, `go_to` and `take_golomb` read any word.
     ///
-    /// `k` is at most 17, and `most` at most 24.
+    /// Requires a place as `go_to` does, `k` of at most 17, and `most` of at most 24.
     #[inline(always)]
     pub fn few_at(&self, at: BitPlace, k: u32, most: u32) -> Option<(u32, BitPlace)>
         requires at { IsAt self.now at }
@@ -184,11 +186,11 @@ impl<'a> BitSource<'a> {
         Some((value, after))
     }
 
-    /// The bits at a place, as those of a run that a sample interrupts (T.87 A.7.1.2): ones, a 0, and a number in as many
-    /// bits as `widths` has for so many ones: for none, for one, and so on. None if it has no width for so many, or if
-    /// fewer than 57 bits are un-stuffed from there on.
+    /// The bits at a place, read as those of a run that a sample interrupts (T.87 A.7.1.2): n ones, a 0, and a number
+    /// in `widths[n]` bits. None if the ones are as many as `widths` has elements or more, or if fewer than 57 bits are
+    /// un-stuffed from there on.
     ///
-    /// There are at most 32 widths, each at most 15.
+    /// Requires a place as `go_to` does, and at most 32 widths, each at most 15.
     #[inline(always)]
     pub fn run_at(&self, at: BitPlace, widths: &[u32]) -> Option<InterruptedRun>
         requires at { IsAt self.now at }
@@ -229,8 +231,8 @@ impl<'a> BitSource<'a> {
         self.take_any(k, glimit, qbpp)
     }
 
-    /// Takes the short code word in front (T.87 A.5.3) if it has fewer than `most` zeros and a value of at most
-    /// `greatest`, and 57 bits are un-stuffed: its value. Else takes nothing.
+    /// Takes the next code word and returns its value, if it is a short one (T.87 A.5.3) with fewer than `most` zeros
+    /// and fewer than 24, its value is at most `greatest`, and 57 bits are un-stuffed. Else takes nothing.
     #[inline(always)]
     fn take_short(&mut self, k: u32, most: u32, greatest: u32) -> Option<u32>
         requires { k ≤ 17 }
@@ -248,7 +250,7 @@ impl<'a> BitSource<'a> {
         Some(value)
     }
 
-    /// Takes the code word in front (T.87 A.5.3), whatever it is.
+    /// Takes the next code word (T.87 A.5.3), short or escape, as `take_golomb` does.
     #[cold]
     #[inline(never)]
     fn take_any(&mut self, k: u32, glimit: u32, qbpp: u32) -> Result<u32, CodeFault>
@@ -274,8 +276,8 @@ impl<'a> BitSource<'a> {
         }
     }
 
-    /// Takes zeros and the one after them: how many zeros. NotCanonical if more than `most` are in front, OutOfBits
-    /// if nothing but zeros is left, and no more than these.
+    /// Takes zeros and the one after them, and returns the number of zeros. NotCanonical if there are more than `most`,
+    /// OutOfBits if only zeros are left, at most `most` of them.
     fn take_zeros(&mut self, most: u32) -> Result<u32, CodeFault>
         requires { most ≤ 64 }
         ensures ok { IfOk result (λ zeros. bits_in self.old ≡ zero_bits zeros ++ true ∷ bits_in self.new) }
@@ -306,7 +308,7 @@ impl<'a> BitSource<'a> {
         }
     }
 
-    /// How many bits are un-stuffed.
+    /// The number of un-stuffed bits left.
     #[inline(always)]
     fn held(&self) -> usize
         ensures value { result ≡ self.now.end - self.now.place }
@@ -315,7 +317,7 @@ impl<'a> BitSource<'a> {
         self.end - self.place
     }
 
-    /// The bits in front, from the top of a number of 64 bits on. As many are right as are un-stuffed, but 57 at most.
+    /// The next bits, from the top bit of the result down. Only the un-stuffed ones are right, and only the first 57.
     #[inline(always)]
     fn front(&self) -> u64
         ensures { (n : ℕ) → n ≤ 57 → n ≤ self.now.end - self.now.place → take n (bits_of 64 result) ≡ take n (bits_in self.now) }
@@ -323,7 +325,7 @@ impl<'a> BitSource<'a> {
         front_of(&self.bytes, self.place)
     }
 
-    /// Leaves so many of the un-stuffed bits out.
+    /// Skips `count` un-stuffed bits.
     #[inline(always)]
     fn skip(&mut self, count: u32)
         requires { count ≤ self.old.end - self.old.place }
@@ -332,7 +334,7 @@ impl<'a> BitSource<'a> {
         self.place += count as usize;
     }
 
-    /// Un-stuffs more bits, if fewer than 57 are.
+    /// Un-stuffs more bits if fewer than 57 un-stuffed ones are left.
     #[inline(always)]
     fn refill(&mut self)
         ensures bits { bits_in self.new ≡ bits_in self.old }
@@ -354,7 +356,7 @@ impl<'a> BitSource<'a> {
         self.fill();
     }
 
-    /// Moves the bytes in which the un-stuffed bits stand to the front.
+    /// Moves the bytes with the un-stuffed bits left to the front of the buffer.
     fn bring_to_front(&mut self)
         ensures bits { bits_in self.new ≡ bits_in self.old }
         ensures front { self.new.place < 8 }
@@ -365,7 +367,7 @@ impl<'a> BitSource<'a> {
         self.end -= 8 * from;
     }
 
-    /// Un-stuffs bits, until there is no room for 64 more, or none are left.
+    /// Un-stuffs bits until the buffer has no room for 64 more or none are left.
     fn fill(&mut self)
         requires { self.old.place < 8 }
         ensures bits { bits_in self.new ≡ bits_in self.old }

@@ -1,4 +1,4 @@
-//! Stuffed bytes, whose bits are taken 32 at a time: a word of bits, and after them the bytes that aren't taken in yet.
+//! Un-stuffing bytes, 32 or 64 bits at a time: a word of un-stuffed bits, and the bytes that aren't in it yet.
 ghost use Rattle.std.specs.Prelude.{◌≡◌, ◌+◌, ◌-◌, ◌*◌, ◌/◌, ◌%◌, ◌^◌, ◌<◌, ◌≤◌, ◌⊎◌, [], ◌∷◌, ◌++◌, true, false, replicate, length, take, min, IfSome, IfNone};
 ghost use Rattle.ls_bits.specs.Bits.{bits_of};
 ghost use Rattle.ls_bits.specs.Stuffing.{unstuff};
@@ -8,13 +8,13 @@ ghost use Rattle.ls_bits.specs.View.Taking.{LeadingZeros};
 use crate::packer::{byte_bits, has_ff};
 use std::marker::Model;
 
-/// How many bits are taken at once.
+/// The number of bits that `take` takes.
 const ENOUGH: u32 = 32;
 
-/// The bits that are left of stuffed bytes.
+/// The bits that haven't been taken from stuffed bytes yet.
 #[derive(Drop)]
 pub struct Stuffed<'a> {
-    /// Its lowest `held` bits are next. Those above them mean nothing.
+    /// Its lowest `held` bits, at most 63, come next. The bits above them mean nothing.
     word: u64,
     held: u32,
     /// Whether the byte before `rest` is FF.
@@ -33,7 +33,8 @@ impl<'a> Model for Stuffed<'a> {
     ghost invariant = { λ w. IsWindow w.held w.after_ff w.rest.now };
 }
 
-/// Bits in front: how many, at most 32, and these, from the top of a number of 32 on, with zeros after them.
+/// The next bits: their number, at most 32, and the bits themselves, from the top bit of `bits` down, with zeros after
+/// them.
 #[derive(Clone, Copy)]
 pub struct FrontBits {
     pub count: u32,
@@ -41,7 +42,7 @@ pub struct FrontBits {
 }
 
 impl<'a> Stuffed<'a> {
-    /// The bits of stuffed bytes.
+    /// All bits of stuffed bytes. Requires data, as `data_of` cuts it.
     pub fn new(bytes: &'a [u8]) -> Stuffed<'a>
         requires { IsData bytes.now }
         ensures { result.bits ≡ unstuff bytes.now }
@@ -54,7 +55,8 @@ impl<'a> Stuffed<'a> {
         }
     }
 
-    /// Takes the next 64 bits if no FF is among the bytes that have them, nor before these. Else takes nothing.
+    /// Takes the next 64 bits. None, with nothing taken, if fewer than eight bytes are left to read, or if one of the
+    /// next eight or the byte before them is FF.
     #[inline(always)]
     pub fn take_eight(&mut self) -> Option<u64>
         ensures some { IfSome result (λ bits. self.old.bits ≡ bits_of 64 bits ++ self.new.bits) }
@@ -89,7 +91,7 @@ impl<'a> Stuffed<'a> {
         Some(bits)
     }
 
-    /// Takes the next 32 bits, or all that are left if these are fewer.
+    /// Takes the next 32 bits, or all that are left if there are fewer.
     pub fn take(&mut self) -> FrontBits
         ensures bits { self.old.bits ≡ take result.count (bits_of 32 result.bits) ++ self.new.bits }
         ensures most { result.count ≤ 32 }
@@ -111,7 +113,7 @@ impl<'a> Stuffed<'a> {
         }
     }
 
-    /// How many bits are left; 2^64 - 1 if they are more.
+    /// The number of bits left, or 2^64 - 1 if there are more.
     pub fn left(&self) -> u64
         ensures { result ≡ min (length self.now.bits) u64.MAX }
     {
@@ -124,7 +126,7 @@ impl<'a> Stuffed<'a> {
         left
     }
 
-    /// Takes bytes in, until 32 bits are held or no bytes are left.
+    /// Moves bytes into the word until it holds 32 bits or no bytes are left.
     fn refill(&mut self)
         ensures bits { self.new.bits ≡ self.old.bits }
         ensures enough { (ENOUGH ≤ self.new.held) ⊎ (length self.new.bits ≤ self.new.held) }
@@ -148,7 +150,7 @@ impl<'a> Stuffed<'a> {
         self.refill_by_bytes();
     }
 
-    /// As `refill`, byte by byte.
+    /// As `refill`, one byte at a time.
     fn refill_by_bytes(&mut self)
         ensures bits { self.new.bits ≡ self.old.bits }
         ensures enough { (ENOUGH ≤ self.new.held) ⊎ (length self.new.bits ≤ self.new.held) }
@@ -173,7 +175,7 @@ pub fn low_bits(word: u64, count: u32) -> u32
     (word & ((1 << count) - 1)) as u32
 }
 
-/// A number of `high` and the `count` bits of `low` after it.
+/// The number made of `high` and, below it, `low` in `count` bits.
 pub fn joined(high: u32, low: u32, count: u32) -> u32
     requires high { high < 64 }
     requires count { count ≤ 17 }
@@ -183,19 +185,20 @@ pub fn joined(high: u32, low: u32, count: u32) -> u32
     (high << count) | low
 }
 
-/// The value of the short word in front of `word`, which has so many zeros in front, and `k` bits after the 1.
+/// The value of the short code word at the top of `word`: that many zeros, a 1, and `k` bits (T.87 A.5.3).
 pub fn short_value(word: u64, zeros: u32, k: u32) -> u32
     requires zeros { LeadingZeros 64 word zeros }
     requires few { zeros < 24 }
     requires k { k ≤ 17 }
     ensures { result ≡ zeros * 2 ^ k + word / 2 ^ (63 - zeros - k) % 2 ^ k }
 {
-    // the 1 and what is after it
+    // the 1 and the k bits after it
     let last = (word >> (63 - zeros - k)) as u32;
     (zeros << k) + last - (1 << k)
 }
 
-/// How many zeros are in front in the lowest `held` bits of `word`; no fewer than `held` if all of them are zeros.
+/// The number of zeros at the top of the lowest `held` bits of `word`; at least `held` if all of these are zeros.
+/// `held` is from 1 to 64.
 pub fn leading_zeros(word: u64, held: u32) -> u32
     requires some { 0 < held }
     requires few { held ≤ 64 }
@@ -204,7 +207,7 @@ pub fn leading_zeros(word: u64, held: u32) -> u32
     (word << (64 - held)).leading_zeros()
 }
 
-/// How many ones are in front in `word`; 64 if all its bits are ones.
+/// The number of ones at the top of `word`; 64 if all its bits are ones.
 pub fn leading_ones(word: u64) -> u32
     ensures some { result < 64 → bits_of 64 word ≡ replicate result true ++ false ∷ bits_of (63 - result) word }
     ensures all { 64 ≤ result → bits_of 64 word ≡ replicate 64 true }
@@ -212,7 +215,7 @@ pub fn leading_ones(word: u64) -> u32
     leading_zeros(!word, 64)
 }
 
-/// The lowest `held` bits of a word, and after them as many of another's highest as make 64.
+/// The lowest `held` bits of `word`, at most 63, followed by the top bits of `other` that fill up 64.
 #[inline(always)]
 fn with_bits(word: u64, held: u32, other: u64) -> u64
     requires { held ≤ 63 }

@@ -20,7 +20,7 @@ fn data_ends_before_a_marker_or_a_lone_ff(rt: HostRuntime) {
     }
 }
 
-/// Data beside that of two bytes before a marker, and whether it is equal.
+/// Data to compare with that of two bytes before a marker, and whether they are equal.
 const OTHERS: &[(usize, Stop, bool)] = &[
     (2, Stop::Marker, true),
     (1, Stop::Marker, false),

@@ -1,7 +1,7 @@
-//! The tests of `ls_bits`, through what it makes public.
+//! The tests of `ls_bits`, by its public interface.
 //!
-//! They stand in a crate of their own because a crate's tests are proved together with the whole crate, and those of
-//! `ls_bits` ask only for its statements.
+//! They are a crate of their own because a crate's tests are proved together with the whole crate, and these need only
+//! the statements of `ls_bits`.
 #![tactic(auto)]
 
 #[cfg(test)]

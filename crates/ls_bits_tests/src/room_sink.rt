@@ -16,7 +16,7 @@ fn bits_go_after_the_bytes_that_were_there(rt: HostRuntime) {
     sink.put(1, 1);
     let filled = sink.finish();
     check_bytes(&rt, &filled, &[0x07, 0xff, 0x40]);
-    // The memory is that of before: nothing was allocated.
+    // The memory is the same as before: nothing was allocated.
     check(&rt, &filled, &filled.capacity(), &capacity);
 }
 

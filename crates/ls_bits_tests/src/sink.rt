@@ -5,7 +5,7 @@ use ls_bits::BitSink;
 use std::alloc::{AllocError, Global};
 use std::process::Abort;
 
-/// Bits that are put one after the other, and the bytes that they make.
+/// Puts, one after the other, and the bytes that they give.
 const BYTES: &[(&[Put], &[u8])] = &[
     (&[], &[]),
     (&[(0, 0)], &[]),
@@ -19,7 +19,7 @@ const BYTES: &[(&[Put], &[u8])] = &[
 /// Room for the bits of each list and each word.
 const ROOM: usize = 192;
 
-/// The bytes that a sink makes of bits.
+/// The bytes that a sink gives for puts.
 fn bytes_of(rt: &impl Abort, alloc: Global, puts: &[Put]) -> Result<Vec<u8>, AllocError> {
     let mut sink = BitSink::new(alloc);
     for bits in puts {
@@ -28,7 +28,7 @@ fn bytes_of(rt: &impl Abort, alloc: Global, puts: &[Put]) -> Result<Vec<u8>, All
     sink.finish()
 }
 
-/// The bytes that a sink with room makes of bits.
+/// The bytes that a sink with room gives for puts.
 fn filled_of(rt: &impl Abort, alloc: Global, puts: &[Put]) -> Result<Vec<u8>, AllocError> {
     let mut filling = Filling::new(alloc, ROOM)?;
     for (value, count) in puts {
@@ -37,7 +37,7 @@ fn filled_of(rt: &impl Abort, alloc: Global, puts: &[Put]) -> Result<Vec<u8>, Al
     Ok(filling.finish())
 }
 
-/// That both sinks make these bytes of the bits; nothing if an allocation fails.
+/// Checks that both sinks give these bytes for the puts; checks nothing if an allocation fails.
 fn check_puts(rt: &impl Abort, alloc: Global, puts: &[Put], want: &[u8]) -> Result<(), AllocError> {
     check_bytes(rt, &bytes_of(rt, alloc, puts)?, want);
     check_bytes(rt, &filled_of(rt, alloc, puts)?, want);
@@ -51,7 +51,7 @@ fn bits_are_stuffed(rt: HostRuntime) {
     }
 }
 
-/// So many bits 0 and forty bits 1.
+/// A number of bits 0 that forty bits 1 follow, and the bytes that they give.
 const ONES: &[(u32, &[u8])] = &[
     (0, &[0xff, 0x7f, 0xff, 0x7f, 0xff, 0x60]),
     (1, &[0x7f, 0xff, 0x7f, 0xff, 0x7f, 0xe0]),
@@ -63,7 +63,7 @@ const ONES: &[(u32, &[u8])] = &[
     (7, &[0x01, 0xff, 0x7f, 0xff, 0x7f, 0xff, 0x40]),
 ];
 
-/// Bytes after so many bytes 00.
+/// Bytes after `zeros` bytes 00.
 fn after_zeros(alloc: Global, zeros: u32, bytes: &[u8]) -> Result<Vec<u8>, AllocError> {
     let mut all = Vec::new(alloc);
     for _ in 0..zeros {
@@ -73,7 +73,7 @@ fn after_zeros(alloc: Global, zeros: u32, bytes: &[u8]) -> Result<Vec<u8>, Alloc
     Ok(all)
 }
 
-/// That ones are stuffed also if they stand after so many bytes 00.
+/// Checks that ones are stuffed also after `bytes` bytes 00.
 fn check_ones(rt: &impl Abort, alloc: Global, bytes: u32) -> Result<(), AllocError>
     requires { bytes < 8 }
 {
@@ -98,21 +98,21 @@ fn ones_are_stuffed_wherever_they_begin_in_64_bits(rt: HostRuntime) {
     }
 }
 
-/// The bytes that a sink makes of a word.
+/// The bytes that a sink gives for a word.
 fn word_of(rt: &impl Abort, alloc: Global, code: Code, v: u32) -> Result<Vec<u8>, AllocError> {
     let mut sink = BitSink::new(alloc);
     put_word(rt, &mut sink, code, v)?;
     sink.finish()
 }
 
-/// The bytes that a sink with room makes of a word.
+/// The bytes that a sink with room gives for a word.
 fn filled_word(rt: &impl Abort, alloc: Global, code: Code, v: u32) -> Result<Vec<u8>, AllocError> {
     let mut filling = Filling::new(alloc, ROOM)?;
     filling.put_word(rt, code, v);
     Ok(filling.finish())
 }
 
-/// That both sinks make its bytes of a word; nothing if an allocation fails.
+/// Checks that both sinks give the expected bytes for a word; checks nothing if an allocation fails.
 fn check_word(rt: &impl Abort, alloc: Global, word: &Word) -> Result<(), AllocError> {
     let (k, glimit, qbpp, v, want) = *word;
     let code = Code::new(rt, k, glimit, qbpp);
@@ -128,7 +128,7 @@ fn values_are_put_in_golomb_words(rt: HostRuntime) {
     }
 }
 
-/// Ones and other bits. With the words below they are 173, so they stand elsewhere in a byte each time.
+/// Ones and other bits. With the words below they are 173 bits, so each round begins at another place in a byte.
 const MIXED: [Put; 6] = [
     (0xff, 8),
     (0x7fff_ffff, 32),
@@ -138,7 +138,7 @@ const MIXED: [Put; 6] = [
     (1, 7),
 ];
 
-/// Words that stand after those, two short ones and two escape words: k, glimit, qbpp and the value.
+/// Words that follow those, two short ones and two escape words: k, glimit, qbpp and the value.
 const MIXED_WORDS: [(u32, u32, u32, u32); 4] = [
     (2, 31, 8, 17),
     (0, 32, 8, 256),
@@ -162,7 +162,7 @@ const MIXTURE: [u8; 178] = [
     0xff, 0x7e,
 ];
 
-/// The mixture, each call made once more if an allocation fails.
+/// The bytes of the mixture. A call is made once more if an allocation fails.
 fn mixture(rt: &impl Abort, alloc: Global) -> Result<Vec<u8>, AllocError> {
     let mut sink = BitSink::new(alloc);
     for _ in 0..8 {
@@ -176,7 +176,7 @@ fn mixture(rt: &impl Abort, alloc: Global) -> Result<Vec<u8>, AllocError> {
     sink.finish()
 }
 
-/// The mixture, into a vector with room. A word counts for its glimit there.
+/// The mixture, into a vector with room. A word counts as glimit bits there.
 fn mixture_with_room(rt: &impl Abort, alloc: Global) -> Result<Vec<u8>, AllocError> {
     let mut filling = Filling::new(alloc, 2000)?;
     for _ in 0..8 {

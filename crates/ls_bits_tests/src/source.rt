@@ -6,7 +6,7 @@ use ls_bits::CodeFault;
 use std::alloc::{AllocError, Global};
 use std::process::Abort;
 
-/// That the value of a word is taken.
+/// Checks that the value of a word is taken.
 fn check_word(rt: &impl Abort, word: &Word) {
     let (k, glimit, qbpp, v, bytes) = *word;
     let code = Code::new(rt, k, glimit, qbpp);
@@ -20,7 +20,7 @@ fn words_are_taken(rt: HostRuntime) {
     }
 }
 
-/// k, glimit, qbpp, and bytes of which no word is taken.
+/// k, glimit, qbpp, bytes from which no word is taken, and the fault.
 type Row = (u32, u32, u32, &'static [u8], CodeFault);
 
 const NO_WORDS: &[Row] = &[
@@ -41,7 +41,7 @@ fn the_fault_is_named_if_no_word_is_taken(rt: HostRuntime) {
     }
 }
 
-/// k, glimit, qbpp, a value, its word with four bytes 00 after it, and how many bits the word leaves.
+/// k, glimit, qbpp, a value, its word with four bytes 00 after it, and the number of bits left after the word.
 type Short = (u32, u32, u32, u32, &'static [u8], u64);
 
 const SHORT: &[Short] = &[
@@ -54,7 +54,7 @@ const SHORT: &[Short] = &[
     (8, 32, 8, 255, &[0xff, 0x40, 0, 0, 0, 0], 38),
 ];
 
-/// That a short word is taken, and that so many bits are left after it.
+/// Checks that a short word is taken, and how many bits are left after it.
 fn check_short(rt: &impl Abort, short: &Short) {
     let (k, glimit, qbpp, v, bytes, left) = *short;
     let mut source = source_of(bytes);
@@ -98,7 +98,7 @@ fn an_escape_word_leaves_the_bits_after_it(rt: HostRuntime) {
     check_left(&rt, &source, 6);
 }
 
-/// How many bits are taken, the number that they are, and how many bits are left then.
+/// The number of bits taken, their value, and the number of bits left then.
 const READS: [(u32, u32, u64); 4] = [(0, 0, 15), (8, 255, 7), (1, 1, 6), (1, 0, 5)];
 
 #[test]
@@ -131,7 +131,7 @@ fn no_bytes_have_no_bit(rt: HostRuntime) {
     check_answer(&rt, source.bit(), Err(CodeFault::OutOfBits), &[]);
 }
 
-/// k, how many zeros a word may have, bytes, what is taken, and how many bits are left then.
+/// k, the bound on a word's zeros, bytes, the value taken, and the number of bits left then.
 type Few = (u32, u32, &'static [u8], Option<u32>, u64);
 
 const FEW: &[Few] = &[
@@ -149,8 +149,8 @@ fn a_word_of_few_zeros_is_taken_where_it_is_known_to_be_whole(rt: HostRuntime) {
     }
 }
 
-/// The widths of a run's number after no ones, after one, and so on; bytes; the ones and the number that are found; and
-/// how many bits are left then.
+/// The widths of a run's number after no ones, after one, and so on; bytes; the ones and the number found; and the
+/// number of bits left then.
 type Run = (&'static [u32], &'static [u8], Option<(u32, u32)>, u64);
 
 const RUNS: &[Run] = &[
@@ -179,7 +179,7 @@ fn a_run_is_found_where_it_has_a_width_and_is_known_to_be_whole(rt: HostRuntime)
     }
 }
 
-/// How many bits are un-stuffed at once is less than these have.
+/// These have more bits than are un-stuffed at once.
 #[test]
 fn bits_go_on_where_more_are_unstuffed(rt: HostRuntime) {
     let Ok(bytes) = pairs_of_ff(rt.alloc()) else {

@@ -9,7 +9,7 @@ use std::alloc::{AllocError, Global};
 use std::fmt::Debug;
 use std::process::Abort;
 
-/// A number, and in how many bits it is put.
+/// A number, and the number of bits that it is put in.
 pub type Put = (u32, u32);
 
 /// k, glimit, qbpp, a value, and the bytes of its word alone.
@@ -57,17 +57,17 @@ pub const WORDS: &[Word] = &[
     ),
 ];
 
-/// That a value that was made of bytes is the wanted one.
+/// Checks that a value made from bytes is the expected one.
 pub fn check<T: PartialEq + Debug>(rt: &impl Abort, bytes: &[u8], got: &T, want: &T) {
     assert_eq!(rt; got, want, "of {bytes:?}");
 }
 
-/// That these are the bytes.
+/// Checks that the bytes are the expected ones.
 pub fn check_bytes(rt: &impl Abort, got: &[u8], want: &[u8]) {
     check(rt, want, &got, &want);
 }
 
-/// That a source answers so.
+/// Checks a source's answer.
 pub fn check_answer(
     rt: &impl Abort,
     got: Result<u32, CodeFault>,
@@ -77,13 +77,13 @@ pub fn check_answer(
     check(rt, bytes, &got, &want);
 }
 
-/// That so many bits are left.
+/// Checks the number of bits left.
 pub fn check_left(rt: &impl Abort, source: &BitSource<'_>, want: u64) {
     check(rt, &[], &source.left(), &want);
 }
 
-/// That a word of few zeros is found so at the front of bytes, after their first bits were un-stuffed, and that so many
-/// bits are left after it, or where none is found from the front on.
+/// Checks what `few_at` finds at the front of bytes after their first bits were un-stuffed, and the number of bits left
+/// after the word, or from the front on if none is found.
 pub fn check_few(rt: &impl Abort, k: u32, most: u32, bytes: &[u8], value: Option<u32>, left: u64) {
     assert!(rt; k <= 17);
     assert!(rt; most <= 24);
@@ -100,8 +100,8 @@ pub fn check_few(rt: &impl Abort, k: u32, most: u32, bytes: &[u8], value: Option
     check(rt, bytes, &got, &(Ok(0), value, left));
 }
 
-/// That the bits of a run are found so at the front of bytes, after their first bits were un-stuffed: its ones and its
-/// number; and that so many bits are left after it, or where none is found from the front on.
+/// Checks what `run_at` finds at the front of bytes after their first bits were un-stuffed, the ones and the number;
+/// and the number of bits left after the run, or from the front on if none is found.
 pub fn check_run(
     rt: &impl Abort,
     widths: &[u32],
@@ -150,7 +150,7 @@ impl Code {
         Code { k, glimit, qbpp }
     }
 
-    /// The value of the word in front.
+    /// Takes the next word, and returns its value.
     pub fn take(self, source: &mut BitSource<'_>) -> Result<u32, CodeFault> {
         source.take_golomb(self.k, self.glimit, self.qbpp)
     }
@@ -161,7 +161,7 @@ impl Code {
     }
 }
 
-/// The bits of the data at the front of bytes.
+/// A source of the data at the front of bytes.
 pub fn source_of<'a>(bytes: &'a [u8]) -> BitSource<'a> {
     BitSource::new(&bytes[..data_of(bytes).len])
 }
@@ -185,7 +185,7 @@ pub fn put_word(rt: &impl Abort, sink: &mut BitSink, code: Code, v: u32) -> Resu
     sink.put_golomb(code.k, code.glimit, code.qbpp, v)
 }
 
-/// A sink into a vector that has room for `total` bits, of which at most `used` are put.
+/// A sink into a vector with room for `total` bits, of which at most `used` are put.
 #[derive(Drop)]
 pub struct Filling {
     sink: RoomSink,
@@ -197,7 +197,7 @@ pub struct Filling {
 }
 
 impl Filling {
-    /// No bits yet, and room for so many.
+    /// A sink with no bits yet, and room for `total`.
     pub fn new(alloc: Global, total: usize) -> Result<Filling, AllocError> {
         let sink = RoomSink::new(Vec::with_capacity(alloc, total / 7 + 1)?);
         Ok(Filling {
@@ -215,7 +215,7 @@ impl Filling {
         self.used += count as usize;
     }
 
-    /// A word counts for glimit bits, the most that it has.
+    /// Puts a word, and counts it as glimit bits, the most that it can have.
     pub fn put_word(&mut self, rt: &impl Abort, code: Code, v: u32) {
         assert!(rt; v <= 1 << code.qbpp);
         assert!(rt; code.glimit as usize <= self.total - self.used);

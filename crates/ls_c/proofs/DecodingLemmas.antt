@@ -1,4 +1,4 @@
--- What decoding answers, put together from what its steps do.
+-- The result of decoding, put together from its steps.
 use Rattle.std.proofs.Common.{◌≡◌, ◌≢◌, ◌⊎◌, ℕ, ◌*◌, ◌<◌, ◌≤◌, List, ◌++◌, length, take, None, Some, inl, inr, refl, sym, ◌∙◌, ap, subst, arith}
 use Rattle.std.proofs.lemmas.Bool.Decides.{nat_tests}
 use Rattle.ls_frame.specs.Picture.{Picture, IsFrame}
@@ -78,7 +78,7 @@ not_fourteen first = λ e. elim (fault_above first) [ inl one ↦ absurd (omega 
 first_in : (bytes : List ℕ) (first : StreamFault) → 20 ≤ fault_number first → (first ≡ stream.NoMemory) ⊎ IsFirstFault bytes first → IsFirstFault bytes first
 first_in bytes first high found = elim found [ inl memory ↦ absurd (not_memory first high memory) | inr is ↦ is ]
 
--- a fault: of the opening, or after it, where memory may be refused too
+-- a fault: of the opening, or after it, where an allocation may fail too
 pub stopped : (most : ℕ) (bytes old new : List ℕ) (form : JlsrecForm) (used : ℕ) (fault : JlsrecFault) (first : StreamFault)
     → ((front rest : List ℕ) (f : Picture) → bytes ≡ front ++ rest → Spells front f → first ≡ stream.NoMemory)
     → (first ≡ stream.NoMemory) ⊎ IsFirstFault bytes first → (first ≡ stream.NoMemory → BeginsWithOpening (take most_bytes bytes))

@@ -1,4 +1,4 @@
--- What encoding answers, put together from what its steps do.
+-- The result of encoding, put together from its steps.
 use Rattle.std.proofs.Common.{◌≡◌, ◌≢◌, ◌⊎◌, ℕ, ◌*◌, ◌<◌, ◌≤◌, Bool, true, false, List, ◌++◌, length, take, drop, Ok, Err, None, Some, OnOk, OnErr, IfErr, inl, inr, refl, sym, ◌∙◌, ap, subst, le-leb, arith}
 use Rattle.std.specs.Prelude.{Option, Result, ◌&&◌, ◌||◌, ◌==◌, nat_le, nat_lt}
 use Rattle.std.specs.List.{position}
@@ -23,9 +23,9 @@ use Rattle.ls_c.specs.Requests.{IsRequest, shaped}
 use Rattle.ls_c.proofs.NumberLemmas.{preset_above, number_some, two_is_no_room}
 use Rattle.ls_c.proofs.RowLemmas.{rows_length, rows_adjacent}
 
--- ---- what a request is refused with
+-- ---- why a request is refused
 
--- no refusal, or one of 3 and above
+-- no refusal, or one with status 3 or above
 IsAbove : Option Refusal → Type 0
 IsAbove found = (r : Refusal) → found ≡ Some r → 3 ≤ number_of r
 
@@ -99,7 +99,7 @@ no_memory most form stride samples old e = record {
   none = λ _ _. refl;
 }
 
--- what encoding samples that were copied together does
+-- the result of encoding samples that were copied together
 pub record IsCoding (f : Picture) (p : Parameters) (old new : List ℕ) (written : ℕ) (result : Result (Unit {0}) Refusal) : Type 0 where
   pub exactly : (result ≡ Err (refusal.Stream stream.NoMemory)) ⊎ (status_of result ≡ status_by (coding_refusal f p (length old)))
   pub frame : OnOk result (IsFrame f)
@@ -110,14 +110,14 @@ pub record IsCoding (f : Picture) (p : Parameters) (old new : List ℕ) (written
   pub need : result ≡ Err refusal.NoRoom → (written ≡ length (codestream f p)) × (length old < written)
   pub none : IfErr result (λ (refused : Refusal). (refused ≡ refusal.NoRoom) ⊎ (written ≡ 0))
 
--- ---- what a picture is refused with
+-- ---- why a picture is refused
 
 pub frame_refusal : (f : Picture) (p : Parameters) (room : ℕ) → IsFrame f → coding_refusal f p room ≡ unless_met (nat_le (length (codestream f p)) room) refusal.NoRoom None
 frame_refusal f p room frame =
     ap (λ found. unless_met (is_none found) refusal.SampleTooLarge (unless_met (nat_le (length (codestream f p)) room) refusal.NoRoom None))
     (none_found f.maxval f.samples (samples_small f frame))
 
--- and where the codestream fits, and where it doesn't
+-- and if the codestream fits, or doesn't
 pub room : (f : Picture) (p : Parameters) (old : List ℕ) → length (codestream f p) ≤ length old → unless_met (nat_le (length (codestream f p)) (length old)) refusal.NoRoom None ≡ None
 room f p old fits = ap (λ met. unless_met met refusal.NoRoom None) (le-leb (length (codestream f p)) (length old) fits)
 
@@ -132,7 +132,7 @@ over_by f next (Some place) formed over e = refl
 pub over_refusal : (f : Picture) (p : Parameters) (room : ℕ) → IsFormed f → (IsFrame f → ⊥) → coding_refusal f p room ≡ Some refusal.SampleTooLarge
 over_refusal f p room formed over = over_by f _ _ formed over refl
 
--- ---- what is answered
+-- ---- the result
 
 take_front : (front rest : List ℕ) → take (length front) (front ++ rest) ≡ front
 take_front front rest = grind (arith, common_steps)
@@ -198,7 +198,7 @@ joined_count form stride samples joined request is e =
     let whole = rows_length (row_of form) (stride_of form stride) form.height samples some is.enough ∙ product form.height form.width (components (kind_of form.components)) in
     rw is.kind (rw is.width (rw is.height (ap length e ∙ (cc whole))))
 
--- rows that follow one another are as many samples at the front as the picture has
+-- rows without gaps are the samples at the front, as many as the picture has
 pub adjacent_rows : (form : JlsrecForm) (stride : ℕ) (samples front : List ℕ) (request : Request) → IsRequest request form stride (length samples)
     → request.rows.stride ≡ request.rows.row → front ≡ take (sample_count request.shape.kind request.shape.width request.shape.height) samples
     → front ≡ rows_of request.rows.row request.rows.stride request.rows.height samples

@@ -1,4 +1,4 @@
--- The extent of the next codestream, by what is read of a reader over its bytes.
+-- The extent of the next codestream, from what is read through a reader of its bytes.
 use Rattle.std.proofs.Common.{◌≡◌, ◌⊎◌, ℕ, List, ◌++◌, length, take, drop, Some, inl, inr, refl, sym, ◌∙◌, ap, subst, length-append, arith}
 use Rattle.std.specs.Prelude.{Option}
 use Rattle.std.proofs.lemmas.Grind.{common_steps}

@@ -1,4 +1,4 @@
--- Which statuses stand for what.
+-- Which refusal each status stands for.
 use Rattle.std.proofs.Common.{◌≡◌, ◌≢◌, ◌⊎◌, ◌<◌, ◌≤◌, inl, inr, refl, ap, arith}
 use Rattle.ls_frame.specs.declared.presets.PresetFault.{PresetFault}
 use Rattle.ls_frame.specs.declared.presets.PresetFault.TheVariants as preset

@@ -1,4 +1,4 @@
--- Forms that openings say, and samples that are zeros.
+-- Forms that openings give, and samples that are zeros.
 use Rattle.std.proofs.Common.{◌≡◌, ℕ, ◌<◌, ◌≤◌, List, ◌++◌, [], ◌∷◌, length, take, drop, get_or, zero, suc, refl, sym, ◌∙◌, ap, subst, inl, inr, arith}
 use Rattle.std.specs.Prelude.{slice_index}
 use Rattle.std.proofs.lemmas.Bool.{cases_lt}
@@ -13,7 +13,7 @@ use Rattle.ls_c.specs.Refusals.{no_details}
 use Rattle.ls_c.specs.Calls.{HaveForm, SaysForm, form_by, samples_of, IsDecoding, laid}
 use Rattle.ls_c.proofs.DecodingLemmas.{decoded}
 
--- a frame of the form of an opening has the form that is told of it
+-- a frame of the form of an opening has the form that is given for it
 pub told : (opened : Opened) (form : JlsrecForm) (f : Picture) → form ≡ form_by opened → HasForm opened f → IsOfForm f form
 told opened form f e is = record {
   components = ap components is.kind ∙ sym (ap (λ (x : JlsrecForm). x.components) e);
@@ -35,7 +35,7 @@ zeros_small most samples zeros k =
       | inr past ↦ omega (arith, past_end samples k past)
     ]
 
--- what was decoded after an opening into so many places
+-- what was decoded, after an opening, into this number of places
 pub decoded_of : (most : ℕ) (bytes old new : List ℕ) (form : JlsrecForm) (used : ℕ) (fault : JlsrecFault) (o : Opened) (places : List ℕ) → o.bytes ≡ bytes
     → (o.parameters.maxval ≤ most) × (sample_count o.kind o.width o.height ≤ length old) → HaveForm bytes form × (form ≡ form_by o) → SaysForm bytes form
     → (used ≤ length o.bytes) × Spells (take used o.bytes) (picture_of o places)
@@ -48,10 +48,10 @@ decoded_of most bytes old new form used fault o places same_bytes fits has says 
     (told o form f has.1 (record { kind = refl; width = refl; height = refl; maxval = refl })) has.0 whole.0 whole.1 none
     (λ front rest g e s. only front rest g (same_bytes ∙ e) s) laid_is
 
--- as many samples as an opening says
+-- the number of samples that an opening gives
 pub form_samples : (o : Opened) (form : JlsrecForm) → form ≡ form_by o → samples_of form ≡ sample_count o.kind o.width o.height
 form_samples o form e = ap samples_of e
 
--- what stands beyond places that were written to
+-- what is beyond places that were written to
 pub beyond_places : (count : ℕ) (places old : List ℕ) → length places ≡ count → drop count (places ++ drop count old) ≡ drop count old
 beyond_places count places old e = ap (λ n. drop n (places ++ drop count old)) (sym e) ∙ drop-append_seam places (drop count old)

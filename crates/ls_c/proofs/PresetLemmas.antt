@@ -1,4 +1,4 @@
--- Coding parameters of more than 16 bits are out of their ranges, and so is the 0 that stands for them.
+-- Coding parameters of more than 16 bits are out of their ranges, and so is the 0 that replaces them.
 use Rattle.std.proofs.Common.{◌≡◌, ℕ, ◌≤◌, None, Some, MatchResult, sym, subst, arith}
 use Rattle.std.specs.Prelude.{Option, Result}
 use Rattle.std.proofs.lemmas.Bool.Decides.{nat_tests}

@@ -30,7 +30,7 @@ pub rows_length : (row stride height : ℕ) (samples : List ℕ) → 0 < height 
 rows_length row stride zero samples some enough = absurd (omega arith)
 rows_length row stride (suc more) samples some enough = rows_are row stride more samples (simp unary_clauses at enough)
 
--- rows that follow one another are the samples at the front
+-- rows without gaps are the samples at the front
 pub rows_adjacent : (row height : ℕ) (samples : List ℕ) → rows_of row row height samples ≡ take (height * row) samples
 rows_adjacent row zero samples =
     let none : 0 * row ≡ 0 = omega arith in

@@ -15,21 +15,21 @@ use Rattle.ls_c.specs.declared.refusal.Refusal.TheVariants as refusal
 use Rattle.ls_c.specs.Forms.{unless_met, no_form, picture_in, coded, request_refusal, encode_refusal, IsOfForm}
 use Rattle.ls_c.specs.Refusals.{status_by, fault_number, details_of, no_details}
 
--- Samples of at most `most`, in rows from `stride` to `stride`, were encoded into a buffer.
+-- Samples of at most `most`, in rows that start `stride` samples apart, were encoded into a buffer.
 pub record IsEncoding (most : ℕ) (form : JlsrecForm) (stride : ℕ) (samples old new : List ℕ) (written status : ℕ) : Type 0 where
-  -- the status, unless an allocation failed, which is answered only for samples that have all but their values right
+  -- the status, unless an allocation failed, which can happen only if everything but the samples' values is right
   pub status_is : (status ≡ 1) ⊎ (status ≡ status_by (encode_refusal most form stride samples (length old)))
   pub memory : status ≡ 1 → request_refusal most form stride (length samples) ≡ None
-  -- 0: the codestream of the picture, and the rest of the buffer as it was
+  -- status 0: the codestream of the picture is at the front, and the rest of the buffer is unchanged
   pub frame : status ≡ 0 → IsFrame (picture_in form stride samples)
   pub spells : status ≡ 0 → Spells (take written new) (picture_in form stride samples)
   pub done : status ≡ 0 → (written ≡ length (coded form stride samples)) × (new ≡ coded form stride samples ++ drop written old)
-  -- another: nothing is written, and only where there is no room it is told how many bytes are needed
+  -- another status: nothing is written; only if there is no room, `written` is the number of bytes needed
   pub kept : status ≢ 0 → new ≡ old
   pub need : status ≡ 2 → (written ≡ length (coded form stride samples)) × (length old < written)
   pub none : status ≢ 0 → status ≢ 2 → written ≡ 0
 
--- the form that an opening says, with the coding parameters in force
+-- the form that an opening gives, with the coding parameters in force
 abbrev pub form_by : Opened → JlsrecForm
 form_by opened = record {
   components = components opened.kind;
@@ -42,35 +42,35 @@ form_by opened = record {
   reset = opened.parameters.reset;
 }
 
--- The bytes begin with a complete legal opening, all before the data of the first scan, and the form is what it says.
+-- The bytes begin with a complete legal opening (all before the data of the first scan), and the form is the one it gives.
 pub record HaveForm (bytes : List ℕ) (form : JlsrecForm) : Type 0 where
   pub opened : Opened
   pub of_bytes : opened.bytes ≡ bytes
   pub says : SaysSo opened
   pub form_is : form ≡ form_by opened
 
--- the form is that of each frame whose codestream stands in front
+-- the form is that of each frame whose codestream the bytes begin with
 abbrev pub SaysForm : List ℕ → JlsrecForm → Type 0
 SaysForm bytes form = (front rest : List ℕ) (f : Picture) → bytes ≡ front ++ rest → Spells front f → IsOfForm f form
 
--- how many samples a picture of a form has
+-- the number of samples of a picture of this form
 abbrev pub samples_of : JlsrecForm → ℕ
 samples_of form = form.width * form.height * form.components
 
--- Samples are as they were; or all are but the first, as many as a form has that the bytes say.
+-- Samples are unchanged; or all are but the first ones, as many as the form that the bytes give has.
 pub data KeepsBeyond (bytes old new : List ℕ) : Type 0 where
   same : new ≡ old → KeepsBeyond bytes old new
   but_its : (form : JlsrecForm) → HaveForm bytes form → drop (samples_of form) new ≡ drop (samples_of form) old → KeepsBeyond bytes old new
 
--- what keeps a frame from standing among so many samples of at most `most`
+-- the refusal of a frame that doesn't fit in `room` samples of at most `most`, if it doesn't
 abbrev pub within : ℕ → Picture → ℕ → Option Refusal
 within most f room = unless_met (nat_le f.maxval most) refusal.NotEightBits (unless_met (nat_le (length f.samples) room) refusal.NoRoom None)
 
--- the samples of the picture at the front, and the rest as it was
+-- the samples of the picture at the front, and the rest unchanged
 abbrev pub laid : List ℕ → List ℕ → List ℕ
 laid samples old = samples ++ drop (length samples) old
 
--- Why the codestream at the front of bytes isn't decoded into so many samples of at most `most`, before its data is looked at.
+-- Why the codestream at the front of the bytes isn't decoded into `room` samples of at most `most`, known before its data is read.
 pub data IsUnopened (most room : ℕ) (bytes : List ℕ) (form : JlsrecForm) (fault : JlsrecFault) (refused : Refusal) : Type 0 where
   too_deep : refused ≡ refusal.NotEightBits → HaveForm bytes form → most < form.maxval → SaysForm bytes form → fault ≡ no_details
       → IsUnopened most room bytes form fault refused
@@ -82,21 +82,21 @@ pub data IsUnopened (most room : ℕ) (bytes : List ℕ) (form : JlsrecForm) (fa
 
 -- Bytes were decoded into a buffer of samples of at most `most`.
 pub record IsDecoding (most : ℕ) (bytes old new : List ℕ) (form : JlsrecForm) (used : ℕ) (fault : JlsrecFault) (status : ℕ) : Type 0 where
-  -- 0: a frame that the first bytes spell
+  -- status 0: the first `used` bytes spell a frame, and its samples are at the front
   pub done : status ≡ 0 → (f : Picture) × (used ≤ length bytes) × Spells (take used bytes) f × IsOfForm f form × HaveForm bytes form
       × (new ≡ laid f.samples old) × (length f.samples ≤ length old) × (f.maxval ≤ most)
-  -- whenever the bytes begin with a codestream of a frame, that one's
+  -- if the bytes begin with a codestream of a frame, the result is that frame's, unless an allocation failed
   pub complete : (front rest : List ℕ) (f : Picture) → bytes ≡ front ++ rest → Spells front f
       → (status ≡ 1) ⊎ ((status ≡ status_by (within most f (length old))) × IsOfForm f form × (status ≡ 0 → (used ≡ length front) × (new ≡ laid f.samples old)))
-  -- 20 and above: the first fault
+  -- status 20 and above: the first fault
   pub faulty : 20 ≤ status → (first : StreamFault) × (status ≡ fault_number first) × (fault ≡ details_of first) × IsFirstFault bytes first
       × (first ≢ NoMemory)
-  -- no room, or not of 8 bits: the form is told, and it is that which doesn't fit, whatever the data
+  -- no room, or not 8 bits: the form is given, and it is the one that doesn't fit, whatever the data
   pub no_room : status ≡ 2 → HaveForm bytes form × (form.maxval ≤ most) × (length old < samples_of form)
   pub too_deep : status ≡ 14 → HaveForm bytes form × (most < form.maxval)
   -- an allocation is tried only after a complete legal opening
   pub memory : status ≡ 1 → BeginsWithOpening (take most_bytes bytes)
-  -- no other status, and what stands afterwards
+  -- there is no other status; and what the caller's memory holds after each
   pub statuses : (status ≡ 0) ⊎ (status ≡ 1) ⊎ (status ≡ 2) ⊎ (status ≡ 14) ⊎ (20 ≤ status)
   pub kept : status ≢ 0 → status < 20 → new ≡ old
   pub beyond : 20 ≤ status → KeepsBeyond bytes old new
@@ -104,17 +104,17 @@ pub record IsDecoding (most : ℕ) (bytes old new : List ℕ) (form : JlsrecForm
   pub formless : status ≢ 0 → status ≢ 2 → status ≢ 14 → form ≡ no_form
   pub faultless : status < 20 → fault ≡ no_details
 
--- The form of the codestream at the front of bytes was read, by its opening alone.
+-- The form of the codestream at the front of the bytes was read, from its opening alone.
 pub record IsReading (bytes : List ℕ) (form : JlsrecForm) (fault : JlsrecFault) (status : ℕ) : Type 0 where
-  -- 0: the bytes begin with a complete legal opening, and the form is what it says
+  -- status 0: the bytes begin with a complete legal opening, and the form is the one it gives
   pub done : status ≡ 0 → HaveForm bytes form × (fault ≡ no_details)
-  -- whenever they begin with a codestream of a frame, its form
+  -- if they begin with a codestream of a frame, the form is that frame's
   pub complete : (front rest : List ℕ) (f : Picture) → bytes ≡ front ++ rest → Spells front f → (status ≡ 0) × IsOfForm f form
-  -- another: the first fault of the bytes
+  -- another status: the first fault of the bytes
   pub faulty : status ≢ 0 → (first : StreamFault) × (status ≡ fault_number first) × (20 ≤ status) × (fault ≡ details_of first)
       × IsFirstFault bytes first × (form ≡ no_form)
 
--- The next codestream in bytes by its markers alone has so many of them.
+-- The next codestream, found by its markers alone, is the first `extent` of the bytes.
 pub record IsExtent (bytes : List ℕ) (extent status : ℕ) : Type 0 where
   pub statuses : (status ≡ 0) ⊎ (status ≡ 1) ⊎ (status ≡ 39)
   pub within : extent ≤ length bytes
@@ -124,7 +124,7 @@ pub record IsExtent (bytes : List ℕ) (extent status : ℕ) : Type 0 where
   pub too_large : status ≡ 39 → most_bytes ≤ length bytes
   pub none : status ≢ 0 → extent ≡ 0
 
--- A text, cut to what the room holds, and a 0 after it; the rest as it was.
+-- A buffer to which a text was written, cut to fit, with a 0 after it; the rest is unchanged.
 abbrev pub printed : List ℕ → List ℕ → List ℕ
 printed text [] = []
 printed text (first ∷ more) = take (length more) text ++ 0 ∷ drop (length (take (length more) text)) more

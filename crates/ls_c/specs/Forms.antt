@@ -1,4 +1,4 @@
--- Forms of pictures, and where their samples stand in a caller's memory.
+-- Forms of pictures, and the layout of their samples in a caller's memory.
 use Rattle.std.specs.Prelude.{◌≡◌, ℕ, zero, suc, ◌+◌, ◌-◌, ◌*◌, ◌/◌, ◌&&◌, ◌||◌, ◌==◌, nat_lt, nat_le, Bool, true, false, if◌then◌else◌, List, [], ◌++◌, length, take, drop, position, Option, None, Some}
 use Rattle.ls_frame.specs.declared.frame.Kind.{Kind}
 use Rattle.ls_frame.specs.declared.frame.Kind.TheVariants.{Gray, Color}
@@ -13,7 +13,7 @@ use Rattle.ls_c.specs.declared.refusal.Refusal.TheVariants as refusal
 
 -- ---- forms
 
--- the kind of so many components, 1 or 3
+-- the kind of pictures with this number of components, 1 or 3
 abbrev pub kind_of : ℕ → Kind
 kind_of count = if count == 3 then Color else Gray
 
@@ -21,20 +21,20 @@ kind_of count = if count == 3 then Color else Gray
 abbrev pub picture : JlsrecForm → List ℕ → Picture
 picture form samples = record { kind = kind_of form.components; width = form.width; height = form.height; maxval = form.maxval; samples = samples }
 
--- a form with the coding parameters by default
+-- a form with default coding parameters
 abbrev pub plain_form : ℕ → ℕ → ℕ → ℕ → JlsrecForm
 plain_form components width height maxval = record { components = components; width = width; height = height; maxval = maxval; t1 = 0; t2 = 0; t3 = 0; reset = 0 }
 
 abbrev pub no_form : JlsrecForm
 no_form = plain_form 0 0 0 0
 
--- 1 to 65535, as a side and a maxval are
+-- whether a number is 1 to 65535, as sides and maxvals are
 abbrev pub is_sixteen_bits : ℕ → Bool
 is_sixteen_bits n = nat_lt 0 n && nat_le n greatest
 
 -- ---- coding parameters
 
--- the coding parameters that a form asks for, each 0 the default of its maxval
+-- the coding parameters that a form asks for; 0 means the default for its maxval
 unfoldable pub parameters : JlsrecForm → Parameters
 parameters form = let defaults = default_parameters form.maxval in record {
   maxval = form.maxval;
@@ -44,33 +44,33 @@ parameters form = let defaults = default_parameters form.maxval in record {
   reset = or_default form.reset defaults.reset;
 }
 
--- the number, or 0, which no parameter may be, if it has more than 16 bits
+-- the number, or 0 if it has more than 16 bits; no parameter may be 0
 abbrev pub narrowed : ℕ → ℕ
 narrowed number = if nat_le number greatest then number else 0
 
 -- ---- rows
 
--- the samples of a row
+-- the number of samples in a row
 abbrev pub row_of : JlsrecForm → ℕ
 row_of form = form.width * components (kind_of form.components)
 
--- the samples from the start of a row to that of the next: as many as a row has if 0 is given
+-- the number of samples from the start of a row to that of the next; a stride of 0 means the number of samples in a row
 abbrev pub stride_by : ℕ → ℕ → ℕ
 stride_by row stride = if stride == 0 then row else stride
 
 abbrev pub stride_of : JlsrecForm → ℕ → ℕ
 stride_of form stride = stride_by (row_of form) stride
 
--- so many rows of these samples: one at the front, and one at each stride after it
+-- the rows of these samples: one at the front, and one at each stride after it
 abbrev pub rows_of : {A : Type 0} → ℕ → ℕ → ℕ → List A → List A
 rows_of {A} row stride zero samples = []
 rows_of {A} row stride (suc more) samples = take row samples ++ rows_of row stride more (drop stride samples)
 
--- how many samples they reach over
+-- the number of samples from the start of the first row to the end of the last
 abbrev pub reach_of : ℕ → ℕ → ℕ → ℕ
 reach_of row stride height = (height - 1) * stride + row
 
--- the picture of a form whose rows stand so among these samples
+-- the picture of a form whose rows are laid out with this stride among these samples
 abbrev pub picture_in : JlsrecForm → ℕ → List ℕ → Picture
 picture_in form stride samples = picture form (rows_of (row_of form) (stride_of form stride) form.height samples)
 
@@ -80,11 +80,11 @@ coded form stride samples = codestream (picture_in form stride samples) (paramet
 
 -- ---- refusals
 
--- a refusal unless this holds, and then those that are looked for next
+-- this refusal unless a condition is met, else the refusals that are checked next
 abbrev pub unless_met : Bool → Refusal → Option Refusal → Option Refusal
 unless_met met refused next = if met then next else Some refused
 
--- what keeps a form from being that of a frame: the first of these that isn't so
+-- why a form isn't that of a frame: the refusal of the first condition that isn't met
 abbrev pub form_refusal : JlsrecForm → Option Refusal
 form_refusal form =
     unless_met (form.components == 1 || form.components == 3) refusal.Components
@@ -96,17 +96,17 @@ abbrev pub preset_refusal : Option PresetFault → Option Refusal → Option Ref
 preset_refusal None next = next
 preset_refusal (Some fault) next = Some (refusal.Preset fault)
 
--- the first refusal, or those that are looked for next
+-- the first refusal, else the refusals that are checked next
 abbrev pub or_next : Option Refusal → Option Refusal → Option Refusal
 or_next None next = next
 or_next (Some refused) next = Some refused
 
--- what keeps rows of so many samples from standing so among `count` of them
+-- why `height` rows of `row` samples each, `stride` apart, aren't among `count` samples
 abbrev pub rows_refusal : ℕ → ℕ → ℕ → ℕ → Option Refusal
 rows_refusal row stride height count =
     unless_met (nat_le row stride) refusal.Stride (unless_met (nat_le (reach_of row stride height) count) refusal.TooFewSamples None)
 
--- what keeps so many samples of at most `most` from being those of a picture of this form, but for their values
+-- why `count` samples of at most `most` can't be those of a picture of this form, whatever their values
 abbrev pub request_refusal : ℕ → JlsrecForm → ℕ → ℕ → Option Refusal
 request_refusal most form stride count =
     or_next (form_refusal form)
@@ -118,21 +118,21 @@ abbrev pub is_none : {A : Type 0} → Option A → Bool
 is_none None = true
 is_none (Some x) = false
 
--- what keeps a picture from being encoded into so much room: a sample over maxval, or a longer codestream
+-- why a picture can't be encoded into `room` bytes: a sample over maxval, or a longer codestream
 abbrev pub coding_refusal : Picture → Parameters → ℕ → Option Refusal
 coding_refusal f p room =
     unless_met (is_none (position (λ sample. nat_lt f.maxval sample) f.samples)) refusal.SampleTooLarge
     (unless_met (nat_le (length (codestream f p)) room) refusal.NoRoom None)
 
--- what keeps samples from being encoded into so much room
+-- why samples can't be encoded into `room` bytes
 abbrev pub encode_refusal : ℕ → JlsrecForm → ℕ → List ℕ → ℕ → Option Refusal
 encode_refusal most form stride samples room =
     or_next (request_refusal most form stride (length samples)) (coding_refusal (picture_in form stride samples) (parameters form) room)
 
 -- ---- the bound
 
--- the most bytes of a codestream of this form: of SOI, the frame header, preset parameters, a scan header for each component and EOI;
--- and of each component LIMIT bits a sample, seven to a byte, and one byte more
+-- the most bytes of a codestream of this form: SOI, the frame header, preset parameters, a scan header for each component and EOI; and for each
+-- component LIMIT bits per sample, seven to a byte, and one byte more
 abbrev pub most_bytes_of : JlsrecForm → ℕ
 most_bytes_of form =
     let count = components (kind_of form.components) in

@@ -1,4 +1,4 @@
--- The statuses: 0 if a call did what it was asked to, and a number for each refusal.
+-- The statuses: 0 if a call did what it was asked to do, and a number for each refusal.
 use Rattle.std.specs.Prelude.{◌≡◌, ℕ, Option, None, Some, Result, Ok, Err}
 use Rattle.ls_frame.specs.declared.presets.PresetFault.{PresetFault}
 use Rattle.ls_frame.specs.declared.presets.PresetFault.TheVariants.{MaxvalRange, T1Range, T2Range, T3Range, ResetRange}
@@ -10,7 +10,7 @@ use Rattle.ls_c.specs.declared.form.JlsrecFault.{JlsrecFault}
 use Rattle.ls_c.specs.declared.refusal.Refusal.{Refusal}
 use Rattle.ls_c.specs.declared.refusal.Refusal.TheVariants as refusal
 
--- preset parameters that are to be coded with
+-- preset parameters to encode with
 abbrev pub preset_number : PresetFault → ℕ
 preset_number MaxvalRange = 6
 preset_number T1Range = 10
@@ -18,7 +18,7 @@ preset_number T2Range = 11
 preset_number T3Range = 12
 preset_number ResetRange = 13
 
--- those that a codestream has
+-- preset parameters of a codestream
 abbrev pub stream_preset_number : PresetFault → ℕ
 stream_preset_number MaxvalRange = 34
 stream_preset_number T1Range = 35
@@ -67,7 +67,7 @@ abbrev pub status_of : Result (Unit {0}) Refusal → ℕ
 status_of (Ok done) = 0
 status_of (Err refusal) = number_of refusal
 
--- the status of what refuses, if anything does
+-- the status of a refusal, if there is one, else 0
 abbrev pub status_by : Option Refusal → ℕ
 status_by None = 0
 status_by (Some refusal) = number_of refusal
@@ -93,7 +93,7 @@ what_details (what.LseId id) = details 0 0 id
 what_details what.LseLate = no_details
 what_details what.ScanOrder = no_details
 
--- what a fault says beside its number
+-- the details of a fault, beside its status
 abbrev pub details_of : StreamFault → JlsrecFault
 details_of NoMemory = no_details
 details_of Truncated = no_details
@@ -105,7 +105,7 @@ details_of TooLarge = no_details
 details_of (BadCode component) = details component 0 0
 details_of (LeftoverBits component) = details component 0 0
 
--- what a refusal says beside its number is in the details; what it doesn't say isn't looked at there
+-- the details agree with what a refusal says beside its status; the other details may be anything
 abbrev pub IsNamedWhat : What → JlsrecFault → Type 0
 IsNamedWhat (what.Marker code) d = code ≡ d.marker
 IsNamedWhat (what.Components count) d = count ≡ d.number

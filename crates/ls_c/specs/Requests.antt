@@ -1,4 +1,4 @@
--- How what is to be encoded is seen as a form.
+-- What a request says of its form.
 use Rattle.std.specs.Prelude.{◌≡◌, ℕ, ◌<◌, ◌≤◌, List}
 use Rattle.ls_c.specs.declared.form.JlsrecForm.{JlsrecForm}
 use Rattle.ls_c.specs.declared.request.Request.{Request}
@@ -7,7 +7,7 @@ use Rattle.ls_frame.specs.Picture.{Picture, sample_count, most_samples}
 use Rattle.ls_frame.specs.Parameters.{IsLegal}
 use Rattle.ls_c.specs.Forms.{kind_of, parameters, row_of, stride_of, reach_of}
 
--- the request is of this form, with a stride as it is given, for so many samples
+-- the request for a picture of this form with this stride, among `count` samples
 pub record IsRequest (request : Request) (form : JlsrecForm) (stride count : ℕ) : Type 0 where
   pub kind : request.shape.kind ≡ kind_of form.components
   pub width : request.shape.width ≡ form.width

@@ -23,11 +23,13 @@ use ls_stream::laws::codestreams_spell_their_frames;
 use ls_stream::{Lines, Opening, Regions, StreamFault, encode_into, encode_picture, picture_bound};
 use std::alloc::Global;
 
-/// The most bytes of a block that malloc hands out again once it is freed. A larger one comes from the system page by
-/// page each time (with glibc), which takes longer than to look at all samples before they are coded.
+/// The largest block, in bytes, that malloc reuses once it is freed. A larger one comes from the system page by page
+/// each time (with glibc), which takes longer than to check all samples before they are coded.
 const MOST_HANDED_OUT_AGAIN: u64 = 1 << 25;
 
-/// Encodes samples of 16 bits.
+/// Encodes samples of 16 bits to the front of `bytes`. A row starts `stride` samples after the one before; a stride of
+/// 0 means rows without gaps. `written` is the number of bytes of the codestream, also if they don't fit in `bytes`
+/// (`NoRoom`); after any other refusal it is 0. A refusal leaves `bytes` unchanged.
 pub fn encode_words(
     alloc: Global,
     form: &JlsrecForm,
@@ -64,7 +66,8 @@ pub fn encode_words(
     )
 }
 
-/// Encodes samples of 8 bits.
+/// Encodes samples of 8 bits, as `encode_words` does those of 16; a form with a maxval over 255 is refused as
+/// `NotEightBits`.
 pub fn encode_bytes(
     alloc: Global,
     form: &JlsrecForm,
@@ -101,8 +104,9 @@ pub fn encode_bytes(
     )
 }
 
-/// Encodes the samples of a picture to the front of `bytes`, and says how many bytes that needs: in memory of its own, so
-/// that they are looked at while they are coded, unless that takes too much of it.
+/// Encodes the samples of a picture, whose rows have no gaps, to the front of `bytes`, and sets `written` to the number
+/// of bytes of its codestream. If its bound is small, or `bytes` may be too small, this encodes into a buffer of its
+/// own, which checks samples while they are coded; else it checks all samples first, and encodes into `bytes`.
 fn encode_joined(
     alloc: Global,
     shape: Shape,
@@ -151,7 +155,8 @@ fn encode_joined(
     Ok(())
 }
 
-/// Encodes a picture in memory of its own, and copies its codestream once all samples were seen to be at most maxval.
+/// Encodes a picture into a buffer of its own, and copies the codestream to the front of `bytes` once all samples are
+/// known to be at most maxval.
 fn encode_apart(
     alloc: Global,
     picture: &PictureView,
@@ -183,7 +188,10 @@ fn encode_apart(
     Ok(())
 }
 
-/// Decodes into samples of 16 bits.
+/// Decodes the codestream at the front of `bytes` to the front of `samples`, of 16 bits; sets `form`, and `used` to the
+/// number of bytes of the codestream. If `samples` is too small (`NoRoom`), `form` is set all the same. If the bytes
+/// can't be decoded, `fault` has the details, and the samples of the frame may have been overwritten. After any other
+/// refusal, `samples` is unchanged.
 pub fn decode_words(
     alloc: Global,
     bytes: &[u8],
@@ -213,7 +221,8 @@ pub fn decode_words(
     }
 }
 
-/// Decodes into samples of 8 bits.
+/// Decodes into samples of 8 bits, as `decode_words` does into those of 16; if maxval is over 255 (`NotEightBits`),
+/// `form` is set all the same.
 pub fn decode_bytes(
     alloc: Global,
     bytes: &[u8],
@@ -243,8 +252,8 @@ pub fn decode_bytes(
     }
 }
 
-/// Opens the codestream at the front of bytes, if so many samples of at most `most` can hold its frame's. Says its
-/// form, or the details of the first fault.
+/// Opens the codestream at the front of `bytes`, if its frame fits in `room` samples of at most `most`. Sets `form` if
+/// the bytes begin with a legal opening, else sets `fault` to the details of the first fault.
 fn open<'a>(
     bytes: &'a [u8],
     most: u16,
@@ -279,7 +288,8 @@ fn open<'a>(
     Ok(opening)
 }
 
-/// Decodes the frame of an opening into its samples' places.
+/// Decodes the frame of an opening into `places`, which must be as many as its samples and hold values up to its
+/// maxval, and returns the number of bytes of its codestream. If an allocation fails, they are unchanged.
 fn decode_at<S: Place>(
     alloc: Global,
     opening: &Opening,

@@ -1,4 +1,4 @@
-//! How far the next codestream goes, and how long one may be.
+//! The length of the next codestream, and the most bytes that one may have.
 ghost use Rattle.std.specs.Prelude.{◌≡◌, ◌<◌, ◌≤◌, List, ℕ, length};
 ghost use Rattle.ls_frame.specs.Picture.{Picture, IsFrame};
 ghost use Rattle.ls_frame.specs.Parameters.{Parameters, IsLegal};
@@ -14,7 +14,8 @@ use ls_frame::{Buffered, Presets};
 use ls_stream::{NextFault, StreamFault, next_stream};
 use std::alloc::Global;
 
-/// How many bytes the next codestream has, by its markers alone; 0 if there are no bytes.
+/// Sets `extent` to the number of bytes of the next codestream, found by its markers alone; 0 if there are no bytes, or
+/// on a refusal, which is `TooLarge` or `NoMemory`.
 pub fn next_extent(alloc: Global, bytes: &[u8], extent: &mut usize) -> Result<(), Refusal>
     ensures { IsExtent bytes.now extent.new (status_of result) }
 {
@@ -37,7 +38,7 @@ pub fn next_extent(alloc: Global, bytes: &[u8], extent: &mut usize) -> Result<()
     }
 }
 
-/// The most bytes of a codestream of this form, with any coding parameters; 0 if there is no picture of it.
+/// Returns the most bytes of a codestream of this form, with any coding parameters; 0 if there is no picture of it.
 pub fn bound(form: &JlsrecForm) -> u64
     ensures value { result ≡ bound_of form.now }
     ensures enough { (f : Picture) (p : Parameters) → IsFrame f → IsLegal p → p.maxval ≡ f.maxval → IsOfForm f form.now

@@ -1,4 +1,4 @@
-//! What C passes and is passed: the form of a picture, and the details of a fault.
+//! The structs shared with C: the form of a picture, and the details of a fault.
 ghost use Rattle.std.specs.Prelude.{◌≡◌};
 ghost use Rattle.ls_c.specs.Calls.{form_by};
 ghost use Rattle.ls_c.specs.Forms.{no_form, plain_form};
@@ -6,26 +6,27 @@ ghost use Rattle.ls_c.specs.Refusals.{details_of, no_details};
 
 use ls_stream::{Opening, StreamFault, What};
 
-/// The form of a picture: `jlsrec_form` of the header.
+/// The form of a picture: `jlsrec_form` of `jlsrec.h`.
 #[repr(C)]
 #[derive(Clone, Copy)]
 pub struct JlsrecForm {
-    /// Samples a pixel, 1 or 3.
+    /// Samples per pixel, 1 or 3.
     pub components: u32,
-    /// Pixels a row, 1 to 65535.
+    /// Pixels per row, 1 to 65535.
     pub width: u32,
     /// Rows, 1 to 65535.
     pub height: u32,
     /// The greatest value that a sample may have, 1 to 65535.
     pub maxval: u32,
-    /// T1, T2, T3 and RESET of T.87; a 0 stands for the default of maxval (C.2.4.1.1).
+    /// T1, T2, T3 and RESET of T.87; 0 means the default for maxval (C.2.4.1.1).
     pub t1: u32,
     pub t2: u32,
     pub t3: u32,
     pub reset: u32,
 }
 
-/// What a fault's status leaves open: `jlsrec_fault` of the header. What a fault doesn't have is 0.
+/// The details of a fault that its status doesn't give: `jlsrec_fault` of `jlsrec.h`. Those that a fault doesn't have
+/// are 0.
 #[repr(C)]
 #[derive(Clone, Copy)]
 pub struct JlsrecFault {
@@ -33,11 +34,11 @@ pub struct JlsrecFault {
     pub component: u32,
     /// The code of a marker that isn't supported.
     pub marker: u32,
-    /// How many components a frame header has, or the ID of an LSE segment, where that isn't supported.
+    /// The number of components of a frame header, or the ID of an LSE segment, if that isn't supported.
     pub number: u32,
 }
 
-/// The form that an opening says, with the coding parameters in force.
+/// Returns the form that an opening gives, with the coding parameters in force.
 pub fn form_by(opening: &Opening) -> JlsrecForm
     ensures { result ≡ form_by opening.now }
 {
@@ -54,14 +55,14 @@ pub fn form_by(opening: &Opening) -> JlsrecForm
     }
 }
 
-/// No form: zeros.
+/// Returns no form: zeros.
 pub fn no_form() -> JlsrecForm
     ensures { result ≡ no_form }
 {
     plain_form(0, 0, 0, 0)
 }
 
-/// A form with the coding parameters left at their defaults.
+/// Returns a form with default coding parameters.
 pub fn plain_form(components: u32, width: u32, height: u32, maxval: u32) -> JlsrecForm
     ensures { result ≡ plain_form components width height maxval }
 {
@@ -77,14 +78,14 @@ pub fn plain_form(components: u32, width: u32, height: u32, maxval: u32) -> Jlsr
     }
 }
 
-/// No details: zeros.
+/// Returns no details: zeros.
 pub fn no_details() -> JlsrecFault
     ensures { result ≡ no_details }
 {
     details(0, 0, 0)
 }
 
-/// What a fault says beside its number.
+/// Returns the details of a fault, beside its status.
 pub fn details_of(fault: StreamFault) -> JlsrecFault
     ensures { result ≡ details_of fault }
 {

@@ -1,13 +1,15 @@
-//! The C library: coding and decoding in a caller's memory, over the calls of `ls_stream`.
+//! The C library: encoding and decoding in a caller's memory, by the calls of `ls_stream`.
 //!
-//! What it hands on are its exports; `library/include/jlsrec.h` declares them for C and says what each answers and
-//! leaves in memory. `specs/Calls.antt` says the same, call by call (`IsEncoding`, `IsDecoding`, `IsReading`,
-//! `IsExtent`), over the forms and rows of `specs/Forms.antt` and the statuses of `specs/Refusals.antt`. A slice is a
-//! pointer and then a count for C, and `alloc` is nothing: it stands for the malloc, realloc and free of the process.
+//! Its interface is the exported functions. `library/include/jlsrec.h` declares them for C and says what each returns
+//! and leaves in memory; `specs/Calls.antt` says the same, call by call (`IsEncoding`, `IsDecoding`, `IsReading`,
+//! `IsExtent`), in terms of the forms and rows of `specs/Forms.antt` and the statuses of `specs/Refusals.antt`. In C a
+//! slice is a pointer followed by a count, and `alloc` is no parameter: it stands for the malloc, realloc and free of
+//! the process.
 //!
-//! In reading order: `form` (what C passes and is passed), `refusal` (why a call refuses, and the statuses), `request`
-//! (what is to be encoded, looked at before memory is asked for), `coding` (encoding and decoding), `reading` (a form
-//! by itself), `extent` (how far the next codestream goes, and how long one may be), `text` (what is said of a status).
+//! In reading order: `form` (the structs shared with C), `refusal` (why a call refuses, and the statuses), `request`
+//! (what is to be encoded, checked before anything is allocated), `coding` (encoding and decoding), `reading` (reading
+//! a form alone), `extent` (the length of the next codestream, and the most bytes that one may have), `text` (the text
+//! of a status).
 #![tactic(auto)]
 
 mod coding;
@@ -33,7 +35,8 @@ use refusal::status_of;
 use std::alloc::Global;
 use text::print;
 
-/// Encodes samples of 16 bits into `bytes`; `written` says how many bytes the codestream has.
+/// Encodes samples of 16 bits into `bytes`. `written` is the number of bytes of the codestream, also if it doesn't fit
+/// in `bytes`; after any other refusal it is 0. Returns the status.
 #[unsafe(no_mangle)]
 pub extern "C" fn jlsrec_encode_16(
     alloc: Global,
@@ -48,7 +51,8 @@ pub extern "C" fn jlsrec_encode_16(
     status_of(encode_words(alloc, form, samples, stride, bytes, written))
 }
 
-/// Encodes samples of 8 bits into `bytes`; `written` says how many bytes the codestream has.
+/// Encodes samples of 8 bits into `bytes`. `written` is the number of bytes of the codestream, also if it doesn't fit
+/// in `bytes`; after any other refusal it is 0. Returns the status.
 #[unsafe(no_mangle)]
 pub extern "C" fn jlsrec_encode_8(
     alloc: Global,
@@ -63,8 +67,8 @@ pub extern "C" fn jlsrec_encode_8(
     status_of(encode_bytes(alloc, form, samples, stride, bytes, written))
 }
 
-/// Decodes the codestream at the front of bytes into samples of 16 bits, and says its form, how many bytes it has, or
-/// the details of its fault.
+/// Decodes the codestream at the front of `bytes` into samples of 16 bits; sets `form`, `used` (its number of bytes)
+/// and `fault` (the details of its fault). Returns the status.
 #[unsafe(no_mangle)]
 pub extern "C" fn jlsrec_decode_16(
     alloc: Global,
@@ -79,8 +83,8 @@ pub extern "C" fn jlsrec_decode_16(
     status_of(decode_words(alloc, bytes, samples, form, used, fault))
 }
 
-/// Decodes the codestream at the front of bytes into samples of 8 bits, and says its form, how many bytes it has, or
-/// the details of its fault.
+/// Decodes the codestream at the front of `bytes` into samples of 8 bits; sets `form`, `used` (its number of bytes) and
+/// `fault` (the details of its fault). Returns the status.
 #[unsafe(no_mangle)]
 pub extern "C" fn jlsrec_decode_8(
     alloc: Global,
@@ -95,7 +99,8 @@ pub extern "C" fn jlsrec_decode_8(
     status_of(decode_bytes(alloc, bytes, samples, form, used, fault))
 }
 
-/// Says the form of the codestream at the front of bytes, by its headers alone, or the details of its first fault.
+/// Sets `form` to that of the codestream at the front of `bytes`, read from its headers alone, or `fault` to the
+/// details of its first fault. Returns the status.
 #[unsafe(no_mangle)]
 pub extern "C" fn jlsrec_read_form(
     bytes: &[u8],
@@ -107,7 +112,7 @@ pub extern "C" fn jlsrec_read_form(
     status_of(read_form(bytes, form, fault))
 }
 
-/// How many bytes the next codestream has, by its markers alone.
+/// Sets `extent` to the number of bytes of the next codestream, found by its markers alone. Returns the status.
 #[unsafe(no_mangle)]
 pub extern "C" fn jlsrec_extent(alloc: Global, bytes: &[u8], extent: &mut usize) -> u32
     ensures { IsExtent bytes.now extent.new result }
@@ -115,7 +120,8 @@ pub extern "C" fn jlsrec_extent(alloc: Global, bytes: &[u8], extent: &mut usize)
     status_of(next_extent(alloc, bytes, extent))
 }
 
-/// The most bytes of a codestream of a picture of this form, with any coding parameters; 0 if there is no such picture.
+/// Returns the most bytes of a codestream of a picture of this form, with any coding parameters; 0 if there is no such
+/// picture.
 #[unsafe(no_mangle)]
 pub extern "C" fn jlsrec_bound(components: u32, width: u32, height: u32, maxval: u32) -> u64
     ensures value { result ≡ bound_of (plain_form components width height maxval) }
@@ -125,7 +131,7 @@ pub extern "C" fn jlsrec_bound(components: u32, width: u32, height: u32, maxval:
     bound(&plain_form(components, width, height, maxval))
 }
 
-/// What is said of a status, cut to the room, with a 0 after it; answers how long it is whole.
+/// Writes the text of a status to `text`, cut to fit, with a 0 after it. Returns the length of the uncut text.
 #[unsafe(no_mangle)]
 pub extern "C" fn jlsrec_text(status: u32, fault: &JlsrecFault, text: &mut [u8]) -> usize
     ensures { (said : List ℕ) × (result ≡ length said) × (text.new ≡ printed said text.old) }
@@ -133,7 +139,7 @@ pub extern "C" fn jlsrec_text(status: u32, fault: &JlsrecFault, text: &mut [u8])
     print(status, fault, text)
 }
 
-/// The version, 10000 times the first number, 100 times the second, and the third.
+/// Returns the version: 10000 times its first number, plus 100 times the second, plus the third.
 #[unsafe(no_mangle)]
 pub extern "C" fn jlsrec_version() -> u32
     ensures { result ≡ 100 }

@@ -1,4 +1,4 @@
-//! What a codestream says of its picture before the samples.
+//! Reading the form of a picture from its codestream, without the samples.
 ghost use Rattle.std.specs.Prelude.{◌≡◌};
 ghost use Rattle.ls_c.specs.Calls.{IsReading};
 ghost use Rattle.ls_c.specs.Refusals.{status_of};
@@ -7,7 +7,7 @@ use crate::form::{JlsrecFault, JlsrecForm, details_of, form_by, no_details, no_f
 use crate::refusal::Refusal;
 use ls_stream::Opening;
 
-/// Reads the form of the codestream at the front of bytes, or says the details of the first fault.
+/// Sets `form` to that of the codestream at the front of `bytes`, or sets `fault` to the details of the first fault.
 pub fn read_form(
     bytes: &[u8],
     form: &mut JlsrecForm,

@@ -1,4 +1,4 @@
-//! Why a call refuses, and the number that it answers then.
+//! Why a call refuses, and the status that it returns then.
 ghost use Rattle.std.specs.Prelude.{◌≡◌, IfSome, Result, Ok, Err};
 ghost use Rattle.ls_c.specs.Refusals.{number_of, status_of, preset_number, fault_number, what_number, stream_preset_number, IsNamed};
 
@@ -8,10 +8,10 @@ use ls_stream::{StreamFault, What};
 use std::alloc::AllocError;
 use thiserror::Error;
 
-/// Why a call didn't do what it was asked to.
+/// Why a call didn't do what it was asked to do.
 #[derive(Clone, Copy, Debug, Drop, Error)]
 pub enum Refusal {
-    /// The caller's memory is too small for what is to be written to it.
+    /// The caller's buffer is too small for what is to be written to it.
     #[error("no room")]
     NoRoom,
     #[error("neither 1 nor 3 components")]
@@ -22,7 +22,7 @@ pub enum Refusal {
     TooManySamples,
     #[error("maxval isn't 1 to 65535")]
     Maxval,
-    /// There are rows from more samples on than the one before has.
+    /// A row has more samples than the stride.
     #[error("the stride is less than a row")]
     Stride,
     #[error("fewer samples than the form asks for")]
@@ -33,7 +33,7 @@ pub enum Refusal {
     Preset(PresetFault),
     #[error("maxval is over 255")]
     NotEightBits,
-    /// Bytes can't be decoded, or, of any call, an allocation failed.
+    /// The bytes can't be decoded; or, in any call that allocates, an allocation failed.
     #[error("{0}")]
     Stream(StreamFault),
 }
@@ -53,7 +53,7 @@ impl From<AllocError> for Refusal {
     }
 }
 
-/// The status of a call: 0 if it did what it was asked to.
+/// Returns the status of a call: 0 if it did what it was asked to do, else its refusal's.
 pub fn status_of(done: Result<(), Refusal>) -> u32
     ensures { result ≡ status_of done }
 {
@@ -64,7 +64,7 @@ pub fn status_of(done: Result<(), Refusal>) -> u32
 }
 
 impl Refusal {
-    /// Its status.
+    /// Returns the refusal's status.
     pub fn number(self) -> u32
         ensures { result ≡ number_of self }
     {
@@ -142,8 +142,8 @@ fn stream_preset_number(fault: PresetFault) -> u32
     }
 }
 
-/// The refusal of a status, with the details of its fault; `None` of 0, of numbers that no call answers, and of details
-/// that no fault has.
+/// Returns the refusal with this status and these details of its fault; `None` for 0, for numbers that no call returns,
+/// and for details that no fault has.
 pub fn refusal_of(status: u32, details: &JlsrecFault) -> Option<Refusal>
     ensures { IfSome result (λ refusal. (number_of refusal ≡ status) × IsNamed refusal details.now) }
 {

@@ -1,4 +1,4 @@
-//! What a caller asks to have encoded: a form, its coding parameters, and where its rows stand.
+//! A request to encode: a form, its coding parameters, and the layout of its rows.
 ghost use Rattle.std.specs.Prelude.{◌≡◌, ◌*◌, ◌<◌, ◌≤◌, true, false, None, Some, IfOk, IfSome, MatchOption, MatchResult, take, drop};
 ghost use Rattle.ls_frame.specs.Picture.{components, sample_count, most_samples};
 ghost use Rattle.ls_frame.specs.Parameters.{preset_fault, IsLegal};
@@ -12,7 +12,7 @@ use ls_frame::frame::MOST_SAMPLES;
 use ls_frame::{Kind, PresetFault, Presets};
 use std::alloc::{AllocError, Global};
 
-/// The form of a frame.
+/// The kind, size and maxval of a frame.
 #[derive(Clone, Copy)]
 pub struct Shape {
     pub kind: Kind,
@@ -21,17 +21,17 @@ pub struct Shape {
     pub maxval: u16,
 }
 
-/// Where the rows of a picture stand among a caller's samples.
+/// The layout of a picture's rows among a caller's samples.
 #[derive(Clone, Copy)]
 pub struct Rows {
-    /// The samples of a row.
+    /// The number of samples in a row.
     pub row: usize,
-    /// The samples from the start of a row to that of the next.
+    /// The number of samples from the start of a row to that of the next.
     pub stride: usize,
     pub height: usize,
 }
 
-/// What is to be encoded, but for the samples.
+/// What is to be encoded, without the samples.
 #[derive(Clone, Copy)]
 pub struct Request {
     pub shape: Shape,
@@ -39,7 +39,8 @@ pub struct Request {
     pub rows: Rows,
 }
 
-/// The shape that a form says.
+/// Returns the shape of a form. Fails with the first of `Components`, `Side`, `TooManySamples` and `Maxval` that
+/// applies.
 pub fn shape_of(form: &JlsrecForm) -> Result<Shape, Refusal>
     ensures exactly { MatchResult result (λ _. form_refusal form.now ≡ None) (λ refused. form_refusal form.now ≡ Some refused) }
     ensures kind { IfOk result (λ shape. shape.kind ≡ kind_of form.now.components) }
@@ -76,7 +77,7 @@ pub fn shape_of(form: &JlsrecForm) -> Result<Shape, Refusal>
     })
 }
 
-/// A number of 1 to 65535.
+/// Returns the number if it is 1 to 65535.
 fn sixteen_bits(number: u32) -> Option<u16>
     ensures { MatchOption result (is_sixteen_bits number ≡ false) (λ same. (same ≡ number) × (is_sixteen_bits number ≡ true)) }
 {
@@ -87,7 +88,8 @@ fn sixteen_bits(number: u32) -> Option<u16>
     }
 }
 
-/// What is to be encoded: samples of at most `most`, of which there are so many.
+/// Returns the request to encode `count` samples of at most `most`. Fails as `shape_of` does, else with the first of
+/// `NotEightBits`, `Preset`, `Stride` and `TooFewSamples` that applies.
 pub fn request_of(
     most: u32,
     form: &JlsrecForm,
@@ -115,7 +117,8 @@ pub fn request_of(
     })
 }
 
-/// Where rows of so many samples stand among `count` of them.
+/// Returns the layout of `height` rows of `row` samples each among `count` samples; a stride of 0 means `row`. Fails
+/// with `Stride` if the stride is less than a row, else with `TooFewSamples`.
 fn rows_of(row: usize, stride: usize, height: u16, count: usize) -> Result<Rows, Refusal>
     requires some_height { 0 < height }
     ensures exactly { MatchResult result (λ _. rows_refusal row (stride_by row stride) height count ≡ None)
@@ -138,7 +141,7 @@ fn rows_of(row: usize, stride: usize, height: u16, count: usize) -> Result<Rows,
     })
 }
 
-/// The coding parameters that a form asks for.
+/// Returns the coding parameters that a form asks for. Fails with the first that is out of its range.
 fn presets_of(form: &JlsrecForm, maxval: u16) -> Result<Presets, PresetFault>
     requires some { 0 < maxval }
     requires same { form.now.maxval ≡ maxval }
@@ -157,7 +160,7 @@ fn presets_of(form: &JlsrecForm, maxval: u16) -> Result<Presets, PresetFault>
     )
 }
 
-/// What was chosen, or the default if that is 0.
+/// Returns the chosen value, or the default if that is 0.
 fn or_default(chosen: u32, default: u16) -> u32
     ensures { result ≡ or_default chosen default }
 {
@@ -168,14 +171,14 @@ fn or_default(chosen: u32, default: u16) -> u32
     }
 }
 
-/// The number, or 0 if it is over 65535: either is out of each parameter's range.
+/// Returns the number, or 0 if it is over 65535: both are out of each parameter's range.
 fn narrowed(number: u32) -> u16
     ensures { result ≡ narrowed number }
 {
     u16::try_from(number).unwrap_or(0)
 }
 
-/// The rows of a picture, copied together.
+/// Returns the rows of a picture, copied into one vector without gaps. Fails only if an allocation fails.
 pub fn joined<T: Copy>(alloc: Global, rows: &Rows, samples: &[T]) -> Result<Vec<T>, AllocError>
     ensures { IfOk result (λ joined. joined.items ≡ rows_of rows.now.row rows.now.stride rows.now.height samples.now) }
 {
@@ -188,7 +191,7 @@ pub fn joined<T: Copy>(alloc: Global, rows: &Rows, samples: &[T]) -> Result<Vec<
     Ok(joined)
 }
 
-/// The samples of rows that follow one another; `None` of others.
+/// Returns the samples of a picture whose rows have no gaps; `None` if they have.
 pub fn adjacent<'a, T>(request: &Request, samples: &'a [T]) -> Option<&'a [T]>
     ensures { IfSome result (λ front. (request.now.rows.stride ≡ request.now.rows.row)
         × (front.now ≡ take (sample_count request.now.shape.kind request.now.shape.width request.now.shape.height) samples.now)) }
@@ -203,7 +206,7 @@ pub fn adjacent<'a, T>(request: &Request, samples: &'a [T]) -> Option<&'a [T]>
     Some(front(samples, count))
 }
 
-/// The first so many, or all if there are fewer.
+/// Returns the first `count` items, or all if there are fewer.
 fn front<T>(items: &[T], count: usize) -> &[T]
     ensures { result.now ≡ take count items.now }
 {
@@ -214,7 +217,7 @@ fn front<T>(items: &[T], count: usize) -> &[T]
     }
 }
 
-/// Those after the first so many, if there are any.
+/// Returns the items after the first `count`, if there are any.
 fn after<T>(items: &[T], count: usize) -> &[T]
     ensures { result.now ≡ drop count items.now }
 {

@@ -1,4 +1,4 @@
-//! What is said of a status.
+//! The text of a status.
 ghost use Rattle.std.specs.Prelude.{◌≡◌, ◌≤◌, ℕ, List, length};
 ghost use Rattle.ls_c.specs.Calls.{printed};
 
@@ -7,7 +7,7 @@ use crate::refusal::refusal_of;
 use std::fmt;
 use std::fmt::Write;
 
-/// Room for the longest text.
+/// Room for the longest text, in bytes.
 const MOST: usize = 64;
 
 /// A text that is being written.
@@ -19,7 +19,7 @@ struct Line {
 }
 
 impl Write for Line {
-    /// Fails if there is no room; a part may have been written then.
+    /// Fails if the text doesn't fit; a part of it may have been written then.
     fn write_str(&mut self, s: &str) -> fmt::Result {
         for byte in s.as_bytes() {
             if self.len >= MOST {
@@ -32,7 +32,7 @@ impl Write for Line {
     }
 }
 
-/// Writes what is said of a status, cut to the room that there is, and a 0 after it; answers how long it is.
+/// Writes the text of a status to `text`, cut to fit, with a 0 after it. Returns the length of the uncut text.
 pub fn print(status: u32, details: &JlsrecFault, text: &mut [u8]) -> usize
     ensures { (said : List ℕ) × (result ≡ length said) × (text.new ≡ printed said text.old) }
 {
@@ -45,7 +45,7 @@ pub fn print(status: u32, details: &JlsrecFault, text: &mut [u8]) -> usize
     line.len
 }
 
-/// The words; a text that doesn't fit is cut.
+/// Writes the words of a status; a text that doesn't fit is cut.
 fn write_words(status: u32, details: &JlsrecFault, line: &mut Line) {
     let written = match refusal_of(status, details) {
         Some(refusal) => write!(line, "{refusal}"),
@@ -57,7 +57,7 @@ fn write_words(status: u32, details: &JlsrecFault, line: &mut Line) {
     }
 }
 
-/// Lays a text, cut to the room, and a 0 after it.
+/// Copies a text, cut to fit, with a 0 after it.
 fn lay_text(said: &[u8], text: &mut [u8])
     ensures { text.new ≡ printed said.now text.old }
 {

@@ -136,7 +136,7 @@ context_through p n z e =
     let range = signed_range p n in
     ap (λ x. to_z w16 (of_z w16 x)) e ∙ through_16 (signed_context p n) range.0 range.1
 
--- it is 0 where all three regions are
+-- it is 0 exactly where all three regions are
 zero_below : (z : ℤ) → z <ℤ pos 0 → is_zero z ≡ false
 zero_below (pos n) h = absurd (omega (arith, ints))
 zero_below (negsuc n) h = refl
@@ -167,7 +167,7 @@ zero_1 (pos (suc n)) q2 q3 s t =
     zero_above (context_number (pos (suc n)) q2 q3) sum ∙ ap (λ b. b && is_zero q2 && is_zero q3) (sym (not_zero n))
 zero_1 (negsuc n) q2 q3 s t = let sum : context_number (negsuc n) q2 q3 <ℤ pos 0 = omega (arith, ints, s.high, t.high) in zero_below (context_number (negsuc n) q2 q3) sum
 
--- ---- a half, and the whole
+-- ---- the part of the line above, and the complete number
 
 abbrev pub half_number : ℤ → ℤ → ℤ
 half_number q1 q2 = pos 81 *ℤ q1 +ℤ pos 9 *ℤ q2
@@ -190,7 +190,7 @@ whole_through half r low high region =
     ∙ ap (λ z. to_z w16 (of_z w16 (half +ℤ z))) (region_through r region)
     ∙ through_16 (half +ℤ r) (omega (arith, ints, region.low)) (omega (arith, ints, region.high))
 
--- a region is 0 where the gradient is
+-- a region is 0 exactly where the gradient is
 choose_region : (test : Bool) (x y : ℤ) (P : ℤ → Type 0) → (test ≡ true → P x) → (test ≡ false → P y) → P (cond test x y)
 choose_region true x y P f g = f refl
 choose_region false x y P f g = g refl
@@ -244,7 +244,7 @@ region-zero p (negsuc n) legal =
     let less : negsuc n <ℤ pos 0 = omega (arith, ints) in
     zero_below (region p (negsuc n)) (region_below p (negsuc n) less)
 
--- a whole context is 0 exactly in run mode
+-- the complete number is 0 exactly in run mode
 pub whole-zero : (p : Parameters) (a b c d : ℕ) → IsLegal p → is_zero (half_context p b c d +ℤ region p (pos c -ℤ pos a))
     ≡ (is_zero (pos d -ℤ pos b) && is_zero (pos b -ℤ pos c) && is_zero (pos c -ℤ pos a))
 unfolding half_context
@@ -266,11 +266,11 @@ small_8 (negsuc n) r = omega (arith, ints, r.low)
 pub region_through_8 : (z : ℤ) → IsRegion z → to_z w8 (of_z w8 z) ≡ z
 region_through_8 z r = to_z-of_z w8 z (record { sfits = small_8 z r })
 
--- a difference, by what each number has over the other
+-- the difference of two numbers, from how much each exceeds the other
 pub apart : (x y over under : ℕ) → over ≡ x - y → under ≡ y - x → pos over -ℤ pos under ≡ pos x -ℤ pos y
 apart x y over under e f = omega (arith, ints)
 
--- one place more of which something holds
+-- what holds of the first k places, and of a new value at place k, holds of the first k + 1
 pub set_more : (xs : List ℤ) (k : ℕ) (x : ℤ) (P : ℕ → ℤ → Type 0) → k < length xs → P k x → ((j : ℕ) → j < k → P j (get_or xs j (pos 0)))
     → (j : ℕ) → j < k + 1 → P j (get_or (set xs k x) j (pos 0))
 set_more xs k x P inside here before j h =
@@ -281,7 +281,7 @@ set_more xs k x P inside here before j h =
           subst (λ n. P n (get_or (set xs k x) n (pos 0))) same (subst (P k) (sym (get_or-set_same xs k x (pos 0) inside)) here)
     ]
 
--- what is read of the table
+-- what is looked up in the table
 pub region_read : (p : Parameters) (table : List ℤ) (over other place : ℕ) (z : ℤ) → AreRegions p table → over ≤ p.maxval → other ≤ p.maxval
     → place ≡ p.maxval + over - other → z ≡ get_or table place z → z ≡ region p (pos over -ℤ pos other)
 region_read p table over other place z regions a b at e =

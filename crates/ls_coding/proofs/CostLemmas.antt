@@ -61,7 +61,7 @@ prediction_is maxval (negsuc n) h = absurd (omega (arith, ints, h.from_zero))
 pub prediction_of : (p : Parameters) (negative : Bool) (c : ℤ) (n : Neighbours) → (px : ℕ) × (px ≤ p.maxval) × (predicted p negative c n ≡ pos px)
 prediction_of p negative c n = prediction_is p.maxval (predicted p negative c n) (clamped_within p.maxval (pos (median n) +ℤ signed negative c))
 
--- ---- an error more keeps counters sound
+-- ---- one more error keeps counters sound
 
 record IsBias (c : ℤ) : Type 0 where
   low : neg_ℤ (pos 128) ≤ℤ c
@@ -135,7 +135,7 @@ stats_after_events-sound p _ number legal none = first_stats_sound p legal
 stats_after_events-sound p _ number legal (more events event lawful follows) =
     stats_kept p events event number legal follows (λ other. stats_after_events-sound p events other legal lawful)
 
--- one error more in one of the two contexts, and none in the other
+-- one more error in one of the two contexts, and none in the other
 counts_kept-interruption : (p : Parameters) (events : List Event) (ri_type own : Bool) (e : ℤ) → IsLegal p → IsReduced (range_of p.maxval) e
     → AreSoundCounts p.reset (error_bound p.maxval) (counts_after_events p ri_type events)
     → AreSoundCounts p.reset (error_bound p.maxval) (counts_after_events p ri_type (events ++ interruption own e ∷ []))
@@ -164,7 +164,7 @@ pub counts_after_events-sound : (p : Parameters) (events : List Event) (ri_type 
 counts_after_events-sound p _ ri_type legal none = first_counts_sound p legal
 counts_after_events-sound p _ ri_type legal (more events event lawful follows) = counts_kept p events event ri_type legal follows (counts_after_events-sound p events ri_type legal lawful)
 
--- ---- and so short words
+-- ---- and so words are short
 
 pub sample_cost : (p : Parameters) (events : List Event) → IsLegal p → IsLawful p events → (n : Neighbours) (sample : ℕ) → AreSamples p.maxval n → sample ≤ p.maxval
     → length (golomb_bits p (regular_word p (stats_after_events p (context_of p n).number events) (regular_error_of p (context_of p n) (stats_after_events p (context_of p n).number events) n sample)))

@@ -14,7 +14,7 @@ use Rattle.ls_coding.specs.Interruptions.{ri_type_of, interruption_negative, int
 use Rattle.ls_coding.specs.Errors.{median, IsReduced, reduced, error_of}
 use Rattle.ls_coding.proofs.StatsLemmas.{choose, le_true, le_false, lt_true, lt_false, mean_through}
 
--- d is e, or a RANGE away from it
+-- d is e, or e with RANGE added or subtracted
 data IsAlike (range : ℕ) (d e : ℤ) : Type 0 where
   here : d ≡ e → IsAlike range d e
   above : d ≡ e +ℤ pos range → IsAlike range d e
@@ -34,7 +34,7 @@ nonnegative_alike range d low high =
     choose (int_le (pos ((range + 1) / 2)) (d +ℤ pos range)) (d +ℤ pos range -ℤ pos range) (d +ℤ pos range) (IsAlike range d)
     (λ e. here (omega (arith, ints))) (λ e. below (omega (arith, ints)))
 
--- reducing takes off no more than a RANGE
+-- reducing adds or subtracts RANGE at most once
 reduced_alike : (range : ℕ) (d : ℤ) → neg_ℤ (pos range) <ℤ d → d <ℤ pos range → IsAlike range d (reduced range d)
 unfolding signed_residue
 reduced_alike range d low high =
@@ -55,7 +55,7 @@ reduced_reduced range d low high =
     (λ e. let h = lt_true d (pos 0) e in signed_residue_reduced range (d +ℤ pos range) (omega (arith, ints, h)) (omega (arith, ints, h)))
     (λ e. let h = lt_false d (pos 0) e in signed_residue_reduced range d h high)
 
--- no two reduced errors are alike
+-- an error is alike to only one reduced error
 alike_once : (range : ℕ) (d e f : ℤ) → IsReduced range e → IsReduced range f → IsAlike range d e → IsAlike range d f → e ≡ f
 alike_once range d e f h k (here p) (here q) = omega (arith, ints)
 alike_once range d e f h k (here p) (above q) = absurd (omega (arith, ints, h.low, h.high, k.low, k.high))
@@ -83,7 +83,7 @@ modulo_alike range z =
     (λ e. below (omega (arith, ints)))
     (λ e. choose (int_le (pos range) z) (z -ℤ pos range) z (IsAlike range z) (λ f. above (omega (arith, ints))) (λ f. here refl))
 
--- a sample that is alike the prediction with the error added has the error
+-- a sample alike to the prediction with the error added has that error
 has_error : (range px x : ℕ) (negative : Bool) (e z : ℤ) → z ≡ pos px +ℤ signed negative e → IsAlike range z (pos x) → IsAlike range (signed negative (pos x -ℤ pos px)) e
 has_error range px x true e z sum (here p) = here (omega (arith, ints))
 has_error range px x true e z sum (above p) = above (omega (arith, ints))
@@ -140,7 +140,7 @@ sample_once range px x y negative e z h k l sum back same =
     (reduced_alike range (signed negative (pos y -ℤ pos px)) (difference_low range px y negative h l) (difference_high range px y negative h l)))
     (has_error range px x negative e z sum (subst (IsAlike range z) (sym back) (modulo_alike range z)))
 
--- no two samples have one error
+-- no two samples have the same error
 pub error_of-once : (p : Parameters) (px x y : ℕ) (negative : Bool) → px ≤ p.maxval → x ≤ p.maxval → y ≤ p.maxval
     → error_of p negative (pos px) x ≡ error_of p negative (pos px) y → x ≡ y
 error_of-once p px x y negative h k l e =
@@ -177,7 +177,7 @@ error_of-reduced p px x negative h k =
     let inside : x < range_of p.maxval = omega arith in
     reduced_reduced (range_of p.maxval) (signed negative (pos x -ℤ pos px)) (difference_low (range_of p.maxval) px x negative below inside) (difference_high (range_of p.maxval) px x negative below inside)
 
--- a sample that isn't the prediction has an error
+-- a sample other than the prediction has an error other than 0
 zero_alike : (range px x : ℕ) (negative : Bool) → px < range → x < range → IsAlike range (signed negative (pos x -ℤ pos px)) (pos 0) → x ≡ px
 zero_alike range px x true h k (here p) = omega (arith, ints)
 zero_alike range px x true h k (above p) = absurd (omega (arith, ints))
@@ -201,7 +201,7 @@ pub interrupting_error : (p : Parameters) (n : Neighbours) (sample : ℕ) → Ar
 interrupting_error p n sample h k ri_type e =
     k.other (error_of-zero p (interruption_prediction n) sample (interruption_negative n) (interruption_prediction_small p.maxval n h) k.within e ∙ cond-true (ri_type_of n) n.a n.b ri_type)
 
--- ---- the median by two numbers of the line above
+-- ---- the median from two differences in the line above
 
 pub median_is : (a b c d : ℕ) → int_max (int_min (pos a +ℤ pos (b - c)) (pos b)) (pos a -ℤ pos (c - b)) ≡ pos (median (record { a = a; b = b; c = c; d = d }))
 median_is a b c d = grind (arith, ints, clamps)

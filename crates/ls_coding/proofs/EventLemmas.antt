@@ -1,4 +1,4 @@
--- States after lists of events, with one event more.
+-- The state after a list of events with one more event.
 use Rattle.std.proofs.Common.{◌≡◌, ◌≢◌, ℕ, ◌<◌, Bool, true, false, ℤ, pos, List, [], ◌∷◌, ◌++◌, refl, sym, ◌∙◌, ap, arith}
 use Rattle.std.specs.Prelude.{Option}
 use Rattle.std.specs.List.{filter_map, range_with_len}
@@ -17,7 +17,7 @@ use Rattle.ls_coding.proofs.FieldLemmas.{map_set}
 use Rattle.ls_coding.proofs.RegularLemmas.{context_small}
 use Rattle.ls_coding.proofs.StateLemmas.{alike, fold-push, map_same}
 
--- ---- an error more in one context, and none in the others
+-- ---- one more error in one context, and none in the others
 
 filter_push : {A B : Type 0} → (f : A → Option B) (xs : List A) (x : A) → filter_map f (xs ++ x ∷ []) ≡ filter_map f xs ++ filter_map f (x ∷ [])
 filter_push f xs x = filter_map-append f xs (x ∷ [])

@@ -1,4 +1,4 @@
--- The counters of one context, changed among those of all.
+-- A change of one context's counters among all.
 use Rattle.std.proofs.Common.{◌≡◌, ◌≢◌, ℕ, ◌+◌, ◌-◌, ◌*◌, ◌^◌, ◌<◌, ◌≤◌, Bool, true, false, eqb, ℤ, pos, List, length, map, get_or, refl, sym, ◌∙◌, ap, subst, arith, ◌⊎◌, inl, inr}
 use Rattle.std.specs.Prelude.{unsigned_abs}
 use Rattle.std.specs.List.{range_with_len}
@@ -95,7 +95,7 @@ regular_sound reset bound a n b c nn i x w y z whole h sound here =
 
 -- ---- at a scan's start
 
--- what every place of a list has
+-- every place of a list has the same value
 abbrev pub AllAre : {A : Type 0} → List A → ℕ → A → A → Type 0
 AllAre xs count d x = (i : ℕ) → i < count → get_or xs i d ≡ x
 
@@ -139,7 +139,7 @@ first_sound a n nn b c p legal all_a all_b all_c all_n all_nn = record {
   ri_type_1 = subst (AreSoundCounts p.reset (error_bound p.maxval)) (sym (first_counts_at a n nn p 1 all_a all_n all_nn (omega arith))) (first_counts_sound p legal);
 }
 
--- ---- the counters of interrupting samples
+-- ---- the counters of samples that interrupt a run
 
 pub record AreWholeCounts (a n nn : List ℕ) : Type 0 where
   pub every_a : length a ≡ 367
@@ -246,7 +246,7 @@ parameters_kept k n a which x y kept number h =
     ∙ sym (ap (λ v. golomb_parameter v (get_or (set a (365 + which) x) number 0)) (get_or-set_other n (365 + which) number y 0 apart)
     ∙ ap (golomb_parameter (get_or n number 0)) (get_or-set_other a (365 + which) number x 0 apart))
 
--- ---- A, where the parameter is found
+-- ---- bounds on A for computing the parameter
 
 pub first_few : (p : Parameters) → IsLegal p → (first_a p < 2 ^ 31) × (first_a p ≤ 1 * 65535)
 first_few p legal = (omega (arith, legal.maxval), omega (arith, legal.maxval))

@@ -1,4 +1,4 @@
--- The least exponent that serves, and how the code finds it.
+-- The Golomb parameter, the least exponent with n * 2^k at least a, and how the code computes it.
 use Rattle.std.proofs.Common.{◌≡◌, ℕ, zero, suc, ◌+◌, ◌-◌, ◌*◌, ◌/◌, ◌%◌, ◌^◌, ◌<◌, ◌≤◌, Bool, true, false, cond, refl, sym, ◌∙◌, ap, subst, arith, leb, inl, inr, map, get_or}
 use Rattle.std.proofs.lemmas.Bool.{leb-true, leb-false, cases_lt}
 use Rattle.std.proofs.lemmas.Nat.{leading_le, leading_top, pow-add, shl_below, mul-le, pow_pos, div-add-mod', mod_below}
@@ -50,7 +50,7 @@ pub golomb_parameter-reaches : (n a : ℕ) → a ≤ n * 2 ^ 32 → a ≤ n * 2 
 unfolding golomb_parameter
 golomb_parameter-reaches n a h = first_scaling-reaches 32 0 n a h
 
--- it is the exponent that serves while the one below doesn't
+-- an exponent is the least if it suffices and the one below doesn't
 is_least : (n a k : ℕ) → a ≤ n * 2 ^ 32 → a ≤ n * 2 ^ k → (1 ≤ k → n * 2 ^ (k - 1) < a) → k ≡ golomb_parameter n a
 is_least n a k far h below = elim (cases_lt (golomb_parameter n a) k) [
   | inl less ↦ absurd (omega (arith, below (omega arith), golomb_parameter-reaches n a far, grown n (golomb_parameter n a) (k - 1) (omega arith)))
@@ -59,9 +59,9 @@ is_least n a k far h below = elim (cases_lt (golomb_parameter n a) k) [
 
 -- ---- by leading bits
 
--- what is known of the exponent that the code begins with
+-- what holds of the exponent that the code begins with
 record Start (n a k : ℕ) : Type 0 where
-  -- one more serves
+  -- one more suffices
   after : a ≤ n * 2 ^ (k + 1)
   -- one less doesn't
   before : 1 ≤ k → n * 2 ^ (k - 1) < a
@@ -168,7 +168,7 @@ by_quotient n a q k some few small above below e =
     let scaled : n * (q + 1) ≤ n * 2 ^ k = mul-le n (q + 1) n (2 ^ k) (omega arith) more in
     is_least n a k (far n a some few) (omega arith) (λ h. before_quotient n a q k some h low below)
 
--- a quotient by a product with a reciprocal
+-- a quotient computed as a product with a reciprocal
 quotient_by : (n a whole rest q s : ℕ) → whole * n + rest ≡ 4294967295 → rest < n → q * n + s + 1 ≡ a → s < n → a * n < 4294967296 → a * whole / 4294967296 ≡ q
 quotient_by n a whole rest q s e below f less small =
     let few : a ≤ whole = elim (cases_lt whole a) [
@@ -203,7 +203,7 @@ found_by_quotient n a q k some few small e f =
     (λ h. let product : 1 * 1 ≤ q * n = mul-le 1 1 q n h some in omega arith)
     f
 
--- ---- the one before, which mostly stays
+-- ---- the earlier parameter, which mostly stays
 
 half_below : (n a k : ℕ) → n * 2 ^ k < a + a → 1 ≤ k → n * 2 ^ (k - 1) < a
 half_below n a zero less some = absurd (omega arith)
@@ -213,7 +213,7 @@ half_below n a (suc k) less some =
     let back : suc k - 1 ≡ k = omega arith in
     subst (λ m. n * 2 ^ m < a) (sym back) (omega (arith, less, scaled))
 
--- it reaches the sum, and half of it doesn't
+-- n * 2^k is at least a, and half of it isn't
 pub kept : (n a k : ℕ) → 1 ≤ n → a < 2 ^ 31 → n * 2 ^ k < 2 ^ 32 → (n * 2 ^ k % 2 ^ 32 + (2 ^ 32 - a)) % 2 ^ 32 < a → k ≡ golomb_parameter n a
 kept n a k some few fits less =
     let same : n * 2 ^ k % 2 ^ 32 ≡ n * 2 ^ k = mod-eq_of_lt fits in
@@ -221,7 +221,7 @@ kept n a k some few fits less =
     let half : n * 2 ^ k < a + a = omega (arith, same, fits, less, few) in
     is_least n a k (far n a some few) reaches (half_below n a k half)
 
--- of counters that are sound it is 16 at most, and no shift by it loses bits
+-- for sound counters it is at most 16, and shifting by it loses no bits
 pub shifts : (n a k m bound : ℕ) → k ≡ golomb_parameter n a → a ≤ n * bound → bound ≤ 65536 → m ≤ 65535 → (k < 32) × (m * 2 ^ k < 2 ^ 32)
 shifts n a k m bound is sum small few =
     let scaled : n * bound ≤ n * 2 ^ 16 = mul-le n bound n (2 ^ 16) (omega arith) small in

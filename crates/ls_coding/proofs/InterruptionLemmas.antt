@@ -9,7 +9,7 @@ use Rattle.ls_coding.proofs.StatsLemmas.{counted_sound}
 
 -- ---- map
 
--- it marks the errors of one sign: of the negative ones where it maps_negative
+-- it is 1 for the errors of one sign: for negative ones if maps_negative
 marked : Bool → ℤ → ℕ
 marked negative e = cond (cond negative (int_lt e (pos 0)) (int_lt (pos 0) e)) 1 0
 
@@ -98,16 +98,16 @@ only_stood_for ri_type k n nn value negative type r e p q s some h =
     let whole : 2 * unsigned_abs e - ri_value ri_type - marked negative e ≡ value = ap (λ x. 2 * unsigned_abs e - ri_value ri_type - x) (sym map) ∙ h in
     only_one negative (value + type) (eqb ((value + type) % 2) 1) e refl (put_back ri_type negative e value type q some whole) ∙ sym s
 
--- no two errors have one value
+-- no two errors have the same value
 pub value_once : (ri_type : Bool) (k n nn : ℕ) (d e : ℤ) → (IsTrue ri_type → d ≡ pos 0 → ⊥) → (IsTrue ri_type → e ≡ pos 0 → ⊥)
     → 2 * unsigned_abs d - ri_value ri_type - map_of k (counts 0 n nn) d ≡ 2 * unsigned_abs e - ri_value ri_type - map_of k (counts 0 n nn) e → d ≡ e
 value_once ri_type k n nn d e some_d some_e same =
     let value : ℕ = 2 * unsigned_abs e - ri_value ri_type - map_of k (counts 0 n nn) e in
     only_stood_for ri_type k n nn value _ _ _ d refl refl refl some_d same ∙ sym (only_stood_for ri_type k n nn value _ _ _ e refl refl refl some_e refl)
 
--- ---- one error more
+-- ---- one more error
 
--- what is added to A is at most the error's size
+-- what is added to A is at most the error's magnitude
 added_small : (ri_type : Bool) (size value map type : ℕ) → value ≡ 2 * size - ri_value ri_type - map → type ≡ bool_byte ri_type → (value + 1 - type) / 2 ≤ size
 added_small true size value map type p q = omega arith
 added_small false size value map type p q = omega arith

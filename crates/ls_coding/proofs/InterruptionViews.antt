@@ -1,4 +1,4 @@
--- The sample that interrupts a run, in a state's view.
+-- The sample that interrupts a run, in a state's model.
 use Rattle.std.proofs.Common.{◌≡◌, ℕ, Bool, true, false, List, refl, sym, ◌∙◌, ap}
 use Rattle.ls_frame.specs.Parameters.{Parameters}
 use Rattle.ls_coding.specs.declared.neighbours.Neighbours.{Neighbours}
@@ -35,7 +35,7 @@ pub neighbours_of_interruption : (s : Coding) (x : Neighbours) → (interruption
 unfolding interruption_plan_by
 neighbours_of_interruption s x = refl
 
--- the words that a plan reads
+-- the words that a plan serves to decode
 pub read_interruption : (s : Coding) (x : Neighbours) (sample : ℕ) → IsReadBy (interruption_plan s x) (interruption_word_in s x sample)
 unfolding interruption_plan_by interruption_word_in
 read_interruption s x sample = record { same_k = refl; same_limit = refl }

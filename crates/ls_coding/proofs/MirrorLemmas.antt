@@ -1,4 +1,4 @@
--- A sample's error, from what it and its prediction are counted down from MAXVAL.
+-- The error of a sample, from the sample and its prediction subtracted from MAXVAL.
 use Rattle.std.proofs.Common.{◌≡◌, ℕ, ◌-◌, ◌≤◌, Bool, true, false, cond, List, ℤ, pos, neg_ℤ, ◌+ℤ◌, ◌-ℤ◌, refl, ◌∙◌, ap, arith}
 use Rattle.std.specs.Prelude.{int_lt, max, ◌==◌}
 use Rattle.std.proofs.Math.ListN.{set}
@@ -18,7 +18,7 @@ use Rattle.ls_coding.specs.View.Mirrors.{mirror_image, mirrored_error, IsMirrore
 use Rattle.ls_coding.proofs.RegularLemmas.{context_small}
 use Rattle.ls_coding.proofs.StatsLemmas.{choose, lt_true, lt_false}
 
--- what is clamped from the other side
+-- clamping a mirrored number mirrors the clamped number
 clamped_mirrored : (most : ℕ) (y z : ℤ) → y ≡ pos most -ℤ z → clamped (pos 0) (pos most) y ≡ pos most -ℤ clamped (pos 0) (pos most) z
 clamped_mirrored most y z e =
     choose (int_lt y (pos 0)) (pos 0) (cond (int_lt (pos most) y) (pos most) y) (λ v. v ≡ pos most -ℤ clamped (pos 0) (pos most) z)
@@ -74,7 +74,7 @@ step_is p a n b c x sample one h =
     ap (λ number. set (contexts_of a b c n) number (stats_step p.reset (stats_at a b c n number) (mirrored_error p (stats_at a b c n number).c one.prediction one.sample))) h.context_is
     ∙ ap (λ (z : ℤ). set (contexts_of a b c n) (context_of p x).number (stats_step p.reset (stats_at a b c n (context_of p x).number) z)) (error_is p (stats_at a b c n (context_of p x).number) x sample one h)
 
--- ---- what it keeps to
+-- ---- its bounds
 
 image_small : (most x : ℕ) (negative : Bool) → x ≤ most → mirror_image most negative x ≤ most
 image_small most x true h = omega arith

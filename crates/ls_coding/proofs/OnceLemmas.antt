@@ -1,4 +1,4 @@
--- After lawful events no two samples have words that the same bits begin with.
+-- After lawful events, no bits begin with the words of two different samples.
 use Rattle.std.proofs.Common.{◌≡◌, ℕ, ◌+◌, ◌*◌, ◌<◌, ◌≤◌, Bool, true, false, ℤ, pos, negsuc, List, ◌++◌, sym, ◌∙◌, ap, arith}
 use Rattle.std.specs.Prelude.{int_le}
 use Rattle.std.proofs.lemmas.Bool.{cond-true, le-leb}
@@ -97,7 +97,7 @@ interruption_once p events index legal lawful n x y bits rest others samples h k
       same.1,
     )
 
--- ---- the same, from a coder's state on
+-- ---- the same, from any state
 
 pub regular_value_in : (s : Coding) (n : Neighbours) (x : ℕ) → 0 < s.parameters.maxval → s.parameters.maxval ≤ 65535 → x ≤ s.parameters.maxval
     → (regular_word_in s n x).value ≤ most_value (qbpp_of s.parameters.maxval)

@@ -1,4 +1,4 @@
--- A sample of regular mode, in a state's view.
+-- A sample of regular mode, in a state's model.
 use Rattle.std.proofs.Common.{◌≡◌, ℕ, ◌<◌, ◌≤◌, Bool, List, get_or, ℤ, pos, neg_ℤ, ◌+ℤ◌, ◌≤ℤ◌, refl, sym, ◌∙◌, ap, subst, arith}
 use Rattle.std.specs.Prelude.{int_lt, unsigned_abs, if◌then◌else◌, Result, Ok, Err, IfOk, IfErr}
 use Rattle.std.proofs.Math.ListN.{set}
@@ -30,7 +30,7 @@ context_small p n =
     let small : unsigned_abs (signed_context p n) < 365 = size_small (signed_context p n) (signed_range p n).0 (signed_range p n).1 in
     omega (arith, (signed_splits p n).0)
 
--- ---- the counters in a view
+-- ---- the counters in a model
 
 pub stats_in_view : (a n : List ℕ) (b c : List ℤ) (number : ℕ) → number < 365 → get_or (contexts_of a b c n) number (stats 0 (pos 0) (pos 0) 0) ≡ stats_at a b c n number
 unfolding contexts_of
@@ -60,7 +60,7 @@ pub neighbours_of_regular : (s : Coding) (x : Neighbours) → (regular_plan s x)
 unfolding regular_plan_by
 neighbours_of_regular s x = refl
 
--- the words that a plan reads
+-- the words that a plan serves to decode
 pub read_regular : (s : Coding) (x : Neighbours) (sample : ℕ) → IsReadBy (regular_plan s x) (regular_word_in s x sample)
 unfolding regular_plan_by regular_word_in
 read_regular s x sample = record { same_k = refl; same_limit = refl }

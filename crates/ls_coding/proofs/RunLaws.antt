@@ -18,7 +18,7 @@ run_bits-is : (index count : ℕ) (interrupted : Bool) → run_bits index (run_o
 unfolding run_word
 run_bits-is index count interrupted = refl
 
--- a walk that begins with a bit more has a bit more
+-- a walk that begins with one more bit ends with one more bit
 abbrev one_more : Walk → Walk
 one_more w = at (w.ones + 1) w.index w.left
 

@@ -27,7 +27,7 @@ order_small index = small_at run_orders index refl
 pub some_samples : (index : ℕ) → 1 ≤ 2 ^ order index
 some_samples index = pow_pos (order index)
 
--- ---- a bit 1 more
+-- ---- one more bit 1
 
 abbrev pub at : ℕ → ℕ → ℕ → Walk
 at ones index left = record { ones = ones; index = index; left = left }
@@ -129,7 +129,7 @@ full_tail : (w : Walk) → tail_length (tail_of false w) ≤ w.left
 unfolding tail_length
 full_tail w = full_tail_by w (eqb w.left 0) refl
 
--- up to the line's end: no more bits than samples
+-- a run up to the line's end has no more bits than samples
 pub full_cost : (index count limit : ℕ) → 1 ≤ limit → length (word_bits (run_word index (run_of count false))) ≤ limit * count
 unfolding run_word
 full_cost index count limit some =
@@ -137,7 +137,7 @@ full_cost index count limit some =
     let scaled : 1 * count ≤ limit * count = mul-le 1 count limit count some (omega arith) in
     omega (arith, length-word (run_word index (run_of count false)), full_tail w, walked_counts index count)
 
--- before a sample that interrupts it, with the most that its word takes
+-- a run that a sample interrupts, with the most bits that the sample's word can have
 pub interrupted_cost : (index count limit : ℕ) → 17 ≤ limit
     → length (word_bits (run_word index (run_of count true))) + (limit - order (index_at index (run_of count true)) - 1) ≤ limit * (count + 1)
 unfolding run_word tail_length

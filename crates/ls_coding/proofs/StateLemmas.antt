@@ -35,7 +35,7 @@ pub alike_parameters : (p q : Parameters) (contexts : List Stats) (ri_type_0 ri_
     → made p contexts ri_type_0 ri_type_1 index interrupted ≡ made q contexts ri_type_0 ri_type_1 index interrupted
 alike_parameters p q contexts ri_type_0 ri_type_1 index interrupted same = ap (λ (r : Parameters). made r contexts ri_type_0 ri_type_1 index interrupted) same
 
--- the same, part by part
+-- states with equal parts are equal
 pub alike : (p : Parameters) (contexts others : List Stats) (ri_type_0 ri_type_0' ri_type_1 ri_type_1' : Counts) (index index' : ℕ) (interrupted interrupted' : Bool)
     → contexts ≡ others → ri_type_0 ≡ ri_type_0' → ri_type_1 ≡ ri_type_1' → index ≡ index' → interrupted ≡ interrupted'
     → made p contexts ri_type_0 ri_type_1 index interrupted ≡ made p others ri_type_0' ri_type_1' index' interrupted'
@@ -66,7 +66,7 @@ pub state_after_run : (before after : Coding) (r : Run) → after ≡ run_after 
     → after ≡ state_of before.parameters (events ++ run r ∷ [])
 state_after_run before after r step events e = step ∙ ap (λ s. run_after s r) e ∙ state_of-run before.parameters events r
 
--- a run's word, from how far it came
+-- a run's word, from its bits 1 and its tail
 abbrev word : ℕ → Tail → RunWord
 word ones tail = record { ones = ones; tail = tail }
 
@@ -86,7 +86,7 @@ word_is index inside count ones at left interrupted tail same a b c e =
 pub break_after : (s : Coding) (rest : ℕ) → rest < 2 ^ order s.run_index → made s.parameters s.contexts s.ri_type_0 s.ri_type_1 s.run_index true ≡ run_after s (run_of rest true)
 break_after s rest h = ap (λ i. made s.parameters s.contexts s.ri_type_0 s.ri_type_1 i true) (sym (ap (λ (w : Walk). w.index) (walked_part s.run_index rest h)))
 
--- a bit 1 for the samples that are left in the line
+-- a bit 1 for the samples left in the line
 pub part_after : (s : Coding) (left : ℕ) → left < 2 ^ order s.run_index → s.interrupted ≡ false → s ≡ run_after s (run_of left false)
 part_after s left h uninterrupted =
     ap (λ b. made s.parameters s.contexts s.ri_type_0 s.ri_type_1 s.run_index b) uninterrupted

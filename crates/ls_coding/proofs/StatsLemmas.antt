@@ -43,7 +43,7 @@ bias_through c low high =
 lowered_c : ℤ → ℤ
 lowered_c c = cond (int_lt (neg_ℤ (pos 128)) c) (c -ℤ pos 1) c
 
--- ---- a whole step
+-- ---- a complete step
 
 under : {A B : Type 0} → (f : A → B) (test : Bool) (x y : A) → f (cond test x y) ≡ cond test (f x) (f y)
 under f true x y = refl
@@ -53,7 +53,7 @@ pub stats_is : (s : Stats) (a : ℕ) (b c : ℤ) (n : ℕ) → a ≡ s.a → b �
 stats_is s a b c n p q r t =
     ap (λ x. stats x b c n) p ∙ ap (λ x. stats s.a x c n) q ∙ ap (λ x. stats s.a s.b x n) r ∙ ap (λ x. stats s.a s.b s.c x) t
 
--- balancing looks at B, C and N alone, and leaves A and N
+-- correcting the bias depends on B, C and N alone, and leaves A and N unchanged
 both_same : {A : Type 0} → (test : Bool) (x : A) → cond test x x ≡ x
 both_same true x = refl
 both_same false x = refl
@@ -113,7 +113,7 @@ step_is reset a n size b c e a1 n1 b1 sum b2 c2 p q i j k l m =
     (m ∙ part_c 0 b1 c n1 ∙ sym (part_c a1 b1 c n1)) (sym (same_n (stats a1 b1 c n1)))
     ∙ ap bias_corrected whole
 
--- ---- what counters keep to
+-- ---- counters stay sound
 
 pub choose : {A : Type 0} → (test : Bool) (x y : A) (P : A → Type 0) → (test ≡ true → P x) → (test ≡ false → P y) → P (cond test x y)
 choose true x y P f g = f refl
@@ -147,7 +147,7 @@ mean_sound b c n some =
     (λ g. record { low = omega (arith, ints, lt_true (pos 0) b f); high = omega (arith, ints, lt_false (pos 0) (b -ℤ pos n) g) }))
     (λ f. record { low = omega (arith, ints, le_false b (neg_ℤ (pos n)) e); high = omega (arith, ints, lt_false (pos 0) b f) }))
 
--- B's bounds, wide
+-- wide bounds on B
 sound_wide : (reset bound a n : ℕ) (b c : ℤ) → AreSound reset bound (stats a b c n) → reset ≤ 65535 → (neg_ℤ (pos 131072) ≤ℤ b) × (b ≤ℤ pos 131072)
 sound_wide reset bound a n b c sound most = (omega (arith, ints, sound.mean_low, sound.few), omega (arith, ints, sound.mean_high))
 
@@ -178,13 +178,13 @@ sum_through reset bound a n b c e sound most low high =
     ∙ ap (λ z. to_z w32 (of_z w32 (b +ℤ z))) (error_through e low high)
     ∙ mean_through (b +ℤ e) lower higher
 
--- N and A, after an error of a size of at most `bound`
+-- N and A, after an error of magnitude at most `bound`
 pub record AreCounted (reset bound n a : ℕ) : Type 0 where
   pub some : 1 ≤ n
   pub few : n ≤ reset
   pub sum : a ≤ n * bound
 
--- half of them, where the half of N and one more is left
+-- half of A keeps the bound for half of N and one more
 half_sum : (n a bound : ℕ) → a ≤ n * bound + bound → a / 2 ≤ (n / 2 + 1) * bound
 half_sum n a bound h =
     let twice : n + 1 ≤ 2 * (n / 2 + 1) = omega arith in
@@ -207,14 +207,14 @@ pub counted_sound : (reset bound n a : ℕ) → 3 ≤ reset → n ≤ reset → 
     → AreCounted reset bound (cond (eqb n reset) (n / 2 + 1) (n + 1)) (cond (eqb n reset) (a / 2) a)
 counted_sound reset bound n a least few size = counted_by reset bound n a (eqb n reset) refl least few size
 
--- N and A once an error was counted, as the code computes them
+-- N and A after an error was counted, as the code computes them
 pub counted_is : (reset bound a n size a1 n1 : ℕ) (b c : ℤ) → 3 ≤ reset → AreSound reset bound (stats a b c n) → size ≤ bound
     → a1 ≡ cond (eqb n reset) ((a + size) / 2) (a + size) → n1 ≡ cond (eqb n reset) (n / 2 + 1) (n + 1) → AreCounted reset bound n1 a1
 counted_is reset bound a n size a1 n1 b c least sound small e f =
     let total : a + size ≤ n * bound + bound = omega (arith, sound.sum) in
     subst (λ m. AreCounted reset bound m a1) (sym f) (subst (AreCounted reset bound (cond (eqb n reset) (n / 2 + 1) (n + 1))) (sym e) (counted_sound reset bound n (a + size) least sound.few total))
 
--- what the Golomb parameter is found for
+-- what computing the Golomb parameter requires
 pub counted_few : (reset maxval n a : ℕ) → reset ≤ 65535 → maxval ≤ 65535 → AreCounted reset (error_bound maxval) n a → (a < 2 ^ 31) × (a ≤ n * 65535)
 counted_few reset maxval n a most wide counted =
     let bound : error_bound maxval ≤ 32768 = omega arith in
@@ -233,7 +233,7 @@ counted_by_code reset maxval a n size a1 n1 from b c e least most wide sound err
     let few = counted_few reset maxval n1 a1 most wide counted in
     (omega (arith, counted.some), few.0, few.1, omega (arith, counted.few))
 
--- all that the counters keep to
+-- all bounds of sound counters
 pub sound_is : (reset bound a n size a1 n1 : ℕ) (b c b1 b2 c2 : ℤ) → 3 ≤ reset → AreSound reset bound (stats a b c n) → size ≤ bound
     → a1 ≡ cond (eqb n reset) ((a + size) / 2) (a + size) → n1 ≡ cond (eqb n reset) (n / 2 + 1) (n + 1)
     → b2 ≡ (bias_corrected (stats 0 b1 c n1)).b → neg_ℤ (pos 128) ≤ℤ c2 → c2 ≤ℤ pos 127
@@ -273,7 +273,7 @@ mean_is reset bound s sound most =
     let high : s.b ≤ℤ pos 131072 = omega (arith, ints, sound.mean_high) in
     mean_through s.b low high
 
--- ---- a mean that is corrected by one comparison
+-- ---- a mean error corrected by one comparison
 
 nearer_of : ℤ → ℤ → ℤ
 nearer_of b n = cond (int_lt b (pos 0)) (b +ℤ n) (b -ℤ n)
@@ -344,7 +344,7 @@ one_less_through n h =
     let same : to_z w32 n ≡ pos n = count_through n h in
     ap (λ z. to_z w32 (of_z w32 (pos 1 -ℤ z))) same ∙ mean_through (pos 1 -ℤ pos n) (omega (arith, ints)) (omega (arith, ints)) ∙ ap (λ z. pos 1 -ℤ z) (sym same)
 
--- a mean that isn't over -N and at most 0 is over 0, if it isn't at most -N
+-- a B that isn't above -N and at most 0 is above 0, if it isn't at most -N
 over_by : (b : ℤ) (n : ℕ) (test over : Bool) → int_lt (pos 0) b ≡ over → ((pos 0 ≤ℤ (pos 0 -ℤ b)) × ((pos 0 -ℤ b) <ℤ pos n) → test ≡ true) → test ≡ false
     → int_le b (neg_ℤ (pos n)) ≡ false → pos 0 <ℤ b
 over_by b n test true u f g t = lt_true (pos 0) b u

@@ -1,10 +1,10 @@
--- The samples that bits 1 stand for, by a table of sums.
+-- The number of samples that bits 1 stand for, by a table of sums.
 use Rattle.std.proofs.Common.{◌≡◌, ℕ, zero, suc, ◌+◌, ◌-◌, ◌*◌, ◌^◌, ◌<◌, ◌≤◌, min, List, [], ◌∷◌, get_or, length, refl, sym, ◌∙◌, ap, subst, arith}
 use Rattle.std.proofs.Math.Pow.{pow_mono}
 use Rattle.ls_coding.specs.Runs.{run_orders, order, samples_of_ones}
 use Rattle.ls_coding.proofs.RunLemmas.{order_small}
 
--- for each RUNindex, how many samples the bits 1 stand for that raise a first one up to it
+-- for each RUNindex, the number of samples that bits 1 stand for while they raise RUNindex from the first one to it
 abbrev pub sums_of : ℕ → List ℕ → List ℕ
 sums_of sum [] = []
 sums_of sum (j ∷ orders) = sum ∷ sums_of (sum + 2 ^ j) orders
@@ -51,7 +51,7 @@ ones_by_sums ones index within =
     back : (a b : ℕ) → a + b - a ≡ b
     back a b = omega arith
 
--- ---- how many they are at most
+-- ---- a bound on their number
 
 pub few_of_one : (index : ℕ) → 2 ^ order index ≤ 2 ^ 15
 few_of_one index = pow_mono (order_small index)

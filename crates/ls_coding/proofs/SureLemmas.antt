@@ -1,4 +1,4 @@
--- Values that are surely those of samples.
+-- Values that are sure to be those of samples.
 use Rattle.std.proofs.Common.{◌≡◌, ℕ, ◌+◌, ◌-◌, ◌*◌, ◌/◌, ◌%◌, ◌^◌, ◌<◌, ◌≤◌, Bool, true, false, ℤ, pos, ◌+ℤ◌, ◌≤ℤ◌, ◌<ℤ◌, arith}
 use Rattle.std.specs.Prelude.{int_le, unsigned_abs}
 use Rattle.std.proofs.lemmas.Int.{ints}
@@ -11,7 +11,7 @@ use Rattle.ls_coding.proofs.StatsLemmas.{choose, le_true, le_false}
 product_most : (a b c : ℕ) → a ≤ b → a * c ≤ b * c
 product_most a b c h = grind arith
 
--- a value with fewer zeros in front is small
+-- a value whose word has few leading zeros is small
 below_by_zeros : (value k most : ℕ) → value / 2 ^ k < most / 2 ^ k → value < most
 below_by_zeros value k most h =
     let positive : 0 < 2 ^ k = pow_pos k in
@@ -27,7 +27,7 @@ small_by_zeros p value k h =
     let below : value < range_of p.maxval - 1 = below_by_zeros value k (range_of p.maxval - 1) (omega arith) in
     omega (arith, below)
 
--- the error of a small value is one that A.4.5 leaves
+-- the error of a small value is a reduced one (A.4.5)
 pub reduced_by_value : (range value : ℕ) (inverted : Bool) (e : ℤ) → mapped_error inverted e ≡ value → value + 1 < range → IsReduced range e
 reduced_by_value range value true e is small =
     choose (int_le (pos 0) e) (2 * unsigned_abs e + 1) (2 * unsigned_abs (e +ℤ pos 1)) (λ n. n ≡ value → IsReduced range e)

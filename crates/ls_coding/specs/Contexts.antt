@@ -1,4 +1,4 @@
--- Which mode, and which context with which sign, a sample is coded in (T.87 A.3). With NEAR 0.
+-- The mode that a sample is coded in, its context, and SIGN (T.87 A.3), for NEAR 0.
 use Rattle.std.specs.Prelude.{ℕ, ◌==◌, ◌&&◌, Bool, true, false, if◌then◌else◌, ℤ, pos, negsuc, neg_ℤ, ◌+ℤ◌, ◌-ℤ◌, ◌*ℤ◌, int_lt, int_le, unsigned_abs, ◌≤ℤ◌}
 use Rattle.ls_frame.specs.Parameters.{Parameters}
 use Rattle.ls_coding.specs.declared.neighbours.Neighbours.{Neighbours}
@@ -57,7 +57,7 @@ signed false number = number
 abbrev pub context_number : ℤ → ℤ → ℤ → ℤ
 context_number q1 q2 q3 = pos 81 *ℤ q1 +ℤ pos 9 *ℤ q2 +ℤ q3
 
--- the context of three regions: all three change their sign if the first that isn't 0 is negative (A.3.4)
+-- the context of three regions: all three have their signs changed if the first that isn't 0 is negative (A.3.4)
 abbrev pub merged : ℤ → ℤ → ℤ → Context
 merged q1 q2 q3 = let negative = first_negative q1 q2 q3 in record {
   number = unsigned_abs (context_number (signed negative q1) (signed negative q2) (signed negative q3));

@@ -1,4 +1,4 @@
--- Prediction, the error, and the mapped error (T.87 A.4, A.5). With NEAR 0.
+-- Prediction, the error, and the mapped error (T.87 A.4, A.5), for NEAR 0.
 use Rattle.std.specs.Prelude.{ℕ, ◌+◌, ◌-◌, ◌*◌, ◌/◌, ◌==◌, ◌&&◌, min, max, nat_le, Bool, if◌then◌else◌, ℤ, pos, neg_ℤ, ◌+ℤ◌, ◌-ℤ◌, ◌*ℤ◌, int_lt, int_le, ◌<ℤ◌, ◌≤ℤ◌, unsigned_abs}
 use Rattle.ls_frame.specs.Parameters.{Parameters, range_of}
 use Rattle.ls_coding.specs.declared.neighbours.Neighbours.{Neighbours}
@@ -12,7 +12,7 @@ median neighbours =
     else (if nat_le neighbours.c (min neighbours.a neighbours.b) then max neighbours.a neighbours.b
     else neighbours.a + neighbours.b - neighbours.c)
 
--- the prediction corrected by the context's C, within the samples (A.4.2)
+-- the prediction corrected by the context's C, and clamped to the range 0 to MAXVAL (A.4.2)
 abbrev pub predicted : Parameters → Bool → ℤ → Neighbours → ℤ
 predicted p negative c neighbours = clamped (pos 0) (pos p.maxval) (pos (median neighbours) +ℤ signed negative c)
 
@@ -20,7 +20,7 @@ predicted p negative c neighbours = clamped (pos 0) (pos p.maxval) (pos (median 
 abbrev pub nonnegative : ℕ → ℤ → ℤ
 nonnegative range e = if int_lt e (pos 0) then e +ℤ pos range else e
 
--- an error modulo RANGE (A.4.5): from -RANGE / 2 to (RANGE - 1) / 2, both rounded down in size
+-- an error modulo RANGE (A.4.5): from -RANGE / 2 to (RANGE - 1) / 2, both rounded towards 0
 abbrev pub reduced : ℕ → ℤ → ℤ
 reduced range e = let residue = nonnegative range e in if int_le (pos ((range + 1) / 2)) residue then residue -ℤ pos range else residue
 
@@ -32,7 +32,7 @@ pub record IsReduced (range : ℕ) (e : ℤ) : Type 0 where
 abbrev pub error_of : Parameters → Bool → ℤ → ℕ → ℤ
 error_of p negative prediction sample = reduced (range_of p.maxval) (signed negative (pos sample -ℤ prediction))
 
--- MErrval, the mapped error (A.5.2). If k is 0 and 2 * B is at most -N, the odd numbers stand for the errors from 0 on
+-- MErrval, the mapped error (A.5.2). If k is 0 and 2 * B is at most -N, odd numbers stand for the errors from 0 up
 abbrev pub is_inverted : ℕ → ℤ → ℕ → Bool
 is_inverted k b n = k == 0 && int_le (pos 2 *ℤ b) (neg_ℤ (pos n))
 

@@ -1,4 +1,4 @@
--- The events that a scan's samples are coded by, and the state that they leave (T.87 A.2 to A.7).
+-- The events of a scan, and the state after them (T.87 A.2 to A.7).
 use Rattle.std.specs.Prelude.{ℕ, ◌-◌, ◌==◌, Bool, true, false, if◌then◌else◌, ℤ, List, fold, filter_map, Option, Some, None}
 use Rattle.ls_frame.specs.Parameters.{Parameters, qbpp_of, limit_of}
 use Rattle.ls_bits.specs.Golomb.{code_word}
@@ -11,14 +11,14 @@ use Rattle.ls_coding.specs.Stats.{Stats, stats_after}
 use Rattle.ls_coding.specs.Interruptions.{Counts, counts_after, interruption_k, interruption_value}
 use Rattle.ls_coding.specs.Runs.{Run, index_at, order}
 
--- a sample of regular mode with its context's number and its error; a run; the sample that interrupts it, with whether
+-- a sample of regular mode, by its context's number and its error; a run; the sample that interrupts a run, by whether
 -- Ra and Rb are equal and its error
 pub data Event : Type 0 where
   regular : ℕ → ℤ → Event
   run : Run → Event
   interruption : Bool → ℤ → Event
 
--- the error that an event codes in a context, if it does
+-- the error that an event codes in a context, if any
 abbrev pub error_of_regular_event : ℕ → Event → Option ℤ
 error_of_regular_event number (regular other e) = if number == other then Some e else None
 error_of_regular_event number (run r) = None
@@ -42,7 +42,7 @@ stats_after_events p number events = stats_after p (filter_map (error_of_regular
 abbrev pub counts_after_events : Parameters → Bool → List Event → Counts
 counts_after_events p ri_type events = counts_after p ri_type (filter_map (error_of_interruption_event ri_type) events)
 
--- RUNindex after events: a run raises it, the sample that interrupts one lowers it (A.7.1.2, A.7.2)
+-- RUNindex after events: a run may raise it, the sample that interrupts one lowers it unless it is 0 (A.7.1.2, A.7.2)
 abbrev pub index_step : ℕ → Event → ℕ
 index_step index (regular number e) = index
 index_step index (run r) = index_at index r
@@ -51,7 +51,7 @@ index_step index (interruption ri_type e) = index - 1
 abbrev pub run_index_after_events : List Event → ℕ
 run_index_after_events events = fold index_step 0 events
 
--- whether the sample that interrupts a run is to come next
+-- whether the sample that interrupts a run comes next
 abbrev pub is_interrupted : Event → Bool
 is_interrupted (regular number e) = false
 is_interrupted (run r) = r.interrupted
@@ -66,7 +66,7 @@ interrupted_after_events events = fold (λ interrupted event. is_interrupted eve
 abbrev pub golomb_bits : Parameters → Word → List Bool
 golomb_bits p word = code_word word.k word.glimit (qbpp_of p.maxval) word.value
 
--- of a sample of regular mode: its error, and the word of its mapped error (A.4, A.5)
+-- for a sample of regular mode: its error, and the word of its mapped error (A.4, A.5)
 abbrev pub regular_error_of : Parameters → Context → Stats → Neighbours → ℕ → ℤ
 regular_error_of p context stats neighbours sample = error_of p context.negative (predicted p context.negative stats.c neighbours) sample
 
@@ -77,7 +77,7 @@ regular_word p stats e = let k = golomb_parameter stats.n stats.a in record {
   value = mapped_error (is_inverted k stats.b stats.n) e;
 }
 
--- of a run interruption sample, at the RUNindex that its run left (A.7.2)
+-- for a run interruption sample, at the RUNindex that its run left (A.7.2)
 abbrev pub interruption_word : Parameters → ℕ → Bool → Counts → ℤ → Word
 interruption_word p index ri_type counts e = record {
   k = interruption_k ri_type counts;

@@ -1,4 +1,4 @@
--- The run interruption sample (T.87 A.7.2). With NEAR 0.
+-- The run interruption sample (T.87 A.7.2), for NEAR 0.
 use Rattle.std.specs.Prelude.{ℕ, ◌+◌, ◌-◌, ◌*◌, ◌/◌, ◌==◌, ◌&&◌, ◌||◌, ◌<◌, ◌≤◌, nat_lt, nat_le, not, Bool, if◌then◌else◌, ℤ, pos, ◌-ℤ◌, int_lt, unsigned_abs, List, fold}
 use Rattle.ls_frame.specs.Parameters.{Parameters, range_of}
 use Rattle.ls_coding.specs.declared.neighbours.Neighbours.{Neighbours}
@@ -7,7 +7,7 @@ use Rattle.ls_coding.specs.Contexts.{signed}
 use Rattle.ls_coding.specs.Errors.{reduced}
 use Rattle.ls_coding.specs.Stats.{first_a}
 
--- A, N and Nn of one of the two contexts
+-- A, N and Nn of one of the two run interruption contexts
 pub record Counts : Type 0 where
   pub a : ℕ
   pub n : ℕ
@@ -16,7 +16,7 @@ pub record Counts : Type 0 where
 abbrev pub counts : ℕ → ℕ → ℕ → Counts
 counts a n nn = record { a = a; n = n; nn = nn }
 
--- what they keep to: N errors of a size of at most `bound` in A, fewer than N of them negative
+-- sound counters: N is from 1 to RESET, A is at most N * bound, and fewer than N errors are negative
 pub record AreSoundCounts (reset bound : ℕ) (counters : Counts) : Type 0 where
   pub some : 1 ≤ counters.n
   pub few : counters.n ≤ reset
@@ -33,18 +33,18 @@ ri_type_of neighbours = neighbours.a == neighbours.b
 abbrev pub ri_value : Bool → ℕ
 ri_value ri_type = if ri_type then 1 else 0
 
--- the prediction is Ra if they are equal, else Rb
+-- the prediction is Ra if Ra and Rb are equal, else Rb
 abbrev pub interruption_prediction : Neighbours → ℕ
 interruption_prediction neighbours = if ri_type_of neighbours then neighbours.a else neighbours.b
 
--- the error has its sign changed if RItype is 0 and Ra is over Rb
+-- the sign of the error is changed if RItype is 0 and Ra is greater than Rb
 abbrev pub interruption_negative : Neighbours → Bool
 interruption_negative neighbours = not (ri_type_of neighbours) && nat_lt neighbours.b neighbours.a
 
 abbrev pub interruption_error : Parameters → Neighbours → ℕ → ℤ
 interruption_error p neighbours sample = reduced (range_of p.maxval) (signed (interruption_negative neighbours) (pos sample -ℤ pos (interruption_prediction neighbours)))
 
--- the Golomb parameter, from TEMP
+-- the Golomb parameter of N and TEMP
 abbrev pub interruption_k : Bool → Counts → ℕ
 interruption_k ri_type counters = golomb_parameter counters.n (if ri_type then counters.a + counters.n / 2 else counters.a)
 
@@ -60,7 +60,7 @@ map_of k counters e =
 abbrev pub interruption_value : Bool → Counts → ℤ → ℕ
 interruption_value ri_type counters e = 2 * unsigned_abs e - ri_value ri_type - map_of (interruption_k ri_type counters) counters e
 
--- the counters with one error more: added, halved if N is RESET, and counted
+-- the counters after one more error: it is added; all are halved if N is RESET; then N rises by 1
 abbrev pub counts_added : Bool → Counts → ℤ → Counts
 counts_added ri_type before e = record {
   a = before.a + (interruption_value ri_type before e + 1 - ri_value ri_type) / 2;
@@ -77,6 +77,6 @@ counts_counted reset before =
 unfoldable pub counts_step : Bool → ℕ → Counts → ℤ → Counts
 counts_step ri_type reset before e = counts_counted reset (counts_added ri_type before e)
 
--- a context after the errors that were coded in it
+-- the counters of a context after these errors
 abbrev pub counts_after : Parameters → Bool → List ℤ → Counts
 counts_after p ri_type errors = fold (counts_step ri_type p.reset) (first_counts p) errors

@@ -1,4 +1,4 @@
--- Which lists of events a scan may have.
+-- The lists of events that a scan may have.
 use Rattle.std.specs.Prelude.{◌≡◌, ℕ, ◌<◌, ◌≤◌, Bool, true, false, List, [], ◌∷◌, ◌++◌}
 use Rattle.ls_frame.specs.Parameters.{Parameters}
 use Rattle.ls_coding.specs.declared.neighbours.Neighbours.{Neighbours}
@@ -8,8 +8,7 @@ use Rattle.ls_coding.specs.Interruptions.{ri_type_of, interruption_error}
 use Rattle.ls_coding.specs.Runs.{run_of}
 use Rattle.ls_coding.specs.Events.{Event, regular, run, interruption, stats_after_events, interrupted_after_events, regular_error_of}
 
--- an event that may come after these: a sample of regular mode or a run, unless a run was interrupted last; then, a sample that
--- isn't the run's
+-- an event that may follow these: a sample of regular mode or a run; or, if the last one is an interrupted run, a sample other than Ra
 pub data MayComeNext (p : Parameters) (events : List Event) (event : Event) : Type 0 where
   by_sample : (neighbours : Neighbours) (sample : ℕ) → AreSamples p.maxval neighbours → sample ≤ p.maxval → is_run neighbours ≡ false → interrupted_after_events events ≡ false
       → event ≡ regular (context_of p neighbours).number (regular_error_of p (context_of p neighbours) (stats_after_events p (context_of p neighbours).number events) neighbours sample)

@@ -16,12 +16,12 @@ order index = slice_index run_orders index
 abbrev pub last_index : ℕ
 last_index = 31
 
--- how many samples so many bits 1 stand for, from a RUNindex on (A.7.1.2)
+-- the number of samples that bits 1 stand for, from a RUNindex on (A.7.1.2)
 unfoldable pub samples_of_ones : ℕ → ℕ → ℕ
 samples_of_ones zero index = 0
 samples_of_ones (suc ones) index = 2 ^ order index + samples_of_ones ones (min (index + 1) last_index)
 
--- a run: how many samples equal the one before them, and whether a sample interrupts it before the line's end
+-- a run: the number of samples that equal the one before them, and whether a sample interrupts it before the line's end
 pub record Run : Type 0 where
   pub count : ℕ
   pub interrupted : Bool
@@ -29,7 +29,7 @@ pub record Run : Type 0 where
 abbrev pub run_of : ℕ → Bool → Run
 run_of count interrupted = record { count = count; interrupted = interrupted }
 
--- how far a run came: bits 1 so far, RUNindex, and the samples that are left
+-- a run partly coded: the number of bits 1 so far, RUNindex, and the number of samples left
 pub record Walk : Type 0 where
   pub ones : ℕ
   pub index : ℕ
@@ -46,18 +46,18 @@ walk (suc most) so_far =
 unfoldable pub walked : ℕ → ℕ → Walk
 walked index count = walk count (record { ones = 0; index = index; left = count })
 
--- how a run ends after its bits 1: interrupted, with the samples left in J bits; at the line's end with samples left, or none
+-- how a run ends after its bits 1: interrupted, with the number of samples left in J bits; or at the line's end, with samples left or none
 abbrev pub tail_of : Bool → Walk → Tail
 tail_of true so_far = Interrupted (order so_far.index) so_far.left
 tail_of false so_far = if so_far.left == 0 then LineFull else LinePart
 
--- its bits: a 0 and those J bits; a further 1; nothing
+-- its bits: for an interrupted run a 0 and those J bits; at the line's end one more 1 if samples are left, else nothing
 abbrev pub tail_bits : Tail → List Bool
 tail_bits LineFull = []
 tail_bits LinePart = true ∷ []
 tail_bits (Interrupted width rest) = false ∷ bits_of width rest
 
--- what stands after the 0 fits into its bits
+-- the number after the 0 fits into its bits
 abbrev pub TailFits : Tail → Type 0
 TailFits LineFull = Unit {0}
 TailFits LinePart = Unit {0}

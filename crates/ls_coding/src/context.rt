@@ -9,7 +9,7 @@ use crate::neighbours::Neighbours;
 use ls_frame::Presets;
 
 /// The context of a sample with these neighbours and its sign, as one number (A.3.3, A.3.4): -364 to 364, negative if
-/// SIGN is -1, and in size the context's number. It is 0 exactly if the neighbours call for run mode.
+/// SIGN is -1; its magnitude is the context's number. It is 0 exactly if the neighbours call for run mode.
 ///
 /// The number is 81 * Q1 + 9 * Q2 + Q3 of the regions; T.87 leaves the numbering open. `plan_regular_at` of `State`
 /// takes it. Requires neighbours of at most the presets' `maxval`. Allocates nothing and cannot fail.
@@ -30,7 +30,7 @@ pub fn signed_context(presets: &Presets, neighbours: &Neighbours) -> i16
 /// The part of a sample's context that the line above decides: 81 * Q1 + 9 * Q2, -360 to 360, of the regions of the
 /// gradients D1 = Rd - Rb and D2 = Rb - Rc (A.3.1, A.3.3).
 ///
-/// It can be found a line at a time before the line's samples are known; `whole_context` adds the rest of
+/// It can be computed for a complete line before the line's samples are known; `whole_context` adds the rest of
 /// `signed_context`. The samples may have any values. Allocates nothing and cannot fail.
 pub fn half_context(presets: &Presets, b: u16, c: u16, d: u16) -> i16
     ensures value { result ≡ half_context presets.now b c d }
@@ -50,7 +50,7 @@ pub struct Context {
     pub negative: bool,
 }
 
-/// The context that a number of `signed_context` stands for.
+/// The context that a result of `signed_context` stands for.
 pub fn context_of_signed(context: i16) -> Context
     requires low { neg_ℤ (pos 364) ≤ℤ context }
     requires high { context ≤ℤ pos 364 }
@@ -87,7 +87,7 @@ fn half_number(q1: i16, q2: i16) -> i16
     81 * q1 + 9 * q2
 }
 
-/// The region of the gradient from one sample to another that is so much over it, -4 to 4 (A.3.3).
+/// The region of the gradient `over` - `other`, -4 to 4 (A.3.3).
 pub fn region_of(presets: Presets, over: u16, other: u16) -> i16
     ensures value { result ≡ region presets (pos over -ℤ pos other) }
     ensures region { IsRegion result }
@@ -97,7 +97,7 @@ pub fn region_of(presets: Presets, over: u16, other: u16) -> i16
     if over < other { -region } else { region }
 }
 
-/// The region of a gradient that isn't negative: how many of the bounds it reaches.
+/// The region of a gradient of at least 0: how many of the bounds 1, T1, T2 and T3 it reaches.
 fn region_of_size(presets: Presets, size: u16) -> i16
     ensures value { result ≡ pos (size_region presets size) }
     ensures none { size ≡ 0 → result ≡ pos 0 }

@@ -1,4 +1,4 @@
-//! The counters of every context, and one sample more (T.87 A.2.1, A.3 to A.7).
+//! The counters of every context, and encoding and decoding one sample by them (T.87 A.2.1, A.3 to A.7).
 ghost use Rattle.std.specs.Prelude.{◌≡◌, ◌+◌, ◌<◌, ◌≤◌, ℕ, pos, true, false, slice_set, IfOk, IfErr, if◌then◌else◌};
 ghost use Rattle.ls_frame.specs.Parameters.{range_of, qbpp_of};
 ghost use Rattle.ls_bits.specs.Golomb.{IsGolomb, most_value};
@@ -31,30 +31,30 @@ use crate::word::Word;
 use ls_bits::CodeFault;
 use ls_frame::Presets;
 
-/// How many contexts of regular mode there are.
+/// The number of contexts of regular mode.
 pub const REGULAR: usize = 365;
 
-/// How many there are with the two of the samples that interrupt a run, which come last.
+/// The number of all contexts: those of regular mode, and last the two of the samples that interrupt a run.
 pub const CONTEXTS: usize = 367;
 
-/// The counters of each context, by its number, and what a scan's samples are coded with.
+/// The counters of each context, indexed by its number, and the parameters that a scan's samples are coded with.
 #[derive(Drop)]
 pub struct Counters {
     /// The scan's parameters.
     pub presets: Presets,
     /// LIMIT: the most bits of a code word.
     pub limit: u32,
-    /// A: the sum of the errors' sizes.
+    /// A: the accumulated magnitudes of the errors.
     pub a: [u32; CONTEXTS],
-    /// B: the errors' sum, less what C corrects; over -N and at most 0.
+    /// B: the accumulated errors, less what C corrects; above -N and at most 0.
     pub b: [i32; REGULAR],
-    /// C: what corrects the prediction, -128 to 127.
+    /// C: the correction of the prediction, -128 to 127.
     pub c: [i32; REGULAR],
-    /// N: how many errors were counted, since they were last halved.
+    /// N: the number of errors counted, starting at 1; halved at RESET together with A, B and Nn.
     pub n: [u32; CONTEXTS],
-    /// The Golomb parameter of N and A, in each context of regular mode.
+    /// The Golomb parameter of N and A, for each context of regular mode.
     pub k: [u32; REGULAR],
-    /// Nn: how many of them were negative, in the two contexts of the samples that interrupt a run.
+    /// Nn: the number of errors counted that were negative, for the two contexts of the samples that interrupt a run.
     pub nn: [u32; 2],
 }
 
@@ -80,7 +80,7 @@ impl Counters {
         }
     }
 
-    /// The word of a sample of regular mode, whose error is counted in its context.
+    /// Codes a sample of regular mode: returns its word, and counts its error in its context.
     pub fn code(&mut self, mirrored: Mirrored) -> Word
         requires within { mirrored.context < 365 }
         requires prediction { mirrored.prediction ≤ self.old.presets.maxval }
@@ -113,7 +113,7 @@ impl Counters {
         Word { k, glimit, value }
     }
 
-    /// What the word of a sample of regular mode is read by.
+    /// The plan for decoding a sample of regular mode.
     #[tactic(auto, unfolding(crate::specs::View::Plans::regular_plan_by))]
     pub fn plan(&self, context: Context, middle: u32, neighbours: &Neighbours) -> Plan
         requires number { context.number ≡ (context_of self.now.presets neighbours.now).number }
@@ -138,8 +138,8 @@ impl Counters {
         }
     }
 
-    /// The sample of regular mode whose mapped error this is for a prediction; its error is counted in its context.
-    /// NotCanonical if there is none; nothing changes then.
+    /// Decodes a sample of regular mode: returns the sample that has this mapped error for the prediction, and counts
+    /// its error in its context. NotCanonical if there is none; nothing changes then.
     pub fn accept(
         &mut self,
         number: usize,
@@ -178,7 +178,7 @@ impl Counters {
         Ok(sample)
     }
 
-    /// The sample of regular mode whose mapped error this is for a prediction, where it is small enough that there is one.
+    /// As `accept`, for a mapped error below RANGE - 1, for which there always is a sample.
     pub fn accept_sure(
         &mut self,
         number: usize,
@@ -209,8 +209,8 @@ impl Counters {
         sample
     }
 
-    /// The word of the sample that interrupts a run, at the RUNindex that the run left. Its error is counted in its
-    /// context.
+    /// Codes the sample that interrupts a run, at the RUNindex that the run left: returns its word, and counts its
+    /// error in its context.
     pub fn code_interruption(
         &mut self,
         run_index: u32,
@@ -254,7 +254,7 @@ impl Counters {
         Word { k, glimit, value }
     }
 
-    /// What the word of the sample that interrupts a run is read by.
+    /// The plan for decoding the sample that interrupts a run.
     #[tactic(auto, unfolding(crate::specs::View::Plans::interruption_plan_by))]
     pub fn plan_interruption(&self, run_index: u32, neighbours: &Neighbours) -> Plan
         requires samples { AreSamples self.now.presets.maxval neighbours.now }
@@ -276,8 +276,8 @@ impl Counters {
         }
     }
 
-    /// The sample whose EMErrval this is and that may interrupt a run of the value to its left; its error is counted in
-    /// its context. NotCanonical if there is none; nothing changes then.
+    /// Decodes the sample that interrupts a run: returns the sample other than Ra that has this EMErrval, and counts
+    /// its error in its context. NotCanonical if there is none; nothing changes then.
     pub fn accept_interruption(
         &mut self,
         neighbours: &Neighbours,
@@ -345,7 +345,7 @@ impl Counters {
         self.k[number]
     }
 
-    /// Counts one error more in a context of regular mode.
+    /// Counts an error in a context of regular mode.
     fn add(&mut self, number: usize, error: i32)
         requires number { number < 365 }
         requires sound { IsSound self.old }
@@ -369,7 +369,7 @@ impl Counters {
         );
     }
 
-    /// Counts one error more, of a sample that interrupts a run.
+    /// Counts the error of a sample that interrupts a run.
     fn add_interruption(&mut self, ri_type: bool, error: i32, value: u32)
         requires sound { IsSound self.old }
         requires error { IsReduced (range_of self.old.presets.maxval) error }

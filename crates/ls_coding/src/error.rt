@@ -10,7 +10,8 @@ ghost use Rattle.ls_coding.specs.declared.neighbours.Neighbours.{Neighbours};
 use crate::neighbours::Neighbours;
 use ls_frame::Presets;
 
-/// The prediction of a sample, corrected by its context's C (A.4.1, A.4.2); `middle` is the median of its neighbours.
+/// The prediction of a sample, corrected by its context's C, `bias` (A.4.1, A.4.2); `middle` is the median of its
+/// neighbours.
 pub fn predicted(presets: Presets, negative: bool, bias: i32, middle: u32) -> u16
     requires middle { middle ≤ presets.maxval }
     requires low { neg_ℤ (pos 128) ≤ℤ bias }
@@ -33,8 +34,8 @@ pub fn error_of(presets: Presets, negative: bool, prediction: u16, sample: u16) 
     reduced(presets.range(), signed(negative, difference))
 }
 
-/// The reduced error of a sample for a prediction that a context's C is still to correct, both as `mirror` has them
-/// (A.4.2 to A.4.5).
+/// The reduced error of a sample (A.4.2 to A.4.5), from the sample and the prediction that `mirror` gives; `bias` is
+/// the context's C, by which the prediction is still to be corrected.
 pub fn mirrored_error(presets: Presets, bias: i32, prediction: u16, sample: u16) -> i32
     requires prediction { prediction ≤ presets.maxval }
     requires sample { sample ≤ presets.maxval }
@@ -47,7 +48,7 @@ pub fn mirrored_error(presets: Presets, bias: i32, prediction: u16, sample: u16)
     reduced(presets.range(), i32::from(sample) - i32::from(corrected))
 }
 
-/// A prediction with a context's C added, within the samples.
+/// A prediction corrected by a context's C, and clamped to the range 0 to MAXVAL (A.4.2).
 fn corrected(presets: Presets, bias: i32, prediction: u16) -> u16
     requires prediction { prediction ≤ presets.maxval }
     requires low { neg_ℤ (pos 128) ≤ℤ bias }
@@ -58,7 +59,7 @@ fn corrected(presets: Presets, bias: i32, prediction: u16) -> u16
     clamped(i32::from(prediction) + bias, presets.maxval())
 }
 
-/// Whether an error is one that A.4.5 leaves: -RANGE / 2 to (RANGE - 1) / 2, rounded down in size.
+/// Whether an error is a reduced one (A.4.5): from -RANGE / 2 to (RANGE - 1) / 2, both rounded towards 0.
 pub fn is_reduced(range: u32, error: i32) -> bool
     requires range { range ≤ 65536 }
     requires low { neg_ℤ (pos 131072) ≤ℤ error }
@@ -68,7 +69,7 @@ pub fn is_reduced(range: u32, error: i32) -> bool
     is_below(error + (range / 2) as i32, range)
 }
 
-/// The sample that has a reduced error for a prediction.
+/// The one sample that has this reduced error for a prediction.
 pub fn sample_of(presets: Presets, negative: bool, prediction: u16, error: i32) -> u16
     requires prediction { prediction ≤ presets.maxval }
     requires reduced { IsReduced (range_of presets.maxval) error }
@@ -124,7 +125,7 @@ fn reciprocal(n: u32) -> u32
     RECIPROCALS[n as usize]
 }
 
-/// Whether the odd mapped errors are those of the errors from 0 on (A.5.2).
+/// Whether odd mapped errors stand for the errors from 0 up, not for negative ones (A.5.2).
 fn is_inverted(k: u32, b: i32, n: u32) -> bool
     requires few { n ≤ 65536 }
     requires low { neg_ℤ (pos 131072) ≤ℤ b }
@@ -149,7 +150,7 @@ pub fn mapped_error(k: u32, b: i32, n: u32, error: i32) -> u32
     inverted_error(is_inverted(k, b, n), error)
 }
 
-/// The mapped error, where inverting changes bit 0.
+/// The mapped error; inverting flips its bit 0.
 fn inverted_error(inverted: bool, error: i32) -> u32
     requires low { neg_ℤ (pos 32768) ≤ℤ error }
     requires high { error ≤ℤ pos 32767 }
@@ -159,7 +160,7 @@ fn inverted_error(inverted: bool, error: i32) -> u32
     if inverted { value ^ 1 } else { value }
 }
 
-/// The mapped error if the odd ones are those of the errors below 0.
+/// The mapped error, where odd ones stand for negative errors.
 fn folded_error(error: i32) -> u32
     requires low { neg_ℤ (pos 32768) ≤ℤ error }
     requires high { error ≤ℤ pos 32767 }
@@ -172,7 +173,7 @@ fn folded_error(error: i32) -> u32
     twice as u32
 }
 
-/// The error that is mapped to this (A.5.2), in a context with these k, B and N.
+/// The error whose mapped error is `value` (A.5.2), in a context with these k, B and N.
 pub fn unmapped_error(k: u32, b: i32, n: u32, value: u32) -> i32
     requires few { n ≤ 65536 }
     requires mean_low { neg_ℤ (pos 131072) ≤ℤ b }
@@ -189,7 +190,7 @@ pub fn unmapped_error(k: u32, b: i32, n: u32, value: u32) -> i32
     uninverted_error(is_inverted(k, b, n), value)
 }
 
-/// The error that is mapped to this, where inverting changes bit 0.
+/// The error whose mapped error is `value`; inverting flips bit 0 of a mapped error.
 fn uninverted_error(inverted: bool, value: u32) -> i32
     requires { value ≤ 65536 }
     ensures value { mapped_error inverted result ≡ value }
@@ -202,7 +203,7 @@ fn uninverted_error(inverted: bool, value: u32) -> i32
     if odd == inverted { half } else { -1 - half }
 }
 
-/// The error that is mapped to this if the odd mapped errors are those of the errors below 0.
+/// The error whose mapped error is `value`, where odd ones stand for negative errors.
 fn unfolded_error(value: u32) -> i32
     requires { value ≤ 65536 }
     ensures value { mapped_error false result ≡ value }
@@ -230,10 +231,10 @@ pub fn median(neighbours: &Neighbours) -> u16
     }
 }
 
-/// The median of a sample's neighbours (A.4.1) by two numbers of the line above, which may be found before Ra is known:
-/// how much Rb is over Rc (`rise`) and how much Rc is over Rb (`fall`), each 0 if it isn't.
+/// The median of a sample's neighbours (A.4.1), from two differences in the line above, which may be computed before Ra
+/// is known: `rise` is Rb - Rc, and `fall` is Rc - Rb, each 0 where it would be negative.
 ///
-/// Any numbers will do. Allocates nothing and cannot fail.
+/// Takes any numbers. Allocates nothing and cannot fail.
 pub fn median_by(a: u16, b: u16, rise: u16, fall: u16) -> u32
     ensures { (c d : ℕ) → rise ≡ b - c → fall ≡ c - b → result ≡ median (record { a = a; b = b; c = c; d = d }) }
 {
@@ -241,7 +242,7 @@ pub fn median_by(a: u16, b: u16, rise: u16, fall: u16) -> u32
     most.max(i32::from(a) - i32::from(fall)) as u32
 }
 
-/// `number`, or the bound of 0 to `greatest` that it is past.
+/// `number`, clamped to the range 0 to `greatest`.
 fn clamped(number: i32, greatest: u16) -> u16
     requires low { neg_ℤ (pos 131072) ≤ℤ number }
     requires high { number ≤ℤ pos 131072 }
@@ -254,7 +255,7 @@ fn clamped(number: i32, greatest: u16) -> u16
     bound_past(number, greatest)
 }
 
-/// The bound of 0 to `greatest` that a number is past.
+/// 0 for a number below 0, else `greatest`.
 #[cold]
 #[inline(never)]
 fn bound_past(number: i32, greatest: u16) -> u16
@@ -294,7 +295,7 @@ fn reduced(range: u32, error: i32) -> i32
     error - range as i32
 }
 
-/// A number that is at most `range` away from 0 to `range - 1`, modulo `range`.
+/// `number` modulo `range`. Requires a number from -`range` up to, but not including, 2 * `range`.
 fn modulo_range(number: i32, range: u32) -> u32
     requires range { range ≤ 65536 }
     requires low { neg_ℤ (pos range) ≤ℤ number }
@@ -309,7 +310,7 @@ fn modulo_range(number: i32, range: u32) -> u32
     nearer_by_range(number, range)
 }
 
-/// A number that is less than 0, or at least `range`, and less than twice that away from 0, modulo `range`.
+/// As `modulo_range`, for a number below 0 or of at least `range`.
 #[cold]
 #[inline(never)]
 fn nearer_by_range(number: i32, range: u32) -> u32
@@ -329,7 +330,7 @@ fn nearer_by_range(number: i32, range: u32) -> u32
     }
 }
 
-/// Whether a number is one of 0 to `count - 1`, by one comparison.
+/// Whether a number is from 0 to `count` - 1, by one comparison.
 pub fn is_below(number: i32, count: u32) -> bool
     requires count { count ≤ 65536 }
     requires low { neg_ℤ (pos 262144) ≤ℤ number }
@@ -339,7 +340,7 @@ pub fn is_below(number: i32, count: u32) -> bool
     number.cast_unsigned() < count
 }
 
-/// (2^32 - 1) / n, rounded down, for n up to 256; the first isn't used.
+/// (2^32 - 1) / n, rounded down, for n up to 256; the first element isn't used.
 const RECIPROCALS: [u32; 257] = [
     0, 4294967295, 2147483647, 1431655765, 1073741823, 858993459, 715827882, 613566756, 536870911,
     477218588, 429496729, 390451572, 357913941, 330382099, 306783378, 286331153, 268435455,

@@ -33,7 +33,7 @@ pub fn interruption_prediction(neighbours: &Neighbours) -> u16
     neighbours.b
 }
 
-/// Whether the error has its sign changed.
+/// Whether the sign of the error is changed: Ra is greater than Rb.
 pub fn interruption_negative(neighbours: &Neighbours) -> bool
     ensures { result ≡ interruption_negative neighbours.now }
 {
@@ -53,7 +53,7 @@ pub fn interruption_k(ri_type: bool, a: u32, n: u32) -> u32
     golomb_parameter(n, a)
 }
 
-/// EMErrval, the mapped error. A sample with `ri_type` has no error of 0, for which it is 0 here.
+/// EMErrval, the mapped error. With `ri_type` an error of 0 never occurs; the result for it is 0.
 pub fn interruption_value(ri_type: bool, k: u32, n: u32, nn: u32, error: i32) -> u32
     requires few { n ≤ 65535 }
     requires negative { nn < n }
@@ -65,7 +65,7 @@ pub fn interruption_value(ri_type: bool, k: u32, n: u32, nn: u32, error: i32) ->
     (2 * error.unsigned_abs()).saturating_sub(u32::from(ri_type) + map)
 }
 
-/// The one error whose EMErrval this is; with `ri_type` it isn't 0.
+/// The one error that has this EMErrval; with `ri_type`, the one other than 0.
 pub fn interruption_error_of(ri_type: bool, k: u32, n: u32, nn: u32, value: u32) -> i32
     requires few { n ≤ 65535 }
     requires negative { nn < n }
@@ -80,7 +80,7 @@ pub fn interruption_error_of(ri_type: bool, k: u32, n: u32, nn: u32, value: u32)
     signed_half(maps_negative(k, n, nn), value + u32::from(ri_type))
 }
 
-/// One error more, and its EMErrval, in each of the counters.
+/// Counts an error, and its EMErrval, in the context's A, N and Nn.
 pub fn count_interruption(
     presets: Presets,
     ri_type: bool,
@@ -102,7 +102,7 @@ pub fn count_interruption(
     count_interruption_error(a, n, nn, reset);
 }
 
-/// Whether map is 1 for negative errors; else it is 1 for positive ones.
+/// Whether map is 1 for negative errors; otherwise it is 1 for positive ones.
 fn maps_negative(k: u32, n: u32, nn: u32) -> bool
     requires { nn ≤ 65535 }
     ensures { result ≡ (not (k == 0) || nat_le n (2 * nn)) }
@@ -120,7 +120,8 @@ fn map_is_one(maps_negative: bool, error: i32) -> bool
     error > 0
 }
 
-/// The error whose size is half of `twice` and map, which is 1 if `twice` is odd.
+/// The error of magnitude (`twice` + map) / 2, where map is 1 if `twice` is odd, else 0: negative if map is 1 and
+/// `maps_negative` holds, or if neither is so.
 fn signed_half(maps_negative: bool, twice: u32) -> i32
     requires { twice ≤ 65537 }
     ensures { result ≡ (if if maps_negative then twice % 2 == 1 else not (twice % 2 == 1)
@@ -134,7 +135,7 @@ fn signed_half(maps_negative: bool, twice: u32) -> i32
     size as i32
 }
 
-/// Halves the counters if N is RESET, and counts one error more.
+/// Halves the counters if N is RESET, and then adds 1 to N.
 fn count_interruption_error(a: &mut u32, n: &mut u32, nn: &mut u32, reset: u32)
     requires { n.old ≤ 65535 }
     ensures a { a.new ≡ (if n.old == reset then a.old / 2 else a.old) }

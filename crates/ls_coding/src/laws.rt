@@ -1,4 +1,4 @@
-//! Laws over the definitions alone. Each is the contract of a function with nothing to do.
+//! Laws that follow from the definitions alone. Each is the contract of a function with an empty body.
 ghost use Rattle.std.specs.Prelude.{◌≡◌, ◌+◌, ◌-◌, ◌*◌, ◌^◌, ◌<◌, ◌≤◌, ◌++◌, ◌∷◌, [], min, ℕ, Bool, true, false, List, length};
 ghost use Rattle.ls_frame.specs.Parameters.{Parameters, IsLegal, limit_of};
 ghost use Rattle.ls_bits.specs.Bits.{bits_of};
@@ -13,13 +13,13 @@ ghost use Rattle.ls_coding.specs.Lawful.{IsLawful};
 ghost use Rattle.ls_coding.specs.View.States.{state_of};
 ghost use Rattle.ls_coding.specs.View.Reached.{IsReached};
 
-/// Every list of events that a scan may have is reached by calls from `State::new`.
+/// The state after any list of events that a scan may have is reached by calls from `State::new`.
 pub fn lawful_events_are_reached()
     ensures { (p : Parameters) (events : List Event) → IsLawful p events → IsReached p (state_of p events) }
 {}
 
-/// After lawful events, one of m samples takes at most LIMIT * m bits: a sample of regular mode, a run up to the line's
-/// end, and a run with the sample that interrupts it.
+/// After lawful events, m samples take at most LIMIT * m bits, whichever comes next: one sample of regular mode, a run
+/// up to the line's end, or a run together with the sample that interrupts it.
 pub fn lawful_events_are_short()
     ensures sample { (p : Parameters) (events : List Event) → IsLegal p → IsLawful p events
         → (neighbours : Neighbours) (sample : ℕ) → AreSamples p.maxval neighbours → sample ≤ p.maxval
@@ -34,14 +34,15 @@ pub fn lawful_events_are_short()
         (counts_after_events p (ri_type_of neighbours) events) (interruption_error p neighbours sample))) ≤ limit_of p.maxval * (count + 1) }
 {}
 
-/// The Golomb parameter is the least exponent that brings N to A.
+/// The Golomb parameter is the least k for which N * 2^k is at least A.
 pub fn golomb_parameter_is_least()
     ensures reaches { (n a : ℕ) → a ≤ n * 2 ^ 32 → a ≤ n * 2 ^ golomb_parameter n a }
     ensures least { (n a k : ℕ) → a ≤ n * 2 ^ k → golomb_parameter n a ≤ k }
 {}
 
-/// A run's bits, one by one: a 1 for 2^J samples, after which the rest of the run stands at the next RUNindex; a 1 for
-/// what is left in the line; a 0, and the samples that are left in J bits, before the sample that interrupts it.
+/// A run's bits, one by one: a 1 for 2^J samples, followed by the bits of the rest at the next RUNindex; with fewer
+/// samples left, a 1 for these if the run ends with the line, or a 0 and their number in J bits if a sample interrupts
+/// it.
 pub fn runs_are_read_bit_by_bit()
     ensures one { (index count : ℕ) (interrupted : Bool) → 2 ^ order index ≤ count
         → run_bits index (run_of count interrupted)
@@ -53,7 +54,7 @@ pub fn runs_are_read_bit_by_bit()
         → run_bits index (run_of count true) ≡ false ∷ bits_of (order index) count }
 {}
 
-/// 2^J samples of a run, and then the rest of it, leave the state that the run leaves.
+/// Coding 2^J samples of a run, and then the rest of it, leaves the same state as coding the run at once.
 pub fn runs_join()
     ensures { (p : Parameters) (events : List Event) (rest : ℕ) (interrupted : Bool) → let samples = 2 ^ order (run_index_after_events events) in
         state_of p ((events ++ run (run_of samples false) ∷ []) ++ run (run_of rest interrupted) ∷ [])

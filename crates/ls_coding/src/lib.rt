@@ -1,9 +1,9 @@
-//! The events of T.87's Annex A, coded and read back one at a time: a sample of regular mode, a run, or the sample that
+//! The events of T.87's Annex A, encoded and decoded one at a time: a sample of regular mode, a run, or the sample that
 //! interrupts a run.
 //!
-//! A `State` is what one scan's samples are coded or read by. It is seen as what the definitions say after a list of
-//! events (`specs/Events.antt`, `specs/View/States.antt`): each call is one event, and leaves the state of the list
-//! with that event after it. What comes out are code words and runs; `ls_bits` makes bits of them.
+//! A `State` encodes or decodes the samples of one scan. Its model is the state that the definitions give after a list
+//! of events (`specs/Events.antt`, `specs/View/States.antt`): each call is one event, and leaves the state after the
+//! list with that event appended. Encoding gives code words and runs; `ls_bits` turns these into bits.
 //!
 //! ```
 //! use ls_coding::{Mode, Neighbours, State, Word, mode_of};
@@ -25,21 +25,22 @@
 //! The word's bits are put by `put_golomb` of `ls_bits`. In run mode a run is coded by `code_run`, and the sample that
 //! interrupts it by `code_interruption`.
 //!
-//! Reading goes the same way: `plan_regular` says by which code the next word is read, and `accept_regular` which
-//! sample has its value; a run is read by `accept_one`, `break_width` and `accept_break`, or at once by `break_widths` and
-//! `accept_run`, and the sample that interrupts it by `plan_interruption` and `accept_interruption`. A reading call that
-//! is refused leaves the state unchanged.
+//! Decoding mirrors this: `plan_regular` gives the code of the next word, and `accept_regular` the sample that has the
+//! word's value; a run is decoded by `accept_one`, `break_width` and `accept_break`, or at once by `break_widths` and
+//! `accept_run`, and the sample that interrupts it by `plan_interruption` and `accept_interruption`. A decoding call
+//! that fails leaves the state unchanged.
 //!
-//! The samples and neighbours that are handed to a state are at most MAXVAL. What the samples say of one of them by
-//! themselves may be found ahead (`mirror`), a line at a time, and handed to `code_regular_at`. A reader knows only the
-//! line above so far: it may find that line's part of each context ahead (`half_context`), and at each sample the rest
-//! (`whole_context`, by a table, `Regions`) for `plan_regular_at`; and so the two differences by which `median_by` finds
-//! the median. Only the making of that table allocates.
+//! The samples and neighbours passed to a state are at most MAXVAL. What depends on samples alone may be computed
+//! before a sample is coded (`mirror`), for example a line at a time, and passed to `code_regular_at`. A decoder knows
+//! only the line above: it may compute that line's part of each context beforehand (`half_context`), and the rest at
+//! each sample (`whole_context`, by a table, `Regions`) for `plan_regular_at`; likewise the two differences from which
+//! `median_by` computes the median. Only making that table allocates.
 //!
 //! In reading order: `neighbours` (the samples around one, and the mode that they call for), `state` (all calls),
-//! `word`, `plan`, `run` (what they answer), `mirrored` (what may be found ahead), `counters` (the counters of all
-//! contexts), and below these `context`, `error`, `update` (a sample of regular mode), `regions` (a table for
-//! `context`), `interruption`; `laws` (what follows from the definitions alone).
+//! `word`, `plan`, `run` (what they return), `mirrored` (what may be computed beforehand), `counters` (the counters of
+//! all contexts), and below these `context`, `error`, `update` (a sample of regular mode), `regions` (a table for
+//! `context`), `sure_zeros` (a table for `accept_sure`), `interruption`; `laws` (what follows from the definitions
+//! alone).
 #![tactic(auto)]
 
 mod context;

@@ -1,15 +1,15 @@
-//! What a sample's word is read by (T.87 A.5.3).
+//! How a sample's word is decoded (T.87 A.5.3).
 ghost use Rattle.std.specs.Prelude.{◌≡◌};
 
 use crate::neighbours::Neighbours;
 use std::marker::Model;
 
-/// By which code a sample's word is read, and what its value then stands for: `plan_regular` and `plan_interruption` of
-/// `State` make it.
+/// How to decode one sample: the code of its word, and what the word's value stands for. `plan_regular` and
+/// `plan_interruption` of `State` make it.
 ///
 /// Read a word of LG(k, glimit) with the scan's qbpp, by `take_golomb` of `ls_bits`, whose requirements the two numbers
-/// meet; then hand the plan and the word's value to `accept_regular` or `accept_interruption`, of the same kind as the
-/// call that made it. A plan is good only for the state that made it, and only until that state changes.
+/// meet; then pass the plan and the word's value to `accept_regular` or `accept_interruption`, whichever matches the
+/// call that made the plan. A plan is valid only for the state that made it, and only until that state changes.
 #[derive(Drop)]
 pub struct Plan {
     pub(crate) neighbours: Neighbours,
@@ -17,11 +17,11 @@ pub struct Plan {
     pub(crate) k: u32,
     /// The most bits that the word may have.
     pub(crate) glimit: u32,
-    /// The context's number in regular mode; of a sample that interrupts a run, RItype.
+    /// The context's number in regular mode; RItype for a sample that interrupts a run.
     pub(crate) number: usize,
     /// Whether the error has its sign changed: SIGN is -1, or A.7.2 changes it.
     pub(crate) negative: bool,
-    /// Px.
+    /// Px, the prediction.
     pub(crate) prediction: u16,
 }
 

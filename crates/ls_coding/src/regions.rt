@@ -1,4 +1,4 @@
-//! A table of regions, by which a context is made whole (T.87 A.3.3, A.3.4).
+//! A table of regions, by which a context is completed (T.87 A.3.3, A.3.4).
 ghost use Rattle.std.specs.Prelude.{◌≡◌, ◌+◌, ◌*◌, ◌<◌, ◌≤◌, ℕ, pos, neg_ℤ, ◌-ℤ◌, ◌≤ℤ◌, length, IfOk};
 ghost use Rattle.ls_frame.specs.Parameters.{IsLegal};
 ghost use Rattle.ls_coding.specs.Contexts.{region, IsRegion, is_zero, is_run};
@@ -13,11 +13,11 @@ use std::marker::Model;
 /// The region of each difference of two samples, -MAXVAL to MAXVAL (A.3.3). One table serves any number of scans with
 /// the same parameters.
 ///
-/// In contracts it is these parameters.
+/// In contracts the table stands for these parameters.
 #[derive(Drop)]
 pub struct Regions {
     presets: Presets,
-    /// The regions, from that of -MAXVAL on.
+    /// The regions, starting with that of -MAXVAL.
     table: Vec<i8>,
 }
 
@@ -33,7 +33,7 @@ impl Model for Regions {
 }
 
 impl Regions {
-    /// The regions by these parameters. Fails only if an allocation fails.
+    /// The table for these parameters. Fails only if an allocation fails.
     pub fn new(alloc: Global, presets: &Presets) -> Result<Regions, AllocError>
         ensures { IfOk result (λ regions. regions ≡ presets.now) }
     {
@@ -44,7 +44,7 @@ impl Regions {
         Ok(Regions { presets, table })
     }
 
-    /// The region of the gradient from one sample to another that is so much over it.
+    /// The region of the gradient `over` - `other`, both at most MAXVAL.
     fn region(&self, over: u16, other: u16) -> i16
         requires over { over ≤ self.now.maxval }
         requires other { other ≤ self.now.maxval }
@@ -57,10 +57,10 @@ impl Regions {
     }
 }
 
-/// The context of a sample and its sign as one number, as `signed_context` answers it, from its half: what
-/// `half_context` answers for these parameters and the sample's Rb, Rc and Rd.
+/// The context of a sample and its sign as one number, as `signed_context` gives it, from `half`: what `half_context`
+/// gives for these parameters and the sample's Rb, Rc and Rd.
 ///
-/// Requires Ra and Rc of at most the parameters' `maxval`, and a half of -360 to 360, as `half_context` answers it.
+/// Requires Ra and Rc of at most the parameters' `maxval`, and a half of -360 to 360, as `half_context` gives it.
 /// Allocates nothing and cannot fail.
 pub fn whole_context(regions: &Regions, half: i16, a: u16, c: u16) -> i16
     requires half_low { neg_ℤ (pos 360) ≤ℤ half }
@@ -77,7 +77,7 @@ pub fn whole_context(regions: &Regions, half: i16, a: u16, c: u16) -> i16
     half + regions.region(c, a)
 }
 
-/// Puts the region of each difference into its place.
+/// Fills the table with the region of each difference.
 fn fill_table(presets: Presets, table: &mut [i8])
     requires { length table.old ≡ 2 * presets.maxval + 1 }
     ensures { AreRegions presets table.new }
@@ -88,7 +88,7 @@ fn fill_table(presets: Presets, table: &mut [i8])
     }
 }
 
-/// The region of a place of the table.
+/// The region at a place of the table: that of the gradient `place` - `maxval`.
 fn region_at(presets: Presets, maxval: u32, place: u32) -> i8
     requires maxval { maxval ≡ presets.maxval }
     requires place { place ≤ 2 * maxval }

@@ -2,10 +2,11 @@
 ghost use Rattle.std.specs.Prelude.{◌≡◌, ℕ, ◌+◌, ◌-◌, ◌^◌, ◌<◌, ◌≤◌, length, slice_index};
 ghost use Rattle.ls_coding.specs.Runs.{order, samples_of_ones, walked};
 
-/// The bits of a run (A.7.1.2): `ones` bits 1, each for 2^J samples at the RUNindex where it stands, and then its tail.
+/// The bits of a run (A.7.1.2): `ones` bits 1, each for 2^J samples at the RUNindex that it is coded at, and then its
+/// tail.
 #[derive(Clone, Copy, Debug, PartialEq, Eq)]
 pub struct RunWord {
-    /// How many bits 1 come first.
+    /// The number of bits 1 that come first.
     pub ones: u32,
     /// What comes after them.
     pub tail: Tail,
@@ -18,7 +19,7 @@ pub enum Tail {
     LineFull,
     /// At the line's end, with samples left, fewer than 2^J: one further bit 1.
     LinePart,
-    /// Before a sample that interrupts it: a bit 0, and the samples that are left, `rest`, in `width` bits, the most
+    /// Before a sample that interrupts it: a bit 0, and the number of samples left, `rest`, in `width` bits, the most
     /// significant first; `width` is J, at most 15, and `rest` is below 2^J.
     Interrupted { width: u32, rest: u32 },
 }
@@ -42,7 +43,7 @@ pub fn orders_from(index: u32) -> &'static [u32]
     &RUN_ORDERS[index as usize..]
 }
 
-/// How many samples a bit 1 stands for at a RUNindex.
+/// The number of samples that a bit 1 stands for at a RUNindex.
 pub fn samples_of_one(index: u32) -> u32
     requires { index ≤ 31 }
     ensures { result ≡ 2 ^ order index }
@@ -50,7 +51,7 @@ pub fn samples_of_one(index: u32) -> u32
     1 << order(index)
 }
 
-/// How many samples so many bits 1 stand for that raise a RUNindex to at most 31.
+/// The number of samples that `ones` bits 1 stand for, from a RUNindex on. Requires that they raise it to at most 31.
 pub fn samples_of_ones(index: u32, ones: u32) -> u32
     requires { index + ones ≤ 31 }
     ensures value { result ≡ samples_of_ones ones index }
@@ -59,7 +60,7 @@ pub fn samples_of_ones(index: u32, ones: u32) -> u32
     SAMPLES_BEFORE[(index + ones) as usize] - SAMPLES_BEFORE[index as usize]
 }
 
-/// How far the bits 1 of a run come: how many they are, RUNindex after them, and the samples that are left.
+/// The bits 1 of a run: their number, RUNindex after them, and the number of samples left.
 #[derive(Clone, Copy)]
 pub struct Walked {
     pub ones: u32,
@@ -67,7 +68,7 @@ pub struct Walked {
     pub left: u32,
 }
 
-/// A run of `count` samples from a RUNindex on: its bits 1, RUNindex after them, and the samples that are left.
+/// The bits 1 of a run of `count` samples that begins at a RUNindex.
 pub fn walk(index: u32, count: u32) -> Walked
     requires { index ≤ 31 }
     ensures ones { result.ones ≡ (walked index count).ones }
@@ -100,7 +101,7 @@ static RUN_ORDERS: [u32; 32] = [
     14, 15,
 ];
 
-/// For how many samples the bits 1 stand that raise RUNindex from 0 to each one.
+/// The number of samples that bits 1 stand for while they raise RUNindex from 0 to each value.
 const SAMPLES_BEFORE: [u32; 32] = [
     0, 1, 2, 3, 4, 6, 8, 10, 12, 16, 20, 24, 28, 36, 44, 52, 60, 76, 92, 124, 156, 220, 284, 412,
     540, 796, 1308, 2332, 4380, 8476, 16668, 33052,

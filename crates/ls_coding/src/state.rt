@@ -1,4 +1,4 @@
-//! What a scan is coded and read by, an event at a time (T.87 A.2.1 to A.7).
+//! Encoding and decoding a scan, one event at a time (T.87 A.2.1 to A.7).
 ghost use Rattle.std.specs.Prelude.{◌≡◌, ◌+◌, ◌-◌, ◌*◌, ◌/◌, ◌^◌, ◌<◌, ◌≤◌, ◌++◌, ◌∷◌, [], List, length, slice_index, min, ℕ, true, false, not, IsTrue, IfOk, IfErr, IfSome, IfNone};
 ghost use Rattle.ls_frame.specs.Parameters.{qbpp_of, limit_of};
 ghost use Rattle.ls_bits.specs.Golomb.{IsGolomb, most_value};
@@ -30,17 +30,17 @@ use ls_bits::CodeFault;
 use ls_frame::Presets;
 use std::marker::Model;
 
-/// What one scan's samples are coded or read by: the counters of each context, and RUNindex (T.87 A.2.1).
+/// The state of encoding or decoding one scan: the counters of each context, and RUNindex (T.87 A.2.1).
 ///
-/// A state is for one scan, from its first sample to its last, and codes it or reads it. Each call is one event: a
-/// sample of regular mode, a run, or the sample that interrupts a run; `interrupted` says whether that last one comes
-/// next. Samples and neighbours are at most MAXVAL, the presets' `maxval`. No call allocates.
+/// A state serves one scan, from its first sample to its last, and either encodes or decodes it. Each call is one
+/// event: a sample of regular mode, a run, or the sample that interrupts a run; `interrupted` says whether that last
+/// one comes next. Samples and neighbours are at most MAXVAL, the presets' `maxval`. No call allocates.
 #[derive(Drop)]
 pub struct State {
     counters: Counters,
     /// RUNindex, 0 to 31.
     run_index: u32,
-    /// Whether the sample that interrupts a run is to come next.
+    /// Whether the sample that interrupts a run comes next.
     interrupted: bool,
 }
 
@@ -64,8 +64,8 @@ impl Model for State {
 }
 
 impl State {
-    /// The state at a scan's start (A.2.1): every context's counters as they begin, RUNindex 0, and no sample awaited
-    /// that interrupts a run. Any presets will do, since they are legal. Allocates nothing and cannot fail.
+    /// The state at a scan's start (A.2.1): each context's counters at their initial values, RUNindex 0, and
+    /// `interrupted` false. Takes any presets, since all of them are legal. Allocates nothing and cannot fail.
     pub fn new(presets: &Presets) -> State
         ensures { result ≡ state_of presets.now [] }
     {
@@ -76,13 +76,14 @@ impl State {
         }
     }
 
-    /// Codes a sample of regular mode (A.3 to A.6): its word is LG(k, LIMIT) of its mapped error, MErrval, in at most
-    /// LIMIT bits, and its error is then counted in its context.
+    /// Codes a sample of regular mode (A.3 to A.6): returns its word, LG(k, LIMIT) of its mapped error, MErrval, in at
+    /// most LIMIT bits, and then counts its error in its context.
     ///
     /// Requires neighbours that call for regular mode (`mode_of`), these and the sample at most MAXVAL, and that
     /// `interrupted` is false, which it is afterwards too. Cannot fail.
     ///
-    /// The plain form, of one sample by itself. The coder itself looks ahead and uses `code_regular_at`.
+    /// This is the simple form, for one sample by itself. The encoder computes `mirror` beforehand and uses
+    /// `code_regular_at`.
     pub fn code_regular(&mut self, neighbours: &Neighbours, sample: u16) -> Word
         requires may { MayCodeRegular self.old neighbours.now sample }
         ensures word { result ≡ regular_word_in self.old neighbours.now sample }
@@ -98,8 +99,10 @@ impl State {
         self.code_regular_at(mirrored)
     }
 
-    /// `code_regular` of a sample of which `mirror` was asked before, for example a line at a time, with this scan's
-    /// presets. All else is as there.
+    /// As `code_regular`, for a sample for which `mirror` was computed beforehand with this scan's presets, for example
+    /// a line at a time.
+    ///
+    /// Requires a context below 365, a prediction and a sample of at most MAXVAL, and that `interrupted` is false.
     pub fn code_regular_at(&mut self, mirrored: Mirrored) -> Word
         requires may { MayCodeMirrored self.old mirrored }
         ensures word { (neighbours : Neighbours) (sample : ℕ) → IsMirrored self.old.parameters neighbours sample mirrored
@@ -118,13 +121,13 @@ impl State {
         self.counters.code(mirrored)
     }
 
-    /// By which code the word of the next sample of regular mode is read, and what its value then stands for (A.3 to
-    /// A.5).
+    /// The plan for decoding the next sample of regular mode: the code of its word, and what the word's value stands
+    /// for (A.3 to A.5).
     ///
-    /// Requires what `code_regular` does of the neighbours and of `interrupted`. Changes nothing and cannot fail.
+    /// Requires of the neighbours and of `interrupted` what `code_regular` does. Changes nothing and cannot fail.
     ///
-    /// The plain form, of one sample by itself. The decoder itself finds context and median in two parts each and uses
-    /// `plan_regular_at`.
+    /// This is the simple form, for one sample by itself. The decoder computes context and median in two parts each and
+    /// uses `plan_regular_at`.
     pub fn plan_regular(&self, neighbours: &Neighbours) -> Plan
         requires samples { AreSamples self.now.parameters.maxval neighbours.now }
         requires regular { is_run neighbours.now ≡ false }
@@ -139,9 +142,9 @@ impl State {
         self.plan_regular_at(context, u32::from(median(neighbours)), neighbours)
     }
 
-    /// `plan_regular` of a sample whose context was found before, and the median of its neighbours (A.4.1): `context` is
-    /// what `signed_context` answers for this scan's presets and these neighbours, or `whole_context`; `middle` is what
-    /// `median_by` answers. All else is as there.
+    /// As `plan_regular`, for a sample whose context, and the median of whose neighbours (A.4.1), were computed
+    /// beforehand: `context` is what `signed_context` or `whole_context` gives for this scan's presets and these
+    /// neighbours; `middle` is what `median_by` gives. Requires the same otherwise.
     pub fn plan_regular_at(&self, context: i16, middle: u32, neighbours: &Neighbours) -> Plan
         requires context { context ≡ signed_context self.now.parameters neighbours.now }
         requires middle { middle ≡ median neighbours.now }
@@ -158,11 +161,12 @@ impl State {
             .plan(context_of_signed(context), middle, neighbours)
     }
 
-    /// The one sample of regular mode whose word has this value, MErrval; the state is then as if it had been coded.
+    /// Decodes a sample of regular mode: returns the one sample whose word has this value, MErrval, and leaves the
+    /// state as if that sample had been coded.
     ///
-    /// Requires the plan that `plan_regular` made of this state, which hasn't changed since; a value of at most 2^qbpp,
-    /// as `take_golomb` answers; and that `interrupted` is false. NotCanonical exactly if no sample of at most MAXVAL
-    /// has the value: its error isn't one that A.4.5 leaves. The state is then unchanged.
+    /// Requires a plan that `plan_regular` made of this state, which hasn't changed since; a value of at most 2^qbpp,
+    /// as `take_golomb` returns; and that `interrupted` is false. NotCanonical exactly if no sample of at most MAXVAL
+    /// has the value: its error isn't a reduced one (A.4.5). The state is then unchanged.
     pub fn accept_regular(&mut self, plan: Plan, value: u32) -> Result<u16, CodeFault>
         requires plan { plan ≡ regular_plan self.old plan.neighbours }
         requires samples { AreSamples self.old.parameters.maxval plan.neighbours }
@@ -184,7 +188,9 @@ impl State {
             .accept(plan.number, plan.negative, plan.prediction, plan.k, value)
     }
 
-    /// `accept_regular` of a value that surely has a sample: `SureZeros` says how many zeros its word may have had in front.
+    /// As `accept_regular`, for a value that is sure to have a sample, so it cannot fail. Requires that value / 2^k,
+    /// the number of zeros at the front of its word, is below what `SureZeros` of this scan's presets gives for the
+    /// plan's k.
     #[inline(always)]
     pub fn accept_sure(&mut self, plan: Plan, value: u32) -> u16
         requires plan { plan ≡ regular_plan self.old plan.neighbours }
@@ -200,12 +206,13 @@ impl State {
             .accept_sure(plan.number, plan.negative, plan.prediction, plan.k, value)
     }
 
-    /// Codes a run of `count` samples that are equal to Ra (A.7.1): to the line's end (`eol`), or to a sample that
-    /// interrupts it, which then comes next (`interrupted` is true).
+    /// Codes a run of `count` samples that are equal to Ra (A.7.1): up to the line's end (`eol`), or up to a sample
+    /// that interrupts it, which then comes next (`interrupted` is true).
     ///
-    /// Requires at least one sample if it ends with the line (a run that is interrupted may have none), and that
+    /// Requires at least one sample if the run ends with the line (a run that is interrupted may have none), and that
     /// `interrupted` is false. RUNindex rises by 1 for each bit 1 that stands for 2^J samples, to at most 31. The run's
-    /// bits, with those of the sample that interrupts it, are at most LIMIT for each of these samples. Cannot fail.
+    /// bits, with those of the sample that interrupts it, are at most LIMIT times the number of these samples. Cannot
+    /// fail.
     pub fn code_run(&mut self, count: u32, eol: bool) -> RunWord
         requires may { MayCodeRun self.old (run_of count (not eol)) }
         ensures word { result ≡ run_word self.old.run_index (run_of count (not eol)) }
@@ -227,8 +234,8 @@ impl State {
         }
     }
 
-    /// Codes the sample that interrupts a run (A.7.2): its word, which comes after the run's bits, is LG(k, LIMIT - J -
-    /// 1) of EMErrval, in at most so many bits, with J at the RUNindex that the run left.
+    /// Codes the sample that interrupts a run (A.7.2): returns its word, which follows the run's bits: LG(k, glimit) of
+    /// EMErrval, in at most glimit bits, where glimit is LIMIT - J - 1 with J at the RUNindex that the run left.
     ///
     /// Requires the neighbours of this very sample, these and the sample at most MAXVAL, the sample other than Ra, and
     /// that `interrupted` is true. Afterwards RUNindex is 1 lower unless it was 0, and `interrupted` is false. Cannot
@@ -253,11 +260,11 @@ impl State {
         word
     }
 
-    /// How many samples a bit 1 of a run stands for, with `left` samples left in the line (A.7.1.2): 2^J, or `left` if
-    /// these are fewer, which ends the run with the line.
+    /// Decodes a bit 1 of a run (A.7.1.2), with `left` samples left in the line, and returns the number of samples that
+    /// the bit stands for: 2^J, or `left` if that is fewer, which ends the run with the line.
     ///
     /// Requires at least one sample left, and that `interrupted` is false. RUNindex rises by 1, to at most 31, if the
-    /// bit stands for 2^J samples, and else stays. Cannot fail.
+    /// bit stands for 2^J samples, and is else unchanged. Cannot fail.
     pub fn accept_one(&mut self, left: u32) -> u32
         requires uninterrupted { self.old.interrupted ≡ false }
         requires some { 0 < left }
@@ -274,8 +281,8 @@ impl State {
         samples
     }
 
-    /// J at this RUNindex, 0 to 15 (A.2.1): after a run's bit 0 so many bits say how many of its samples are left
-    /// (A.7.1.2). Changes nothing and cannot fail.
+    /// J at this RUNindex, 0 to 15 (A.2.1): the number of bits after a run's bit 0, which give the number of its
+    /// samples left (A.7.1.2). Changes nothing and cannot fail.
     pub fn break_width(&self) -> u32
         ensures value { result ≡ order self.now.run_index }
         ensures small { result ≤ 15 }
@@ -283,8 +290,9 @@ impl State {
         order(self.run_index)
     }
 
-    /// Takes the end of a run that a sample interrupts (A.7.1.2): the `rest` samples that the bits after its bit 0 say,
-    /// with `left` samples left in the line. The sample that interrupts it comes next (`interrupted` is true).
+    /// Decodes the end of a run that a sample interrupts (A.7.1.2): its last `rest` samples, the number in the bits
+    /// after its bit 0, with `left` samples left in the line. The sample that interrupts it comes next (`interrupted`
+    /// is true).
     ///
     /// Requires `rest` below 2^J, so a number of `break_width` bits, and that `interrupted` is false. NotCanonical
     /// exactly if `rest` is `left` or more, which leaves no sample to interrupt the run; the state is then unchanged.
@@ -305,8 +313,8 @@ impl State {
         Ok(())
     }
 
-    /// J at this RUNindex and at each one after it, up to 31 (A.2.1): after so many bits 1 a run's bit 0 has so many bits
-    /// after it. Changes nothing and cannot fail.
+    /// J at this RUNindex and at each one after it, up to 31 (A.2.1): element n is the number of bits after the bit 0
+    /// of a run with n bits 1. Changes nothing and cannot fail.
     #[inline(always)]
     pub fn break_widths(&self) -> &'static [u32]
         ensures value { (k : ℕ) → slice_index result.now k ≡ order (self.now.run_index + k) }
@@ -317,13 +325,14 @@ impl State {
         orders_from(self.run_index)
     }
 
-    /// Takes the whole of a run that a sample interrupts (A.7.1.2): its bits 1, and the number after its bit 0, with `left`
-    /// samples left in the line. How many samples it has; the one that interrupts it comes next (`interrupted` is true).
-    /// The state is then as `accept_one` for each bit 1 and `accept_break` leave it.
+    /// Decodes a complete run that a sample interrupts (A.7.1.2), from the number of its bits 1, `ones`, and the number
+    /// after its bit 0, `rest`, with `left` samples left in the line. Returns the number of its samples; the one that
+    /// interrupts it comes next (`interrupted` is true). The state is then as `accept_one` for each bit 1 and
+    /// `accept_break` leave it.
     ///
     /// Requires no more bits 1 than raise RUNindex to 31; `rest` below 2^J at the RUNindex that they raise it to, so a
-    /// number of the bits that `break_widths` says; and that `interrupted` is false. None exactly if the run would have
-    /// `left` samples or more, which leaves no sample to interrupt it; the state is then unchanged.
+    /// number of as many bits as `break_widths` says; and that `interrupted` is false. None exactly if the run would
+    /// have `left` samples or more, which leaves no sample to interrupt it; the state is then unchanged.
     #[inline(always)]
     pub fn accept_run(&mut self, ones: u32, rest: u32, left: u32) -> Option<u32>
         requires uninterrupted { self.old.interrupted ≡ false }
@@ -348,7 +357,8 @@ impl State {
         Some(count)
     }
 
-    /// By which code the word of the sample that interrupts a run is read, and what its value then stands for (A.7.2).
+    /// The plan for decoding the sample that interrupts a run: the code of its word, and what the word's value stands
+    /// for (A.7.2).
     ///
     /// Requires the neighbours of that sample, each at most MAXVAL, and that `interrupted` is true. Changes nothing and
     /// cannot fail.
@@ -364,11 +374,11 @@ impl State {
         self.counters.plan_interruption(self.run_index, neighbours)
     }
 
-    /// The one sample that interrupts a run and whose word has this value, EMErrval; the state is then as if it had
-    /// been coded: RUNindex is 1 lower unless it was 0, and `interrupted` is false.
+    /// Decodes the sample that interrupts a run: returns the one sample whose word has this value, EMErrval, and leaves
+    /// the state as if that sample had been coded: RUNindex is 1 lower unless it was 0, and `interrupted` is false.
     ///
-    /// Requires the plan that `plan_interruption` made of this state, which hasn't changed since; a value of at most
-    /// 2^qbpp, as `take_golomb` answers; and that `interrupted` is true. NotCanonical exactly if no sample of at most
+    /// Requires a plan that `plan_interruption` made of this state, which hasn't changed since; a value of at most
+    /// 2^qbpp, as `take_golomb` returns; and that `interrupted` is true. NotCanonical exactly if no sample of at most
     /// MAXVAL, other than Ra, has the value. The state is then unchanged.
     pub fn accept_interruption(&mut self, plan: Plan, value: u32) -> Result<u16, CodeFault>
         requires plan { plan ≡ interruption_plan self.old plan.neighbours }
@@ -395,15 +405,15 @@ impl State {
         Ok(sample)
     }
 
-    /// The parameters that the scan is coded by.
+    /// The scan's coding parameters.
     pub fn presets(&self) -> &Presets
         ensures { result.now ≡ self.now.parameters }
     {
         &self.counters.presets
     }
 
-    /// RUNindex, 0 to 31 (A.2.1): 0 at a scan's start, one more after each bit 1 that stands for 2^J samples, one less
-    /// after a run that a sample interrupts.
+    /// RUNindex, 0 to 31 (A.2.1): 0 at a scan's start; 1 higher, to at most 31, after each bit 1 that stands for 2^J
+    /// samples; 1 lower, unless it was 0, after each sample that interrupts a run.
     pub fn run_index(&self) -> u32
         ensures value { result ≡ self.now.run_index }
         ensures small { result ≤ 31 }
@@ -411,8 +421,8 @@ impl State {
         self.run_index
     }
 
-    /// Whether the sample that interrupts a run comes next: after `code_run` of a run that doesn't end with its line,
-    /// and after `accept_break`.
+    /// Whether the sample that interrupts a run comes next: true after `code_run` of a run that doesn't end with its
+    /// line, and after `accept_break` or `accept_run` decoded the end of such a run.
     pub fn interrupted(&self) -> bool
         ensures { result ≡ self.now.interrupted }
     {

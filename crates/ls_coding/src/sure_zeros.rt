@@ -1,14 +1,14 @@
-//! Words that are surely those of samples of regular mode (T.87 A.5.3).
+//! Code words of regular mode whose value is sure to be that of a sample (T.87 A.5.3).
 ghost use Rattle.std.specs.Prelude.{◌≡◌, ◌<◌, ◌≤◌, ℕ, length, slice_index};
 ghost use Rattle.ls_coding.specs.View.SureZeros.{sure_zeros};
 
 use ls_frame::Presets;
 use std::marker::Model;
 
-/// How many zeros a word of regular mode may have in front and surely be a short one whose value a sample has, for each
-/// Golomb parameter. One table serves any number of scans with the same parameters.
+/// A bound for each Golomb parameter: a word of regular mode with fewer zeros at its front is sure to be a short one,
+/// and its value that of a sample. One table serves any number of scans with the same parameters.
 ///
-/// In contracts it is these parameters.
+/// In contracts the table stands for these parameters.
 #[derive(Drop)]
 pub struct SureZeros {
     presets: Presets,
@@ -27,7 +27,7 @@ impl Model for SureZeros {
 }
 
 impl SureZeros {
-    /// The table of these parameters. Allocates nothing.
+    /// The table for these parameters. Allocates nothing.
     pub fn new(presets: &Presets) -> SureZeros
         ensures { result ≡ presets.now }
     {
@@ -37,7 +37,7 @@ impl SureZeros {
         SureZeros { presets, zeros }
     }
 
-    /// The bound for a Golomb parameter, at most 24: a word with fewer zeros is sure.
+    /// The bound for a Golomb parameter of at most 17. The bound is at most 24; a word with fewer zeros is sure.
     #[inline(always)]
     pub fn of(&self, k: u32) -> u32
         requires { k < 18 }
@@ -47,7 +47,7 @@ impl SureZeros {
     }
 }
 
-/// Puts each bound into its place.
+/// Fills the table with the bounds.
 fn fill(presets: Presets, zeros: &mut [u32])
     requires { length zeros.old ≡ 18 }
     ensures each { (k : ℕ) → k < 18 → slice_index zeros.new k ≡ sure_zeros presets k }

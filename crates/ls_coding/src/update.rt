@@ -1,4 +1,4 @@
-//! The counters of a context with one error more (T.87 A.6).
+//! Updating the counters of a context by an error (T.87 A.6).
 ghost use Rattle.std.specs.Prelude.{◌≡◌, ◌+◌, ◌/◌, ◌==◌, ◌<◌, ◌≤◌, pos, neg_ℤ, ◌+ℤ◌, ◌-ℤ◌, ◌≤ℤ◌, ◌<ℤ◌, ◌*◌, ◌^◌, int_le, int_lt, true, false, if◌then◌else◌};
 ghost use Rattle.ls_coding.specs.Numbers.{halved, golomb_parameter};
 ghost use Rattle.ls_frame.specs.Parameters.{range_of};
@@ -8,7 +8,7 @@ ghost use Rattle.ls_coding.specs.Stats.{stats, bias_corrected, stats_step, error
 use crate::error::{golomb_parameter, is_below};
 use ls_frame::Presets;
 
-/// One error more, in each of a context's counters, and the Golomb parameter that they then have.
+/// Counts an error in a context's A, B, C and N, and updates its Golomb parameter.
 pub fn update(
     presets: Presets,
     a: &mut u32,
@@ -35,9 +35,9 @@ pub fn update(
     correct_bias(b, c, *n);
 }
 
-/// Whether this is the Golomb parameter of N and A (A.5.1), as it mostly is if it was before an error was counted: N *
-/// 2^k reaches A, and half of that doesn't, by one comparison. (Of a parameter 0 this may deny it, where half reaches
-/// too.)
+/// Whether k is the Golomb parameter of N and A (A.5.1), by one comparison: N * 2^k is at least A, and half of that is
+/// less. Mostly so for the parameter from before the last error. True is always right; false may be wrong for a k of 0,
+/// where half of N may be at least A too.
 fn is_parameter(k: u32, n: u32, a: u32) -> bool
     requires some { 0 < n }
     requires few { a < 2 ^ 31 }
@@ -48,7 +48,7 @@ fn is_parameter(k: u32, n: u32, a: u32) -> bool
     (n << k).wrapping_sub(a) < a
 }
 
-/// The Golomb parameter of N and A, where it isn't the one before.
+/// The Golomb parameter of N and A, where `is_parameter` hasn't confirmed the one before.
 #[cold]
 #[inline(never)]
 fn other_parameter(n: u32, a: u32) -> u32
@@ -60,7 +60,7 @@ fn other_parameter(n: u32, a: u32) -> u32
     golomb_parameter(n, a)
 }
 
-/// Halves the sums if N is RESET, and counts one error more (A.6.1).
+/// Halves A, B and N if N is RESET, and then adds 1 to N (A.6.1).
 fn count_error(a: &mut u32, b: &mut i32, n: &mut u32, reset: u32)
     requires { n.old ≤ 65535 }
     ensures a { a.new ≡ (if n.old == reset then a.old / 2 else a.old) }
@@ -75,7 +75,7 @@ fn count_error(a: &mut u32, b: &mut i32, n: &mut u32, reset: u32)
     *n += 1;
 }
 
-/// Lets C follow the mean error, which B then stands for again (A.6.2).
+/// Corrects B and C by the mean error (A.6.2): C changes by at most 1, and B is above -N and at most 0 afterwards.
 fn correct_bias(b: &mut i32, c: &mut i32, n: u32)
     requires some { 0 < n }
     requires n { n ≤ 65536 }
@@ -96,8 +96,8 @@ fn correct_bias(b: &mut i32, c: &mut i32, n: u32)
     *c = corrected_bias(*c, low);
 }
 
-/// B with N added or taken off, whichever brings it nearer to 0, and then over -N and at most 0 (A.6.2). B isn't so
-/// before.
+/// B moved by N towards 0, and then clamped to the range 1 - N to 0 (A.6.2). Requires a B that isn't above -N and at
+/// most 0 already.
 fn corrected_mean(b: i32, n: u32) -> i32
     requires low { neg_ℤ (pos 131072) ≤ℤ b }
     requires high { b ≤ℤ pos 131072 }
@@ -110,7 +110,7 @@ fn corrected_mean(b: i32, n: u32) -> i32
     nearer(b, n).min(0).max(1 - n)
 }
 
-/// A number that is so much nearer to 0, or past it.
+/// `number`, moved by `by` towards 0, or past it.
 fn nearer(number: i32, by: i32) -> i32
     requires low { neg_ℤ (pos 131072) ≤ℤ number }
     requires high { number ≤ℤ pos 131072 }
@@ -124,7 +124,7 @@ fn nearer(number: i32, by: i32) -> i32
     number - by
 }
 
-/// C one lower, or else one higher, within a signed byte.
+/// C less 1 if `low`, else plus 1, within -128 to 127.
 fn corrected_bias(c: i32, low: bool) -> i32
     requires low { neg_ℤ (pos 128) ≤ℤ c }
     requires high { c ≤ℤ pos 127 }
@@ -136,7 +136,7 @@ fn corrected_bias(c: i32, low: bool) -> i32
     moved(c, low).min(127).max(-128)
 }
 
-/// A number less 1, or else and 1.
+/// `number` less 1 if `lower`, else plus 1.
 fn moved(number: i32, lower: bool) -> i32
     requires low { neg_ℤ (pos 128) ≤ℤ number }
     requires high { number ≤ℤ pos 127 }

@@ -5,9 +5,9 @@
 /// Its bits are put by `put_golomb` of `ls_bits`, whose requirements it meets as it is.
 #[derive(Clone, Copy, Debug, PartialEq, Eq)]
 pub struct Word {
-    /// The Golomb parameter, at most qbpp + 1: how many low bits of the value stand after the bit 1.
+    /// The Golomb parameter, at most qbpp + 1: in a short word, the number of the value's low bits after the bit 1.
     pub k: u32,
-    /// The most bits that the word may have: LIMIT, and of a sample that interrupts a run LIMIT - J - 1.
+    /// The most bits that the word may have: LIMIT, or LIMIT - J - 1 if the sample interrupts a run.
     pub glimit: u32,
     /// The mapped error, 0 to 2^qbpp: MErrval of a sample of regular mode (A.5.2), EMErrval of one that interrupts a
     /// run (A.7.2).

@@ -1,6 +1,6 @@
-//! The tests of `ls_coding`, through what it makes public.
+//! The tests of `ls_coding`, by its public interface.
 //!
-//! They stand in a crate of their own because a crate's tests are proved together with the whole crate.
+//! They are a crate of their own because a crate's tests are proved together with the whole crate.
 #![tactic(auto)]
 
 #[cfg(test)]

@@ -15,7 +15,7 @@ const CONTEXTS: &[([u16; 4], i16)] = &[
     ([21, 0, 1, 0], -12),
 ];
 
-/// That the context of each is found by its halves; nothing if an allocation fails.
+/// Checks that the context of each is computed from its two parts; checks nothing if an allocation fails.
 fn check_contexts(rt: &impl Abort, alloc: Global) -> Result<(), AllocError> {
     let presets = Presets::default_of(255);
     let regions = Regions::new(alloc, &presets)?;

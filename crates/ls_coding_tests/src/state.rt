@@ -7,7 +7,7 @@ use ls_coding::{Mode, Neighbours, State, Tail, mode_of};
 use ls_frame::Presets;
 use std::process::Abort;
 
-/// A run's samples, whether it ends with the line, and its word on a new state.
+/// The number of a run's samples, whether it ends with the line, and its word on a new state.
 const RUNS: &[(u32, bool, u32, Tail)] = &[
     (0, false, 0, Tail::Interrupted { width: 0, rest: 0 }),
     (2, false, 2, Tail::Interrupted { width: 0, rest: 0 }),
@@ -28,7 +28,8 @@ fn runs_are_coded_on_a_new_state(rt: HostRuntime) {
     }
 }
 
-/// A run's samples on a new state; the neighbours of the sample that interrupts it, the sample, and its word.
+/// The number of a run's samples on a new state; the neighbours of the sample that interrupts it, the sample, and its
+/// word.
 const INTERRUPTIONS: &[(u32, Around, u16, Numbers)] = &[
     (0, (0, 0, 0, 0), 5, (2, 31, 9)),
     (2, (9, 0, 9, 0), 5, (2, 31, 9)),
@@ -58,8 +59,8 @@ fn a_sample_of_regular_mode_is_coded_after_one_that_interrupts_a_run(rt: HostRun
     );
 }
 
-/// Takes a bit 1 on a new state with so many samples left, each of which it stands for alone; then RUNindex and the
-/// width of what follows a bit 0.
+/// The samples left in the line at each bit 1 on a new state, each of which stands for one sample; then RUNindex, and
+/// the width of the number after a bit 0.
 const ONES: &[(&[u32], u32, u32)] = &[
     (&[], 0, 0),
     (&[5, 4, 3], 3, 0),
@@ -67,7 +68,7 @@ const ONES: &[(&[u32], u32, u32)] = &[
     (&[5, 4, 3, 2, 1], 4, 1),
 ];
 
-/// That a bit 1 stands for one sample, with so many left each time.
+/// Checks that each bit 1 stands for one sample, with these numbers of samples left.
 fn check_ones(rt: &impl Abort, state: &mut State, lefts: &[u32]) {
     for left in lefts {
         check_number(rt, accept_one(rt, state, *left), 1);
@@ -95,7 +96,7 @@ fn the_end_of_a_run_leaves_a_sample_to_interrupt_it(rt: HostRuntime) {
     }
 }
 
-/// A run's bits 1, the number after its bit 0, and how many samples it has.
+/// The number of a run's bits 1, the number after its bit 0, and the number of its samples.
 const WHOLE_RUNS: &[(u32, u32, u32)] = &[(0, 0, 0), (4, 1, 5), (9, 3, 19), (31, 32767, 65819)];
 
 #[test]
@@ -131,7 +132,7 @@ fn a_value_of_few_zeros_is_accepted_as_any(rt: HostRuntime) {
     );
 }
 
-/// maxval, k, and how many zeros a word may have in front and be sure.
+/// maxval, k, and the bound on the zeros of a word that is sure.
 const SURE: &[(u16, u32, u32)] = &[
     (255, 0, 23),
     (255, 4, 15),
@@ -148,7 +149,7 @@ fn words_of_so_few_zeros_are_sure(rt: HostRuntime) {
     }
 }
 
-/// The value 17 is that of the run's own samples.
+/// The value 17 is that of Ra, which can't interrupt the run.
 #[test]
 fn a_value_of_no_sample_that_may_interrupt_the_run_is_refused(rt: HostRuntime) {
     let mut state = fresh();

@@ -1,4 +1,4 @@
--- How reading fails where bytes break the grammar.
+-- If bytes break the grammar, reading fails with the same fault.
 use Rattle.std.proofs.Common.{◌≡◌, ℕ, suc, ◌+◌, ◌-◌, ◌<◌, ◌≤◌, ◌||◌, ◌&&◌, ◌==◌, Bool, true, false, leb, ltb, inl, inr, IsTrue, List, [], ◌∷◌, ◌++◌, length, Some, Result, Ok, Err, refl, sym, ap, ◌∙◌, arith, length-append, append_assoc}
 use Rattle.std.proofs.lemmas.Bool.{cond-false, or_parts, lt-leb, false_from_ne_true, both_ways, cases_Bool}
 use Rattle.ls_frame.specs.declared.frame.Kind.{Kind}
@@ -18,7 +18,7 @@ use Rattle.ls_frame.proofs.SpellingLaws.{digit_found, field_number_at, field_res
 
 -- ---- gaps and digits
 
--- a byte that is no part of a gap and no digit
+-- a byte that is neither part of a gap nor a digit
 gap_fails : (allowed : ℕ) (bytes : List ℕ) (fault : NetpbmFault) → StopsHere allowed bytes blank_or_digit fault → gap_at false allowed bytes ≡ Err fault
 gap_fails allowed bytes fault (no_byte none) = gap_at-fault false allowed bytes fault none
 gap_fails allowed bytes fault (refused c left rest found not_allowed is) =
@@ -26,12 +26,12 @@ gap_fails allowed bytes fault (refused c left rest found not_allowed is) =
     let neither = or_parts (is_white c) (is_hash c) no_digit.0 in
     gap_at-other allowed c left bytes rest found neither.0 (λ hash. both_ways (is_hash c) neither.1 (rw hash refl)) no_digit.1 ∙ ap Err (sym is)
 
--- the end within a comment
+-- the end of input in a comment
 comment_fails : (allowed : ℕ) (bytes : List ℕ) (fault : NetpbmFault) → StopsHere allowed bytes comment_text fault → gap_at true allowed bytes ≡ Err fault
 comment_fails allowed bytes fault (no_byte none) = gap_at-fault true allowed bytes fault none
 comment_fails allowed bytes fault (refused c left rest found not_allowed is) = absurd (let bad : ⊥ = cc in bad)
 
--- a byte after digits that is neither one nor white space
+-- a byte after digits that is neither a digit nor white space
 digits_fail : (n allowed : ℕ) (bytes : List ℕ) (fault : NetpbmFault) → StopsHere allowed bytes digit_or_white fault → digits_at n allowed bytes ≡ Err fault
 digits_fail n allowed bytes fault (no_byte none) = digits_at-fault n allowed bytes fault none
 digits_fail n allowed bytes fault (refused c left rest found not_allowed is) =
@@ -63,7 +63,7 @@ start_white (gap g) lawful = lawful.first
 start_white (open_comment g text) lawful = lawful.0.first
 start_white (digits g ds) lawful = lawful.0.first
 
--- number_at's steps fail where the gap's do
+-- a number fails if its gap does
 gap_failed : (allowed : ℕ) (bytes : List ℕ) (fault : NetpbmFault) → gap_at false allowed bytes ≡ Err fault → number_at allowed bytes ≡ Err fault
 gap_failed allowed bytes fault failed = rw failed refl
 
@@ -71,7 +71,7 @@ gap_failed allowed bytes fault failed = rw failed refl
 hash_passes : (allowed : ℕ) (bytes : List ℕ) → gap_at false (suc allowed) (35 ∷ bytes) ≡ gap_at true allowed bytes
 hash_passes allowed bytes = gap_at-hash (suc allowed) 35 allowed (35 ∷ bytes) bytes refl refl
 
--- a number fails where its start stops
+-- a number fails if reading stops after its start
 start_fails : (s : Start) (allowed left : ℕ) (bytes rest : List ℕ) (fault : NetpbmFault) → IsStart s → Takes allowed bytes (start_rest s) left rest → StopsHere left rest (start_due s) fault
     → number_at allowed bytes ≡ Err fault
 start_fails (gap g) allowed left bytes rest fault lawful taken here =
@@ -93,7 +93,7 @@ start_fails (digits g (d ∷ ds)) allowed left bytes rest fault lawful taken her
     ∙ digits_pass ds rest (d - 48) (length ds + left) left lawful.1.each.1 refl
     ∙ digits_fail (followed_capped (d - 48) ds) left rest fault here
 
--- and with it the field
+-- and so does its field
 in_range_start_fails : (range_fault : NetpbmFault) (s : Start) (allowed left : ℕ) (bytes rest : List ℕ) (fault : NetpbmFault) → IsStart s → Takes allowed bytes (start_rest s) left rest → StopsHere left rest (start_due s) fault
     → in_range_at range_fault allowed bytes ≡ Err fault
 in_range_start_fails range_fault s allowed left bytes rest fault lawful taken here = rw (start_fails s allowed left bytes rest fault lawful taken here) refl
@@ -105,13 +105,13 @@ in_range_fails : (fault : NetpbmFault) (n : ℕ) → ¬ InRange n → in_range f
 in_range_fails fault n out =
     cond-false (ltb 0 (capped n) && leb (capped n) greatest) _ _ (false_from_ne_true _ (λ test. out (in_range_if (capped n) n refl test)))
 
--- and with it the field
+-- and so does its field
 field_out : (fault : NetpbmFault) (f : Field) (white allowed left : ℕ) (bytes rest : List ℕ) → IsField f → ¬ InRange (field_number f) → IsTrue (is_white white) → Takes allowed bytes (field_rest f white) left rest
     → in_range_at fault allowed bytes ≡ Err fault
 field_out fault f white allowed left bytes rest lawful out after taken =
     rw (field_number_at f white allowed left bytes rest lawful after taken, in_range_fails fault (field_number f) out) refl
 
--- a start after others, from its first white space on
+-- bytes and a start, split after the start's first white space
 start_as : (before : List ℕ) (s : Start) → before ++ start_bytes s ≡ (before ++ start_first s ∷ []) ++ start_rest s
 start_as before s = ap (λ bs. before ++ bs) (start_parts s) ∙ sym (append_assoc before (start_first s ∷ []) (start_rest s))
 
@@ -119,7 +119,7 @@ start_as before s = ap (λ bs. before ++ bs) (start_parts s) ∙ sym (append_ass
 test_fails : {A : Type 0} (test : Bool) (fault : NetpbmFault) (next : Result A NetpbmFault) → test ≡ false → (wanted test fault >>= λ passed. next) ≡ Err fault
 test_fails test fault next is = rw is refl
 
--- a start after `before`, with its first white space taken
+-- `before` and a start were taken; so were `before` and the start's first white space
 start_first_taken : (before : List ℕ) (s : Start) {bytes rest : List ℕ} {left : ℕ} → Takes most_heading bytes (before ++ start_bytes s) left rest
     → Takes most_heading bytes (before ++ start_first s ∷ []) (length (start_rest s) + left) (start_rest s ++ rest)
 start_first_taken before s taken = takes_first (before ++ start_first s ∷ []) (start_rest s) (takes_as taken (start_as before s))
@@ -134,16 +134,16 @@ magic_stops first allowed bytes fault all (refuses c rest whole some not_allowed
     let same : first ≡ c = cc in
     rw (heading_at-steps first allowed bytes, same, not_allowed, is) refl
 
--- a byte that tells no kind
+-- a byte that stands for no kind
 kind_refused : (c : ℕ) → allows kind_digit c ≡ false → kind_of c ≡ Err BadMagic
 kind_refused c not_allowed = let neither = or_parts (c == 53) (c == 54) not_allowed in rw (neither.0, neither.1) refl
 
--- and with it the magic
+-- and so the magic fails
 kind_stops : (left : ℕ) (rest : List ℕ) (fault : NetpbmFault) → StopsHere left rest kind_digit fault → magic_at 80 left rest ≡ Err fault
 kind_stops left rest fault (no_byte none) = rw none refl
 kind_stops left rest fault (refused c after back found not_allowed is) = rw (found, kind_refused c not_allowed, is) refl
 
--- the same after the first byte
+-- the same for the header after its first byte
 second_stops : (first allowed : ℕ) (bytes : List ℕ) (fault : NetpbmFault) → suc allowed ≡ most_heading → StopsAfter most_heading (first ∷ bytes) (80 ∷ []) kind_digit fault → heading_at first allowed bytes ≡ Err fault
 second_stops first allowed bytes fault all stop =
     let p : first ≡ 80 = cc (stop.takes.whole) in
@@ -156,7 +156,7 @@ white_stops : (left : ℕ) (rest : List ℕ) (fault : NetpbmFault) → StopsHere
 white_stops left rest fault (no_byte none) = rw none refl
 white_stops left rest fault (refused c after back found not_allowed is) = rw (found, not_allowed, is) refl
 
--- a header fails where its beginning stops
+-- a header fails if reading stops after its beginning
 beginning_fails : (b : Beginning) (first allowed : ℕ) (bytes : List ℕ) (fault : NetpbmFault) → suc allowed ≡ most_heading → IsBeginning b → BreaksOff most_heading (first ∷ bytes) (beginning_bytes b) (due b) fault
     → heading_at first allowed bytes ≡ Err fault
 beginning_fails empty first allowed bytes fault all lawful stops = magic_stops first allowed bytes fault all stops
@@ -183,19 +183,19 @@ beginning_fails (in_maxval kind w h s) first allowed bytes fault all lawful stop
     ∙ ap (λ r. r >>= λ found. Ok (record { kind = kind; width = field_number w; height = field_number h; maxval = found.0 }, found.1, found.2))
     (in_range_start_fails MaxvalOutOfRange s (length (start_rest s) + stop.left) stop.left (start_rest s ++ stop.rest) stop.rest fault lawful.1 (takes_second (start_rest s) stop.left stop.rest) stop.here)
 
--- an image fails where its header does
+-- an image fails if its header does
 image_fails : (first : ℕ) (bytes : List ℕ) (fault : NetpbmFault) → heading_at first (most_heading - 1) bytes ≡ Err fault → image_at (first ∷ bytes) ≡ Err fault
 unfolding image_at
 image_fails first bytes fault failed = rw failed refl
 
--- bytes that stop in a header
+-- bytes where reading stops in the header
 pub stop_fails : (bytes : List ℕ) (fault : NetpbmFault) → StopsInHeading bytes fault → image_at bytes ≡ Err fault
 stop_fails [] fault stop = absurd (let some = stop.some in omega arith)
 stop_fails (first ∷ bytes) fault stop = image_fails first bytes fault (beginning_fails stop.beginning first (most_heading - 1) bytes fault refl stop.lawful stop.stops)
 
 -- ---- a number out of its range
 
--- what is taken with the white space after
+-- `front` and the white space after it are taken
 with_last : {bytes : List ℕ} (front rest : List ℕ) (white : ℕ) → bytes ≡ front ++ white ∷ rest → length (front ++ white ∷ []) ≤ most_heading
     → Takes most_heading bytes (front ++ white ∷ []) (most_heading - length (front ++ white ∷ [])) rest
 with_last front rest white whole short = record { whole = whole ∙ sym (append_assoc front (white ∷ []) rest); room_is = omega arith }
@@ -219,7 +219,7 @@ height_out bytes rest kind w h white first allowed left all width lawful is take
     ∙ ap (λ r. r >>= λ found. (wanted (leb (sample_count kind (field_number w) found.0) most_samples) SizeOutOfRange >>= λ few. maxval_at kind (field_number w) found.0 found.1 found.2))
     (field_out SizeOutOfRange h white _ left _ rest lawful out is (takes_second (field_rest h white) left rest))
 
--- a height with too many samples
+-- a height in its range, but too many samples
 height_many : (bytes rest : List ℕ) (kind : Kind) (w h : Field) (white first allowed left : ℕ) → suc allowed ≡ most_heading → IsWidth w → IsField h → IsTrue (is_white white)
     → Takes most_heading (first ∷ bytes) (magic kind ++ field_bytes w ++ field_bytes h ++ white ∷ []) left rest → InRange (field_number h)
     → most_samples < sample_count kind (field_number w) (field_number h) → heading_at first allowed bytes ≡ Err SizeOutOfRange
@@ -255,7 +255,7 @@ maxval_fails (first ∷ bytes) b =
 
 -- ---- rasters
 
--- where what is after the samples isn't read, the image isn't
+-- if the rest after the samples fails, the image does
 raster_fails : (bytes rest : List ℕ) (h : Heading) (fault : NetpbmFault) → BeginsRaster bytes rest h
     → ((left : ℕ) → samples_at (is_wide (field_number h.maxval)) (field_number h.maxval) (suc left) rest ≡ Err fault) → image_at bytes ≡ Err fault
 raster_fails bytes rest h fault begins failed =

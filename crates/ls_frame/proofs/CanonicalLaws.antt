@@ -1,4 +1,4 @@
--- The canonical text of a frame is a spelling of it.
+-- The canonical text of a frame is an image of it.
 use Rattle.std.proofs.Common.{◌≡◌, ℕ, ◌*◌, ◌/◌, ◌%◌, ◌^◌, ◌<◌, ◌≤◌, Bool, true, false, List, [], ◌∷◌, ◌++◌, length, decimal, IsTrue, refl, sym, ap, arith, rules, append_assoc}
 use Rattle.std.proofs.lemmas.List.{length-append}
 use Rattle.std.proofs.lemmas.Fmt.{decimal_nonempty, length-decimal-le, digits_decimal, digits_value-decimal}
@@ -36,7 +36,7 @@ field_of white n = record { gap = record { first = white; blanks = [] }; digits 
 field_of-lawful : (white n : ℕ) → IsTrue (is_white white) → n ≤ greatest → IsField (field_of white n)
 field_of-lawful white n is small = record { gap = record { first = is; blanks = tt }; digits = decimal-number n small }
 
--- a number in its range says so
+-- the field of a number in range is in range
 field_of-range : (white n : ℕ) → 0 < n → n ≤ greatest → InRange (field_number (field_of white n))
 field_of-range white n some small = rw (number-decimal n small) (record { some = some; most = small })
 

@@ -1,4 +1,4 @@
--- Chunks of a text that go out one after the other, and the bytes of samples in chunks.
+-- Writing a text chunk by chunk, and the bytes of samples in chunks.
 use Rattle.std.proofs.Common.{◌≡◌, ℕ, ◌+◌, ◌-◌, ◌*◌, ◌/◌, ◌%◌, ◌<◌, ◌≤◌, Bool, true, false, List, [], ◌∷◌, ◌++◌, length, take, drop, get_or, set, Option, refl, sym, ap, subst, ◌∙◌, arith, append_assoc, append-nil}
 use Rattle.std.proofs.KnownBytes.{Appends-trans}
 use Rattle.std.proofs.Math.Seq.{take-append-add, take-add}
@@ -45,7 +45,7 @@ raster_bytes-more wide samples i within =
     ∙ raster_bytes-append wide (take i samples) (get_or samples i 0 ∷ [])
     ∙ ap (λ bs. raster_bytes wide (take i samples) ++ bs) (raster_bytes-one wide (get_or samples i 0))
 
--- laid after those before
+-- the bytes of one more sample, put after those before
 pub wide-more : (chunk samples : List ℕ) (i : ℕ) → i < length samples → 2 * length samples ≤ length chunk → take (2 * i) chunk ≡ raster_bytes true (take i samples)
     → take (2 * (i + 1)) (set (set chunk (2 * i) (get_or samples i 0 / 256)) (2 * i + 1) (get_or samples i 0 % 256)) ≡ raster_bytes true (take (i + 1) samples)
 wide-more chunk samples i within room before =
@@ -64,18 +64,18 @@ each-below : (most : ℕ) (samples : List ℕ) → most < 256 → AllByRecursion
 each-below most [] small each = tt
 each-below most (s ∷ samples) small each = (let first = each.0 in omega arith, each-below most samples small each.1)
 
--- samples of a frame that take one byte fit in it
+-- samples of a frame are below 256 if they have one byte each
 pub narrow-each : (f : Picture) (samples : List ℕ) (wide : Bool) → IsFrame f → wide ≡ is_wide f.maxval → samples ≡ f.samples → wide ≡ false → AllByRecursion (λ sample. sample < 256) samples
 narrow-each f samples wide lawful wide_is samples_is narrow =
     rw samples_is (each-below f.maxval f.samples (leb-false 256 f.maxval (sym wide_is ∙ narrow)) lawful.each)
 
 -- ---- samples in chunks
 
--- those from a place on
+-- the samples from one index to another
 abbrev part : List ℕ → ℕ → ℕ → List ℕ
 part samples done end = take (end - done) (drop done samples)
 
--- the bytes so far and those of a part
+-- the bytes of the samples so far, and then those of a part
 pub samples-more : (wide : Bool) (samples chunk : List ℕ) (done end : ℕ) → done ≤ end → chunk ≡ raster_bytes wide (part samples done end)
     → raster_bytes wide (take end samples) ≡ raster_bytes wide (take done samples) ++ chunk
 samples-more wide samples chunk done end order is =
@@ -85,7 +85,7 @@ samples-more wide samples chunk done end order is =
     ∙ raster_bytes-append wide (take done samples) (part samples done end)
     ∙ ap (λ bs. raster_bytes wide (take done samples) ++ bs) (sym is)
 
--- and those after it
+-- the bytes of the samples after a part
 abbrev after : Bool → List ℕ → ℕ → ℕ → List ℕ
 after wide samples done end = raster_bytes wide (drop (end - done) (drop done samples))
 
@@ -99,7 +99,7 @@ samples-split wide samples chunk done end is =
     ∙ ap (λ bs. raster_bytes wide (take done samples) ++ bs) (raster_bytes-append wide (part samples done end) (drop (end - done) rest))
     ∙ ap (λ bs. raster_bytes wide (take done samples) ++ (bs ++ after wide samples done end)) (sym is)
 
--- no more than all
+-- the bytes of a part are at most those of all samples
 pub samples-few : (wide : Bool) (samples chunk : List ℕ) (done end : ℕ) → chunk ≡ raster_bytes wide (part samples done end)
     → length (raster_bytes wide (take done samples)) + length chunk ≤ length (raster_bytes wide samples)
 samples-few wide samples chunk done end is =
@@ -109,7 +109,7 @@ samples-few wide samples chunk done end is =
 
 -- ---- chunks
 
--- a chunk went out in part, after others
+-- a chunk was written in part, after others
 pub appends-part : (a b c : Option (List ℕ)) (front chunk rest : List ℕ) (before mid written : ℕ) → mid ≡ before + length front → mid ≤ written → written < mid + length chunk
     → Appends a b front → Appends b c (take (written - mid) chunk) → Appends a c (take (written - before) (front ++ (chunk ++ rest)))
 appends-part a b c front chunk rest before mid written is low part out more =
@@ -120,7 +120,7 @@ appends-part a b c front chunk rest before mid written is low part out more =
     ∙ ap (λ s. front ++ s) (take-append-le (written - mid) chunk rest within) in
     subst (Appends a c) (sym all) (Appends-trans a b c front (take (written - mid) chunk) out more)
 
--- the same of a part of samples
+-- the same for a part of the samples
 pub samples-part : (wide : Bool) (samples chunk : List ℕ) (done end : ℕ) (a b c : Option (List ℕ)) (before mid written : ℕ) → chunk ≡ raster_bytes wide (part samples done end)
     → mid ≡ before + length (raster_bytes wide (take done samples)) → mid ≤ written → written < mid + length chunk
     → Appends a b (raster_bytes wide (take done samples)) → Appends b c (take (written - mid) chunk) → Appends a c (take (written - before) (raster_bytes wide samples))
@@ -130,7 +130,7 @@ samples-part wide samples chunk done end a b c before mid written is count low l
 
 -- ---- a text of two chunks
 
--- the first went out in part
+-- the first was written in part
 pub front-part : (text front back : List ℕ) (a c : Option (List ℕ)) (written : ℕ) → text ≡ front ++ back → written < 0 + length front
     → Appends a c (take (written - 0) front) → Appends a c (take written text)
 front-part text front back a c written is less out =
@@ -138,7 +138,7 @@ front-part text front back a c written is less out =
     let same : take (written - 0) front ≡ take written text = ap (λ n. take n front) all ∙ sym (ap (take written) is ∙ take-append-le written front back (omega arith)) in
     subst (Appends a c) same out
 
--- or it and the second in part
+-- the first was written, and the second in part
 pub back-part : (text front back : List ℕ) (a b c : Option (List ℕ)) (mid written : ℕ) → text ≡ front ++ back → mid ≡ 0 + length front → mid ≤ written → written < mid + length back
     → Appends a b front → Appends b c (take (written - mid) back) → Appends a c (take written text)
 back-part text front back a b c mid written is count low less out more =

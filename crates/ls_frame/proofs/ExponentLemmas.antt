@@ -7,7 +7,7 @@ use Rattle.std.proofs.Math.Nat.{pow-suc}
 use lib.Count.{count_leading_zeros}
 use Rattle.ls_frame.specs.Parameters.{first_reaching, ceil_log2}
 
--- what is reached by q + (t + 1) is reached by (q + 1) + t
+-- a bound by 2 ^ (q + (t + 1)) is one by 2 ^ ((q + 1) + t)
 later : (t q n : ℕ) → n ≤ 2 ^ (q + suc t) → n ≤ 2 ^ (suc q + t)
 later t q n h = let e : q + suc t ≡ suc q + t = omega arith in subst (λ k. n ≤ 2 ^ k) e h
 
@@ -35,7 +35,7 @@ pub first_reaching-least : (t q n p : ℕ) → q ≤ p → n ≤ 2 ^ p → first
 first_reaching-least zero q n p low h = low
 first_reaching-least (suc t) q n p low h = least t q n p (leb n (2 ^ q)) refl low h (λ l. first_reaching-least t (suc q) n p l h)
 
--- two to it is at least n, and no smaller exponent serves
+-- its power of two is at least n, and that of no smaller exponent is
 pub ceil_log2-reaches : (n : ℕ) → n ≤ 2 ^ 16 → n ≤ 2 ^ ceil_log2 n
 unfolding ceil_log2
 ceil_log2-reaches n h = first_reaching-reaches 16 0 n h

@@ -1,4 +1,4 @@
--- The rest of a gap: what reading takes of it, where reading stops in it, and that what a gap says is read.
+-- The rest of a gap: the bytes that reading takes, where reading stops, and that each gap of the grammar is read.
 use Rattle.std.proofs.Common.{◌≡◌, ℕ, zero, suc, ◌+◌, Bool, true, false, cond, ◌||◌, not, IsTrue, List, [], ◌∷◌, ◌++◌, length, MatchResult, Ok, Err, refl, ap, ◌∙◌, arith, length-append, append_assoc}
 use Rattle.std.specs.List.{AllByRecursion}
 use Rattle.std.proofs.lemmas.Bool.{cond_both, cond-true, cond-false, eqb-true, not_from_false, not-true}
@@ -19,7 +19,7 @@ AreBlanks blanks = AllByRecursion IsBlank blanks
 
 -- ---- what is taken
 
--- parts of a gap, with the digit after them found and still there
+-- parts of a gap were taken, and the digit after them was found but not taken
 pub record GapRead (allowed : ℕ) (bytes : List ℕ) (found : ℕ × ℕ × List ℕ) : Type 0 where
   pub blanks : List Blank
   pub each : AreBlanks blanks
@@ -55,11 +55,11 @@ pub data OpenGapStops (allowed : ℕ) (bytes : List ℕ) (fault : NetpbmFault) :
 
 -- ---- one part more in front
 
--- of what is taken
+-- for what is taken
 gap_more : {allowed left : ℕ} {bytes rest : List ℕ} {found : ℕ × ℕ × List ℕ} (b : Blank) → IsBlank b → Takes allowed bytes (blank_bytes b) left rest → GapRead left rest found → GapRead allowed bytes found
 gap_more b is taken read = record { blanks = b ∷ read.blanks; each = (is, read.each); digit = read.digit; takes = takes_more taken read.takes }
 
--- of where reading stops
+-- for where reading stops
 gap_stops_more : {allowed left : ℕ} {bytes rest : List ℕ} {fault : NetpbmFault} (b : Blank) → IsBlank b → Takes allowed bytes (blank_bytes b) left rest → GapStops left rest fault → GapStops allowed bytes fault
 gap_stops_more b is taken (among_blanks blanks each stops) = among_blanks (b ∷ blanks) (is, each) (stops_after taken stops)
 gap_stops_more b is taken (within_comment blanks text each those stops) =
@@ -68,7 +68,7 @@ gap_stops_more b is taken (within_comment blanks text each those stops) =
 
 -- ---- one byte more in front
 
--- the digit after a gap is left where it is
+-- the digit after a gap isn't taken with the gap
 digit_here : (allowed c : ℕ) (bytes : List ℕ) → IsTrue (is_digit c) → GapRead (suc allowed) (c ∷ bytes) (c, allowed, bytes)
 digit_here allowed c bytes digit = record { blanks = []; each = tt; digit = digit; takes = takes_none _ _ }
 
@@ -87,7 +87,7 @@ comment_part c is read = let e = eqb-true c 35 is in rw e (takes_cons 35 read.ta
 open_more : {allowed : ℕ} {bytes : List ℕ} {found : ℕ × ℕ × List ℕ} (c : ℕ) → IsTrue (not (is_line_end c)) → OpenGapRead allowed bytes found → OpenGapRead (suc allowed) (c ∷ bytes) found
 open_more c is read = record { left = read.left; rest = read.rest; first = comment_more c is read.first; then = read.then }
 
--- `#` in front of a comment and what follows it
+-- `#` in front of the comment makes a gap of them
 hash_more : {allowed : ℕ} {bytes : List ℕ} {found : ℕ × ℕ × List ℕ} (c : ℕ) → IsTrue (is_hash c) → OpenGapRead allowed bytes found → GapRead (suc allowed) (c ∷ bytes) found
 hash_more c is read = gap_more (comment read.first.text read.first.end) (read.first.each, read.first.closes) (comment_part c is read.first) read.then
 
@@ -115,7 +115,7 @@ GapFault false allowed bytes fault = GapStops allowed bytes fault
 abbrev pub GapGives : Bool → ℕ → List ℕ → Step ℕ → Type 0
 GapGives in_comment allowed bytes step = MatchResult step (GapFound in_comment allowed bytes) (GapFault in_comment allowed bytes)
 
--- a byte that none of the three tests takes is refused
+-- a byte that passes none of the three tests isn't allowed
 none_allowed : (c : ℕ) → is_white c ≡ false → is_hash c ≡ false → is_digit c ≡ false → (is_white c || is_hash c || is_digit c) ≡ false
 none_allowed c a b d = rw (a, b, d) refl
 
@@ -124,7 +124,7 @@ line_end_gives : (allowed c : ℕ) (bytes : List ℕ) (step : Step ℕ) → IsTr
 line_end_gives allowed c bytes (Ok found) is read = record { left = allowed; rest = bytes; first = comment_end allowed c bytes is; then = read }
 line_end_gives allowed c bytes (Err fault) is stops = after allowed bytes (comment_end allowed c bytes is) stops
 
--- another character goes on with it
+-- another character continues the comment
 text_gives : (allowed c : ℕ) (bytes : List ℕ) (step : Step ℕ) → IsTrue (not (is_line_end c)) → GapGives true allowed bytes step → GapGives true (suc allowed) (c ∷ bytes) step
 text_gives allowed c bytes (Ok found) is read = open_more c is read
 text_gives allowed c bytes (Err fault) is stops = open_stops_more c is stops
@@ -146,7 +146,7 @@ digit_gives allowed c bytes no_white no_hash =
     (λ is. digit_here allowed c bytes is)
     (λ no_digit. among_blanks [] tt (refuses c bytes refl (omega arith) (none_allowed c no_white no_hash no_digit) refl))
 
--- what is read is a gap, and where it fails it stops
+-- reading gives a gap and the digit after it, or stops there with a fault
 pub gap_outcome : (in_comment : Bool) (allowed : ℕ) (bytes : List ℕ) → GapGives in_comment allowed bytes (gap_at in_comment allowed bytes)
 unfolding gap_at
 gap_outcome true zero bytes = still_inside [] tt (too_long bytes refl refl refl)
@@ -164,7 +164,7 @@ gap_outcome false (suc allowed) (c ∷ bytes) =
     (λ is. hash_gives allowed c bytes (gap_at true allowed bytes) is (gap_outcome true allowed bytes))
     (λ no_hash. digit_gives allowed c bytes no_white no_hash))
 
--- ---- what a gap says is read
+-- ---- each gap of the grammar is read
 
 -- reading goes on after a comment's text
 pub comment_passes : (text bytes : List ℕ) (allowed left : ℕ) → IsText text → allowed ≡ length text + left → gap_at true allowed (text ++ bytes) ≡ gap_at true left bytes
@@ -174,7 +174,7 @@ comment_passes (c ∷ text) bytes zero left each is = absurd (omega arith)
 comment_passes (c ∷ text) bytes (suc allowed) left each is =
     cond-false (is_line_end c) _ _ (not-true _ each.0) ∙ comment_passes text bytes allowed left each.1 (omega arith)
 
--- and after a whole comment
+-- and after the line end that closes it
 comment_ends : (text bytes : List ℕ) (end allowed left : ℕ) → IsText text → IsTrue (is_line_end end) → allowed ≡ length text + suc left
     → gap_at true allowed (text ++ end ∷ bytes) ≡ gap_at false left bytes
 unfolding gap_at

@@ -1,4 +1,4 @@
--- Headers: what reading takes of one, and how it fails.
+-- Headers: the bytes that reading takes, and how it fails.
 use Rattle.std.proofs.Common.{◌≡◌, ℕ, zero, suc, ◌<◌, ◌≤◌, ◌==◌, true, false, leb, ◌⊎◌, inl, inr, IsTrue, List, [], ◌∷◌, ◌++◌, length, Result, MatchResult, Ok, Err, refl, ◌∙◌, arith, append_assoc, append-nil}
 use Rattle.std.proofs.lemmas.Bool.{cond_both, or_from, leb-true, leb-false, eqb-true}
 use Rattle.ls_frame.specs.declared.frame.Kind.{Kind}
@@ -41,7 +41,7 @@ heading_at-steps first allowed bytes = refl
 
 -- ---- what is taken, and how reading fails
 
--- a header was taken, and says what was read
+-- a header was taken, and its numbers are those that were read
 pub record HeadingRead (bytes : List ℕ) (found : Header × ℕ × List ℕ) : Type 0 where
   pub heading : Heading
   pub lawful : IsHeading heading
@@ -61,17 +61,17 @@ pub data HeadingFault (bytes : List ℕ) (fault : NetpbmFault) : Type 0 where
 stops_at : {bytes : List ℕ} {fault : NetpbmFault} (b : Beginning) → 0 < length bytes → IsBeginning b → BreaksOff most_heading bytes (beginning_bytes b) (due b) fault → HeadingFault bytes fault
 stops_at b some lawful stops = in_heading (record { some = some; beginning = b; lawful = lawful; stops = stops })
 
--- the bytes that were taken with the last in one list, and that they are few enough
+-- `front` and the last byte were taken, and aren't too many
 whole_with_last : {bytes rest : List ℕ} {left : ℕ} (front : List ℕ) (last : ℕ) → Takes most_heading bytes (front ++ last ∷ []) left rest → bytes ≡ front ++ last ∷ rest
 whole_with_last {rest = rest} front last taken = taken.whole ∙ append_assoc front (last ∷ []) rest
 
--- what was taken fits
+-- the bytes that were taken aren't too many
 short_enough : {bytes front rest : List ℕ} {left : ℕ} → Takes most_heading bytes front left rest → length front ≤ most_heading
 short_enough taken = let e = taken.room_is in omega arith
 
 -- ---- the maxval
 
--- with its maxval the header is whole
+-- with its maxval the header is complete
 maxval_read : {bytes : List ℕ} (kind : Kind) (w h : Field) (width height : ℕ) (found : ℕ × ℕ × List ℕ) → IsSize kind w h → width ≡ field_number w → height ≡ field_number h
     → InRangeRead most_heading bytes (magic kind ++ field_bytes w ++ field_bytes h) found
     → HeadingRead bytes (record { kind = kind; width = width; height = height; maxval = found.0 }, found.1, found.2)
@@ -233,7 +233,7 @@ magic_taken : (kind : Kind) (first second allowed : ℕ) (bytes : List ℕ) → 
     → Takes most_heading (first ∷ second ∷ bytes) (magic kind) allowed bytes
 magic_taken kind first second allowed bytes whole same two = record { whole = same; room_is = omega arith }
 
--- the second byte tells the kind
+-- the second byte stands for the kind
 kind_outcome : (first second allowed : ℕ) (bytes : List ℕ) → suc (suc allowed) ≡ most_heading → first ≡ 80
     → MatchResult (kind_of second >>= λ kind. Ok (kind, allowed, bytes)) (MagicRead (first ∷ second ∷ bytes)) (HeadingFault (first ∷ second ∷ bytes))
 kind_outcome first second allowed bytes whole p =
@@ -261,7 +261,7 @@ magic_outcome first allowed bytes whole =
 
 -- ---- the header
 
--- what is read is a header; else it fails in one of these ways
+-- reading gives a header, or fails in one of these ways
 pub heading_outcome : (first allowed : ℕ) (bytes : List ℕ) → suc allowed ≡ most_heading → MatchResult (heading_at first allowed bytes) (HeadingRead (first ∷ bytes)) (HeadingFault (first ∷ bytes))
 heading_outcome first allowed bytes whole = rw (heading_at-steps first allowed bytes)
     (outcome_of_both (MagicRead (first ∷ bytes)) (HeadingFault (first ∷ bytes)) (HeadingRead (first ∷ bytes)) (HeadingFault (first ∷ bytes)) (magic_at first allowed bytes) (λ kind. fields_at kind.0 kind.1 kind.2)

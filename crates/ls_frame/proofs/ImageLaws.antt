@@ -1,4 +1,4 @@
--- Reading an image and its grammar say the same.
+-- Reading an image agrees with the grammar.
 use Rattle.std.proofs.Common.{◌≡◌, ℕ, ◌-◌, Bool, true, false, inl, inr, List, [], ◌∷◌, ◌++◌, Option, None, Some, MatchOption, MatchResult, Ok, Err, refl, sym, ap, ◌∙◌, append_assoc}
 use Rattle.std.proofs.lemmas.Result.{MatchResult-at_ok, MatchResult-at_err}
 use Rattle.ls_frame.specs.declared.netpbm.header.Header.{Header}
@@ -29,7 +29,7 @@ stops_early Truncated = true
 stops_early Io = false
 stops_early NoMemory = false
 
--- a byte that is refused has such a fault
+-- a byte that isn't allowed gives such a fault
 refusal_stops : (d : Due) → stops_early (fault_at d) ≡ true
 unfolding stops_early
 refusal_stops letter = refl
@@ -39,14 +39,14 @@ refusal_stops blank_or_digit = refl
 refusal_stops comment_text = refl
 refusal_stops digit_or_white = refl
 
--- and so has each stop
+-- and so does each stop
 fault_stops : {room : ℕ} {bytes front : List ℕ} {d : Due} {fault : NetpbmFault} → BreaksOff room bytes front d fault → stops_early fault ≡ true
 unfolding stops_early
 fault_stops (too_long rest whole all is) = rw is refl
 fault_stops (ends whole some is) = rw is refl
 fault_stops {d = d} (refuses c rest whole some not_allowed is) = rw is (refusal_stops d)
 
--- a header that stops early breaks so
+-- bytes where reading stops in the header break the grammar with this fault
 stop_breaks : (bytes : List ℕ) (fault : NetpbmFault) → stops_early fault ≡ true → StopsInHeading bytes fault → Breaks bytes fault
 unfolding stops_early
 stop_breaks bytes BadMagic early stop = stop
@@ -59,7 +59,7 @@ stop_breaks bytes Truncated early stop = inl stop
 stop_breaks bytes Io early stop = absurd (let bad : ⊥ = cc in bad)
 stop_breaks bytes NoMemory early stop = absurd (let bad : ⊥ = cc in bad)
 
--- a header that fails breaks so
+-- bytes whose header fails break the grammar with this fault
 heading_breaks : (bytes : List ℕ) (fault : NetpbmFault) → HeadingFault bytes fault → Breaks bytes fault
 heading_breaks bytes fault (in_heading stop) = stop_breaks bytes fault (fault_stops stop.stops) stop
 heading_breaks bytes fault (of_size size is) = rw is size
@@ -80,7 +80,7 @@ raster_begins {rest = rest} found read begun = record {
   more = rw (← read.kind, ← read.width, ← read.height) begun.more;
 }
 
--- a raster that fails breaks so
+-- bytes whose raster fails break the grammar with this fault
 raster_breaks : {bytes : List ℕ} {fault : NetpbmFault} (found : Header × ℕ × List ℕ) (read : HeadingRead bytes found)
     → RasterFault (is_wide found.0.maxval) found.0.maxval (sample_count found.0.kind found.0.width found.0.height) found.2 fault → Breaks bytes fault
 raster_breaks {bytes = bytes} found read (ends_early rest begun short is) =
@@ -100,7 +100,7 @@ raster_breaks {bytes = bytes} found read (exceeds next rest sample begun said ov
 
 -- ---- what is read
 
--- a spelling at the front, and what is after it
+-- an image at the front, and the bytes after it
 abbrev PictureRead : List ℕ → Picture × List ℕ → Type 0
 PictureRead bytes found = (front : List ℕ) × (bytes ≡ front ++ found.1) × IsImageOf front found.0
 
@@ -124,7 +124,7 @@ picture_frame found samples rest read raster =
       each = raster.each;
     }
 
--- a header and its raster are a spelling
+-- a header and its raster are an image
 picture_read : {bytes : List ℕ} (found : Header × ℕ × List ℕ) (samples rest : List ℕ) → HeadingRead bytes found
     → RasterRead (is_wide found.0.maxval) found.0.maxval (sample_count found.0.kind found.0.width found.0.height) found.2 (samples, rest)
     → PictureRead bytes (picture_of found.0 samples, rest)
@@ -145,7 +145,7 @@ picture_read found samples rest read raster = (
   },
 )
 
--- what is read after a header is its raster; else the bytes break so
+-- after a header reading gives its raster, or the bytes break the grammar with the fault
 raster_outcome : (bytes : List ℕ) (found : Header × ℕ × List ℕ) → HeadingRead bytes found → MatchResult (raster_at found.0 found.2) (PictureRead bytes) (Breaks bytes)
 raster_outcome bytes found read =
     let wide : Bool = is_wide found.0.maxval in
@@ -155,11 +155,11 @@ raster_outcome bytes found read =
     (λ samples raster. picture_read found samples.0 samples.1 read raster)
     (λ fault failed. raster_breaks found read failed)
 
--- nothing is read only at the end
+-- an image was read, or the input is empty
 abbrev ImageRead : List ℕ → Option (Picture × List ℕ) → Type 0
 ImageRead bytes found = MatchOption found (bytes ≡ []) (PictureRead bytes)
 
--- what is read is a spelling; else the bytes break so
+-- reading gives an image, or the bytes break the grammar with the fault
 image_outcome : (bytes : List ℕ) → MatchResult (image_at bytes) (ImageRead bytes) (Breaks bytes)
 unfolding image_at
 image_outcome [] = refl
@@ -171,19 +171,19 @@ image_outcome (first ∷ bytes) =
     (raster_outcome all found read) (λ picture said. said) (λ fault failed. failed))
     (λ fault failed. heading_breaks all fault failed)
 
--- ---- what the grammar says is read
+-- ---- each image of the grammar is read
 
 -- a picture's header
 abbrev frame_header : Picture → Header
 frame_header f = record { kind = f.kind; width = f.width; height = f.height; maxval = f.maxval }
 
--- the header of a spelling says the size of its picture
+-- the header of an image has the kind, size and maxval of its picture
 heading_says : (front : List ℕ) (f : Picture) (said : IsImageOf front f) → header_of said.heading ≡ frame_header f
 heading_says front f said = rw (said.kind, said.width, said.height, said.maxval) refl
 
 -- ---- headers
 
--- what is read of a header is a whole legal one
+-- the bytes that are read for a header are a complete, legal one
 pub heading_read : (first : ℕ) (bytes : List ℕ) (found : Header × ℕ × List ℕ) → heading_at first (most_heading - 1) bytes ≡ Ok found
     → (front : List ℕ) × (first ∷ bytes ≡ front ++ found.2) × IsWholeHeading front
 heading_read first bytes found read =
@@ -191,7 +191,7 @@ heading_read first bytes found read =
     let whole = MatchResult-at_ok (HeadingRead all) (HeadingFault all) found read (heading_outcome first (most_heading - 1) bytes refl) in
     (heading_bytes whole.heading, whole.whole, (whole.heading, whole.lawful, refl))
 
--- a header takes no memory
+-- reading a header doesn't fail with NoMemory
 pub heading_needs_no_memory : (first : ℕ) (bytes : List ℕ) → heading_at first (most_heading - 1) bytes ≡ Err NoMemory → ⊥
 heading_needs_no_memory first bytes failed =
     let all : List ℕ = first ∷ bytes in

@@ -1,4 +1,4 @@
--- What is known of a reader's bytes after it was read.
+-- A reader's known bytes after a read.
 use Rattle.std.proofs.Common.{◌≡◌, ℕ, ◌+◌, ◌<◌, ◌≤◌, List, [], ◌∷◌, ◌++◌, length, take, get_or, Option, None, Some, IsSome, refl, sym, ap, ◌∙◌, arith}
 use Rattle.std.specs.Io.KnownBytes.{Consumes}
 use Rattle.std.proofs.lemmas.List.{length-take-le, take-append-le, take_all}
@@ -19,7 +19,7 @@ chunk-read chunk read post held given within some =
     ∙ take-append-add (take held chunk) (read ++ post) given
     ∙ ap (λ s. take held chunk ++ s) (take-append-le given read post some)
 
--- a read into room for one byte
+-- a read into a buffer of one byte
 pub one_byte : (buf : List ℕ) (given : ℕ) → length buf ≡ 1 → 0 < given → take given buf ≡ get_or buf 0 0 ∷ []
 one_byte [] given one some = absurd (omega (arith, one))
 one_byte (c ∷ []) given one some = take_all given (c ∷ []) (omega (arith, some))

@@ -1,20 +1,20 @@
--- The front of bytes past marks that are followed by a byte below a limit.
+-- The front of bytes up to the first mark that isn't followed by a byte below a limit.
 use Rattle.std.proofs.Common.{◌≡◌, inl, inr, ℕ, suc, ◌+◌, ◌-◌, ◌<◌, ◌≤◌, List, [], ◌∷◌, ◌++◌, length, take, drop, get_or, slice_range, None, Some, sym, ap, subst, ◌∙◌, arith, take-append-drop, drop-drop, length-take, length-drop}
 use Rattle.std.proofs.lemmas.List.{take-append-le, drop-take, drop_more, take_more, take_all, get_or-take, get_or-drop}
 use Rattle.std.proofs.lemmas.Bool.{cases_lt, eq-eqb}
 use Rattle.memchr.specs.Find.{IsFirstByte, Nowhere, Passes, is_byte}
 use Rattle.ls_frame.specs.View.Known.{TakesPast, ArePassed}
 
--- ---- as far as they are passed
+-- ---- marks that are passed
 
--- each mark before a place is followed by a byte below the limit
+-- each mark before an index is followed by a byte below the limit
 abbrev pub PassedBefore : ℕ → ℕ → List ℕ → ℕ → Type 0
 PassedBefore mark limit bytes place = (k : ℕ) → k < place → get_or bytes k 0 ≡ mark → get_or bytes (suc k) 0 < limit
 
 rest-from : (bytes : List ℕ) (count : ℕ) → slice_range bytes count (length bytes) ≡ drop count bytes
 rest-from bytes count = take_all (length bytes - count) (drop count bytes) (omega (arith, length-drop count bytes))
 
--- over bytes that aren't marks
+-- past bytes that aren't marks
 pub passed-plain : (mark limit : ℕ) (bytes : List ℕ) (count more : ℕ) → PassedBefore mark limit bytes count → Nowhere (Passes (is_byte mark) (slice_range bytes count (length bytes))) 0 more
     → PassedBefore mark limit bytes (count + more)
 passed-plain mark limit bytes count more so_far none k less is = elim (cases_lt k count) [
@@ -26,7 +26,7 @@ passed-plain mark limit bytes count more so_far none k less is = elim (cases_lt 
       absurd (none (k - count) (omega arith) (omega arith) (eq-eqb _ _ here))
 ]
 
--- over one byte more
+-- past one more byte
 pub passed-one : (mark limit : ℕ) (bytes : List ℕ) (count next : ℕ) → next ≡ count + 1 → PassedBefore mark limit bytes count → get_or bytes next 0 < limit → PassedBefore mark limit bytes next
 passed-one mark limit bytes count next one so_far low k less is = elim (cases_lt k count) [
   | inl before ↦ so_far k before is
@@ -35,7 +35,7 @@ passed-one mark limit bytes count next one so_far low k less is = elim (cases_lt
       subst (λ n. get_or bytes n 0 < limit) place low
 ]
 
--- so the front is passed
+-- so all marks in the front are passed
 pub passed-front : (mark limit : ℕ) (bytes : List ℕ) (place count : ℕ) → PassedBefore mark limit bytes place → count ≤ place + 1 → ArePassed mark limit (take count bytes)
 passed-front mark limit bytes place count passed near k less is =
     let size = length-take count bytes in
@@ -44,7 +44,7 @@ passed-front mark limit bytes place count passed near k less is =
     let low = passed k (omega (arith, less, size, near)) (sym here ∙ is) in
     subst (λ b. b < limit) (sym next) low
 
--- and all of them, if there are no marks after a place
+-- and all marks, if there are none after an index
 pub passed-all : (mark limit : ℕ) (bytes : List ℕ) (count : ℕ) → PassedBefore mark limit bytes count → IsFirstByte (is_byte mark) (slice_range bytes count (length bytes)) None
     → ArePassed mark limit (take (length bytes) bytes)
 passed-all mark limit bytes count so_far none =
@@ -67,7 +67,7 @@ chunk-parts bytes start count end within =
     ∙ ap (take (end - (start + count))) (drop-drop count start bytes) in
     sym (take-append-drop count chunk) ∙ ap (λ bs. take count chunk ++ bs) rest
 
--- a front of a chunk was appended, and its last byte is this one
+-- the front of a chunk was appended, and this is its last byte
 pub chunk-past : (mark limit most : ℕ) (bytes : List ℕ) (start count end : ℕ) (before after : List ℕ) → start + count ≤ end → 0 < count → count ≤ most → count ≤ length (slice_range bytes start end)
     → ArePassed mark limit (take count (slice_range bytes start end)) → after ≡ before ++ take count (slice_range bytes start end)
     → TakesPast mark limit most (Some (slice_range bytes start end)) (Some (slice_range bytes (start + count) end)) before after (get_or (slice_range bytes start end) (count - 1) 0)

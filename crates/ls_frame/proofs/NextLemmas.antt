@@ -1,4 +1,4 @@
--- What the next image of a reader means, by the grammar.
+-- What reading the next image means by the grammar.
 use Rattle.std.proofs.Common.{◌≡◌, ℕ, List, [], ◌++◌, Option, None, Some, Result, Ok, Err, IfOk, IfErr, IfSome, IfNone, IsTrue, refl, sym, ap, ◌∙◌, append-nil}
 use Rattle.ls_frame.specs.declared.netpbm.NetpbmFault.{NetpbmFault}
 use Rattle.ls_frame.specs.Picture.{Picture}
@@ -9,7 +9,7 @@ use Rattle.ls_frame.specs.View.Known.{known}
 use Rattle.ls_frame.specs.View.Reading.{image_at, GivesImage}
 use Rattle.ls_frame.proofs.ImageLaws.{reads_spellings, spellings_are_read, reads_nothing_at_end, faults_break, breaks_are_faults}
 
--- bytes that aren't read begin with no image
+-- bytes where reading fails don't begin with an image
 pub no_image-from_fault : (bytes : List ℕ) (fault : NetpbmFault) → image_at bytes ≡ Err fault → NoImage bytes
 no_image-from_fault bytes fault failed front rest f whole spelled =
     let read : image_at bytes ≡ Ok (Some (f, rest)) = ap image_at whole ∙ spellings_are_read front rest f spelled in
@@ -37,15 +37,15 @@ pub next-broken : (old new : Option (List ℕ)) (r : Result (Option Picture) Net
 next-broken old new (Ok next) read = tt
 next-broken old new (Err fault) read = λ blamed told. is_broken (known old) fault (read told blamed)
 
--- ---- what follows for the grammar alone
+-- ---- consequences for the grammar alone
 
--- two findings that are equal are equal in their parts
+-- two results that are equal have equal parts
 found_parts : {A B : Type 0} (f g : A) (rest rest' : B) → ◌≡◌ {A = Result (Option (A × B)) NetpbmFault} (Ok (Some (f, rest))) (Ok (Some (g, rest'))) → (f ≡ g) × (rest ≡ rest')
 found_parts {A} {B} f g rest rest' same =
     let pair : ◌≡◌ {A = A × B} (f, rest) (g, rest') = cc in
     (ap (λ (p : A × B). p.0) pair, ap (λ (p : A × B). p.1) pair)
 
--- two images at the front of the same bytes are one
+-- two images at the front of the same bytes are the same
 same_front : (front rest front' rest' : List ℕ) (f g : Picture) → IsImageOf front f → IsImageOf front' g → front ++ rest ≡ front' ++ rest' → (f ≡ g) × (rest ≡ rest')
 same_front front rest front' rest' f g spelled spelled' whole =
     let one = spellings_are_read front rest f spelled in

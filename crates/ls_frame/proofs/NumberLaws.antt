@@ -1,4 +1,4 @@
--- Numbers: what reading takes of one, where reading stops in it, and that what its digits say is read.
+-- Numbers: the bytes that reading takes, where reading stops, and that the value of the digits is read.
 use Rattle.std.proofs.Common.{◌≡◌, ℕ, zero, suc, ◌+◌, ◌-◌, ◌*◌, ◌<◌, ◌≤◌, ◌||◌, ◌&&◌, min, true, false, cond, leb, ltb, fold, inl, inr, IsTrue, List, [], ◌∷◌, ◌++◌, length, MatchResult, Ok, Err, refl, ap, ◌∙◌, arith, append_assoc}
 use Rattle.std.specs.List.{AllByRecursion}
 use Rattle.std.proofs.lemmas.Bool.{cond_both, cond-true, leb-true, ltb-true, leb-false, ltb-false, and_parts, and_cases}
@@ -17,7 +17,7 @@ AreDigits ds = AllByRecursion (λ c. IsTrue (is_digit c)) ds
 
 -- ---- the reader's numbers are capped
 
--- what more digits make of n
+-- the value of more digits after those with value n
 abbrev pub followed : ℕ → List ℕ → ℕ
 followed n ds = fold (λ n digit. 10 * n + (digit - 48)) n ds
 
@@ -25,7 +25,7 @@ followed n ds = fold (λ n digit. 10 * n + (digit - 48)) n ds
 abbrev pub followed_capped : ℕ → List ℕ → ℕ
 followed_capped n ds = fold with_digit n ds
 
--- from 65536 on numbers are one
+-- 65536 stands for all numbers over 65535
 abbrev pub capped : ℕ → ℕ
 capped n = min n (greatest + 1)
 
@@ -44,7 +44,7 @@ capped_number d ds is = let small = digit_most d is in capped_at_end ds (d - 48)
 
 -- ---- digits
 
--- digits after those that made n, and the white space after them
+-- digits after those with value n, and the white space after them
 pub record DigitsRead (n allowed : ℕ) (bytes : List ℕ) (found : ℕ × ℕ × List ℕ) : Type 0 where
   pub ds : List ℕ
   pub white : ℕ
@@ -70,11 +70,11 @@ digits_stop_more c is stop = record { ds = c ∷ stop.ds; each = (is, stop.each)
 white_here : (n allowed c : ℕ) (bytes : List ℕ) → IsTrue (is_white c) → DigitsRead n (suc allowed) (c ∷ bytes) (n, allowed, bytes)
 white_here n allowed c bytes is = record { ds = []; white = c; each = tt; after = is; takes = takes_one c allowed bytes; is = refl }
 
--- a byte that neither test takes is refused
+-- a byte that passes neither test isn't allowed
 neither : (c : ℕ) → is_digit c ≡ false → is_white c ≡ false → (is_digit c || is_white c) ≡ false
 neither c a b = rw (a, b) refl
 
--- what a step of a number gives
+-- the result of reading digits
 abbrev pub DigitsGive : ℕ → ℕ → List ℕ → Step ℕ → Type 0
 DigitsGive n allowed bytes step = MatchResult step (DigitsRead n allowed bytes) (DigitsStop allowed bytes)
 
@@ -90,7 +90,7 @@ white_gives n allowed c bytes no_digit =
     (λ is. white_here n allowed c bytes is)
     (λ no_white. record { ds = []; each = tt; stops = refuses c bytes refl (omega arith) (neither c no_digit no_white) refl })
 
--- what is read is digits, and where it fails it stops
+-- reading gives digits, or stops there with a fault
 pub digits_outcome : (n allowed : ℕ) (bytes : List ℕ) → DigitsGive n allowed bytes (digits_at n allowed bytes)
 unfolding digits_at
 digits_outcome n zero bytes = record { ds = []; each = tt; stops = too_long bytes refl refl refl }
@@ -140,7 +140,7 @@ field_read {before = before} w found second white taken read number =
       is = number.is ∙ capped_number found.0 number.ds read.digit;
     }
 
--- where reading stops in the gap
+-- reading stops in the gap
 gap_stops : {allowed between : ℕ} {bytes before middle : List ℕ} {fault : NetpbmFault} (w : ℕ) → IsTrue (is_white w) → Takes allowed bytes (before ++ w ∷ []) between middle → GapStops between middle fault
     → FieldStops allowed bytes before fault
 gap_stops {before = before} w is taken (among_blanks blanks each stops) =
@@ -152,7 +152,7 @@ gap_stops {before = before} w is taken (within_comment blanks text each those st
     let same : (before ++ w ∷ []) ++ (blanks_bytes blanks ++ 35 ∷ text) ≡ before ++ (gap_bytes g ++ 35 ∷ text) = simp append_assoc in
     record { start = open_comment g text; lawful = (record { first = is; blanks = each }, those); stops = stops_as (stops_after taken stops) same }
 
--- and where it stops in the digits
+-- or in the digits
 digits_stop : {allowed between : ℕ} {bytes before middle : List ℕ} {fault : NetpbmFault} (w : ℕ) (found : ℕ × ℕ × List ℕ) → IsTrue (is_white w) → Takes allowed bytes (before ++ w ∷ []) between middle
     → GapRead between middle found → DigitsStop found.1 found.2 fault → FieldStops allowed bytes before fault
 digits_stop {before = before} w found white taken read stop =
@@ -164,7 +164,7 @@ digits_stop {before = before} w found white taken read stop =
       stops = stops_as (stops_after (takes_more taken read.takes) (stops_cons found.0 stop.stops)) same;
     }
 
--- what is read is a field, and where it fails it stops
+-- reading gives a field, or stops there with a fault
 pub number_outcome : (allowed between : ℕ) (bytes before middle : List ℕ) (w : ℕ) → IsTrue (is_white w) → Takes allowed bytes (before ++ w ∷ []) between middle
     → MatchResult (number_at between middle) (FieldRead allowed bytes before) (FieldStops allowed bytes before)
 number_outcome allowed between bytes before middle w white taken =
@@ -178,7 +178,7 @@ number_outcome allowed between bytes before middle w white taken =
 
 -- ---- within its range
 
--- the test of the capped number is that of the number
+-- if the capped number passes the test, the number is in range
 pub in_range_if : (n m : ℕ) → n ≡ capped m → (ltb 0 n && leb n greatest) ≡ true → InRange m
 in_range_if n m is test =
     let parts = and_parts (ltb 0 n) (leb n greatest) test in
@@ -190,7 +190,7 @@ in_range_if n m is test =
 pub same_in_range : (n m : ℕ) → n ≡ capped m → InRange m → n ≡ m
 same_in_range n m is range = omega arith
 
--- where the test fails, the number is out of its range
+-- if the test fails, the number is out of range
 pub out_of_range_if : (n m : ℕ) → n ≡ capped m → (ltb 0 n && leb n greatest) ≡ false → ¬ InRange m
 out_of_range_if n m is test range = elim (and_cases (ltb 0 n) (leb n greatest) test) [
   | inl none ↦ let e : n ≤ 0 = ltb-false 0 n none in absurd (omega arith)
@@ -207,7 +207,7 @@ pub record InRangeRead (allowed : ℕ) (bytes before : List ℕ) (found : ℕ ×
   pub takes : Takes allowed bytes (before ++ field_bytes field ++ white ∷ []) found.1 found.2
   pub is : found.0 ≡ field_number field
 
--- the same of a field whose number is something else
+-- the same for a field with another number
 pub record OutOfRange (allowed : ℕ) (bytes before : List ℕ) : Type 0 where
   pub field : Field
   pub white : ℕ
@@ -256,7 +256,7 @@ ranged range_fault allowed bytes before found read =
     (λ test. in_range_read read (in_range_if found.0 (field_number read.field) read.is test))
     (λ test. out_of_range (out_of_range_read read (out_of_range_if found.0 (field_number read.field) read.is test)) refl)
 
--- what is read is a field with its number in range; else it stops, or the number is out of range
+-- reading gives a field with its number in range, or stops there, or the number is out of range
 pub field_outcome : (range_fault : NetpbmFault) (allowed between : ℕ) (bytes before middle : List ℕ) (w : ℕ) → IsTrue (is_white w) → Takes allowed bytes (before ++ w ∷ []) between middle
     → MatchResult (in_range_at range_fault between middle) (InRangeRead allowed bytes before) (FieldFault allowed bytes before range_fault)
 field_outcome range_fault allowed between bytes before middle w white taken =

@@ -1,4 +1,4 @@
--- Explicit parameters, and default ones.
+-- Explicit and default parameters.
 use Rattle.std.proofs.Common.{◌≡◌, ◌<◌, ◌≤◌, ℕ, Option, None, Some, IfOk, refl, arith, rules}
 use Rattle.ls_frame.specs.declared.presets.PresetFault.{PresetFault}
 use Rattle.ls_frame.specs.Parameters.{Parameters, IsLegal, clamped_threshold, unclamped_thresholds, default_t1, default_t2, default_parameters, preset_fault, unless_fault, explicit_parameters}
@@ -7,7 +7,7 @@ unless_fault-same : (found : Option PresetFault) (p : Parameters) → IfOk (unle
 unless_fault-same None p = refl
 unless_fault-same (Some fault) p = tt
 
--- where they are legal they are kept
+-- explicit parameters that are accepted are those given
 pub explicit_parameters-same : (p : Parameters) → IfOk (explicit_parameters p) (λ q. q ≡ p)
 unfolding explicit_parameters
 explicit_parameters-same p = unless_fault-same (preset_fault p) p

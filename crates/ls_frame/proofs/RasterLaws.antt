@@ -1,4 +1,4 @@
--- Rasters: what reading takes of one, how it fails, and that what a raster says is read.
+-- Rasters: the bytes that reading takes, how it fails, and that each raster of the grammar is read.
 use Rattle.std.proofs.Common.{◌≡◌, ℕ, zero, suc, ◌+◌, ◌<◌, ◌≤◌, Bool, true, false, leb, List, [], ◌∷◌, ◌++◌, length, MatchResult, Ok, Err, refl, sym, ap, ◌∙◌, arith, append_assoc, append-nil}
 use Rattle.std.specs.List.{AllByRecursion}
 use Rattle.std.proofs.lemmas.Bool.{cond_both, leb-true, leb-false, le-leb, lt-leb}
@@ -22,7 +22,7 @@ pub record SampleRead (wide : Bool) (bytes : List ℕ) (found : ℕ × List ℕ)
   pub whole : bytes ≡ first ++ found.1
   pub said : IsSample wide first found.0
 
--- so many samples within maxval, and what is after them
+-- `count` samples within maxval, and the bytes after them
 pub record RasterRead (wide : Bool) (maxval count : ℕ) (bytes : List ℕ) (found : List ℕ × List ℕ) : Type 0 where
   pub raster : List ℕ
   pub whole : bytes ≡ raster ++ found.1
@@ -30,7 +30,7 @@ pub record RasterRead (wide : Bool) (maxval count : ℕ) (bytes : List ℕ) (fou
   pub each : AreWithin maxval found.0
   pub all : length found.0 ≡ count
 
--- fewer samples within maxval, and what is after them
+-- fewer than `count` samples within maxval, and the bytes after them
 pub record RasterBegun (wide : Bool) (maxval count : ℕ) (bytes rest : List ℕ) : Type 0 where
   pub raster : List ℕ
   pub samples : List ℕ
@@ -51,7 +51,7 @@ pub data RasterFault (wide : Bool) (maxval count : ℕ) (bytes : List ℕ) (faul
 abbrev EndsInSample : Bool → List ℕ → NetpbmFault → Type 0
 EndsInSample wide bytes fault = (length bytes < sample_size wide) × (fault ≡ Truncated)
 
--- what is read is a sample, unless the bytes end
+-- reading gives a sample, unless the bytes end
 sample_outcome : (wide : Bool) (bytes : List ℕ) → MatchResult (sample_at wide bytes) (SampleRead wide bytes) (EndsInSample wide bytes)
 sample_outcome false [] = (omega arith, refl)
 sample_outcome false (c ∷ bytes) = record { first = c ∷ []; whole = refl; said = refl }
@@ -117,7 +117,7 @@ after_sample wide maxval count bytes found read outcome =
     (λ fault failed. fault_more found read (leb-true found.0 maxval test) failed))
     (λ test. exceeds_here count found read (leb-false found.0 maxval test))
 
--- what is read is a raster; else it fails in one of these ways
+-- reading gives a raster, or fails in one of these ways
 pub samples_outcome : (wide : Bool) (maxval count : ℕ) (bytes : List ℕ) → MatchResult (samples_at wide maxval count bytes) (RasterRead wide maxval count bytes) (RasterFault wide maxval count bytes)
 unfolding samples_at
 samples_outcome wide maxval zero bytes = record { raster = []; whole = refl; said = refl; each = tt; all = refl }
@@ -127,14 +127,14 @@ samples_outcome wide maxval (suc count) bytes =
     (λ found read. after_sample wide maxval count bytes found read (samples_outcome wide maxval count found.1))
     (λ fault ends. ends_early bytes (begun_none wide maxval count bytes) ends.0 ends.1)
 
--- ---- what a raster says is read
+-- ---- each raster of the grammar is read
 
--- a sample that is said is read
+-- an encoded sample is read
 pub sample_passes : (wide : Bool) (first bytes : List ℕ) (sample : ℕ) → IsSample wide first sample → sample_at wide (first ++ bytes) ≡ Ok (sample, bytes)
 sample_passes false first bytes sample said = rw said refl
 sample_passes true first bytes sample said = rw (said.2, said.3) refl
 
--- one within maxval is the first of what is read
+-- one within maxval is the first of the samples read
 sample_read : (wide : Bool) (maxval count sample : ℕ) (bytes rest : List ℕ) → sample_at wide bytes ≡ Ok (sample, rest) → sample ≤ maxval
     → samples_at wide maxval (suc count) bytes ≡ with_front (sample ∷ []) (samples_at wide maxval count rest)
 unfolding samples_at
@@ -146,7 +146,7 @@ pub sample_over : (wide : Bool) (maxval count sample : ℕ) (bytes rest : List �
 unfolding samples_at
 sample_over wide maxval count sample bytes rest found over = rw (found, lt-leb sample maxval over) refl
 
--- too few bytes are no sample
+-- too few bytes aren't a sample
 short_sample : (wide : Bool) (bytes : List ℕ) → length bytes < sample_size wide → sample_at wide bytes ≡ Err Truncated
 short_sample false [] short = refl
 short_sample false (c ∷ bytes) short = absurd (omega arith)
@@ -154,7 +154,7 @@ short_sample true [] short = refl
 short_sample true (high ∷ []) short = refl
 short_sample true (high ∷ low ∷ bytes) short = absurd (omega arith)
 
--- and no raster
+-- and aren't a raster
 pub sample_short : (wide : Bool) (maxval count : ℕ) (bytes : List ℕ) → length bytes < sample_size wide → samples_at wide maxval (suc count) bytes ≡ Err Truncated
 unfolding samples_at
 sample_short wide maxval count bytes short = rw (short_sample wide bytes short) refl

@@ -22,7 +22,7 @@ samples_of-short [] h = refl
 samples_of-short (a ∷ []) h = refl
 samples_of-short (a ∷ b ∷ bytes) h = absurd (omega arith)
 
--- one pair more was appended, and when none is left
+-- one more pair was appended; below, no pair is left
 pub samples_of-more : (front bytes all : List ℕ) (i sample : ℕ) → front ++ samples_of true (drop (2 * i) bytes) ≡ all → i < length bytes / 2
     → sample ≡ big_number 2 (drop (2 * i) bytes) → (front ++ sample ∷ []) ++ samples_of true (drop (2 * (i + 1)) bytes) ≡ all
 samples_of-more front bytes all i sample said more is =
@@ -40,7 +40,7 @@ samples_of-all front bytes all i said none =
     let short : length (drop (2 * i) bytes) < 2 = simp length-drop (omega arith) in
     sym (append-nil front) ∙ ap (λ s. front ++ s) (sym (samples_of-short (drop (2 * i) bytes) short)) ∙ said
 
--- ---- how many samples bytes say, and the byte of a sample begun
+-- ---- the number of samples in bytes, and the byte of an incomplete one
 
 pub length-samples_of : (bytes : List ℕ) → length (samples_of true bytes) ≡ length bytes / 2
 unfolding samples_of
@@ -63,7 +63,7 @@ begun_of-odd (a ∷ b ∷ bytes) h =
     let place : suc (suc (length bytes)) - 1 ≡ suc (suc (length bytes - 1)) = omega arith in
     begun_of-odd bytes odd ∙ ap (λ i. get_or (a ∷ b ∷ bytes) i 0 ∷ []) (sym place)
 
--- The byte of a sample begun is the last of an odd number, brought to the front of the chunk.
+-- The byte of an incomplete sample is the last of an odd number, copied to the front of the chunk.
 pub begun_of-none : (wide : Bool) (chunk : List ℕ) (filled : ℕ) → filled ≤ length chunk → (wide ≡ false) ⊎ (filled % 2 ≡ 0) → begun_of wide (take filled chunk) ≡ []
 unfolding begun_of
 begun_of-none wide chunk filled within (inl narrow) = rw narrow refl
@@ -91,7 +91,7 @@ pub with_front-nil : (read : Take (List ℕ)) → with_front [] read ≡ read
 with_front-nil (Ok found) = refl
 with_front-nil (Err fault) = refl
 
--- what a chunk's samples are read as: over maxval, or in front of what is read after them
+-- reading a chunk's samples: a fault if one is over maxval, else they stand in front of those read after them
 pub chunk_read : Bool → List ℕ → Take (List ℕ) → Take (List ℕ)
 chunk_read true front read = with_front front read
 chunk_read false front read = Err SampleTooLarge
@@ -120,7 +120,7 @@ samples_at-chunk true maxval (a ∷ b ∷ bytes) rest n =
     ∙ ap (λ read. within maxval (256 * a + b) >>= λ s. with_front (s ∷ []) read) (samples_at-chunk true maxval bytes rest n)
     ∙ one_more (leb (256 * a + b) maxval) (are_within maxval (samples_of true bytes)) (256 * a + b) (samples_of true bytes) (samples_at true maxval n (begun_of true bytes ++ rest))
 
--- ---- how far a chunk brings the loop
+-- ---- the loop's progress by one chunk
 
 pub chunk-size : (wide : Bool) (bytes : List ℕ) → byte_count wide (length (samples_of wide bytes)) + length (begun_of wide bytes) ≡ length bytes
 unfolding samples_of begun_of
@@ -138,9 +138,9 @@ pub chunk-less : (wide : Bool) (left here begun filled held : ℕ) → byte_coun
 chunk-less false left here begun filled held all within more = omega arith
 chunk-less true left here begun filled held all within more = omega arith
 
--- ---- what the loop over chunks knows
+-- ---- the invariant of the loop over chunks
 
--- the count that is left, split at the samples of a chunk
+-- the number of samples left, split at those of a chunk
 left-split : (count : ℕ) (samples more : List ℕ) → length more ≤ count - length samples → count - length samples ≡ length more + (count - length (samples ++ more))
 left-split count samples more few = let all = length-append samples more in omega arith
 
@@ -156,7 +156,7 @@ chunks-read wide maxval count samples part before rest within whole said read pa
     ∙ ap (with_front samples) (samples_at-chunk wide maxval part rest (count - length (samples ++ samples_of wide part)))
     ∙ ap (λ w. with_front samples (chunk_read w (samples_of wide part) (samples_at wide maxval (count - length (samples ++ samples_of wide part)) (begun_of wide part ++ rest)))) passes
 
--- .. all of its samples within maxval
+-- .. and all of its samples are within maxval
 pub chunks-more : (wide : Bool) (maxval count : ℕ) (samples part before rest : List ℕ) (whole : Take (List ℕ))
     → whole ≡ with_front samples (samples_at wide maxval (count - length samples) before) → before ≡ part ++ rest
     → are_within maxval (samples_of wide part) ≡ true → length (samples_of wide part) ≤ count - length samples
@@ -166,7 +166,7 @@ chunks-more wide maxval count samples part before rest whole said read passes fe
     chunks-read wide maxval count samples part before rest true whole said read passes few
     ∙ with_front-all samples (samples_of wide part) _
 
--- .. or one over it
+-- .. or one is over it
 pub chunks-over : (wide : Bool) (maxval count : ℕ) (samples part before rest : List ℕ) (whole : Take (List ℕ))
     → whole ≡ with_front samples (samples_at wide maxval (count - length samples) before) → before ≡ part ++ rest
     → are_within maxval (samples_of wide part) ≡ false → length (samples_of wide part) ≤ count - length samples → whole ≡ Err SampleTooLarge
@@ -197,7 +197,7 @@ chunks-end wide maxval count held samples chunk rest whole said none more few na
     ∙ ap (λ bytes. with_front samples (samples_at wide maxval (count - length samples) bytes)) (append-nil (take held chunk))
     ∙ ap (with_front samples) (samples_at-short wide maxval (count - length samples) (take held chunk) (omega arith) (held-short wide chunk held few narrow))
 
--- all samples are there
+-- all samples were read
 pub chunks-all : (wide : Bool) (maxval count : ℕ) (samples before : List ℕ) (whole : Take (List ℕ))
     → whole ≡ with_front samples (samples_at wide maxval (count - length samples) before) → count ≤ length samples → whole ≡ Ok (samples, before)
 unfolding samples_at
@@ -212,7 +212,7 @@ are_within-append maxval (s ∷ front) back all more =
     let here = and_parts (leb s maxval) (are_within maxval front) all in
     and_from (leb s maxval) (are_within maxval (front ++ back)) here.0 (are_within-append maxval front back here.1 more)
 
--- a chunk has no more samples than are left, and brings the loop nearer its end
+-- a chunk has no more samples than are left, and the loop comes nearer to its end
 pub part-few : (wide : Bool) (chunk : List ℕ) (filled left : ℕ) → filled ≤ length chunk → filled ≤ byte_count wide left → length (samples_of wide (take filled chunk)) ≤ left
 part-few wide chunk filled left within few =
     chunk-few wide left _ _ filled (chunk-size wide (take filled chunk) ∙ length-take-le filled chunk within) few
@@ -239,7 +239,7 @@ part-last wide chunk kept filled left begun within few room same last =
     let count : begun ≡ length (begun_of wide (take filled chunk)) = sym (length-take-le begun kept room) ∙ ap length same in
     count ∙ chunk-last wide left _ _ filled (chunk-size wide (take filled chunk) ∙ length-take-le filled chunk within) few last
 
--- what is within maxval all together is so one by one
+-- if all samples are within maxval, each is
 pub within-each : (maxval : ℕ) (samples : List ℕ) → are_within maxval samples ≡ true → AllByRecursion (λ sample. sample ≤ maxval) samples
 within-each maxval [] all = tt
 within-each maxval (s ∷ samples) all =

@@ -1,4 +1,4 @@
--- Samples within maxval, and pictures of such.
+-- Samples within maxval, and pictures of such samples.
 use Rattle.std.proofs.Common.{◌≡◌, ◌==◌, ◌&&◌, ℕ, suc, zero, ◌+◌, ◌<◌, ◌≤◌, ◌∙◌, sym, ap, Bool, true, false, cond, not, List, [], ◌∷◌, length, None, Some, refl, arith, nat_lt, fold, max, drop, get_or}
 use lib.Pointwise.{pointwise}
 use Rattle.std.specs.List.{position, prefix_len, AllByRecursion}
@@ -13,7 +13,7 @@ step : (m x : ℕ) (xs : List ℕ) (over : Bool) → nat_lt m x ≡ over → suc
 step m x xs true e h = absurd (omega arith)
 step m x xs false e h = (ltb-false m x e, omega arith)
 
--- where the search goes through to the end, each sample is within
+-- if the search finds no sample over maxval, each is within it
 through : (m : ℕ) (xs : List ℕ) → length xs ≤ front m xs → AllByRecursion (λ s. s ≤ m) xs
 through m [] h = tt
 through m (x ∷ xs) h = let found = step m x xs (nat_lt m x) refl h in (found.0, through m xs found.1)
@@ -30,7 +30,7 @@ within_step : (m x : ℕ) (xs : List ℕ) (over : Bool) → nat_lt m x ≡ over 
 within_step m x xs true e within h = let above = ltb-true m x e in absurd (omega arith)
 within_step m x xs false e within h = omega arith
 
--- where the greatest is within, the search goes through to the end
+-- if the greatest sample is within maxval, the search finds none over it
 within_greatest : (m : ℕ) (xs : List ℕ) (g : ℕ) → fold max g xs ≤ m → (g ≤ m) × (length xs ≤ front m xs)
 within_greatest m [] g h = (h, omega arith)
 within_greatest m (x ∷ xs) g h =
@@ -44,7 +44,7 @@ not_found false i h = refl
 pub none_above_greatest : (m : ℕ) (xs : List ℕ) → fold max 0 xs ≤ m → position (λ s. nat_lt m s) xs ≡ None
 none_above_greatest m xs h = not_found _ _ (le-ltb _ _ (within_greatest m xs 0 h).1)
 
--- a picture that only a sample can keep from being a frame is one where no sample is found over maxval
+-- a picture that is a frame unless a sample is over maxval is one if none is found
 pub whole_frame : (f : Picture) → IsFormed f → position (λ s. nat_lt f.maxval s) f.samples ≡ None → IsFrame f
 whole_frame f formed none = record {
   some_width = formed.some_width;

@@ -1,4 +1,4 @@
--- What the grammar says of fields and headers is read.
+-- Fields and headers of the grammar are read.
 use Rattle.std.proofs.Common.{◌≡◌, ℕ, suc, ◌+◌, ◌-◌, Bool, true, false, leb, IsTrue, List, [], ◌∷◌, ◌++◌, length, Some, Result, Ok, refl, ap, ◌∙◌, arith, length-append, append_assoc}
 use Rattle.std.proofs.lemmas.Bool.{lt-ltb, le-leb, false_from_ne_true, both_ways}
 use Rattle.ls_frame.specs.declared.frame.Kind.{Kind}
@@ -18,7 +18,7 @@ use Rattle.ls_frame.proofs.HeadingLaws.{maxval_at, height_at, width_at, fields_a
 
 -- ---- numbers
 
--- white space is no digit
+-- white space isn't a digit
 no_digit_if_white : (c : ℕ) → IsTrue (is_white c) → is_digit c ≡ false
 no_digit_if_white c is = false_from_ne_true (is_digit c) (λ digit. both_ways (is_white c) (white_no_digit c digit) is)
 
@@ -47,7 +47,7 @@ in_range_passes fault n range =
     let same : capped n ≡ n = omega arith in
     rw (same, lt-ltb 0 n range.some, le-leb n greatest range.most) refl
 
--- what a field says after the white space that begins it, with the white space after
+-- a field's bytes after the white space that begins it, and the white space after the field
 abbrev pub field_rest : Field → ℕ → List ℕ
 field_rest f white = blanks_bytes f.gap.blanks ++ (f.digits ++ white ∷ [])
 
@@ -60,13 +60,13 @@ field_number_at f white allowed left bytes rest lawful after taken =
     ap (λ bs. number_at allowed bs) (taken.whole ∙ regrouped)
     ∙ number_passes f.gap.blanks f.digits rest white allowed left lawful.gap.blanks lawful.digits after (omega arith)
 
--- and in its range it is read
+-- and if it is in its range, the field is read
 pub field_passes : (fault : NetpbmFault) (f : Field) (white allowed left : ℕ) (bytes rest : List ℕ) → IsField f → InRange (field_number f) → IsTrue (is_white white) → Takes allowed bytes (field_rest f white) left rest
     → in_range_at fault allowed bytes ≡ Ok (field_number f, left, rest)
 field_passes fault f white allowed left bytes rest lawful range after taken =
     rw (field_number_at f white allowed left bytes rest lawful after taken, in_range_passes fault (field_number f) range) refl
 
--- ---- the header, one field after the other
+-- ---- the header, field by field
 
 -- the magic is read
 magic_passes : (kind : Kind) (first allowed left : ℕ) (bytes rest : List ℕ) → suc allowed ≡ most_heading → Takes most_heading (first ∷ bytes) (magic kind) left rest → magic_at first allowed bytes ≡ Ok (kind, left, rest)
@@ -98,11 +98,11 @@ at_width kind white first allowed left bytes rest all is taken =
     after_magic kind first allowed (suc left) bytes (white ∷ rest) all (takes_last (magic kind) white taken)
     ∙ ap (λ r. r >>= λ found. width_at kind found.1 found.2) (white_passes white left rest is)
 
--- a field after others, from its first white space on
+-- bytes and a field, split after the field's first white space
 pub field_as : (before : List ℕ) (f : Field) (white : ℕ) → before ++ field_bytes f ++ white ∷ [] ≡ (before ++ f.gap.first ∷ []) ++ field_rest f white
 field_as before f white = simp append_assoc
 
--- after a width this is left to read, from the width on
+-- if a width is taken, reading the header is reading on from that width
 pub in_width_at : (kind : Kind) (w : Field) (white first allowed left : ℕ) (bytes rest : List ℕ) → suc allowed ≡ most_heading → IsField w → Takes most_heading (first ∷ bytes) (magic kind ++ field_bytes w ++ white ∷ []) left rest
     → heading_at first allowed bytes ≡ width_at kind (length (field_rest w white) + left) (field_rest w white ++ rest)
 in_width_at kind w white first allowed left bytes rest all lawful taken =
@@ -117,7 +117,7 @@ at_height kind w white first allowed left bytes rest all width is taken =
     ∙ ap (λ r. r >>= λ found. height_at kind found.0 found.1 found.2)
     (field_passes SizeOutOfRange w white (length (field_rest w white) + left) left (field_rest w white ++ rest) rest width.field width.range is (takes_second (field_rest w white) left rest))
 
--- after a height this is left to read, from the height on
+-- if a height is taken, reading the header is reading on from that height
 pub in_height_at : (kind : Kind) (w h : Field) (white first allowed left : ℕ) (bytes rest : List ℕ) → suc allowed ≡ most_heading → IsWidth w → IsField h
     → Takes most_heading (first ∷ bytes) (magic kind ++ field_bytes w ++ field_bytes h ++ white ∷ []) left rest
     → heading_at first allowed bytes ≡ height_at kind (field_number w) (length (field_rest h white) + left) (field_rest h white ++ rest)
@@ -130,7 +130,7 @@ in_height_at kind w h white first allowed left bytes rest all width lawful taken
 pub test_passes : {A : Type 0} (test : Bool) (fault : NetpbmFault) (next : Result A NetpbmFault) → test ≡ true → (wanted test fault >>= λ passed. next) ≡ next
 test_passes test fault next is = rw is refl
 
--- after the height its number and the width's are tested
+-- after the height the number of samples is tested
 pub at_count : (kind : Kind) (w h : Field) (white first allowed left : ℕ) (bytes rest : List ℕ) → suc allowed ≡ most_heading → IsWidth w → IsField h → InRange (field_number h) → IsTrue (is_white white)
     → Takes most_heading (first ∷ bytes) (magic kind ++ field_bytes w ++ field_bytes h ++ white ∷ []) left rest
     → heading_at first allowed bytes ≡ (wanted (leb (sample_count kind (field_number w) (field_number h)) most_samples) SizeOutOfRange >>= λ few. maxval_at kind (field_number w) (field_number h) left rest)
@@ -147,7 +147,7 @@ at_maxval kind w h white first allowed left bytes rest all size is taken =
     at_count kind w h white first allowed left bytes rest all size.width size.field size.range is taken
     ∙ test_passes _ SizeOutOfRange (maxval_at kind (field_number w) (field_number h) left rest) (le-leb _ most_samples size.few)
 
--- after a maxval this is left to read, from the maxval on
+-- if a maxval is taken, reading the header is reading on from that maxval
 pub in_maxval_at : (kind : Kind) (w h m : Field) (white first allowed left : ℕ) (bytes rest : List ℕ) → suc allowed ≡ most_heading → IsSize kind w h → IsField m
     → Takes most_heading (first ∷ bytes) (magic kind ++ field_bytes w ++ field_bytes h ++ field_bytes m ++ white ∷ []) left rest
     → heading_at first allowed bytes ≡ maxval_at kind (field_number w) (field_number h) (length (field_rest m white) + left) (field_rest m white ++ rest)
@@ -156,9 +156,9 @@ in_maxval_at kind w h m white first allowed left bytes rest all size lawful take
     at_maxval kind w h m.gap.first first allowed (length (field_rest m white) + left) bytes (field_rest m white ++ rest) all size lawful.gap.first
     (takes_first (before ++ m.gap.first ∷ []) (field_rest m white) (takes_as taken (field_as before m white)))
 
--- ---- whole headers
+-- ---- complete headers
 
--- what a heading says
+-- the kind, size and maxval of a heading
 abbrev pub header_of : Heading → Header
 header_of h = record { kind = h.kind; width = field_number h.width; height = field_number h.height; maxval = field_number h.maxval }
 

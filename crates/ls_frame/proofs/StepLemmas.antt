@@ -1,4 +1,4 @@
--- One byte more of a header, for each loop that reads it.
+-- One more byte of a header, for each loop that reads one.
 use Rattle.std.proofs.Common.{◌≡◌, ℕ, zero, suc, ◌≤◌, Bool, true, false, cond, not, List, [], ◌∷◌, Ok, Err, refl, arith, leb}
 use Rattle.std.proofs.lemmas.Bool.{eq-eqb, ne_eqb, leb-true, and_parts, or_from}
 use Rattle.ls_frame.specs.declared.netpbm.NetpbmFault.{NetpbmFault}
@@ -56,7 +56,7 @@ gap_at-byte false zero bytes = refl
 gap_at-byte false (suc allowed) [] = refl
 gap_at-byte false (suc allowed) (c ∷ bytes) = refl
 
--- a comment goes on to its line end
+-- a comment continues up to its line end
 comment_step : (end : Bool) (allowed : ℕ) (bytes : List ℕ) → cond end (gap_at false allowed bytes) (gap_at true allowed bytes) ≡ gap_at (not end) allowed bytes
 comment_step true allowed bytes = refl
 comment_step false allowed bytes = refl
@@ -66,7 +66,7 @@ pub gap_at-comment : (allowed c allowed' : ℕ) (bytes bytes' : List ℕ) → by
 unfolding gap_step
 gap_at-comment allowed c allowed' bytes bytes' found = rw (gap_at-byte true allowed bytes, found) (comment_step (is_line_end c) allowed' bytes')
 
--- of white space, `#` and digits no two have a character in common
+-- no character is two of white space, `#` and a digit
 white_no_hash : (c : ℕ) → c ≡ 35 → is_white c ≡ false
 white_no_hash c h = rw h refl
 

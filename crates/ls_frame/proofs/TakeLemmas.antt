@@ -1,4 +1,4 @@
--- Bytes taken off the front, where reading stops after them, and what steps in a row come to.
+-- Bytes taken off the front, where reading stops after them, and the outcome of several steps.
 use Rattle.std.proofs.Common.{◌≡◌, ℕ, suc, ◌+◌, ◌-◌, Bool, true, false, List, [], ◌∷◌, ◌++◌, length, Result, Ok, Err, MatchResult, refl, sym, ap, ◌∙◌, arith, length-append, append_assoc, append-nil}
 use Rattle.ls_frame.specs.declared.netpbm.NetpbmFault.{NetpbmFault}
 use Rattle.ls_frame.specs.Faults.{Due, allows, fault_at, BreaksOff, too_long, ends, refuses}
@@ -6,7 +6,7 @@ use Rattle.ls_frame.specs.View.Reading.{◌>>=◌, wanted, byte_at}
 
 -- ---- bytes taken
 
--- of these bytes, with so many allowed, `front` is taken, and `rest` and `left` are left
+-- `front` is taken off `bytes`, which leaves `rest`; `left` of the `allowed` bytes are still allowed
 pub record Takes (allowed : ℕ) (bytes front : List ℕ) (left : ℕ) (rest : List ℕ) : Type 0 where
   pub whole : bytes ≡ front ++ rest
   pub room_is : allowed ≡ length front + left
@@ -31,7 +31,7 @@ takes_more {front = front} {back = back} {rest = rest} first second = record {
   room_is = simp length-append (let e = first.room_is in let f = second.room_is in omega arith);
 }
 
--- the same bytes by another name
+-- the same for an equal list of bytes
 pub takes_as : {allowed left : ℕ} {bytes front front' rest : List ℕ} → Takes allowed bytes front left rest → front ≡ front' → Takes allowed bytes front' left rest
 takes_as taken same = rw (← same) taken
 
@@ -65,13 +65,13 @@ stops_after {front = front} {back = back} taken (ends whole some is) =
 stops_after {front = front} {back = back} taken (refuses c rest whole some not_allowed is) =
     refuses c rest (taken.whole ∙ ap (λ bs. front ++ bs) whole ∙ sym (append_assoc front back (c ∷ rest))) (simp length-append (let e = taken.room_is in omega arith)) not_allowed is
 
--- the same bytes by another name
+-- the same for an equal list of bytes
 pub stops_as : {allowed : ℕ} {bytes front front' : List ℕ} {d : Due} {fault : NetpbmFault} → BreaksOff allowed bytes front d fault → front ≡ front' → BreaksOff allowed bytes front' d fault
 stops_as stops same = rw (← same) stops
 
 -- ---- where reading stops, seen from there
 
--- reading has no byte here, or one that is refused
+-- here no byte may be read, or there is none, or it isn't allowed
 pub data StopsHere (allowed : ℕ) (bytes : List ℕ) (d : Due) (fault : NetpbmFault) : Type 0 where
   no_byte : byte_at allowed bytes ≡ Err fault → StopsHere allowed bytes d fault
   refused : (c left : ℕ) (rest : List ℕ) → byte_at allowed bytes ≡ Ok (c, left, rest) → allows d c ≡ false → fault ≡ fault_at d → StopsHere allowed bytes d fault
@@ -83,7 +83,7 @@ pub record StopsAfter (allowed : ℕ) (bytes front : List ℕ) (d : Due) (fault 
   pub takes : Takes allowed bytes front left rest
   pub here : StopsHere left rest d fault
 
--- where it stops, `front` was taken
+-- if reading stops after `front`, `front` was taken
 pub stops_seen : {allowed : ℕ} {bytes front : List ℕ} {d : Due} {fault : NetpbmFault} → BreaksOff allowed bytes front d fault → StopsAfter allowed bytes front d fault
 stops_seen (too_long rest whole all is) = record { left = 0; rest = rest; takes = record { whole = whole; room_is = omega arith }; here = no_byte (rw is refl) }
 stops_seen {allowed = allowed} {front = front} (ends whole some is) = record {
@@ -99,15 +99,15 @@ stops_seen {allowed = allowed} {front = front} (refuses c rest whole some not_al
   here = refused c (allowed - suc (length front)) rest refl not_allowed is;
 }
 
--- ---- steps in a row
+-- ---- several steps
 
--- what a second step gives, and how the first may fail
+-- two steps: the outcome of the second, unless the first fails
 pub outcome_of_both : {A B : Type 0} (P : A → Type 0) (Q : NetpbmFault → Type 0) (P' : B → Type 0) (Q' : NetpbmFault → Type 0) (r : Result A NetpbmFault) (f : A → Result B NetpbmFault)
     → MatchResult r P Q → ((x : A) → P x → MatchResult (f x) P' Q') → ((fault : NetpbmFault) → Q fault → Q' fault) → MatchResult (r >>= f) P' Q'
 outcome_of_both P Q P' Q' (Ok x) f first second failed = second x first
 outcome_of_both P Q P' Q' (Err fault) f first second failed = failed fault first
 
--- the same step with weaker words for it
+-- the same step with a weaker outcome
 pub outcome_weaker : {A : Type 0} (P : A → Type 0) (Q : NetpbmFault → Type 0) (P' : A → Type 0) (Q' : NetpbmFault → Type 0) (r : Result A NetpbmFault)
     → MatchResult r P Q → ((x : A) → P x → P' x) → ((fault : NetpbmFault) → Q fault → Q' fault) → MatchResult r P' Q'
 outcome_weaker P Q P' Q' (Ok x) outcome found failed = found x outcome

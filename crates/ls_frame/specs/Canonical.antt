@@ -1,4 +1,4 @@
--- The text that is written of a frame, after the pgm and ppm pages: magic, LF, width, blank, height, LF, maxval, LF,
+-- The text that a frame is written as, after the pgm and ppm pages: magic, LF, width, blank, height, LF, maxval, LF,
 -- raster. Numbers are decimal without leading zeros, and there is no comment.
 use Rattle.std.specs.Prelude.{ℕ, ◌/◌, ◌%◌, Bool, true, false, List, [], ◌∷◌, ◌++◌, flat_map, codes, decimal}
 use Rattle.ls_frame.specs.Picture.{Picture}
@@ -12,7 +12,7 @@ abbrev pub sample_bytes : Bool → ℕ → List ℕ
 sample_bytes false sample = sample ∷ []
 sample_bytes true sample = sample / 256 ∷ sample % 256 ∷ []
 
--- those of samples, one after the other
+-- the bytes of samples in sequence
 unfoldable pub raster_bytes : Bool → List ℕ → List ℕ
 raster_bytes wide samples = flat_map (sample_bytes wide) samples
 

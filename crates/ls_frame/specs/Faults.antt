@@ -1,4 +1,4 @@
--- How bytes break the grammar of an image: its legal parts, and then what breaks the next one.
+-- How bytes break the grammar of an image: legal parts, followed by a part that isn't.
 use Rattle.std.specs.Prelude.{◌≡◌, ℕ, ◌<◌, ◌≤◌, ◌||◌, ◌==◌, not, Bool, true, false, IsTrue, List, [], ◌∷◌, ◌++◌, length, ◌⊎◌, Result, Ok, Err}
 use Rattle.std.specs.List.{AllByRecursion}
 use Rattle.ls_frame.specs.declared.frame.Kind.{Kind}
@@ -7,7 +7,7 @@ use Rattle.ls_frame.specs.declared.netpbm.NetpbmFault.TheVariants.{BadMagic, Bad
 use Rattle.ls_frame.specs.Picture.{sample_count, most_samples}
 use Rattle.ls_frame.specs.Netpbm.{is_white, is_line_end, is_digit, is_hash, Gap, IsGap, gap_bytes, IsNumber, Field, IsField, field_bytes, field_number, magic, Heading, heading_bytes, IsHeading, most_heading, InRange, is_wide, IsSample, IsRaster, NoImage}
 
--- a fault of the bytes, and not of a device or of memory
+-- whether a fault is one of the bytes, and not of a device or of memory
 abbrev pub blames_bytes : NetpbmFault → Bool
 blames_bytes BadMagic = true
 blames_bytes BadHeader = true
@@ -19,7 +19,7 @@ blames_bytes Truncated = true
 blames_bytes Io = false
 blames_bytes NoMemory = false
 
--- a fault of the reader's device
+-- whether a fault is a failed read
 abbrev pub blames_device : NetpbmFault → Bool
 blames_device BadMagic = false
 blames_device BadHeader = false
@@ -31,7 +31,7 @@ blames_device Truncated = false
 blames_device Io = true
 blames_device NoMemory = false
 
--- a fault of memory
+-- whether a fault is a failed allocation
 abbrev pub blames_memory : NetpbmFault → Bool
 blames_memory BadMagic = false
 blames_memory BadHeader = false
@@ -43,19 +43,19 @@ blames_memory Truncated = false
 blames_memory Io = false
 blames_memory NoMemory = true
 
--- whether a call failed by its device
+-- whether a call failed because a read did
 abbrev pub failed_device : {X : Type 0} → Result X NetpbmFault → Bool
 failed_device (Ok x) = false
 failed_device (Err fault) = blames_device fault
 
--- whether a call failed since memory was refused
+-- whether a call failed because an allocation did
 abbrev pub failed_for_memory : {X : Type 0} → Result X NetpbmFault → Bool
 failed_for_memory (Ok x) = false
 failed_for_memory (Err fault) = blames_memory fault
 
--- ---- a header's beginnings
+-- ---- the beginning of a header
 
--- what may come after the beginning of a header
+-- what must come next after the beginning of a header
 pub data Due : Type 0 where
   letter : Due
   kind_digit : Due
@@ -72,7 +72,7 @@ allows blank_or_digit c = is_white c || is_hash c || is_digit c
 allows comment_text c = true
 allows digit_or_white c = is_digit c || is_white c
 
--- the fault of a byte that isn't allowed there
+-- the fault if the next byte isn't allowed
 abbrev pub fault_at : Due → NetpbmFault
 fault_at letter = BadMagic
 fault_at kind_digit = BadMagic
@@ -81,7 +81,7 @@ fault_at blank_or_digit = BadHeader
 fault_at comment_text = BadHeader
 fault_at digit_or_white = BadHeader
 
--- The beginning of a field: a gap so far; a gap and an open comment; a gap and digits.
+-- The beginning of a field: a gap; a gap and a comment that isn't closed yet; a gap and digits.
 pub data Start : Type 0 where
   gap : Gap → Start
   open_comment : Gap → List ℕ → Start
@@ -102,8 +102,8 @@ start_due (gap g) = blank_or_digit
 start_due (open_comment g text) = comment_text
 start_due (digits g ds) = digit_or_white
 
--- The beginning of a header: the magic or less, or the magic, whole fields within their ranges, and a start. Digits
--- with nothing after them are a start, and not a whole field: a digit may follow.
+-- The beginning of a header: the magic or less; or the magic, complete fields within their ranges, and the beginning of
+-- the next field. Digits with nothing after them are such a beginning, and not a complete field: a digit may follow.
 pub data Beginning : Type 0 where
   empty : Beginning
   one_letter : Beginning
@@ -112,7 +112,7 @@ pub data Beginning : Type 0 where
   in_height : Kind → Field → Start → Beginning
   in_maxval : Kind → Field → Field → Start → Beginning
 
--- a width, and a width with a height, that passed their test
+-- a width within its range; below, a width and a height within theirs
 pub record IsWidth (w : Field) : Type 0 where
   pub field : IsField w
   pub range : InRange (field_number w)
@@ -149,21 +149,21 @@ due (in_maxval kind w h s) = start_due s
 
 -- ---- where reading stops
 
--- Reading stops after `front`, where the header may have `allowed` more bytes: these are used up, or the input ends,
--- or a byte follows that may not stand there.
+-- Reading stops after `front`, if the header may have `allowed` bytes: all of these have been read, or the input ends,
+-- or the next byte isn't allowed there.
 pub data BreaksOff (allowed : ℕ) (bytes front : List ℕ) (d : Due) (fault : NetpbmFault) : Type 0 where
   too_long : (rest : List ℕ) → bytes ≡ front ++ rest → length front ≡ allowed → fault ≡ HeaderTooLong → BreaksOff allowed bytes front d fault
   ends : bytes ≡ front → length front < allowed → fault ≡ Truncated → BreaksOff allowed bytes front d fault
   refuses : (c : ℕ) (rest : List ℕ) → bytes ≡ front ++ c ∷ rest → length front < allowed → allows d c ≡ false → fault ≡ fault_at d → BreaksOff allowed bytes front d fault
 
--- It stops in a header, and some byte was there.
+-- Reading stops in the header, and there is at least one byte.
 pub record StopsInHeading (bytes : List ℕ) (fault : NetpbmFault) : Type 0 where
   pub some : 0 < length bytes
   pub beginning : Beginning
   pub lawful : IsBeginning beginning
   pub stops : BreaksOff most_heading bytes (beginning_bytes beginning) (due beginning) fault
 
--- ---- numbers out of range, seen with the white space after them
+-- ---- numbers out of range, followed by white space
 
 pub record BreaksWidth (bytes : List ℕ) : Type 0 where
   pub kind : Kind
@@ -205,7 +205,7 @@ pub record BreaksMaxval (bytes : List ℕ) : Type 0 where
 
 -- ---- rasters
 
--- a header and samples within maxval, fewer than the size asks for, and then rest
+-- a header, samples within maxval, fewer than the size needs, and then `rest`
 pub record BeginsRaster (bytes rest : List ℕ) (heading : Heading) : Type 0 where
   pub raster : List ℕ
   pub samples : List ℕ
@@ -215,12 +215,12 @@ pub record BeginsRaster (bytes rest : List ℕ) (heading : Heading) : Type 0 whe
   pub within : AllByRecursion (λ sample. sample ≤ field_number heading.maxval) samples
   pub more : length samples < sample_count heading.kind (field_number heading.width) (field_number heading.height)
 
--- the bytes of a sample
+-- the number of bytes of a sample
 abbrev pub sample_size : Bool → ℕ
 sample_size false = 1
 sample_size true = 2
 
--- the raster ends before the next sample does
+-- the input ends before the next sample does
 pub record EndsInRaster (bytes : List ℕ) : Type 0 where
   pub heading : Heading
   pub rest : List ℕ
@@ -239,7 +239,7 @@ pub record ExceedsMaxval (bytes : List ℕ) : Type 0 where
 
 -- ---- the faults
 
--- The bytes break with this fault.
+-- The bytes break the grammar with this fault.
 abbrev pub Breaks : List ℕ → NetpbmFault → Type 0
 Breaks bytes BadMagic = StopsInHeading bytes BadMagic
 Breaks bytes BadHeader = StopsInHeading bytes BadHeader
@@ -251,7 +251,7 @@ Breaks bytes Truncated = StopsInHeading bytes Truncated ⊎ EndsInRaster bytes
 Breaks bytes Io = ⊥
 Breaks bytes NoMemory = ⊥
 
--- The bytes break with this fault, and no image stands at their front.
+-- The bytes break the grammar with this fault, and don't begin with an image.
 pub record IsBroken (bytes : List ℕ) (fault : NetpbmFault) : Type 0 where
   pub breaks : Breaks bytes fault
   pub no_image : NoImage bytes

@@ -1,7 +1,7 @@
 -- The grammar of a Netpbm image, after the pgm and ppm pages, for the binary forms:
 -- magic, gap, width, gap, height, gap, maxval, one white space character, raster.
--- Narrower than the pages: a comment stands in a gap alone, after white space, and touches neither the magic nor a
--- number. The recorder's own limits are those on the sides, on the count of samples and on the header's length.
+-- Narrower than the pages: a comment may only stand in a gap, after white space, and touches neither the magic nor a
+-- number. The recorder's own limits are those on the sides, on the number of samples and on the header's length.
 use Rattle.std.specs.Prelude.{◌≡◌, ℕ, ◌+◌, ◌-◌, ◌*◌, ◌<◌, ◌≤◌, ◌&&◌, ◌||◌, ◌==◌, not, Bool, true, false, nat_le, IsTrue, List, [], ◌∷◌, ◌++◌, length, fold, flat_map}
 use Rattle.std.specs.List.{AllByRecursion}
 use Rattle.ls_frame.specs.declared.frame.Kind.{Kind}
@@ -27,7 +27,7 @@ is_hash c = c == 35
 
 -- ---- gaps
 
--- A part of a gap: a white space character, or a comment, `#`, with its text and the line end that closes it.
+-- A part of a gap: a white space character, or a comment, which is `#`, its text and the line end that closes it.
 pub data Blank : Type 0 where
   white : ℕ → Blank
   comment : List ℕ → ℕ → Blank
@@ -40,7 +40,7 @@ abbrev pub blank_bytes : Blank → List ℕ
 blank_bytes (white c) = c ∷ []
 blank_bytes (comment text end) = 35 ∷ (text ++ end ∷ [])
 
--- the bytes of parts that follow one another
+-- the bytes of several parts in sequence
 abbrev pub blanks_bytes : List Blank → List ℕ
 blanks_bytes blanks = flat_map blank_bytes blanks
 
@@ -58,12 +58,12 @@ gap_bytes gap = gap.first ∷ blanks_bytes gap.blanks
 
 -- ---- numbers
 
--- a number is one or more digits, perhaps with zeros in front
+-- a number is one or more digits; leading zeros are allowed
 pub record IsNumber (digits : List ℕ) : Type 0 where
   pub some : 0 < length digits
   pub each : AllByRecursion (λ c. IsTrue (is_digit c)) digits
 
--- what digits stand for
+-- the value of decimal digits
 abbrev pub decimal_value : List ℕ → ℕ
 decimal_value digits = fold (λ n digit. 10 * n + (digit - 48)) 0 digits
 
@@ -99,7 +99,7 @@ pub record Heading : Type 0 where
 abbrev pub heading_bytes : Heading → List ℕ
 heading_bytes h = magic h.kind ++ field_bytes h.width ++ field_bytes h.height ++ field_bytes h.maxval ++ h.last ∷ []
 
--- the most bytes of a header, from the magic through the white space character after maxval
+-- the maximum length of a header in bytes, from the magic through the white space character after maxval
 abbrev pub most_heading : ℕ
 most_heading = 65536
 
@@ -119,26 +119,26 @@ pub record IsHeading (h : Heading) : Type 0 where
   pub maxval_range : InRange (field_number h.maxval)
   pub short : length (heading_bytes h) ≤ most_heading
 
--- The bytes are a whole legal header, and nothing after it.
+-- The bytes are a complete, legal header, with nothing after it.
 abbrev pub IsWholeHeading : List ℕ → Type 0
 IsWholeHeading bytes = (heading : Heading) × IsHeading heading × (bytes ≡ heading_bytes heading)
 
--- A whole legal header stands at the front.
+-- The bytes begin with a complete, legal header.
 abbrev pub BeginsWithHeading : List ℕ → Type 0
 BeginsWithHeading bytes = (front : List ℕ) × (rest : List ℕ) × (bytes ≡ front ++ rest) × IsWholeHeading front
 
 -- ---- the raster
 
--- samples of a maxval from 256 on take two bytes, others one
+-- samples have two bytes each if maxval is 256 or more, else one
 abbrev pub is_wide : ℕ → Bool
 is_wide maxval = nat_le 256 maxval
 
--- what bytes say as one sample: two go most significant first
+-- the bytes encode the sample: one byte, or two with the most significant first
 abbrev pub IsSample : Bool → List ℕ → ℕ → Type 0
 IsSample false bytes sample = bytes ≡ sample ∷ []
 IsSample true bytes sample = (high : ℕ) × (low : ℕ) × (bytes ≡ high ∷ low ∷ []) × (sample ≡ 256 * high + low)
 
--- the bytes say the samples one after the other
+-- the bytes encode the samples in sequence
 abbrev pub IsRaster : Bool → List ℕ → List ℕ → Type 0
 IsRaster wide raster [] = raster ≡ []
 IsRaster wide raster (sample ∷ samples) =
@@ -146,7 +146,7 @@ IsRaster wide raster (sample ∷ samples) =
 
 -- ---- the image
 
--- The bytes are a header and a raster, and these say the picture, which is a frame.
+-- The bytes are a header and a raster that encode the picture, which is a frame.
 pub record IsImageOf (bytes : List ℕ) (f : Picture) : Type 0 where
   pub heading : Heading
   pub raster : List ℕ
@@ -159,6 +159,6 @@ pub record IsImageOf (bytes : List ℕ) (f : Picture) : Type 0 where
   pub samples : IsRaster (is_wide f.maxval) raster f.samples
   pub frame : IsFrame f
 
--- no image stands at the front
+-- the bytes don't begin with an image
 abbrev pub NoImage : List ℕ → Type 0
 NoImage bytes = (front rest : List ℕ) (f : Picture) → bytes ≡ front ++ rest → IsImageOf front f → ⊥

@@ -3,7 +3,7 @@ use Rattle.std.specs.Prelude.{ℕ, zero, suc, ◌+◌, ◌*◌, ◌/◌, ◌^◌
 use Rattle.ls_frame.specs.declared.presets.PresetFault.{PresetFault}
 use Rattle.ls_frame.specs.declared.presets.PresetFault.TheVariants.{MaxvalRange, T1Range, T2Range, T3Range, ResetRange}
 
--- What a scan is coded with.
+-- The coding parameters of a scan.
 pub record Parameters : Type 0 where
   pub maxval : ℕ
   pub t1 : ℕ
@@ -15,32 +15,32 @@ pub record Parameters : Type 0 where
 abbrev pub range_of : ℕ → ℕ
 range_of maxval = maxval + 1
 
--- the first exponent, of tries of them from q on, whose power of two is at least n
+-- the first exponent from q on whose power of two is at least n; after this many tries, the exponent reached by then
 abbrev pub first_reaching : ℕ → ℕ → ℕ → ℕ
 first_reaching zero q n = q
 first_reaching (suc tries) q n = if nat_le n (2 ^ q) then q else first_reaching tries (suc q) n
 
--- the least exponent whose power of two is at least n, for n up to 2 ^ 16: the upper whole number of log2 n
+-- for n up to 2 ^ 16, the least exponent whose power of two is at least n: log2 n rounded up
 unfoldable pub ceil_log2 : ℕ → ℕ
 ceil_log2 n = first_reaching 16 0 n
 
--- qbpp (A.2.1): the bits of a reduced error
+-- qbpp (A.2.1): the number of bits of a mapped error
 abbrev pub qbpp_of : ℕ → ℕ
 qbpp_of maxval = ceil_log2 (range_of maxval)
 
--- bpp (A.2.1): the bits of a sample, at least 2
+-- bpp (A.2.1): the number of bits of a sample, at least 2
 abbrev pub bpp_of : ℕ → ℕ
 bpp_of maxval = max 2 (ceil_log2 (maxval + 1))
 
--- LIMIT (A.2.1): the longest word of a regular sample, in bits
+-- LIMIT (A.2.1): the maximum length of a code word in regular mode, in bits
 abbrev pub limit_of : ℕ → ℕ
 limit_of maxval = 2 * (bpp_of maxval + max 8 (bpp_of maxval))
 
--- CLAMP_i of C.2.4.1.1.1: v, or low if v is outside of low to maxval
+-- CLAMP_i of C.2.4.1.1.1: v, or low if v is outside low to maxval
 abbrev pub clamped_threshold : ℕ → ℕ → ℕ → ℕ
 clamped_threshold v low maxval = if nat_lt maxval v || nat_lt v low then low else v
 
--- FACTOR of C.2.4.1.1.1
+-- FACTOR of C.2.4.1.1.1, for a maxval from 128; below, for a smaller one
 abbrev pub large_factor : ℕ → ℕ
 large_factor maxval = (min maxval 4095 + 128) / 256
 
@@ -54,7 +54,7 @@ unclamped_thresholds maxval =
     then (large_factor maxval + 2, 4 * large_factor maxval + 3, 17 * large_factor maxval + 4)
     else (max 2 (3 / small_factor maxval), max 3 (7 / small_factor maxval), max 4 (21 / small_factor maxval))
 
--- the default thresholds (C.2.4.1.1.1), each clamped by the one before
+-- the default thresholds (C.2.4.1.1.1), each clamped to the range from the one before (1 for T1) to maxval
 abbrev pub default_t1 : ℕ → ℕ
 default_t1 maxval = clamped_threshold (unclamped_thresholds maxval).0 1 maxval
 
@@ -68,7 +68,7 @@ default_t3 maxval = clamped_threshold (unclamped_thresholds maxval).2 (default_t
 abbrev pub default_reset : ℕ
 default_reset = 64
 
--- the parameters of a codestream that says nothing of them
+-- the default parameters for a maxval, which apply if a codestream doesn't specify them (C.2.4.1.1)
 unfoldable pub default_parameters : ℕ → Parameters
 default_parameters maxval = record {
   maxval = maxval;
@@ -91,7 +91,7 @@ pub record IsLegal (p : Parameters) : Type 0 where
   pub some_reset : 3 ≤ p.reset
   pub reset : p.reset ≤ max 255 p.maxval
 
--- what keeps parameters from being legal: the first of these that is so
+-- why parameters aren't legal: the first of these faults that they have
 abbrev pub preset_fault : Parameters → Option PresetFault
 preset_fault p =
     if p.maxval == 0 then Some MaxvalRange
@@ -101,11 +101,11 @@ preset_fault p =
     else (if nat_lt p.reset 3 || nat_lt (max 255 p.maxval) p.reset then Some ResetRange
     else None))))
 
--- the parameters if no fault was found
+-- the parameters, or the fault if there is one
 abbrev pub unless_fault : Option PresetFault → Parameters → Result Parameters PresetFault
 unless_fault None p = Ok p
 unless_fault (Some fault) p = Err fault
 
--- parameters each of which was given, a 0 too, or what keeps them from being legal
+-- the parameters as given (a 0 doesn't stand for a default), or why they aren't legal
 unfoldable pub explicit_parameters : Parameters → Result Parameters PresetFault
 explicit_parameters p = unless_fault (preset_fault p) p

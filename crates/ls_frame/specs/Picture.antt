@@ -7,7 +7,7 @@ use Rattle.ls_frame.specs.declared.frame.Kind.TheVariants.{Gray, Color}
 use Rattle.ls_frame.specs.declared.frame.FrameFault.{FrameFault}
 use Rattle.ls_frame.specs.declared.frame.FrameFault.TheVariants.{ZeroSize, TooManySamples, WrongCount, ZeroMaxval, SampleTooLarge}
 
--- A picture. Its samples go from the top row down, in a row from the left, in a pixel component by component.
+-- A picture. Its samples are ordered from the top row down, from left to right in a row, and by component in a pixel.
 pub record Picture : Type 0 where
   pub kind : Kind
   pub width : ℕ
@@ -15,23 +15,23 @@ pub record Picture : Type 0 where
   pub maxval : ℕ
   pub samples : List ℕ
 
--- how many samples a pixel has
+-- the number of samples per pixel
 abbrev pub components : Kind → ℕ
 components Gray = 1
 components Color = 3
 
--- how many samples a picture of this kind and size has
+-- the number of samples of a picture of this kind and size
 abbrev pub sample_count : Kind → ℕ → ℕ → ℕ
 sample_count kind width height = width * height * components kind
 
--- the most samples that a frame has, and the greatest side and sample
+-- the maximum number of samples of a frame; below, the greatest side, maxval and sample
 abbrev pub most_samples : ℕ
 most_samples = 2 ^ 28
 
 abbrev pub greatest : ℕ
 greatest = 65535
 
--- A picture that only a sample over maxval can keep from being a frame.
+-- A picture that is a frame unless a sample is over maxval.
 pub record IsFormed (f : Picture) : Type 0 where
   pub some_width : 0 < f.width
   pub width : f.width ≤ greatest
@@ -42,7 +42,7 @@ pub record IsFormed (f : Picture) : Type 0 where
   pub few : sample_count f.kind f.width f.height ≤ most_samples
   pub count : length f.samples ≡ sample_count f.kind f.width f.height
 
--- A frame is a picture with at least one sample and not too many, one for each place, each at most maxval.
+-- A frame: a picture with at least one sample and not too many, as many as its size needs, each at most maxval.
 pub record IsFrame (f : Picture) : Type 0 where
   pub some_width : 0 < f.width
   pub width : f.width ≤ greatest
@@ -54,7 +54,7 @@ pub record IsFrame (f : Picture) : Type 0 where
   pub count : length f.samples ≡ sample_count f.kind f.width f.height
   pub each : AllByRecursion (λ sample. sample ≤ f.maxval) f.samples
 
--- what keeps a picture from being a frame: the first of these that is so
+-- why a picture isn't a frame: the first of these faults that it has
 abbrev pub frame_fault : Picture → Option FrameFault
 frame_fault f =
     if f.width == 0 || f.height == 0 then Some ZeroSize
@@ -63,7 +63,7 @@ frame_fault f =
     else (if f.maxval == 0 then Some ZeroMaxval
     else option_map SampleTooLarge (position (λ sample. nat_lt f.maxval sample) f.samples))))
 
--- pictures are equal if they are alike in all five
+-- pictures are equal if all five of their parts are
 abbrev pub same_kind : Kind → Kind → Bool
 same_kind Gray Gray = true
 same_kind Gray Color = false

@@ -1,13 +1,13 @@
--- Parameters chosen one by one, the others by default.
+-- Parameters of which some are chosen and the others are defaults.
 use Rattle.std.specs.Prelude.{ℕ, ◌==◌, if◌then◌else◌}
 use Rattle.ls_frame.specs.declared.tuning.Tuning.{Tuning}
 use Rattle.ls_frame.specs.Parameters.{Parameters, default_parameters}
 
--- what was chosen, or the default if that is 0
+-- the chosen value, or the default if that is 0
 abbrev pub or_default : ℕ → ℕ → ℕ
 or_default chosen default = if chosen == 0 then default else chosen
 
--- the parameters that a tuning asks for at a maxval; each default goes by the maxval alone
+-- the parameters that a tuning asks for at a maxval; each default depends on the maxval alone
 unfoldable pub tuned : Tuning → ℕ → Parameters
 tuned t maxval = let defaults = default_parameters maxval in record {
   maxval = maxval;

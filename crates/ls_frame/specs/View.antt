@@ -1,4 +1,4 @@
--- How the code's values are seen as what the standard and the Netpbm pages speak of.
+-- How the code's values relate to the definitions after the standard and the Netpbm pages.
 pub mod Alike
 pub mod Chunks
 pub mod Devices

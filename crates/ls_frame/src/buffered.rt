@@ -1,4 +1,4 @@
-//! A reader that takes the bytes of another in chunks and hands them out.
+//! A reader that reads from an inner reader in chunks.
 ghost use Rattle.std.specs.Prelude.{◌≡◌, ◌<◌, ◌≤◌, [], ◌∷◌, ◌++◌, IfOk, OnOk, OnErr, Some, IfSome, IfNone, is_err, length, take};
 ghost use Rattle.std.specs.Io.KnownBytes.{Keeps, IsAtEnd, prepend_known};
 ghost use Rattle.ls_frame.specs.View.Devices.{count_after};
@@ -10,19 +10,19 @@ use std::alloc::{AllocError, Global};
 use std::io;
 use std::io::Read;
 
-/// The bytes of a chunk.
+/// The size of a chunk, in bytes.
 const CHUNK: usize = 65_536;
 
-/// A reader that takes the bytes of another in chunks of 64 KiB and hands them out, for callers that read byte by byte.
-/// Its errors are those of the other.
+/// A reader that reads from an inner reader in chunks of 64 KiB, for callers that read byte by byte. Its errors are
+/// those of the inner reader.
 ///
-/// It takes a chunk only once the one before was handed out, and hands a call on where the caller has room for a whole
-/// one. So bytes that came before a failure go out before it shows, and what is left is what is left of the chunk, and
-/// then of the other reader.
+/// It reads a chunk only once the chunk before is used up, and then passes a call on to the inner reader if the
+/// caller's buffer has 64 KiB or more. So the bytes before a failure are returned before the failure is, and the bytes
+/// left are those left in the chunk, followed by those left in the inner reader.
 #[derive(Drop)]
 pub struct Buffered<R> {
     inner: R,
-    /// Its bytes from `start` to `end` were taken and not yet handed out.
+    /// The bytes from `start` to `end` were read from `inner` or put back, and aren't returned yet.
     chunk: Vec<u8>,
     start: usize,
     end: usize,
@@ -34,8 +34,9 @@ pub struct Buffered<R> {
 impl<R: Read> Buffered<R> {
     ghost use Rattle.ls_frame.specs.View.Chunks.{in_chunk, inner_reader, left_in};
 
-    /// A reader of the bytes of another, of which none is taken yet. If an allocation fails, the other is dropped.
-    /// Later calls but `put_back` allocate nothing.
+    /// Makes a buffered reader with an empty chunk, and reads nothing from `inner` yet. If the allocation fails,
+    /// `inner` is dropped. Later calls don't allocate, except `put_back`, and `feed_until` and `feed_past` for the
+    /// bytes that they append.
     pub fn new(alloc: Global, inner: R) -> Result<Buffered<R>, AllocError>
     where
         R: Drop,
@@ -50,8 +51,8 @@ impl<R: Read> Buffered<R> {
         })
     }
 
-    /// Puts bytes before those that are left, as if they hadn't been handed out. If an allocation fails, nothing
-    /// changes. Chunks are from then on as large as all that is left, if that is over 64 KiB.
+    /// Puts bytes before those that are left, as if they hadn't been read. If an allocation fails, nothing changes.
+    /// Later chunks are then as large as `bytes` and the rest of the chunk together, if that is over 64 KiB.
     pub fn put_back(&mut self, alloc: Global, bytes: &[u8]) -> Result<(), AllocError>
         ensures back { OnOk result (left_in R.remaining self.new ≡ prepend_known bytes.now (left_in R.remaining self.old)) }
         ensures kept { OnErr result (left_in R.remaining self.new ≡ left_in R.remaining self.old) }
@@ -69,7 +70,7 @@ impl<R: Read> Buffered<R> {
         Ok(())
     }
 
-    /// Takes a chunk, if the one before was handed out.
+    /// Reads a chunk, if the chunk before is used up.
     fn fill(&mut self) -> io::Result<()>
         ensures known { Keeps (left_in R.remaining self.old) (left_in R.remaining self.new) }
         ensures end { OnOk result (in_chunk self.new ≡ [] → IsAtEnd (R.remaining (inner_reader self.new))) }
@@ -86,7 +87,7 @@ impl<R: Read> Buffered<R> {
 impl<R: Feed> Buffered<R> {
     ghost use Rattle.ls_frame.specs.View.Chunks.{in_chunk, inner_reader, left_in};
 
-    /// The same, by a read whose failure is counted.
+    /// As `fill`, but the inner reader counts a failure.
     fn fill_counted(&mut self) -> Result<(), Failed>
         ensures known { Keeps (left_in R.remaining self.old) (left_in R.remaining self.new) }
         ensures end { OnOk result (in_chunk self.new ≡ [] → IsAtEnd (R.remaining (inner_reader self.new))) }
@@ -104,14 +105,14 @@ impl<R: Feed> Buffered<R> {
 impl<R> Buffered<R> {
     ghost use Rattle.ls_frame.specs.View.Chunks.{in_chunk, inner_reader};
 
-    /// The other reader, to look at.
+    /// Borrows the inner reader.
     pub fn get_ref(&self) -> &R
         ensures { result.now ≡ inner_reader self.now }
     {
         &self.inner
     }
 
-    /// Hands out as many bytes as there are and as `buf` has room for.
+    /// Moves bytes from the chunk to `buf`, as many as are left and as fit, and returns their number.
     fn hand_out(&mut self, buf: &mut [u8]) -> usize
         ensures bound { result ≤ length buf.new }
         ensures size { length buf.new ≡ length buf.old }
@@ -126,8 +127,9 @@ impl<R> Buffered<R> {
         count
     }
 
-    /// Appends the front of the chunk, up to and with the first `mark` that no byte below `limit` follows and `most`
-    /// bytes at most, to `bytes`. Answers the last of them; there is none only if the chunk was handed out.
+    /// Moves bytes from the chunk to the end of `bytes`: at most `most`, which must be 1 or more, up to and including
+    /// the first `mark` that isn't followed by a byte below `limit`. Returns the last of them, or `None` if the chunk
+    /// is used up. If an allocation fails, nothing is appended.
     fn append_past(
         &mut self,
         mark: u8,
@@ -161,7 +163,8 @@ impl<R> Buffered<R> {
     }
 }
 
-/// How many bytes there are up to and with the first `mark` that no byte below `limit` follows, or all.
+/// The number of bytes up to and including the first `mark` that isn't followed by a byte below `limit`, or of all
+/// bytes if there is none. Requires at least one byte.
 fn count_past(mark: u8, limit: u8, bytes: &[u8]) -> usize
     requires any { 0 < length bytes.now }
     ensures some { 0 < result }

@@ -8,12 +8,12 @@ ghost use Rattle.ls_frame.specs.View.Known.{TakesUntil, TakesPast, WasAtEnd, Had
 use std::io;
 use std::io::{Read, Write};
 
-/// A read or a write that the device refused, or a write of a non-empty slice that took nothing.
+/// A read or a write that failed, or a write of a non-empty slice that took nothing.
 #[derive(Clone, Copy, Debug, PartialEq, Eq)]
 pub struct Failed {
-    /// What kind of failure it was: `WriteZero` of a write that took nothing.
+    /// The kind of failure; `WriteZero` for a write that took nothing.
     pub kind: io::ErrorKind,
-    /// The system's number for it, if the system refused the call.
+    /// The system's error number, if the failure has one.
     pub number: Option<i32>,
 }
 
@@ -31,7 +31,7 @@ impl From<io::Error> for Failed {
     }
 }
 
-/// Why no bytes were taken.
+/// Why `feed_until` or `feed_past` returned no bytes.
 #[derive(Clone, Copy, Debug, PartialEq, Eq)]
 pub enum FeedFault {
     /// A read failed.
@@ -42,20 +42,20 @@ pub enum FeedFault {
 
 /// A reader that counts its failed reads.
 pub trait Feed: Read {
-    /// How many reads, by `feed`, `feed_until` or `feed_past`, have failed.
+    /// The number of failed reads, by `feed`, `feed_until` or `feed_past`.
     ghost failed_reads: { Self → ℕ };
 
-    /// Reads into `buf`, as `read` does. `Ok(0)` with room in `buf` is the end of input.
+    /// Reads into `buf`, as `read` does, and counts a failure. `Ok(0)` is the end of input, unless `buf` is empty.
     fn feed(&mut self, buf: &mut [u8]) -> Result<usize, Failed>
         ensures bound { ReadsAtMost result buf.new }
         ensures bytes { ReadConsumes (Self.remaining self.old) (Self.remaining self.new) result buf.new }
         ensures failures { failed_reads self.new ≡ count_after (is_err result) (failed_reads self.old) };
 
-    /// Reads some bytes and appends them to `bytes`: at most `most`, which is 1 or more, and none after the first
-    /// `mark`. Answers the last of them; `None` is the end of input.
+    /// Reads some bytes and appends them to `bytes`: at most `most`, which must be 1 or more, and none after the first
+    /// `mark`. Returns the last of them, or `None` at the end of input.
     ///
-    /// On a fault nothing is appended. `NoMemory` comes only if the reader had a byte; after it nothing is said of the
-    /// reader's place.
+    /// On a fault nothing is appended. After `Io` the reader's bytes, if known, are unchanged. `NoMemory` is returned
+    /// only if the reader had a byte; after it the reader's position is unspecified.
     fn feed_until(
         &mut self,
         mark: u8,
@@ -75,7 +75,7 @@ pub trait Feed: Read {
         self.feed_past(mark, 0, most, bytes)
     }
 
-    /// The same, but it may go on after a `mark` with a byte below `limit`.
+    /// As `feed_until`, but it may read on after a `mark` that is followed by a byte below `limit`.
     fn feed_past(
         &mut self,
         mark: u8,
@@ -104,29 +104,30 @@ pub trait Feed: Read {
         }
     }
 
-    /// How many reads, by `feed`, `feed_until` or `feed_past`, have failed; the count stays at the greatest `u64`.
+    /// The number of failed reads, by `feed`, `feed_until` or `feed_past`, or `u64::MAX` if there were more.
     fn failures(&self) -> u64
         ensures { result ≡ failed_reads self.now };
 }
 
 /// A writer that counts its failed calls.
 pub trait Outlet: Write {
-    /// How many calls of `give` have failed.
+    /// The number of failed calls of `give`.
     ghost failed_writes: { Self → ℕ };
 
-    /// Writes some of `buf`, as `write` does. A non-empty slice loses a byte or the call fails.
+    /// Writes the front of `buf`, as `write` does, and returns the number of bytes written: at least one, unless `buf`
+    /// is empty. A failed call is counted.
     fn give(&mut self, buf: &[u8]) -> Result<usize, Failed>
         ensures bound { WritesAtMost result buf.now }
         ensures takes { 0 < length buf.now → IfOk result (λ taken. 0 < taken) }
         ensures bytes { WriteAppends (Self.contents self.old) (Self.contents self.new) result buf.now }
         ensures failures { failed_writes self.new ≡ count_after (is_err result) (failed_writes self.old) };
 
-    /// How many calls of `give` have failed; the count stays at the greatest `u64`.
+    /// The number of failed calls of `give`, or `u64::MAX` if there were more.
     fn failures(&self) -> u64
         ensures { result ≡ failed_writes self.now };
 }
 
-/// Bytes in memory, which never fail.
+/// Bytes in memory, whose reads never fail.
 impl Feed for &[u8] {
     ghost failed_reads = { λ _. 0 };
 
@@ -142,7 +143,7 @@ impl Feed for &[u8] {
     }
 }
 
-/// A reader that is lent.
+/// A borrowed reader.
 impl<R: Feed> Feed for &mut R {
     ghost failed_reads = { λ r. R.failed_reads r.now };
 
@@ -165,7 +166,7 @@ impl<R: Feed> Feed for &mut R {
     }
 }
 
-/// A writer that is lent.
+/// A borrowed writer.
 impl<W: Outlet> Outlet for &mut W {
     ghost failed_writes = { λ w. W.failed_writes w.now };
 
@@ -178,9 +179,9 @@ impl<W: Outlet> Outlet for &mut W {
     }
 }
 
-/// A reader or a writer with the count of its failed calls, and the last of the failures.
+/// A reader or a writer with the number of its failed calls of `feed` or `give`, and the last failure.
 ///
-/// Its plain `read`, `write` and `flush` are those of what it wraps, and leave both as they are.
+/// Its plain `read`, `write` and `flush` are those of the wrapped value, and change neither.
 #[derive(Drop)]
 pub struct Counted<X> {
     inner: X,
@@ -192,7 +193,7 @@ impl<X> Counted<X> {
     ghost use Rattle.std.specs.Prelude.{None, Some};
     ghost use Rattle.ls_frame.specs.View.Devices.{wrapped, failed_calls, last_failed, risen};
 
-    /// Wraps a reader or a writer, with no failed call yet.
+    /// Wraps a reader or a writer, with a count of 0 and no last failure.
     pub fn new(inner: X) -> Counted<X>
         ensures inner { wrapped result ≡ inner }
         ensures none { failed_calls result ≡ 0 }
@@ -205,28 +206,28 @@ impl<X> Counted<X> {
         }
     }
 
-    /// What its last failed call of `feed` or `give` answered.
+    /// The failure that the last failed call of `feed` or `give` returned, if any has failed.
     pub fn last_failure(&self) -> Option<Failed>
         ensures { result ≡ last_failed self.now }
     {
         self.last
     }
 
-    /// What is wrapped, to look at.
+    /// Borrows the wrapped reader or writer.
     pub fn get_ref(&self) -> &X
         ensures { result.now ≡ wrapped self.now }
     {
         &self.inner
     }
 
-    /// What was wrapped.
+    /// Returns the wrapped reader or writer.
     pub fn into_inner(self) -> X
         ensures { result ≡ wrapped self }
     {
         self.inner
     }
 
-    /// Counts a failed call, keeps what it failed by and hands that on.
+    /// Counts a failed call, keeps its failure as the last one and returns it.
     fn count(&mut self, failure: Failed) -> Failed
         ensures same { result ≡ failure }
         ensures inner { wrapped self.new ≡ wrapped self.old }
@@ -239,7 +240,7 @@ impl<X> Counted<X> {
     }
 }
 
-/// A write of a non-empty slice that took nothing.
+/// The failure of a write of a non-empty slice that took nothing.
 const TOOK_NOTHING: Failed = Failed {
     kind: io::ErrorKind::WriteZero,
     number: None,

@@ -7,7 +7,7 @@ use crate::samples::{Samples, are_same};
 use std::marker::Model;
 use thiserror::Error;
 
-/// The most samples that a frame has, in all components together.
+/// The maximum number of samples of a frame, in all components together.
 pub const MOST_SAMPLES: u64 = 1 << 28;
 
 /// Gray pixels have one sample, colour pixels three: red, green, blue.
@@ -20,7 +20,7 @@ pub enum Kind {
 impl Kind {
     ghost use Rattle.ls_frame.specs.Picture.{components};
 
-    /// How many samples a pixel has.
+    /// The number of samples per pixel.
     pub fn components(self) -> u8
         ensures { result ≡ components self }
     {
@@ -31,7 +31,7 @@ impl Kind {
     }
 }
 
-/// Why a picture is no frame. `Frame::new` looks in this order.
+/// Why a picture isn't a frame. `Frame::new` checks in this order.
 #[derive(Clone, Copy, Debug, Drop, PartialEq, Eq, Error)]
 pub enum FrameFault {
     #[error("a side is 0")]
@@ -42,14 +42,14 @@ pub enum FrameFault {
     WrongCount,
     #[error("maxval is 0")]
     ZeroMaxval,
-    /// The place of the first sample over maxval.
+    /// The index of the first sample over maxval.
     #[error("sample {0} is over maxval")]
     SampleTooLarge(usize),
 }
 
-/// A picture of 1 to 65535 pixels a side and at most 2^28 samples, each of them at most maxval.
+/// A picture of 1 to 65535 pixels a side and at most 2^28 samples, each at most maxval, which is 1 to 65535.
 ///
-/// Samples go from the top row down, in a row from the left, in a pixel component by component.
+/// Samples are ordered from the top row down, from left to right in a row, and by component in a pixel.
 #[derive(Debug, Drop)]
 pub struct Frame {
     kind: Kind,
@@ -69,7 +69,7 @@ impl Model for Frame {
     ghost invariant = { λ f. IsFrame (record { kind = f.kind; width = f.width; height = f.height; maxval = f.maxval; samples = f.samples.items }) };
 }
 
-/// How many samples a picture of this kind and size has, in all components together.
+/// The number of samples of a picture of this kind and size, in all components together.
 pub(crate) fn sample_count(kind: Kind, width: u16, height: u16) -> u64
     ensures { result ≡ sample_count kind width height }
 {
@@ -79,8 +79,9 @@ pub(crate) fn sample_count(kind: Kind, width: u16, height: u16) -> u64
 impl Frame {
     ghost use Rattle.ls_frame.specs.Picture.{Picture, IsFrame};
 
-    /// A frame of this kind, size and maxval with these samples, row by row from the top, pixel by pixel, component by
-    /// component. If they make none, the first fault in `FrameFault`'s order is answered, and the samples come back.
+    /// Makes a frame of this kind, size and maxval with these samples, row by row from the top, pixel by pixel,
+    /// component by component. If they don't make a frame, returns the first fault in `FrameFault`'s order, and the
+    /// samples.
     pub fn new(
         kind: Kind,
         width: u16,
@@ -106,7 +107,7 @@ impl Frame {
         }
     }
 
-    /// A frame of parts that make one. It looks at no sample.
+    /// Makes a frame without checks. Requires parts that `Frame::new` accepts.
     pub fn from_parts(kind: Kind, width: u16, height: u16, maxval: u16, samples: Vec<u16>) -> Frame
         requires { let picture : Picture = record {
           kind = kind;
@@ -165,7 +166,7 @@ impl Frame {
         self.maxval
     }
 
-    /// The samples, from the top row down, in a row from the left, in a pixel component by component.
+    /// The samples, from the top row down, from left to right in a row, by component in a pixel.
     pub fn samples(&self) -> &[u16]
         ensures value { result.now ≡ self.now.samples }
         ensures lawful { IsFrame self.now }
@@ -173,7 +174,7 @@ impl Frame {
         self.samples.as_slice()
     }
 
-    /// The same frame, over the samples that this one holds.
+    /// Borrows this frame as a view of its samples.
     pub fn view(&self) -> FrameView<'_>
         ensures { result ≡ self.now }
     {
@@ -189,9 +190,9 @@ impl Frame {
     }
 }
 
-/// A picture whose samples stand in memory of its maker's and may be over maxval. But for that it is a frame.
+/// A picture over borrowed samples, which may be over maxval. In all else it is within the limits of a `Frame`.
 ///
-/// Samples go as a `Frame`'s do.
+/// Samples are ordered as in a `Frame`.
 #[derive(Debug, Drop)]
 pub struct PictureView<'a> {
     kind: Kind,
@@ -215,8 +216,8 @@ impl<'a> Model for PictureView<'a> {
 impl<'a> PictureView<'a> {
     ghost use Rattle.ls_frame.specs.Picture.{Picture, IsFormed};
 
-    /// A picture of this kind, size and maxval over these samples, at none of which it looks. If more than a sample over
-    /// maxval keeps it from being a frame, the first fault in `FrameFault`'s order is answered.
+    /// Makes a picture of this kind, size and maxval over these samples, whose values it doesn't check. If anything but
+    /// a sample over maxval keeps it from being a frame, returns the first fault in `FrameFault`'s order.
     pub fn new(
         kind: Kind,
         width: u16,
@@ -251,7 +252,7 @@ impl<'a> PictureView<'a> {
         Ok(PictureView::from_parts(kind, width, height, maxval, samples))
     }
 
-    /// A picture of parts that make a frame if no sample is over maxval. It looks at no sample.
+    /// Makes a picture without checks. Requires parts that `PictureView::new` accepts.
     pub fn from_parts(
         kind: Kind,
         width: u16,
@@ -307,7 +308,7 @@ impl<'a> PictureView<'a> {
         self.height
     }
 
-    /// The greatest value that a sample of a frame may have, 1 to 65535.
+    /// The greatest value that a sample of a frame may have, 1 to 65535. Samples of this picture may be over it.
     pub fn maxval(&self) -> u16
         ensures value { result ≡ self.now.maxval }
         ensures some { 0 < result }
@@ -316,7 +317,7 @@ impl<'a> PictureView<'a> {
         self.maxval
     }
 
-    /// The samples.
+    /// The samples, ordered as in a `Frame`.
     pub fn samples(&self) -> Samples<'a>
         ensures value { numbers result ≡ self.now.samples }
         ensures lawful { IsFormed self.now }
@@ -325,7 +326,7 @@ impl<'a> PictureView<'a> {
     }
 }
 
-/// A frame whose samples stand in memory of its maker's: a picture none of whose samples is over maxval.
+/// A frame over borrowed samples: a `PictureView` with no sample over maxval.
 #[derive(Debug, Drop)]
 pub struct FrameView<'a> {
     picture: PictureView<'a>,
@@ -344,8 +345,8 @@ impl<'a> Model for FrameView<'a> {
 impl<'a> FrameView<'a> {
     ghost use Rattle.ls_frame.specs.Picture.{Picture, IsFrame};
 
-    /// A frame of this kind, size and maxval over these samples. If they make none, the first fault in `FrameFault`'s
-    /// order is answered.
+    /// Makes a frame of this kind, size and maxval over these samples. Accepts exactly what `Frame::new` accepts;
+    /// otherwise returns the first fault in `FrameFault`'s order.
     pub fn new(
         kind: Kind,
         width: u16,
@@ -408,7 +409,7 @@ impl<'a> FrameView<'a> {
         self.picture.maxval
     }
 
-    /// The samples.
+    /// The samples, ordered as in a `Frame`.
     pub fn samples(&self) -> Samples<'a>
         ensures value { numbers result ≡ self.now.samples }
         ensures lawful { IsFrame self.now }
@@ -416,7 +417,7 @@ impl<'a> FrameView<'a> {
         self.picture.samples
     }
 
-    /// The same, for calls that take a picture.
+    /// Returns the same frame as a picture, for calls that take one.
     pub fn picture(&self) -> &PictureView<'a>
         ensures value { result.now ≡ self.now }
         ensures lawful { IsFrame self.now }

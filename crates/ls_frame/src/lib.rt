@@ -1,11 +1,11 @@
 //! Frames: pictures within the recorder's limits, how they are read from Netpbm films and written to them, and the
-//! parameters that T.87 codes them with.
+//! coding parameters of T.87.
 //!
-//! What it hands on: a `Frame` keeps its ranges, whoever made it; reading is the grammar of the pgm and ppm pages,
-//! fault by fault (`specs/Netpbm.antt`, `specs/Faults.antt`); what is written of a frame is one spelling of it
-//! (`specs/Canonical.antt`); `Presets` are the formulas of T.87 (A.2.1, C.2.4.1), by default, explicit, or chosen in
-//! part by a `Tuning`. Bytes come by a `Feed` and go by an `Outlet`, which count the calls that failed. How readers,
-//! writers and frames are seen as what these definitions speak of is in `specs/View`.
+//! What it promises: a `Frame` is within its ranges, however it was made; reading follows the grammar of the pgm and
+//! ppm pages, fault by fault (`specs/Netpbm.antt`, `specs/Faults.antt`); a frame is written as one canonical text
+//! (`specs/Canonical.antt`); `Presets` follow the formulas of T.87 (A.2.1, C.2.4.1), by default, explicit, or chosen
+//! in part by a `Tuning`. Bytes are read from a `Feed` and written to an `Outlet`, which count failed calls.
+//! `specs/View` relates the code's readers, writers and frames to these definitions.
 //!
 //! ```
 //! use ls_frame::{Feed, NetpbmFault, Outlet, next_frame, write_frame};
@@ -32,10 +32,10 @@
 //! Over files the reader is a `Buffered::new(alloc, Counted::new(file))?` and the writer a `Counted::new(file)`. A
 //! frame is coded with parameters, `Presets::default_of(frame.maxval())` if none were chosen.
 //!
-//! In reading order: `device` (readers and writers that count), `buffered` (a reader for callers that read byte by
-//! byte), `samples`, `frame`, `presets`, `tuning` (presets chosen in part), `output` (writing bytes whole), `netpbm`
-//! (reading an image and writing one), `laws` (what follows from the definitions alone); `memory` is for whole
-//! programs.
+//! In reading order: `device` (readers and writers that count failures), `buffered` (a reader for callers that read
+//! byte by byte), `samples`, `frame`, `presets`, `tuning` (presets chosen in part), `output` (writing all bytes of a
+//! slice), `netpbm` (reading an image and writing one), `laws` (what follows from the definitions alone); `memory` is
+//! for whole programs.
 #![tactic(auto)]
 
 pub mod buffered;

@@ -18,25 +18,25 @@ use std::alloc::{AllocError, Global};
 use thiserror::Error;
 pub use written::write_frame;
 
-/// Why the next image can't be read. Faults come in the order of the bytes.
+/// Why the next image can't be read: the first fault in the order of the bytes.
 #[derive(Clone, Copy, Debug, Drop, PartialEq, Eq, Error)]
 pub enum NetpbmFault {
     /// The first byte isn't `P`, or the second neither `5` nor `6`.
     #[error("bad magic")]
     BadMagic,
-    /// A byte that isn't allowed in its place in the header.
+    /// A byte isn't allowed at its position in the header.
     #[error("bad header")]
     BadHeader,
-    /// A header of more than 65,536 bytes.
+    /// The header isn't complete after 65,536 bytes.
     #[error("header too long")]
     HeaderTooLong,
-    /// A side that isn't 1 to 65535, or over 2^28 samples.
+    /// Width or height isn't 1 to 65535, or there are over 2^28 samples.
     #[error("size out of range")]
     SizeOutOfRange,
-    /// A maxval that isn't 1 to 65535.
+    /// Maxval isn't 1 to 65535.
     #[error("maxval out of range")]
     MaxvalOutOfRange,
-    /// A sample over maxval.
+    /// A sample is over maxval.
     #[error("sample too large")]
     SampleTooLarge,
     /// The input ends inside the image.
@@ -45,7 +45,7 @@ pub enum NetpbmFault {
     /// A read failed.
     #[error("read failed")]
     Io,
-    /// Memory for the raster was refused, when exactly the header had been read.
+    /// An allocation for the raster failed. Exactly the header has been read.
     #[error("no memory")]
     NoMemory,
 }
@@ -61,7 +61,7 @@ impl From<AllocError> for NetpbmFault {
     }
 }
 
-/// The next image, read as `image_at` reads.
+/// Reads the next image, as `image_at` defines it.
 #[tactic(auto, unfolding(crate::specs::View::Reading::image_at))]
 fn read_image<R: Feed>(alloc: Global, reader: &mut R) -> Result<Option<Frame>, NetpbmFault>
     ensures bytes { GivesImage (R.remaining reader.old) (R.remaining reader.new) result }
@@ -87,19 +87,19 @@ fn read_image<R: Feed>(alloc: Global, reader: &mut R) -> Result<Option<Frame>, N
     )))
 }
 
-/// Reads one image and not a byte more; `None` exactly at the end of input.
+/// Reads one image and not a byte after it. Returns `None` exactly at the end of input.
 ///
-/// If the bytes are known (as in memory), the clauses say which were read. `NoMemory` comes only after a whole
-/// legal header, with exactly that header read; after any other fault nothing is said of the reader's place.
+/// If the bytes are known (as in memory), the clauses say which were read. After `NoMemory` exactly a complete, legal
+/// header has been read; after any other fault the reader's position is unspecified.
 pub fn next_frame<R: Feed>(alloc: Global, reader: &mut R) -> Result<Option<Frame>, NetpbmFault>
-    // The bytes that were read spell the frame.
+    // The bytes that were read are an image of the frame.
     ensures frame { IfOk result (λ next. IfSome next
         (λ f. Gave (R.remaining reader.old) (R.remaining reader.new) (λ image. IsImageOf image f))) }
     ensures end { IfOk result (λ next. IfNone next (WasAtEnd (R.remaining reader.old) (R.remaining reader.new))) }
-    // What was left breaks so, and begins with no image.
+    // The bytes that were left have this fault, and don't begin with an image.
     ensures broken { IfErr result (λ fault. IsTrue (blames_bytes fault) →
         Tells (R.remaining reader.old) → IsBroken (known (R.remaining reader.old)) fault) }
-    // Memory is asked for after the header and before the raster.
+    // Memory is allocated after the header is read and before the raster is.
     ensures memory { IfErr result (λ fault. fault ≡ NetpbmFault.NoMemory →
         Gave (R.remaining reader.old) (R.remaining reader.new) IsWholeHeading) }
     ensures failures { R.failed_reads reader.new ≡ count_after (failed_device result) (R.failed_reads reader.old) }
@@ -107,10 +107,10 @@ pub fn next_frame<R: Feed>(alloc: Global, reader: &mut R) -> Result<Option<Frame
     read_image(alloc, reader)
 }
 
-/// Reads the image at the front of `bytes`, and says how many of them it takes; `None` exactly if there
-/// are none. `NoMemory` comes only if a whole legal header stands at the front.
+/// Reads the image at the front of `bytes`, and returns its frame and its length in bytes, or `None` exactly if
+/// `bytes` is empty. Returns `NoMemory` only if `bytes` begins with a complete, legal header.
 ///
-/// The program reads by `next_frame`. This is the same over bytes in memory, where nothing is left unknown.
+/// The program uses `next_frame`. This is the same for bytes in memory, which are all known.
 pub fn first_frame(alloc: Global, bytes: &[u8]) -> Result<Option<(Frame, usize)>, NetpbmFault>
     ensures frame { IfOk result (λ next. IfSome next (λ found. IsImageOf (take found.1 bytes.now) found.0)) }
     ensures within { IfOk result (λ next. IfSome next (λ found. found.1 ≤ length bytes.now)) }

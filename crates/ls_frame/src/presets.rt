@@ -11,7 +11,7 @@ const DEFAULT_RESET: u16 = 64;
 /// The least RESET (Table C.2).
 const LEAST_RESET: u16 = 3;
 
-/// Why parameters aren't within the ranges of Table C.2. `Presets::explicit` looks in this order.
+/// Why parameters aren't within the ranges of Table C.2. `Presets::explicit` checks in this order.
 #[derive(Clone, Copy, Debug, Drop, PartialEq, Eq, Error)]
 pub enum PresetFault {
     /// MAXVAL is 0.
@@ -31,7 +31,7 @@ pub enum PresetFault {
     ResetRange,
 }
 
-/// The parameters that a scan is coded with, within the ranges of Table C.2:
+/// The coding parameters of a scan, within the ranges of Table C.2:
 /// 1 <= T1 <= T2 <= T3 <= MAXVAL and 3 <= RESET <= max(255, MAXVAL).
 #[derive(Clone, Copy, Debug, PartialEq, Eq)]
 pub struct Presets {
@@ -57,7 +57,8 @@ impl Model for Presets {
 impl Presets {
     ghost use Rattle.ls_frame.specs.Parameters.{Parameters, IsLegal};
 
-    /// The parameters of a codestream that says nothing of them (C.2.4.1.1).
+    /// The default parameters for `maxval`, which apply if a codestream doesn't specify them (C.2.4.1.1). `maxval` must
+    /// be at least 1.
     #[tactic(auto, unfolding(crate::specs::Parameters::default_parameters))]
     pub fn default_of(maxval: u16) -> Presets
         requires { 0 < maxval }
@@ -77,8 +78,8 @@ impl Presets {
         }
     }
 
-    /// Exactly these parameters; a 0 stands for no default. Refused for the first that is out of its range
-    /// (Table C.2).
+    /// Makes exactly these parameters: a 0 doesn't stand for a default. Otherwise returns the first that is out of its
+    /// range (Table C.2), in `PresetFault`'s order.
     #[tactic(auto, unfolding(crate::specs::Parameters::explicit_parameters))]
     pub fn explicit(
         maxval: u16,
@@ -152,7 +153,7 @@ impl Presets {
         self.t3
     }
 
-    /// RESET: a context's counters are halved when it has coded so many samples.
+    /// RESET: the value of a context's counter N at which its counters are halved (A.6.1).
     pub fn reset(self) -> u16
         ensures value { result ≡ self.reset }
         ensures legal { IsLegal self }
@@ -160,14 +161,14 @@ impl Presets {
         self.reset
     }
 
-    /// RANGE (A.2.1): how many values a sample may have.
+    /// RANGE (A.2.1): the number of values that a sample may have, MAXVAL + 1.
     pub fn range(self) -> u32
         ensures { result ≡ range_of self.maxval }
     {
         u32::from(self.maxval) + 1
     }
 
-    /// bpp (A.2.1): the bits of a sample, at least 2.
+    /// bpp (A.2.1): the number of bits of a sample, 2 to 16.
     pub fn bpp(self) -> u32
         ensures value { result ≡ bpp_of self.maxval }
         ensures low { 2 ≤ result }
@@ -176,7 +177,7 @@ impl Presets {
         bits_up_to(self.maxval).max(2)
     }
 
-    /// qbpp (A.2.1): the bits of a reduced error.
+    /// qbpp (A.2.1): the number of bits of a mapped error, 1 to 16.
     pub fn qbpp(self) -> u32
         ensures value { result ≡ qbpp_of self.maxval }
         ensures low { 0 < result }
@@ -185,7 +186,7 @@ impl Presets {
         bits_up_to(self.maxval)
     }
 
-    /// LIMIT (A.2.1): the most bits of a regular sample's word.
+    /// LIMIT (A.2.1): the maximum length of a code word in regular mode, in bits, 20 to 64.
     pub fn limit(self) -> u32
         ensures value { result ≡ limit_of self.maxval }
         ensures low { 20 ≤ result }
@@ -195,7 +196,7 @@ impl Presets {
         2 * (bpp + bpp.max(8))
     }
 
-    /// Whether these are the defaults of their MAXVAL.
+    /// Whether these are the default parameters for their MAXVAL.
     pub fn is_default(self) -> bool
         ensures { IsTrue result ↔ (self ≡ default_parameters self.maxval) }
     {
@@ -203,7 +204,7 @@ impl Presets {
     }
 }
 
-/// The default thresholds before they are clamped (C.2.4.1.1.1).
+/// The default T1, T2 and T3 before they are clamped (C.2.4.1.1.1). `maxval` must be at least 1.
 fn unclamped_thresholds(maxval: u16) -> (u16, u16, u16)
     requires { 0 < maxval }
     ensures { result ≡ unclamped_thresholds maxval }
@@ -221,7 +222,7 @@ fn unclamped_thresholds(maxval: u16) -> (u16, u16, u16)
     }
 }
 
-/// The least exponent whose power of two is over `greatest`.
+/// The number of bits of `greatest`, 0 of 0: the least exponent whose power of two is over it.
 #[tactic(auto, using(crate::proofs::ExponentLemmas::exponent_lemmas))]
 fn bits_up_to(greatest: u16) -> u32
     ensures value { result ≡ ceil_log2 (greatest + 1) }
@@ -231,7 +232,7 @@ fn bits_up_to(greatest: u16) -> u32
     u16::BITS - greatest.leading_zeros()
 }
 
-/// `value`, or `low` if `value` is outside of `low` to `maxval` (C.2.4.1.1.1).
+/// Returns `value`, or `low` if `value` is outside `low` to `maxval` (CLAMP of C.2.4.1.1.1).
 fn clamped_threshold(value: u16, low: u16, maxval: u16) -> u16
     ensures { result ≡ clamped_threshold value low maxval }
 {

@@ -1,9 +1,9 @@
-//! Samples in memory of their maker's, of 8 or of 16 bits, and places for such.
+//! Borrowed samples of 8 or 16 bits, and slots that samples are stored in.
 ghost use Rattle.std.specs.Prelude.{◌≡◌, ◌==◌, ℕ, ◌+◌, ◌<◌, ◌≤◌, List, length, slice_index, take, drop, nat_lt, position, fold, max, set};
 ghost use lib.Pointwise.{pointwise};
 ghost use Rattle.ls_frame.specs.View.Numbers.{numbers};
 
-/// Samples one after the other, each a number of its size.
+/// Borrowed samples in sequence, of 8 bits each (`Bytes`) or of 16 (`Words`).
 #[derive(Clone, Copy, Debug, Drop)]
 pub enum Samples<'a> {
     Bytes(&'a [u8]),
@@ -11,7 +11,7 @@ pub enum Samples<'a> {
 }
 
 impl<'a> Samples<'a> {
-    /// How many there are.
+    /// The number of samples.
     pub fn len(self) -> usize
         ensures { result ≡ length (numbers self.entry) }
     {
@@ -21,7 +21,7 @@ impl<'a> Samples<'a> {
         }
     }
 
-    /// So many of them from a place on. Requires that they are there.
+    /// The `count` samples from index `start`. Requires that `start + count` is at most the number of samples.
     pub fn part(self, start: usize, count: usize) -> Samples<'a>
         requires { start + count ≤ length (numbers self) }
         ensures { numbers result ≡ take count (drop start (numbers self.entry)) }
@@ -32,7 +32,7 @@ impl<'a> Samples<'a> {
         }
     }
 
-    /// The place of the first over `maxval`.
+    /// The index of the first sample over `maxval`, if there is one.
     pub fn first_above(self, maxval: u16) -> Option<usize>
         ensures { result ≡ position (λ sample. nat_lt maxval sample) (numbers self.entry) }
     {
@@ -43,22 +43,22 @@ impl<'a> Samples<'a> {
     }
 }
 
-/// A place for a sample: 8 or 16 bits.
+/// A slot that a sample is stored in, of 8 or 16 bits.
 pub trait Place {
-    /// The numbers that stand in places.
+    /// The numbers stored in these slots.
     ghost numbers: { List Self → List ℕ };
 
-    /// The greatest number that a place holds.
+    /// The greatest number that a slot can store.
     ghost most: { ℕ };
 
-    /// Puts a sample into the place of this number. Requires that there is such a place, and that it holds the sample:
-    /// one of 8 bits holds 255 at most.
+    /// Stores a sample in the slot with index `place`. Requires that this slot exists, and that it can store the
+    /// sample: a slot of 8 bits stores 255 at most.
     fn put(places: &mut [Self], place: usize, sample: u16)
         requires inside { place < length (numbers places.old) }
         requires small { sample ≤ most }
         ensures { numbers places.new ≡ set (numbers places.old) place sample };
 
-    /// Puts 0 into each place.
+    /// Stores 0 in each slot.
     fn clear(places: &mut [Self])
         ensures zeros { (k : ℕ) → k < length (numbers places.new) → slice_index (numbers places.new) k ≡ 0 }
         ensures len { length (numbers places.new) ≡ length (numbers places.old) };
@@ -94,7 +94,7 @@ impl Place for u16 {
     }
 }
 
-/// The place of the first byte over `maxval`.
+/// The index of the first byte over `maxval`, if there is one.
 fn first_byte_above(bytes: &[u8], maxval: u16) -> Option<usize>
     ensures { result ≡ position (λ sample. nat_lt maxval sample) bytes.now }
 {
@@ -104,7 +104,7 @@ fn first_byte_above(bytes: &[u8], maxval: u16) -> Option<usize>
     bytes.iter().position(|byte| u16::from(*byte) > maxval)
 }
 
-/// The place of the first word over `maxval`.
+/// The index of the first word over `maxval`, if there is one.
 fn first_word_above(words: &[u16], maxval: u16) -> Option<usize>
     ensures { result ≡ position (λ sample. nat_lt maxval sample) words.now }
 {
@@ -114,8 +114,8 @@ fn first_word_above(words: &[u16], maxval: u16) -> Option<usize>
     words.iter().position(|word| *word > maxval)
 }
 
-/// The greatest of some bytes, 0 of none. It looks at each, several at once, and so finds sooner that none is over
-/// maxval than a search for the first.
+/// The greatest of some bytes, 0 of none. It compares all of them, several at once, so when none is over maxval it is
+/// faster than a search for the first.
 fn greatest_byte(bytes: &[u8]) -> u8
     ensures { result ≡ fold max 0 bytes.now }
 {
@@ -124,7 +124,7 @@ fn greatest_byte(bytes: &[u8]) -> u8
         .fold(0, |greatest: u8, byte| greatest.max(*byte))
 }
 
-/// The greatest of some words, 0 of none; as `greatest_byte`.
+/// The greatest of some words, 0 of none, found as in `greatest_byte`.
 fn greatest_word(words: &[u16]) -> u16
     ensures { result ≡ fold max 0 words.now }
 {
@@ -133,8 +133,8 @@ fn greatest_word(words: &[u16]) -> u16
         .fold(0, |greatest: u16, word| greatest.max(*word))
 }
 
-/// Whether samples are the same. It looks at each, several at once, and so finds sooner that all are than a search for
-/// the first that isn't.
+/// Whether two slices have the same samples. It compares all of them, several at once, so when they are the same it
+/// is faster than a search for the first difference.
 pub(crate) fn are_same(one: &[u16], other: &[u16]) -> bool
     ensures { result ≡ pointwise ◌==◌ one.now other.now }
 {

@@ -1,11 +1,11 @@
-//! Parameters chosen one by one, the others by default.
+//! Parameters of which some are chosen and the others are defaults.
 ghost use Rattle.std.specs.Prelude.{◌≡◌, ◌<◌, IfOk};
 ghost use Rattle.ls_frame.specs.Parameters.{default_parameters, explicit_parameters};
 ghost use Rattle.ls_frame.specs.Tuning.{or_default, tuned};
 
 use crate::presets::{PresetFault, Presets};
 
-/// Thresholds and RESET for frames of any maxval. A 0 stands for the default of a frame's maxval.
+/// Thresholds and RESET for frames of any maxval. A 0 stands for the default for a frame's maxval.
 #[derive(Clone, Copy, Debug, PartialEq, Eq)]
 pub struct Tuning {
     pub t1: u16,
@@ -15,8 +15,8 @@ pub struct Tuning {
 }
 
 impl Tuning {
-    /// The parameters for this maxval. What stands in place of a 0 goes by the maxval alone, so the others may
-    /// put it out of its range.
+    /// Returns the parameters for `maxval`, which must not be 0, or the first that is out of its range (Table C.2). A
+    /// default depends on `maxval` alone, so values chosen beside it can put it out of its range.
     pub fn presets(&self, maxval: u16) -> Result<Presets, PresetFault>
         requires { 0 < maxval }
         ensures value { result ≡ explicit_parameters (tuned self.now maxval) }
@@ -34,7 +34,7 @@ impl Tuning {
     }
 }
 
-/// What was chosen, or the default if that is 0.
+/// Returns `chosen`, or `default` if `chosen` is 0.
 fn or_default(chosen: u16, default: u16) -> u16
     ensures { result ≡ or_default chosen default }
 {

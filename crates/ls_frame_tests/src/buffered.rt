@@ -4,21 +4,21 @@ use std::alloc::Global;
 use std::io::Read;
 use std::process::Abort;
 
-/// The bytes of a chunk of a `Buffered`.
+/// The size of a chunk of a `Buffered`, in bytes.
 const CHUNK: usize = 65_536;
 
-/// A buffered reader over this one.
+/// Makes a buffered reader over this one.
 fn buffered<R: Read + Drop>(rt: &impl Abort, alloc: Global, inner: R) -> Buffered<R> {
     Buffered::new(alloc, inner).expect(rt, "memory for a chunk")
 }
 
-/// What a call of `feed` gives, its bytes, and how many calls failed by then.
+/// The result of a call of `feed`, its bytes, and the number of failed calls so far.
 type Fed<'a> = (Result<usize, Failed>, &'a [u8], u64);
 
-/// A call of `feed` with room for so many, and what it gives.
+/// The length of the buffer for a call of `feed`, and the result of the call.
 type Step = (usize, Fed<'static>);
 
-/// Of five bytes three are taken at once; the second chunk fails twice, and the third time gives the others.
+/// The reader has five bytes and returns up to three per read. Reading the second chunk fails twice, and then succeeds.
 const STEPS: &[Step] = &[
     (1, (Ok(1), b"a", 0)),
     (0, (Ok(0), b"", 0)),
@@ -31,13 +31,13 @@ const STEPS: &[Step] = &[
     (1, (Ok(0), b"", 2)),
 ];
 
-/// A call of `feed` with room for so many.
+/// Calls `feed` with a buffer of `room` bytes, at most 4.
 fn fed<'a>(reader: &mut impl Feed, buf: &'a mut [u8; 4], room: usize) -> Fed<'a> {
     let got = reader.feed(&mut buf[..room.min(4)]);
     (got, &buf[..got.unwrap_or(0).min(4)], reader.failures())
 }
 
-/// That the calls of `feed` give this.
+/// Checks the results of calls of `feed`.
 fn check_feeds(rt: &impl Abort, reader: &mut impl Feed, steps: &[Step]) {
     let mut buf = [0u8; 4];
     for (at, (room, want)) in steps.iter().enumerate() {
@@ -61,8 +61,8 @@ fn failures_below_are_counted_with_ample_memory(rt: HostRuntime) {
     check(&rt, "the last failure", 0, &last, &Some(BROKEN));
 }
 
-/// Of five bytes three are taken at once; the second chunk fails twice, and the third time gives the others. A mark
-/// stands in a chunk, in none, and at the end of one.
+/// The reader has five bytes and returns up to three per read. Reading the second chunk fails twice, and then succeeds.
+/// A mark is inside a chunk, in none, or at the end of one.
 const TAKES: &[Take<'static>] = &[
     (b'x', 1, Ok(Some(b'a')), b"a", 0),
     (b'b', 9, Ok(Some(b'b')), b"ab", 0),
@@ -74,7 +74,8 @@ const TAKES: &[Take<'static>] = &[
     (b'x', 1, Ok(None), b"abcde", 2),
 ];
 
-/// Of six bytes three are taken at once. A mark stands at the front of a chunk, and in neither part of one.
+/// The reader has six bytes and returns up to three per read. A mark is at the front of a chunk, or in none of the
+/// parts of one that calls take.
 const MARKED: &[Take<'static>] = &[
     (b'd', 2, Ok(Some(b'b')), b"ab", 0),
     (b'd', 9, Ok(Some(b'c')), b"abc", 0),
@@ -84,7 +85,8 @@ const MARKED: &[Take<'static>] = &[
     (b'd', 2, Ok(None), b"abcdef", 0),
 ];
 
-/// That these are taken by a reader, which may be lent, up to a call for which memory is refused; whether none was.
+/// Checks calls of a buffered reader, by reference if `is_lent`, up to the first that fails for lack of memory.
+/// Returns whether none did.
 fn are_taken(
     rt: &impl Abort,
     alloc: Global,
@@ -122,7 +124,7 @@ fn a_lent_reader_takes_as_much_with_ample_memory(rt: HostRuntime) {
     check_so(&rt, "memory", 1, all);
 }
 
-/// The bytes of three chunks, each the number of its place, less what a byte can't hold.
+/// The bytes of three chunks, each its index modulo 251.
 fn numbered() -> [u8; 3 * CHUNK] {
     let mut bytes = [0u8; 3 * CHUNK];
     for (place, byte) in bytes.iter_mut().enumerate() {
@@ -131,14 +133,15 @@ fn numbered() -> [u8; 3 * CHUNK] {
     bytes
 }
 
-/// The bytes that a read with room for so many gives, unless it fails.
+/// Reads into a buffer of `room` bytes, or of all of `buf` if that is less. Returns the bytes read, unless the read
+/// fails.
 fn read_of<'a>(reader: &mut impl Read, buf: &'a mut [u8], room: usize) -> Option<&'a [u8]> {
     let room = room.min(buf.len());
     let count = reader.read(&mut buf[..room]).ok()?;
     buf.get(..count)
 }
 
-/// That a read with room for so many gives the first of these bytes; those after them.
+/// Checks that a read into a buffer of `room` bytes returns the first of `bytes`, and returns those after them.
 fn check_read<'a>(
     rt: &impl Abort,
     reader: &mut impl Read,
@@ -153,7 +156,7 @@ fn check_read<'a>(
     rest
 }
 
-/// That a reader gives all of these bytes and no more, by calls with room for so many.
+/// Checks that a reader returns all of `bytes`, by calls with a buffer of `room` bytes.
 fn check_all(rt: &impl Abort, reader: &mut impl Read, bytes: &[u8], room: usize) {
     let mut rest = bytes;
     for _ in 0..bytes.len() {
@@ -174,7 +177,7 @@ fn chunks_join_with_ample_memory(rt: HostRuntime) {
     }
 }
 
-/// How many calls take all that a reader has, by this mark and this limit.
+/// Takes all bytes of a reader by `feed_past` with this mark and this limit, and returns the number of calls.
 fn count_takes<R: Feed>(reader: &mut R, mark: u8, limit: u8, bytes: &mut Vec<u8>) -> usize {
     for call in 0..CHUNK {
         match reader.feed_past(mark, limit, usize::MAX, bytes) {
@@ -185,8 +188,8 @@ fn count_takes<R: Feed>(reader: &mut R, mark: u8, limit: u8, bytes: &mut Vec<u8>
     CHUNK
 }
 
-/// The limit and how many of the bytes there are, and how many calls take them. Each number of a place but the last
-/// ends a run of 251 bytes; a chunk's end cuts one in two. A 0 follows each mark.
+/// The limit, the number of bytes, and the number of calls that take them. The mark ends each run of 251 bytes and is
+/// followed by a 0; the end of a chunk splits a run in two.
 const MARKS: &[(u8, usize, usize)] = &[
     (0, 0, 0),
     (0, 251, 1),
@@ -200,7 +203,7 @@ const MARKS: &[(u8, usize, usize)] = &[
     (1, CHUNK + 251, 2),
 ];
 
-/// That so many calls take the first of these bytes.
+/// Checks the number of calls that take the first of these bytes, as many as the case says.
 fn check_marks(rt: &impl Abort, alloc: Global, bytes: &[u8], case: &(u8, usize, usize)) {
     let (limit, count, calls) = *case;
     let want = bytes.get(..count).unwrap_or(&[]);
@@ -219,8 +222,8 @@ fn chunks_join_by_marks_with_ample_memory(rt: HostRuntime) {
     }
 }
 
-/// A read with this room: its bytes, and then how many bytes were taken from the chunks, and the farthest that there
-/// was room for.
+/// The length of the buffer for a read, its bytes, the number of bytes taken from the chunks so far, and the position
+/// of the farthest byte asked for.
 type Asked<'a> = (usize, Option<&'a [u8]>, usize, usize);
 
 fn asked<'a>(reader: &mut Buffered<Chunks<'_>>, buf: &'a mut [u8], room: usize) -> Asked<'a> {
@@ -229,7 +232,7 @@ fn asked<'a>(reader: &mut Buffered<Chunks<'_>>, buf: &'a mut [u8], room: usize) 
     (room, bytes, chunks.given, chunks.furthest)
 }
 
-/// That a buffered reader of these chunks asks for none at first, and then so.
+/// Checks that a buffered reader over these chunks reads nothing when it is made, and then these reads.
 fn check_asked(rt: &impl Abort, alloc: Global, chunks: Chunks<'_>, reads: &[Asked<'_>]) {
     let mut reader = buffered(rt, alloc, chunks);
     let mut buf = [0u8; CHUNK];
@@ -254,14 +257,14 @@ const BYTE_BY_BYTE: &[Asked<'static>] = &[
     (1, Some(b"e"), 5, CHUNK + 4),
 ];
 
-/// A chunk is asked for whole, and none before its bytes are wanted.
+/// The reader asks for a full chunk at once, and only when its bytes are wanted.
 #[test]
 fn chunks_are_asked_for_when_they_are_wanted_with_ample_memory(rt: HostRuntime) {
     let chunks = Chunks::new(b"abcde", 4, &[]);
     check_asked(&rt, rt.alloc(), chunks, BYTE_BY_BYTE);
 }
 
-/// After each, the bytes taken from the chunks are those handed out, but for the first.
+/// After each read but the first, the bytes taken from the chunks are those returned.
 const BY_CHUNKS: &[Asked<'static>] = &[
     (1, Some(b"a"), 3, CHUNK),
     (CHUNK, Some(b"bc"), 3, CHUNK),
@@ -270,14 +273,14 @@ const BY_CHUNKS: &[Asked<'static>] = &[
     (CHUNK, Some(b""), 7, CHUNK + 7),
 ];
 
-/// Room for a whole chunk is handed on, once the chunk before was handed out.
+/// A read into a buffer of a chunk's size is passed on once the chunk before is used up.
 #[test]
 fn room_for_a_chunk_is_handed_on_with_ample_memory(rt: HostRuntime) {
     let chunks = Chunks::new(b"abcdefg", 3, &[]);
     check_asked(&rt, rt.alloc(), chunks, BY_CHUNKS);
 }
 
-/// How many of the six bytes `abcdef` are taken, what is put back then, and what is left after that.
+/// The number of the six bytes `abcdef` that are read, the bytes put back then, and those left after that.
 const PUT_BACK: &[(usize, &[u8], &[u8])] = &[
     (0, b"", b"abcdef"),
     (0, b"xy", b"xyabcdef"),
@@ -287,7 +290,7 @@ const PUT_BACK: &[(usize, &[u8], &[u8])] = &[
     (6, b"", b""),
 ];
 
-/// That this is left after bytes were taken and others put back.
+/// Checks the bytes left after bytes were read and others put back.
 fn check_put_back(rt: &impl Abort, alloc: Global, case: &(usize, &[u8], &[u8])) {
     let mut reader = buffered(rt, alloc, Chunks::new(b"abcdef", 4, &[]));
     check_left(rt, alloc, &mut reader, case);

@@ -7,7 +7,7 @@ use std::io;
 use std::io::{Read, Write};
 use std::process::Abort;
 
-/// How a write that took nothing fails.
+/// The failure of a write that took nothing.
 const NOTHING: Failed = Failed {
     kind: io::ErrorKind::WriteZero,
     number: None,
@@ -23,7 +23,8 @@ fn a_failure_keeps_its_kind_and_the_number_of_the_system(rt: HostRuntime) {
     check(&rt, "ENOSPC", 0, &failed, &full);
 }
 
-/// What a feed answers, the first bytes of the buffer then, how many feeds failed by then, and the last failure.
+/// The result of a `feed`, the first bytes of the buffer after it, the number of failed feeds so far, and the last
+/// failure.
 type Fed = (Result<usize, Failed>, [u8; 2], u64, Option<Failed>);
 
 const FEEDS: &[Fed] = &[
@@ -36,7 +37,7 @@ const FEEDS: &[Fed] = &[
     (Ok(0), [b'c', b'b'], 3, Some(BROKEN)),
 ];
 
-/// A feed into this buffer.
+/// Calls `feed` with this buffer.
 fn fed(reader: &mut Counted<Chunks<'_>>, buf: &mut [u8; 3]) -> Fed {
     let answer = reader.feed(buf);
     (
@@ -58,7 +59,7 @@ fn failed_feeds_are_counted_one_by_one_and_the_last_is_kept(rt: HostRuntime) {
     check(&rt, "bytes given", 1, &reader.into_inner().given, &3);
 }
 
-/// Where a reader doesn't say otherwise, a byte is taken at a time; of these three the second read fails.
+/// By default `feed_until` takes one byte per call. The second read of these three bytes fails.
 const TAKES: &[Take<'static>] = &[
     (b'x', 9, Ok(Some(b'a')), b"a", 0),
     (b'b', 9, Err(FeedFault::Io), b"a", 1),
@@ -68,7 +69,7 @@ const TAKES: &[Take<'static>] = &[
     (b'x', 1, Ok(None), b"abc", 1),
 ];
 
-/// That these are taken, up to a call for which memory is refused; whether none was.
+/// Checks `TAKES`, up to the first call that fails for lack of memory. Returns whether none did.
 fn are_taken(rt: &impl Abort, alloc: Global) -> bool {
     let mut reader = Counted::new(Chunks::new(b"abc", 2, &[1]));
     check_takes(rt, alloc, &mut reader, TAKES)
@@ -84,17 +85,17 @@ fn bytes_are_taken_one_by_one_with_ample_memory(rt: HostRuntime) {
     check_so(&rt, "memory", 0, are_taken(&rt, rt.alloc()));
 }
 
-/// What a give answers, how many gives failed by then, and the last failure.
+/// The result of a `give`, the number of failed gives so far, and the last failure.
 type Given = (Result<usize, Failed>, u64, Option<Failed>);
 
-/// A give of these bytes.
+/// Calls `give` with these bytes.
 fn given(writer: &mut Counted<Sink<'_>>, bytes: &[u8]) -> Given {
     let answer = writer.give(bytes);
     (answer, Outlet::failures(writer), writer.last_failure())
 }
 
-/// Gives to a writer that takes two bytes a call, and whose calls 1, 2 and 4 go wrong: the bytes, how many are taken if
-/// the call doesn't go wrong, and how many gives failed by then.
+/// Gives to a writer that accepts two bytes per call, and whose calls 1, 2 and 4 go wrong: the bytes, the number that
+/// is accepted unless the call goes wrong, and the number of failed gives so far.
 const GIVES: &[(&[u8], Option<usize>, u64)] = &[
     (b"abc", Some(2), 0),
     (b"c", None, 1),
@@ -105,7 +106,7 @@ const GIVES: &[(&[u8], Option<usize>, u64)] = &[
     (b"de", Some(2), 3),
 ];
 
-/// That the writer answers so; the calls that go wrong fail so.
+/// Checks `GIVES`; the calls that go wrong fail with `failed`.
 fn check_each_give(rt: &impl Abort, writer: &mut Counted<Sink<'_>>, failed: Failed) {
     for (i, (bytes, taken, failures)) in GIVES.iter().enumerate() {
         let last = if *failures == 0 { None } else { Some(failed) };
@@ -128,7 +129,7 @@ fn failed_gives_are_counted_one_by_one_and_the_last_is_kept(rt: HostRuntime) {
     check_gives(&rt, Mishap::TakesNothing, NOTHING);
 }
 
-/// What a plain read or write answers.
+/// The result of a plain read or write.
 type Plain = Result<usize, io::ErrorKind>;
 
 fn plain(answer: io::Result<usize>) -> Plain {
@@ -138,12 +139,12 @@ fn plain(answer: io::Result<usize>) -> Plain {
     }
 }
 
-/// A plain read into this buffer, and the buffer then.
+/// Calls `read` with this buffer, and returns the buffer's content after it too.
 fn read(reader: &mut Counted<Chunks<'_>>, buf: &mut [u8; 2]) -> (Plain, [u8; 2]) {
     (plain(reader.read(buf)), *buf)
 }
 
-/// A feed, three plain reads, and how many feeds failed.
+/// The results of a feed and of three plain reads, and the number of failed feeds.
 type FedAndRead = (Result<usize, Failed>, [(Plain, [u8; 2]); 3], u64);
 
 fn fed_and_read(reader: &mut Counted<Chunks<'_>>) -> FedAndRead {
@@ -171,7 +172,7 @@ fn plain_reads_are_handed_on_and_not_counted(rt: HostRuntime) {
     check(&rt, "a feed and reads", 0, &got, &(Err(BROKEN), reads, 1));
 }
 
-/// A plain write.
+/// Calls `write` with these bytes.
 fn write(writer: &mut Counted<Sink<'_>>, bytes: &[u8]) -> Plain {
     plain(writer.write(bytes))
 }
@@ -181,7 +182,7 @@ fn flush(writer: &mut Counted<Sink<'_>>) -> bool {
     writer.flush().is_ok()
 }
 
-/// A give, three plain writes, three flushes, and how many gives failed.
+/// The results of a give, of three plain writes and of three flushes, and the number of failed gives.
 type GivenAndWritten = (Result<usize, Failed>, [Plain; 3], [bool; 3], u64);
 
 fn given_and_written(writer: &mut Counted<Sink<'_>>) -> GivenAndWritten {
@@ -197,7 +198,7 @@ fn given_and_written(writer: &mut Counted<Sink<'_>>) -> GivenAndWritten {
     )
 }
 
-/// A writer whose calls 0 and 2 go wrong, of `give` and `write` together and of `flush`.
+/// Checks a writer whose calls 0 and 2 go wrong, of `give` and `write` counted together, and of `flush`.
 fn check_plain_writes(rt: &impl Abort, mishap: Mishap, failed: Failed, wrong: Plain) {
     let mut writer = Counted::new(Sink::new(2, &[0, 2], mishap));
     let got = given_and_written(&mut writer);
@@ -216,7 +217,7 @@ fn plain_writes_and_flushes_are_handed_on_and_not_counted(rt: HostRuntime) {
     check_plain_writes(&rt, Mishap::TakesNothing, NOTHING, Ok(0));
 }
 
-/// What a feed of bytes in memory answers, the buffer then, how many bytes are left, and how many feeds failed.
+/// The result of a feed of bytes in memory, the buffer after it, the number of bytes left, and that of failed feeds.
 type FedOfMemory = (Result<usize, Failed>, [u8; 2], usize, u64);
 
 const FEEDS_OF_MEMORY: &[FedOfMemory] = &[

@@ -3,7 +3,7 @@ use ls_frame::{Frame, FrameFault, FrameView, Kind, PictureView, Samples};
 use std::alloc::{AllocError, Global};
 use std::process::Abort;
 
-/// Parts that make no frame, and why not.
+/// Parts that don't make a frame, and why not.
 type Refused<'a> = (Parts<'a>, FrameFault);
 
 const REFUSED: &[Refused<'static>] = &[
@@ -31,7 +31,7 @@ const REFUSED: &[Refused<'static>] = &[
     ),
 ];
 
-/// That parts make no frame for their reason, and that their samples come back.
+/// Checks that parts don't make a frame, that the fault is the expected one, and that the samples are returned.
 fn check_refused(rt: &impl Abort, alloc: Global, i: usize, refused: &Refused<'_>) {
     let ((kind, width, height, maxval, samples), want) = *refused;
     check_view_refused(rt, i, refused);
@@ -44,7 +44,8 @@ fn check_refused(rt: &impl Abort, alloc: Global, i: usize, refused: &Refused<'_>
     check_items(rt, "the samples", i, &returned, samples);
 }
 
-/// That parts make no view either, for the same reason, and no picture, unless it is only a sample.
+/// Checks that parts make neither a view nor a picture, with the same fault, but do make a picture if the fault is a
+/// sample over maxval.
 fn check_view_refused(rt: &impl Abort, i: usize, refused: &Refused<'_>) {
     let ((kind, width, height, maxval, samples), want) = *refused;
     let made = FrameView::new(kind, width, height, maxval, Samples::Words(samples));
@@ -71,7 +72,7 @@ const FRAMES: &[Parts<'static>] = &[
     (Kind::Color, 2, 1, 9, &[1, 2, 3, 4, 5, 6]),
 ];
 
-/// That a frame has these parts, and its view too.
+/// Checks that a frame and its view have these parts.
 fn check_parts(rt: &impl Abort, i: usize, frame: &Frame, parts: &Parts<'_>) {
     check(rt, "the parts", i, &parts_of(frame), parts);
     let (kind, width, height, maxval, samples) = *parts;
@@ -103,7 +104,7 @@ fn a_frame_has_the_parts_that_it_was_made_of(rt: HostRuntime) {
     }
 }
 
-/// Parts of two frames, and whether these are equal.
+/// The parts of two frames, and whether the frames are equal.
 type Pair<'a> = (Parts<'a>, Parts<'a>, bool);
 
 const PAIRS: &[Pair<'static>] = &[

@@ -1,7 +1,7 @@
 //! The tests of `ls_frame`, through what it makes public.
 //!
-//! They stand in a crate of their own because a crate's tests are proved together with the whole crate: here they stand
-//! on what `ls_frame` states, and its code is proved once.
+//! They are a crate of their own because a crate's tests are proved together with the whole crate: here they rely on
+//! the contracts of `ls_frame`, and its code is proved only once.
 #![tactic(auto)]
 
 #[cfg(test)]

@@ -6,7 +6,7 @@ use ls_frame::{Counted, Feed, Frame, Kind, NetpbmFault, first_frame, next_frame}
 use std::alloc::{AllocError, Global};
 use std::process::Abort;
 
-/// If memory may be refused, running out of it is an answer too.
+/// Whether allocations may fail. If so (`Refusable`), `NoMemory` is accepted as a result, too.
 #[derive(Clone, Copy)]
 enum Memory {
     Ample,
@@ -16,14 +16,14 @@ enum Memory {
 /// An image that was read, the end of the input, or a fault.
 type Image = Result<Option<Frame>, NetpbmFault>;
 
-/// What is read of bytes in memory, and the bytes after it.
+/// Reads the first image of bytes in memory, and returns the bytes left too.
 fn read_whole(alloc: Global, bytes: &[u8]) -> (Image, &[u8]) {
     let mut rest = bytes;
     let image = next_frame(alloc, &mut rest);
     (image, rest)
 }
 
-/// What is read from chunks, and how many reads failed.
+/// The result of reading an image from chunks, the number of failed reads, and the chunks afterwards.
 #[derive(Drop)]
 struct Reading<'a> {
     image: Image,
@@ -41,7 +41,7 @@ fn read_chunks(alloc: Global, chunks: Chunks<'_>) -> Reading<'_> {
     }
 }
 
-/// The parts of what was read.
+/// The parts of the image that was read, if any.
 fn seen(image: &Image) -> Result<Option<Parts<'_>>, NetpbmFault> {
     match image {
         Ok(None) => Ok(None),
@@ -50,7 +50,7 @@ fn seen(image: &Image) -> Result<Option<Parts<'_>>, NetpbmFault> {
     }
 }
 
-/// Whether memory was refused where it may be.
+/// Whether reading failed for lack of memory, where that is accepted.
 fn lacks_memory(memory: Memory, image: &Image) -> bool {
     matches!(
         (memory, image),
@@ -58,7 +58,7 @@ fn lacks_memory(memory: Memory, image: &Image) -> bool {
     )
 }
 
-/// That the wanted image or fault was read. Says whether memory was refused instead.
+/// Checks that the expected image or fault was read. Returns whether reading failed for lack of memory instead.
 fn is_refused(
     rt: &impl Abort,
     memory: Memory,
@@ -74,10 +74,10 @@ fn is_refused(
     false
 }
 
-/// What bytes are, the bytes, and what is read of them.
+/// The name of a case, its bytes, and the expected result of reading them.
 type Case<'a> = (&'a str, &'a [u8], Result<Parts<'a>, NetpbmFault>);
 
-/// That an image is read of bytes in memory, and these are left.
+/// Checks the result of reading a case's bytes in memory, and the bytes left after an image.
 fn check_whole(rt: &impl Abort, alloc: Global, memory: Memory, case: &Case<'_>, left: &[u8]) {
     let (name, bytes, want) = *case;
     let (image, rest) = read_whole(alloc, bytes);
@@ -86,7 +86,8 @@ fn check_whole(rt: &impl Abort, alloc: Global, memory: Memory, case: &Case<'_>, 
     }
 }
 
-/// That an image is read from chunks of its bytes, and no byte after it asked for; a failed read is counted.
+/// Checks the result of reading a case's bytes in chunks, and that a failed read is counted and no byte after an image
+/// asked for.
 fn check_chunks(
     rt: &impl Abort,
     alloc: Global,
@@ -293,7 +294,7 @@ const IMAGES: &[Case<'static>] = &[
     ("no raster", b"P5 2 1 255\n", Err(NetpbmFault::Truncated)),
 ];
 
-/// That each image is read as it is, whole and in chunks.
+/// Checks that each image is read as it is, in memory and in chunks.
 fn check_images(rt: &impl Abort, alloc: Global, memory: Memory) {
     for case in IMAGES {
         check_whole(rt, alloc, memory, case, b"");
@@ -322,7 +323,7 @@ fn each_beginning_of_an_image_is_truncated(rt: HostRuntime) {
     }
 }
 
-/// Whether memory may be refused after so many bytes: it is asked for after the header.
+/// Whether an allocation may fail after `bytes` bytes: memory is allocated after the header, of `header` bytes.
 fn after_header(bytes: usize, header: usize) -> Memory {
     if bytes < header {
         Memory::Ample
@@ -331,7 +332,7 @@ fn after_header(bytes: usize, header: usize) -> Memory {
     }
 }
 
-/// A header of so many blanks after the magic, and then some bytes.
+/// The name of a case, the number of blanks after the magic, the bytes after them, and the expected result.
 type LongHeader<'a> = (&'a str, usize, &'a [u8], Result<Parts<'a>, NetpbmFault>);
 
 const LONG_HEADERS: &[LongHeader<'static>] = &[
@@ -371,7 +372,7 @@ fn check_long_header(rt: &impl Abort, alloc: Global, header: &LongHeader<'_>) {
         panic!(rt; "no room for {case}");
     };
     place.copy_from_slice(tail);
-    // A bad header takes no memory.
+    // Nothing is allocated for a malformed header.
     let memory = match want {
         Ok(_) => Memory::Refusable,
         Err(_) => Memory::Ample,
@@ -388,14 +389,14 @@ fn a_header_has_65536_bytes_at_most(rt: HostRuntime) {
     }
 }
 
-/// Two images, and their bytes.
+/// The first of two images; below, the second, and the bytes of both.
 const FIRST: Parts<'static> = (Kind::Gray, 3, 1, 255, &[7, 8, 9]);
 
 const SECOND: Parts<'static> = (Kind::Color, 1, 1, 255, &[1, 2, 3]);
 
 const BOTH: &[u8] = b"P5 3 1 255\n\x07\x08\x09P6 1 1 255\n\x01\x02\x03";
 
-/// The bytes of the second alone.
+/// The bytes of the second image alone.
 const LAST: &[u8] = b"P6 1 1 255\n\x01\x02\x03";
 
 #[test]
@@ -406,14 +407,14 @@ fn not_a_byte_after_an_image_is_taken(rt: HostRuntime) {
     check_whole(&rt, rt.alloc(), Memory::Refusable, &second, b"");
 }
 
-/// Reads the first of the images from chunks of at most so many bytes.
+/// Checks reading the first of both images from chunks of at most `most` bytes.
 fn check_first_of_chunks(rt: &impl Abort, alloc: Global, most: usize) {
     let reading = read_chunks(alloc, Chunks::new(BOTH, most, &[]));
     let chunks = &reading.chunks;
     let got = (chunks.given, chunks.furthest, chunks.singly);
     let image = &reading.image;
     let want = if is_refused(rt, Memory::Refusable, image, Ok(FIRST), "the chunks", most) {
-        // The room for the raster is made before its first byte is asked for.
+        // The raster's memory is allocated before its first byte is asked for.
         (11, 11, None)
     } else {
         (14, 14, Some(11))
@@ -446,7 +447,7 @@ const TEXTS: &[(NetpbmFault, &str)] = &[
     (NetpbmFault::NoMemory, "no memory"),
 ];
 
-/// That a fault is written so, or memory is refused.
+/// Checks the text of a fault, unless an allocation fails.
 fn check_text(rt: &impl Abort, alloc: Global, (fault, want): &(NetpbmFault, &str)) {
     if let Ok(text) = fault.to_string(alloc) {
         check_items(rt, want, 0, text.as_bytes(), want.as_bytes());
@@ -462,7 +463,7 @@ fn faults_say_what_is_wrong(rt: HostRuntime) {
     check(&rt, "no memory", 0, &refused, &NetpbmFault::NoMemory);
 }
 
-/// What is found in front of bytes: the first sample of the image, and its length.
+/// The result of `first_frame`: the first sample of the image, and its length in bytes.
 type Front = Result<Option<(u16, usize)>, NetpbmFault>;
 
 const FRONTS: &[(&str, &[u8], Front)] = &[

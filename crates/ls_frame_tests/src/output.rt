@@ -2,7 +2,7 @@ use crate::testing::{Mishap, Sink, check, check_items};
 use ls_frame::{Counted, Outlet, WriteFault, write_bytes};
 use std::process::Abort;
 
-/// That writing bytes answers this, with so many failures, and that these go out; how many calls it takes.
+/// Checks the result of writing `bytes`, the number of failures, and the bytes written. Returns the number of calls.
 fn check_written(
     rt: &impl Abort,
     bytes: &[u8],
@@ -29,7 +29,7 @@ fn all_bytes_go_out_in_order(rt: HostRuntime) {
     }
 }
 
-/// Writes bytes to a writer of one byte a call, whose call after those before goes wrong.
+/// Checks writing to a writer that accepts one byte per call, and whose call after the bytes `before` goes wrong.
 fn check_fault(rt: &impl Abort, bytes: &[u8], before: &[u8], mishap: Mishap) {
     let call = before.len();
     let failing = [call];

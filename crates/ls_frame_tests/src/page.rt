@@ -28,5 +28,5 @@ fn the_page_copies_a_film_with_ample_memory(rt: HostRuntime) {
     check_items(&rt, "the copy", 0, &writer.into_inner(), FILM);
 }
 
-/// The images of a gray pixel and of one in colour.
+/// Two images of one pixel, the first gray, the second in colour.
 const FILM: &[u8] = b"P5\n1 1\n255\n\x07P6\n1 1\n255\n\x01\x02\x03";

@@ -89,7 +89,7 @@ fn explicit_parameters_are_kept(rt: HostRuntime) {
     check(&rt, "legal parameters", 0, &got, &Ok((1, 1, 1, 1, 255)));
 }
 
-/// That a fault is written so.
+/// Checks the text of a fault.
 fn check_text(rt: &impl Abort, fault: PresetFault, text: &str) {
     let mut sink = Sink::new(16, &[], Mishap::Fails);
     check_so(rt, text, 0, write!(sink, "{fault}").is_ok());

@@ -2,7 +2,7 @@ use crate::testing::{check, check_samples};
 use ls_frame::{FrameFault, FrameView, Kind, Place, Samples};
 use std::process::Abort;
 
-/// A maxval and a row of bytes, and why they make no view of one row.
+/// A maxval, a row of bytes, and the fault if they don't make a view of one row.
 type Row<'a> = (u16, &'a [u8], Option<FrameFault>);
 
 const ROWS: &[Row<'static>] = &[
@@ -14,7 +14,7 @@ const ROWS: &[Row<'static>] = &[
     (0, &[0], Some(FrameFault::ZeroMaxval)),
 ];
 
-/// What a row of bytes makes: a view of it, or its fault.
+/// Checks that a row of bytes makes a view of these bytes, or has its fault.
 fn check_row(rt: &impl Abort, i: usize, row: &Row<'_>) {
     let (maxval, bytes, want) = *row;
     let width = u16::try_from(bytes.len()).unwrap_or(0);
@@ -37,7 +37,7 @@ const BYTES: [u8; 5] = [1, 2, 3, 4, 5];
 
 const WORDS: [u16; 5] = [100, 200, 300, 400, 500];
 
-/// Parts of both by start and count, and the samples that they have.
+/// A start, a count, and the samples of that part of `BYTES` and of `WORDS`.
 const PARTS: &[(u8, u8, &[u8], &[u16])] = &[
     (0, 5, &[1, 2, 3, 4, 5], &[100, 200, 300, 400, 500]),
     (1, 3, &[2, 3, 4], &[200, 300, 400]),

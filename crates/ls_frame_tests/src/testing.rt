@@ -1,4 +1,4 @@
-//! Frames, readers, writers and checks for the tests. The readers and the writers take no memory.
+//! Frames, readers, writers and checks for the tests. The readers and the writers don't allocate.
 ghost use Rattle.std.specs.Prelude.{◌≤◌};
 ghost use Rattle.ls_frame_tests.specs.declared.testing.TheConstants.{ROOM};
 
@@ -9,18 +9,18 @@ use std::io;
 use std::io::{Read, Write};
 use std::process::Abort;
 
-/// How the readers and writers here fail.
+/// The failure of the readers and writers here.
 pub const BROKEN: Failed = Failed {
     kind: io::ErrorKind::BrokenPipe,
     number: None,
 };
 
-/// That a value is the wanted one.
+/// Checks that a value is the expected one.
 pub fn check<T: PartialEq + Debug>(rt: &impl Abort, case: &str, at: usize, got: &T, want: &T) {
     assert_eq!(rt; got, want, "{case}, at {at}");
 }
 
-/// That items are the wanted ones.
+/// Checks that items are the expected ones.
 pub fn check_items<T: PartialEq + Debug>(
     rt: &impl Abort,
     case: &str,
@@ -31,12 +31,12 @@ pub fn check_items<T: PartialEq + Debug>(
     check(rt, case, at, &got, &want);
 }
 
-/// That this holds.
+/// Checks that a condition holds.
 pub fn check_so(rt: &impl Abort, case: &str, at: usize, holds: bool) {
     assert!(rt; holds, "{case}, at {at}");
 }
 
-/// That samples are the wanted ones, of the wanted size.
+/// Checks that samples are the expected ones, of the expected number of bits.
 pub fn check_samples(rt: &impl Abort, case: &str, at: usize, got: Samples<'_>, want: Samples<'_>) {
     match (got, want) {
         (Samples::Bytes(got), Samples::Bytes(want)) => check_items(rt, case, at, got, want),
@@ -59,14 +59,14 @@ pub fn parts_of(frame: &Frame) -> Parts<'_> {
     )
 }
 
-/// A frame of these parts.
+/// Makes a frame of these parts.
 pub fn frame_of(rt: &impl Abort, alloc: Global, parts: &Parts<'_>) -> Result<Frame, AllocError> {
     let (kind, width, height, maxval, samples) = *parts;
     let made = Frame::new(kind, width, height, maxval, samples.to_vec(alloc)?);
     Ok(made.expect(rt, "parts that make no frame"))
 }
 
-/// Samples, each 7 more than the one before, and from 0 on again past maxval.
+/// Samples, each 7 more than the one before, modulo `maxval + 1`, which must be a power of two.
 pub fn long_samples<const N: usize>(maxval: u16) -> [u16; N] {
     let mut samples = [0u16; N];
     let mut sample = 0u16;
@@ -80,7 +80,7 @@ pub fn long_samples<const N: usize>(maxval: u16) -> [u16; N] {
 /// MAXVAL, T1, T2, T3, RESET.
 pub type Parameters = (u16, u16, u16, u16, u16);
 
-/// The parameters of these presets, or the fault.
+/// The values of these presets, or the fault.
 pub fn parameters_of(got: Result<Presets, PresetFault>) -> Result<Parameters, PresetFault> {
     let presets = got?;
     Ok((
@@ -92,11 +92,11 @@ pub fn parameters_of(got: Result<Presets, PresetFault>) -> Result<Parameters, Pr
     ))
 }
 
-/// A call of `feed_until` by its mark and how many bytes it may take, what it answers, the bytes taken by it and those
-/// before it, and how many reads failed by then.
+/// A call of `feed_until`: its mark, the maximum number of bytes, its result, all bytes taken so far, and the number of
+/// failed reads so far.
 pub type Take<'a> = (u8, usize, Result<Option<u8>, FeedFault>, &'a [u8], u64);
 
-/// That calls of `feed_until` take this, up to a call for which memory is refused; whether none was.
+/// Checks calls of `feed_until`, up to the first that fails for lack of memory. Returns whether none did.
 pub fn check_takes<R: Feed>(
     rt: &impl Abort,
     alloc: Global,
@@ -121,7 +121,8 @@ fn are_taken<R: Feed>(
     true
 }
 
-/// That a call of `feed_until` takes this, after the bytes before it; or that memory is refused and no byte taken.
+/// Checks a call of `feed_until`, which appends to `bytes`. If it fails for lack of memory, checks that it appends
+/// nothing, and returns false.
 fn is_taken<R: Feed>(
     rt: &impl Abort,
     reader: &mut R,
@@ -143,20 +144,20 @@ fn is_taken<R: Feed>(
     !is_refused
 }
 
-/// A reader over memory that gives at most `most` bytes a call. Its calls of the numbers `failing`,
-/// counted from 0, fail and give nothing.
+/// A reader over memory that returns at most `most` bytes per call. The calls whose numbers are in `failing`, counted
+/// from 0, fail and return nothing.
 #[derive(Drop)]
 pub struct Chunks<'a> {
     rest: &'a [u8],
     most: usize,
     failing: &'a [usize],
-    /// How many calls there were.
+    /// The number of calls so far.
     pub calls: usize,
-    /// How many bytes were given.
+    /// The number of bytes returned so far.
     pub given: usize,
-    /// The farthest byte that a call had room for, counted from 1.
+    /// The position, counted from 1, of the farthest byte that a call has asked for.
     pub furthest: usize,
-    /// How many bytes were given before the first call with room for more than one.
+    /// The number of bytes returned before the first call that asked for more than one.
     pub singly: Option<usize>,
 }
 
@@ -194,18 +195,18 @@ impl<'a> Read for Chunks<'a> {
     }
 }
 
-/// What becomes of a call that is to go wrong.
+/// How the failing calls of a `Sink` go wrong.
 #[derive(Clone, Copy)]
 pub enum Mishap {
     Fails,
     TakesNothing,
 }
 
-/// The most bytes that a `Sink` holds.
+/// The maximum number of bytes in a `Sink`.
 const ROOM: usize = 16;
 
-/// A writer into an array that takes at most `most` bytes a call. Its calls of the numbers `failing`,
-/// counted from 0, take nothing.
+/// A writer into an array that accepts at most `most` bytes per call. The calls whose numbers are in `failing`, counted
+/// from 0, go wrong and accept nothing.
 #[derive(Drop)]
 pub struct Sink<'a> {
     room: [u8; ROOM],
@@ -213,9 +214,9 @@ pub struct Sink<'a> {
     most: usize,
     failing: &'a [usize],
     mishap: Mishap,
-    /// How many calls of `write` there were.
+    /// The number of calls of `write` so far.
     pub calls: usize,
-    /// How many calls of `flush` there were. Those of the numbers `failing` fail.
+    /// The number of calls of `flush` so far. Those whose numbers are in `failing` fail.
     pub flushes: usize,
     ghost fits: { filled ≤ ROOM },
 }
@@ -233,7 +234,7 @@ impl<'a> Sink<'a> {
         }
     }
 
-    /// The bytes that went out.
+    /// The bytes written so far.
     pub fn written(&self) -> &[u8] {
         &self.room[..self.filled]
     }

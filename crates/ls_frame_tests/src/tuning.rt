@@ -16,7 +16,7 @@ const SPELLED_OUT: Tuning = Tuning {
     reset: 64,
 };
 
-/// What is chosen, maxval, and the parameters or the fault.
+/// The choices, maxval, and the parameters or the fault.
 type Chosen = (Tuning, u16, Result<Parameters, PresetFault>);
 
 const CHOSEN: &[Chosen] = &[

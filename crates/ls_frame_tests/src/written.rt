@@ -3,7 +3,7 @@ use ls_frame::{Counted, Frame, Kind, Outlet, WriteFault, first_frame, write_fram
 use std::alloc::Global;
 use std::process::Abort;
 
-/// The parts of a frame, and its text.
+/// The parts of a frame, and its canonical text.
 type Text<'a> = (Parts<'a>, &'a [u8]);
 
 const SHORT: Text<'static> = ((Kind::Gray, 1, 1, 255, &[255]), b"P5\n1 1\n255\n\xFF");
@@ -23,7 +23,7 @@ const TEXTS: &[Text<'static>] = &[
     ),
 ];
 
-/// That writing a frame answers this, with so many failures, and that these bytes go out.
+/// Checks the result of writing a frame, the number of failures, and the bytes written.
 fn check_written(
     rt: &impl Abort,
     frame: &Frame,
@@ -39,7 +39,7 @@ fn check_written(
     check_items(rt, "its bytes", bytes.len(), sink.written(), bytes);
 }
 
-/// That a frame is written as its text.
+/// Checks that a frame is written as its text.
 fn check_text(rt: &impl Abort, alloc: Global, (parts, text): &Text<'_>) {
     if let Ok(frame) = frame_of(rt, alloc, parts) {
         let sink = Sink::new(16, &[], Mishap::Fails);
@@ -54,7 +54,8 @@ fn a_frame_has_one_text(rt: HostRuntime) {
     }
 }
 
-/// Writes a frame to a writer of one byte a call, whose call after these bytes goes wrong.
+/// Checks writing a frame to a writer that accepts one byte per call, and whose call after the bytes `before` goes
+/// wrong.
 fn check_fault(rt: &impl Abort, frame: &Frame, before: &[u8], mishap: Mishap) {
     let call = before.len();
     let failing = [call];
@@ -77,14 +78,14 @@ fn a_fault_says_how_much_of_the_text_went_out(rt: HostRuntime) {
     }
 }
 
-/// A frame's text.
+/// Writes a frame to memory and returns its text.
 fn text_of(rt: &impl Abort, alloc: Global, frame: &Frame) -> Vec<u8> {
     let mut writer = Counted::new(Vec::new(alloc));
     check(rt, "a text", 0, &write_frame(&mut writer, frame), &Ok(()));
     writer.into_inner()
 }
 
-/// How many bytes of a text an image takes, and whether it is this frame.
+/// Reads the image at the front of a text. Returns its length in bytes, and whether it is this frame.
 fn read_back(alloc: Global, text: &[u8], frame: &Frame) -> Option<(usize, bool)> {
     match first_frame(alloc, text) {
         Ok(Some((read, taken))) => Some((taken, read == *frame)),
@@ -92,7 +93,7 @@ fn read_back(alloc: Global, text: &[u8], frame: &Frame) -> Option<(usize, bool)>
     }
 }
 
-/// Writes a frame of 100 by 90 samples as a text of this size, and reads it back.
+/// Checks that a frame of 100 by 90 samples is written as a text of `size` bytes, and read back.
 fn check_long_frame(rt: &impl Abort, alloc: Global, maxval: u16, size: usize) {
     let samples = long_samples::<9000>(maxval);
     let frame = frame_of(rt, alloc, &(Kind::Gray, 100, 90, maxval, &samples));

@@ -1,4 +1,4 @@
--- A collector stays one: its pieces stay those of its orders; and when a piece fits.
+-- Each call keeps the invariant of a collector; and when a coded frame fits.
 use Rattle.std.proofs.Common.{◌≡◌, ℕ, zero, suc, ◌+◌, ◌-◌, ◌<◌, ◌≤◌, ◌^◌, ◌==◌, ◌||◌, not, nat_lt, nat_le, Bool, true, false, List, [], ◌∷◌, ◌++◌, length, set, cond, Option, Some, None, refl, sym, ap, subst, ◌∙◌, arith}
 use Rattle.std.specs.List.{slice_get}
 use Rattle.std.proofs.lemmas.Bool.{eqb-true, eq-eqb, leb-false, lt-leb, ltb-false}
@@ -32,7 +32,7 @@ IsCollection-book c order collection below room =
 
 -- ---- accepting
 
--- a piece fits a slot
+-- a coded frame fits a slot
 pub record FitsIn (c : Collection) (piece : Job Ordered) (slot : Slot) : Type 0 where
   pub source : piece.source ≡ c.source
   pub number : c.first ≤ piece.number
@@ -73,7 +73,7 @@ fits c piece h =
       },
     )
 
--- nothing is amiss with a piece that fits a slot without one
+-- a coded frame that fits a slot without one has no misfit
 pub no_misfit : (c : Collection) (piece : Job Ordered) (slot : Slot) → FitsIn c piece slot → has_piece (Some slot) ≡ false → misfit_of c piece ≡ None
 no_misfit c piece slot fit empty =
     let within : piece.number - c.first < length c.slots = slice_get_within c.slots (piece.number - c.first) slot fit.at in
@@ -107,7 +107,7 @@ IsCollection-accept c piece slot collection fit =
           (λ i. record { source = fit.source i; number = number i; item = piece.item });
     }
 
--- a piece that fits is put into the slot of its number
+-- a coded frame that fits is stored in the slot of its number
 pub accepted : (c : Collection) (piece : Job Ordered) (slot : Slot) → IsCollection c → misfit_of c piece ≡ None → slice_get c.slots (piece.number - c.first) ≡ Some slot
     → IsCollection (record { source = c.source; window = c.window; first = c.first; slots = set c.slots (piece.number - c.first) (record { order = slot.order; piece = Some piece }) })
 accepted c piece slot collection none at =
@@ -124,7 +124,7 @@ after_accepted c piece slot none at =
     let order : slot.order ≡ piece.item = ap (λ (s : Slot). s.order) (sym same) ∙ fit.1.order in
     rw order refl
 
--- its slot is there
+-- its slot exists
 pub is_there : (c : Collection) (piece : Job Ordered) → misfit_of c piece ≡ None → slice_get c.slots (piece.number - c.first) ≡ None → ⊥
 is_there c piece none at =
     let fit = fits c piece none in

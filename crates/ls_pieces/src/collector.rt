@@ -1,4 +1,4 @@
-//! The collector of a source: pieces come in any order, and go out in that of their numbers.
+//! The collector of a source: coded frames come in any order, and go out in the order of their numbers.
 ghost use Rattle.std.specs.Prelude.{◌≡◌, ◌<◌, ◌-◌, ◌+◌, ◌⊎◌, ◌==◌, ◌^◌, ℕ, None, Some, length, MatchResult, IfErr};
 ghost use Rattle.ls_pieces.specs.Collecting.{window_fault, new_collection, booked, is_full, book_reply, after_book, misfit_of, after_accept, next_reply, after_next, IsCollection};
 
@@ -9,10 +9,10 @@ use std::alloc::{AllocError, Global};
 use std::marker::Model;
 use thiserror::Error;
 
-/// The most orders that a collector may wait for.
+/// The largest window: the most orders that a collector may hold.
 pub const MOST_WINDOW: usize = 64;
 
-/// Why there is no collector.
+/// The reason why no collector was made.
 #[derive(Clone, Copy, Debug, Drop, PartialEq, Eq, Error)]
 pub enum CollectorFault {
     /// The window isn't 1 to 64.
@@ -34,24 +34,24 @@ impl From<AllocError> for CollectorFault {
     }
 }
 
-/// Why a piece isn't accepted. `Collector::accept` looks in this order.
+/// The reason why a coded frame isn't accepted: the first of these that applies, in this order.
 #[derive(Clone, Copy, Debug, Drop, PartialEq, Eq, Error)]
 pub enum Misfit {
     /// It is of another source.
     #[error("another source")]
     Stranger,
-    /// No order of its number was booked.
+    /// No order with its number was booked.
     #[error("not booked")]
     NotBooked,
-    /// A piece of its number was accepted before.
+    /// A coded frame with its number was accepted before.
     #[error("accepted before")]
     Twice,
-    /// It is of another frame than was booked, or was coded with other parameters.
+    /// It is of another frame than the one booked, or was coded with other parameters.
     #[error("another frame")]
     OtherFrame,
 }
 
-/// A booked order, and its piece once it was accepted.
+/// A booked order, and its coded frame once that was accepted.
 #[derive(Drop)]
 pub struct Slot {
     pub order: Order,
@@ -61,7 +61,7 @@ pub struct Slot {
 impl Slot {
     ghost use Rattle.std.specs.Prelude.{◌≡◌, Some};
 
-    /// Keeps a piece with the order.
+    /// Stores the coded frame of the order.
     fn fill(&mut self, piece: Coded)
         ensures { self.new ≡ record { order = self.old.order; piece = Some piece } }
     {
@@ -69,16 +69,16 @@ impl Slot {
     }
 }
 
-/// The orders of one source that were booked and weren't handed out, at most `window` of them, each with its piece or
-/// none.
+/// The orders of one source that were booked and not yet handed out, at most `window` of them, each with its coded
+/// frame if that was accepted.
 ///
 /// Orders are numbered from 0 as they are booked.
 #[derive(Drop)]
 pub struct Collector {
     source: u8,
-    /// How many orders were handed out: the number of the first slot's.
+    /// The number of orders that were handed out, which is the number of the first slot.
     first: u64,
-    /// What is booked, in order, and room for as much as may be.
+    /// The orders not yet handed out, in order. Its capacity is the window.
     slots: HeapCircularBuffer<Slot>,
 }
 
@@ -93,10 +93,10 @@ impl Model for Collector {
 }
 
 impl Collector {
-    /// A collector for a source, with nothing booked. The window is 1 to 64, else `Window` is answered; else it fails
-    /// only if an allocation fails.
+    /// Makes a collector for a source, with nothing booked. Fails with `Window` exactly if the window isn't 1 to 64,
+    /// else only if an allocation fails.
     ///
-    /// It takes all the memory that the collector will need.
+    /// Allocates all the memory that the collector will need.
     pub fn new(alloc: Global, source: u8, window: usize) -> Result<Collector, CollectorFault>
         ensures { MatchResult result
             (λ collector. (window_fault window ≡ None) × (collector ≡ new_collection source window))
@@ -112,9 +112,9 @@ impl Collector {
         })
     }
 
-    /// Books an order, and answers its number: how many were booked before. The order comes back exactly if as many
-    /// booked orders as the window has weren't handed out; then nothing has changed. Fewer than 2^64 - 1 orders may
-    /// have been booked.
+    /// Books an order, and returns its number: the number of orders booked before it. Returns the order exactly if the
+    /// window is full, that is, if `window` orders are booked and not yet handed out; then nothing has changed.
+    /// Requires that fewer than 2^64 - 1 orders were booked.
     pub fn book(&mut self, order: Order) -> Result<u64, Order>
         requires { booked self.old < 2 ^ 64 - 1 }
         ensures reply { result ≡ book_reply self.old order }
@@ -129,8 +129,8 @@ impl Collector {
         Ok(number)
     }
 
-    /// Accepts the piece of an order that was booked. A piece that doesn't fit comes back with the first `Misfit` that
-    /// is so; then nothing has changed.
+    /// Accepts the coded frame of a booked order. One that doesn't fit is returned with the first `Misfit` that
+    /// applies; then nothing has changed.
     pub fn accept(&mut self, piece: Coded) -> Result<(), (Coded, Misfit)>
         ensures { MatchResult result
             (λ _. (misfit_of self.old piece ≡ None) × (self.new ≡ after_accept self.old piece))
@@ -146,7 +146,7 @@ impl Collector {
         Ok(())
     }
 
-    /// Why a piece doesn't fit: the first `Misfit` that is so.
+    /// The first `Misfit` that applies to a coded frame, or `None` if it fits.
     fn misfit_of(&self, piece: &Coded) -> Option<Misfit>
         ensures reply { result ≡ misfit_of self.now piece.now }
         ensures lawful { IsCollection self.now }
@@ -166,7 +166,8 @@ impl Collector {
         }
     }
 
-    /// Hands out the piece of the lowest number that wasn't handed out, if it is there.
+    /// Hands out the coded frame of the lowest number not yet handed out; `None` if that wasn't accepted yet, or no
+    /// order waits.
     pub fn next(&mut self) -> Option<Coded>
         ensures reply { result ≡ next_reply self.old }
         ensures state { self.new ≡ after_next self.old }
@@ -181,7 +182,7 @@ impl Collector {
         slot.piece
     }
 
-    /// How many orders were booked: the number of the next one.
+    /// The number of orders booked so far, which is the number of the next one.
     pub fn booked(&self) -> u64
         ensures value { result ≡ booked self.now }
         ensures lawful { IsCollection self.now }
@@ -189,8 +190,8 @@ impl Collector {
         self.first + self.slots.len() as u64
     }
 
-    /// How many of the booked orders weren't handed out, at most as many as the window has: `book` gives an order back
-    /// if that many are.
+    /// The number of orders that are booked and not yet handed out, at most the window. If it is the window, `book`
+    /// returns the order.
     pub fn waiting(&self) -> usize
         ensures value { result ≡ length self.now.slots }
         ensures lawful { IsCollection self.now }

@@ -1,8 +1,8 @@
-//! Pieces: the codestreams of frames, made in any order and by anybody, and put in order.
+//! Orders, coded frames, and the collector that puts the coded frames of a source in order.
 //!
-//! An order is a frame with the parameters to code it with (`specs/Orders.antt`). A piece is the codestream of an
-//! order, whoever made it. A collector puts the pieces of one source in the order in which they were booked
-//! (`specs/Collecting.antt`).
+//! An order is a frame with the parameters to code it with (`specs/Orders.antt`). A coded frame (`Coded`; a `piece` in
+//! the code) is the codestream of an order; any thread may make it, and they may be made in any order. A collector puts
+//! the coded frames of one source in the order in which their orders were booked (`specs/Collecting.antt`).
 //!
 //! ```
 //! use ls_pieces::{Coded, Collector, Order};
@@ -34,7 +34,7 @@
 //! }
 //! ```
 //!
-//! In reading order: `orders` (what is to be coded), `pieces` (what was coded), `collector` (pieces in order).
+//! In reading order: `orders` (what is to be coded), `pieces` (coded frames), `collector` (coded frames in order).
 #![tactic(auto)]
 
 pub mod collector;

@@ -8,9 +8,9 @@ use std::alloc::AllocError;
 use std::marker::Model;
 use std::sync::Arc;
 
-/// A frame, shared with whoever else holds it, and parameters of its maxval.
+/// A frame, which others may share, and parameters for its maxval.
 ///
-/// It is seen as the frame's picture and the parameters.
+/// The contracts see it as the frame's picture and the parameters.
 #[derive(Drop)]
 pub struct Order {
     frame: Arc<Frame>,
@@ -29,9 +29,9 @@ impl Model for Order {
 }
 
 impl Order {
-    /// An order for this frame. It requires parameters of the frame's maxval.
+    /// Makes an order for a frame. Requires that the parameters are for the frame's maxval.
     ///
-    /// Allocates nothing and cannot fail.
+    /// Allocates nothing and can't fail.
     pub fn new(frame: Arc<Frame>, presets: Presets) -> Order
         requires { presets.maxval ≡ (arc_value frame).maxval }
         ensures { result ≡ (arc_value frame, presets) }
@@ -47,7 +47,7 @@ impl Order {
         &self.frame
     }
 
-    /// The parameters, whose maxval is the frame's.
+    /// The parameters, which are for the frame's maxval.
     pub fn presets(&self) -> &Presets
         ensures value { result.now ≡ self.now.1 }
         ensures lawful { IsOrder self.now }
@@ -61,7 +61,7 @@ impl Clone for Order {
 
     ghost is_clone = { λ order copy. copy ≡ order };
 
-    /// The same order, with the frame shared. Fails only if the frame is shared too often.
+    /// Copies the order; both share the frame. Fails only if the frame's reference count can't grow.
     fn clone(&self) -> Result<Order, AllocError>
         ensures { IfOk result (λ copy. copy ≡ self.now) }
     {
@@ -81,7 +81,7 @@ impl PartialEq for Order {
 
     ghost laws = { same_order-laws };
 
-    /// Whether both are orders for equal frames with equal parameters. Allocates nothing.
+    /// Whether both orders have equal frames and equal parameters. Allocates nothing.
     fn eq(&self, other: &Order) -> bool
         ensures value { result ≡ same_order self.now other.now }
         ensures same { IsTrue result ↔ (self.now ≡ other.now) }

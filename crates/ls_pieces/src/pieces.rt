@@ -1,4 +1,4 @@
-//! Pieces: codestreams of orders, as workers hand them to lanes.
+//! Coded frames: the codestreams of orders, as workers pass them to lanes.
 ghost use Rattle.std.specs.Prelude.{◌≡◌, ◌^◌, ◌<◌, length, MatchResult, IfOk};
 ghost use Rattle.std.specs.Arc.{arc_value};
 ghost use Rattle.ls_pieces.specs.Orders.{IsOrder, IsCoded, coded};
@@ -11,9 +11,9 @@ use std::alloc::{AllocError, Global};
 use std::marker::Model;
 use std::sync::Arc;
 
-/// A job that was done: the codestream of its frame with its parameters.
+/// A coded frame: a job that was done, with the codestream of its order.
 ///
-/// It is seen as the job. Whoever made it, its bytes are the codestream of its order.
+/// The contracts see it as the job. Its bytes are always the codestream of its order, whoever made it.
 #[derive(Drop)]
 pub struct Coded {
     job: Job<Order>,
@@ -31,7 +31,7 @@ impl Model for Coded {
     ghost invariant = { λ c. IsCoded c.job.item c.bytes.items };
 }
 
-/// A job that couldn't be done, since an allocation failed.
+/// The source and number of a job that couldn't be coded because an allocation failed.
 #[derive(Clone, Copy, Debug, Drop, PartialEq, Eq)]
 pub struct Uncoded {
     pub source: u8,
@@ -39,9 +39,9 @@ pub struct Uncoded {
 }
 
 impl Coded {
-    /// Codes a job. The piece is of this job, and `Uncoded` has its source and its number.
+    /// Codes the order of a job. The result is of this job, and `Uncoded` has its source and its number.
     ///
-    /// Fails only if an allocation fails: it asks for `code_bound` bytes and for two lines before it codes.
+    /// Fails only if an allocation fails: it allocates `code_bound` bytes and two lines before it codes.
     pub fn make(alloc: Global, job: Job<Order>) -> Result<Coded, Uncoded>
         ensures { MatchResult result (λ piece. piece ≡ job) (λ uncoded. (uncoded.source ≡ job.source) × (uncoded.number ≡ job.number)) }
     {
@@ -61,14 +61,14 @@ impl Coded {
         self.job.source
     }
 
-    /// The number of the job among those of its source, from 0.
+    /// The number of the job within its source, from 0.
     pub fn number(&self) -> u64
         ensures { result ≡ self.now.number }
     {
         self.job.number
     }
 
-    /// What was coded.
+    /// The order that was coded.
     pub fn order(&self) -> &Order
         ensures { result.now ≡ self.now.item }
     {
@@ -82,14 +82,14 @@ impl Coded {
         self.job.item.frame()
     }
 
-    /// The parameters that it was coded with.
+    /// The parameters that the frame was coded with.
     pub fn presets(&self) -> &Presets
         ensures { result.now ≡ self.now.item.1 }
     {
         self.job.item.presets()
     }
 
-    /// The codestream of the frame with the parameters, of fewer than 2^32 bytes.
+    /// The codestream of the frame with these parameters, fewer than 2^32 bytes.
     pub fn bytes(&self) -> &[u8]
         ensures value { result.now ≡ coded self.now.item }
         ensures short { length result.now < 2 ^ 32 }
@@ -98,7 +98,7 @@ impl Coded {
     }
 }
 
-/// The codestream of an order. Fails only if an allocation fails.
+/// The codestream of an order, fewer than 2^32 bytes. Fails only if an allocation fails.
 fn code(alloc: Global, order: &Order) -> Result<Vec<u8>, AllocError>
     ensures { IfOk result (λ bytes. IsCoded order.now bytes.items) }
 {

@@ -1,4 +1,4 @@
--- What the account says of each job, of the order of numbers, and of the end marks.
+-- What follows from the account for each job, for the order of numbers, and for the end marks.
 use Rattle.std.proofs.Common.{◌≡◌, ◌≢◌, ℕ, zero, suc, ◌+◌, ◌<◌, ◌≤◌, inl, inr, ⊎_elim, List, [], ◌∷◌, ◌++◌, length, map, refl, sym, ap, subst, ◌∙◌, arith}
 use Rattle.std.specs.Prelude.{Some, slice_get, slice_index_or}
 use Rattle.std.specs.List.{sum_by, AllByRecursion}
@@ -18,7 +18,7 @@ use Rattle.ls_queue.specs.View.Account.{Counts, FitsPuts, FitsTakes, IsWithin, j
 use Rattle.ls_queue.proofs.AccountLists.{all_map, length-numbered, jobs_in-append, jobs_in-all, job_or_mark, cons_head, cons_tail}
 use Rattle.ls_queue.proofs.AccountSeats.{settles}
 
--- a list of rising numbers in two parts
+-- a list of rising numbers, split in two
 below_front : (n : ℕ) (ms ns : List ℕ) → IsBelowAll n (ms ++ ns) → IsBelowAll n ms
 below_front n [] ns below = tt
 below_front n (m ∷ ms) ns below = (below.0, below_front n ms ns below.1)
@@ -40,7 +40,7 @@ rising_across [] ns rising = tt
 rising_across (m ∷ ms) ns rising = (below_back m ms ns rising.0, rising_across ms ns rising.1)
 
 module _ {X : Type 0} where
-  -- only the jobs of a source count for it
+  -- only the jobs of source s add to its weight
   pub own_jobs : (s n : ℕ) (h : Job X → ℕ) (jobs : List (Job X)) → sum_by (weight_at s n h) jobs ≡ sum_by (weight_at s n h) (jobs_of s jobs)
   own_jobs s n h [] = refl
   own_jobs s n h (j ∷ js) =
@@ -55,7 +55,7 @@ module _ {X : Type 0} where
             sum_by-cons w j js ∙ (ap (λ m. m + sum_by w js) zero_here ∙ (ap (λ m. 0 + m) (own_jobs s n h js) ∙ (let e = ap (sum_by w) rest in omega arith)))
       ]
 
-  -- among numbered jobs the numbers from the first on stand once, each with its item, and no others
+  -- among numbered jobs, each number from the first on occurs once, with its item, and there are no others
   none_before : (s n m : ℕ) (h : Job X → ℕ) (xs : List X) → n < m → sum_by (weight_at s n h) (numbered s m xs) ≡ 0
   none_before s n m h [] below = refl
   none_before s n m h (x ∷ xs) below =
@@ -106,7 +106,7 @@ module _ {X : Type 0} where
       → sum_by (weight_taken (weight_at s n h)) views + sum_by (weight_at s n h) (jobs_in items) ≡ sum_by (weight_at s n h) (jobs_of s k.past.jobs)
   of_source items views k s n h = taken_or_held items views k (weight_at s n h) ∙ own_jobs s n h k.past.jobs
 
-  -- each item that a seat put is one job, which was taken once or stands in the channel once
+  -- each item that a seat put is one job, which was taken once or is in the channel once
   pub each_once : (items : List (Message X)) (views : List (View X)) → Kept items views → (pass : ℕ) (v : View X) → get_elem? views pass ≡ some v
       → AllByRecursion (λ (u : Puts X). (n : ℕ) → n < length u.items → times_taken u.source n views + times_held u.source n items ≡ 1) v.puts
   each_once items views k pass v at = all_map (FitsPuts k.past pass) _ (λ u f n below.
@@ -147,7 +147,7 @@ module _ {X : Type 0} where
             all ∙ (numbers_of-append s xs ys ∙ ap (λ l. l ++ numbers_of s ys) (sym front))
       ]
 
-  -- what is true of the numbers in a list is true of those in a list within it
+  -- what is true of the numbers in a list is true of those in a subsequence of it
   within_numbers : (P : ℕ → Type 0) (s : ℕ) (xs ys : List (Job X)) → IsWithin xs ys → AllByRecursion P (numbers_of s ys) → AllByRecursion P (numbers_of s xs)
   within_numbers P s [] ys within all = tt
   within_numbers P s (x ∷ xs) [] within all = absurd within
@@ -208,7 +208,7 @@ module _ {X : Type 0} where
       → AllByRecursion (λ (u : Puts X). NumbersRise u.source items views) v.puts
   each_rises items views k pass v at = all_map (FitsPuts k.past pass) _ (λ u f. rise items views k pass u f) v.puts (k.fits pass v at).puts
 
--- messages, of which all jobs came first and then all marks, as they were received and as they are left
+-- messages sent, all jobs before all marks, split into those received and those in the channel
 record Parted {X : Type 0} (received items : List (Message X)) (marks : List (List ℕ)) : Type 0 where
   gone : List (List ℕ)
   jobs : List (Job X)
@@ -219,7 +219,7 @@ record Parted {X : Type 0} (received items : List (Message X)) (marks : List (Li
   done : 0 < length gone → jobs ≡ []
 
 module _ {X : Type 0} where
-  -- of marks alone
+  -- marks without jobs
   parted_marks : (received items : List (Message X)) (marks : List (List ℕ)) → received ++ items ≡ map message.Mark marks
       → (gone left : List (List ℕ)) × (items ≡ map message.Mark left) × (gone ++ left ≡ marks) × (marks_in received ≡ length gone)
   parted_marks [] items marks e = ([], marks, e, refl, refl)
@@ -237,7 +237,7 @@ module _ {X : Type 0} where
       record { gone = r.gone; jobs = r.jobs; left = r.left; behind = r.behind; whole = r.whole; count = r.count; done = r.done }
   parted (message.Mark d ∷ ms) items (i ∷ is) marks e = absurd (job_or_mark i d (sym (cons_head _ _ _ _ e)))
 
-  -- in the channel all jobs stand in front of the marks
+  -- in the channel all jobs come before the marks
   pub marks_are_last : (items : List (Message X)) (views : List (View X)) → Kept items views → MarksAreLast items views
   marks_are_last items views k =
       let q : Parted k.past.received items k.past.marks = parted k.past.received items k.past.jobs k.past.marks k.whole in
@@ -255,7 +255,7 @@ module _ {X : Type 0} where
         done = q.done;
       }
 
-  -- where a mark was taken, all items were
+  -- once a mark was taken, all items were
   pub all_is_taken : (items : List (Message X)) (views : List (View X)) → Kept items views → 0 < sum_by marks_taken views → (pass : ℕ) (v : View X) → get_elem? views pass ≡ some v
       → AllByRecursion (λ (u : Puts X). (n : ℕ) → n < length u.items → times_taken u.source n views ≡ 1) v.puts
   all_is_taken items views k some_mark pass v at =
@@ -265,6 +265,6 @@ module _ {X : Type 0} where
       all_map (λ (u : Puts X). (n : ℕ) → n < length u.items → times_taken u.source n views + times_held u.source n items ≡ 1) _
       (λ u once n below. (let e = once n below in let z = ap (sum_by (is_job u.source n)) empty in omega arith)) v.puts (each_once items views k pass v at)
 
-  -- where one pass holds all, the channel is empty
+  -- if one pass holds all shares and marks, the channel is empty
   pub last_is_settled : (items : List (Message X)) (views : List (View X)) → Kept items views → (pass : ℕ) (v : View X) → get_elem? views pass ≡ some v → HoldsAll v → IsSettled v items
   last_is_settled items views k pass v at all = settles pass v all.closes all.shares all.some_mark all.enough all.done items views k at

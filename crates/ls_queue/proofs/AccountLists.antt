@@ -1,4 +1,4 @@
--- Lists of jobs, of messages and of views, as the account speaks of them.
+-- Lists of jobs, of messages and of views, as the account uses them.
 use Rattle.std.proofs.Common.{◌≡◌, ◌≢◌, ℕ, zero, suc, ◌+◌, ◌<◌, ◌≤◌, ◌⊎◌, inl, inr, ⊎_elim, List, [], ◌∷◌, ◌++◌, length, map, set, refl, sym, ap, subst, ◌∙◌, arith, append-nil, append_assoc}
 use Rattle.std.specs.List.{sum_by, AllByRecursion}
 use Rattle.std.proofs.lemmas.List.Sums.{sum_by-cons, sum_by_push}
@@ -32,7 +32,7 @@ module _ {A : Type 0} where
   at_set (x ∷ xs) (suc i) zero a b e = inr ((λ h. omega arith), e)
   at_set (x ∷ xs) (suc i) (suc j) a b e = ⊎_elim (λ t. inl (ap suc t.0, t.1)) (λ t. let n = t.0 in inr ((λ h. n (omega arith)), t.1)) (at_set xs i j a b e)
 
-  -- a place behind the end of a list has the new element, or it was there before
+  -- after an element is appended, an index has the new element, at the end, or the element it had before
   pub at_end : (l : List A) (a b : A) (j : ℕ) → get_elem? (l ++ a ∷ []) j ≡ some b → ((j ≡ length l) × (a ≡ b)) ⊎ ((j < length l) × (get_elem? l j ≡ some b))
   at_end [] a b zero e = inl (refl, some-injective a b e)
   at_end [] a b (suc j) e = absurd (some-ne-none b (sym e))
@@ -143,7 +143,7 @@ module _ {X : Type 0} where
   IsWithin-last (x ∷ xs) [] z w = absurd w
   IsWithin-last (x ∷ xs) (y ∷ ys) z w = ⊎_elim (λ t. inl (t.0, IsWithin-last xs ys z t.1)) (λ t. inr (IsWithin-last (x ∷ xs) ys z t)) w
 
-  -- one more job, where no mark was sent
+  -- one more job, if no mark was sent
   pub one_more_job : (received items : List (Message X)) (jobs : List (Job X)) (marks : List (List ℕ)) (j : Job X) → (0 < length marks → ⊥)
       → received ++ items ≡ map message.Job jobs ++ map message.Mark marks
       → received ++ (items ++ message.Job j ∷ []) ≡ map message.Job (jobs ++ j ∷ []) ++ map message.Mark marks
@@ -159,7 +159,7 @@ module _ {X : Type 0} where
       sym (append_assoc received items (message.Mark c ∷ [])) ∙ (ap (λ l. l ++ message.Mark c ∷ []) e
       ∙ (append_assoc (map message.Job jobs) (map message.Mark marks) (message.Mark c ∷ []) ∙ ap (λ l. map message.Job jobs ++ l) (sym (map-append message.Mark marks (c ∷ [])))))
 
-  -- the message in front of the channel is one that was sent
+  -- the first message in the channel is one that was sent
   pub front_job : (P : Job X → Type 0) (received items : List (Message X)) (j : Job X) (jobs : List (Job X)) (marks : List (List ℕ))
       → received ++ (message.Job j ∷ items) ≡ map message.Job jobs ++ map message.Mark marks → AllByRecursion P jobs → P j
   front_job P [] items j [] [] e all = let l = ap length e in absurd (omega arith)

@@ -1,4 +1,4 @@
--- The steps of the closer keep the account: seats are made, marks are sent, passes are joined, and the last one is read.
+-- The closer's steps keep the account: seats are made, marks are sent, passes are joined, and the last pass is read.
 use Rattle.std.proofs.Common.{◌≡◌, ◌≢◌, ℕ, zero, suc, ◌+◌, ◌<◌, ◌≤◌, inl, inr, ⊎_elim, Bool, true, false, ◌==◌, true≢false, List, [], ◌∷◌, ◌++◌, length, set, refl, sym, ap, subst, ◌∙◌, arith, append-nil, length-append}
 use Rattle.std.specs.Prelude.{slice_index_or, if◌then◌else◌}
 use Rattle.std.specs.List.{sum_by, AllByRecursion}
@@ -154,7 +154,7 @@ module _ {X : Type 0} where
             });
       }
 
-  -- a source that is counted is kept in this pass, and its count is that of its jobs
+  -- a counted source's items are in this pass, and its count is the number of its jobs
   counted : (past : Past X) (p : ℕ) (counts : List ℕ) (us : List (Puts X)) (s : ℕ) → AllByRecursion (FitsPuts past p) us → IsCounted counts us s
       → (past.keeper s ≡ p) × (slice_index_or counts s 0 ≡ length (jobs_of s past.jobs))
   counted past p counts [] s fit c = absurd c
@@ -287,7 +287,7 @@ module _ {X : Type 0} where
   all_zero f [] zeros = refl
   all_zero f (x ∷ xs) zeros = let a = zeros 0 x refl in let b = all_zero f xs (λ q u e. zeros (suc q) u e) in omega (arith, sum_by-cons f x xs)
 
-  -- where all others are 0, a sum is one of its parts
+  -- if all other parts are 0, a sum is the remaining part
   only_one : (f : View X → ℕ) (views : List (View X)) (p : ℕ) (v : View X) → get_elem? views p ≡ some v
       → ((q : ℕ) (u : View X) → q ≢ p → get_elem? views q ≡ some u → f u ≡ 0) → sum_by f views ≡ f v
   only_one f [] p v e zeros = absurd (some-ne-none v (sym e))

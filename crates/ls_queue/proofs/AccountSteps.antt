@@ -150,7 +150,7 @@ module _ {X : Type 0} where
         refl,
       )
 
-  -- the same of whatever view and message are these
+  -- the same for any view and message equal to these
   pub job_sent : (n p : ℕ) (v : View X) (m : Message X) (s count : ℕ) (xs : List X) (x : X) → v ≡ source_view s xs → count ≡ length xs → m ≡ message.Job (job s count x)
       → Pushes Kept n p v m (λ w. w ≡ after_put v m) × Learns Kept p v (λ items. ⊤)
   job_sent n p v m s count xs x is counted sent =

@@ -1,4 +1,4 @@
--- What the balance of a settled queue says of each job.
+-- What follows for each job from `Balances` of a settled queue.
 use Rattle.std.proofs.Common.{◌≡◌, ℕ, suc, ◌+◌, ◌<◌, ◌≤◌, inl, inr, ⊎_elim, List, [], ◌∷◌, length, refl, sym, ap, subst, ◌∙◌, arith}
 use Rattle.std.specs.Prelude.{slice_index_or}
 use Rattle.std.specs.List.{sum_by, AllByRecursion}
@@ -16,7 +16,7 @@ use Rattle.ls_queue.proofs.AccountLists.{all_map}
 use Rattle.ls_queue.proofs.AccountLaws.{own_jobs, one_each, item_at}
 
 module _ {X : Type 0} where
-  -- a source that is counted put as many items, and its jobs are these
+  -- a source that is counted put that many items, and its jobs are these
   counted_part : (counts : List ℕ) (us : List (Puts X)) (order : List (Job X)) (s : ℕ) → IsCounted counts us s
       → AllByRecursion (λ (u : Puts X). jobs_of u.source order ≡ numbered u.source 0 u.items) us
       → (xs : List X) × (slice_index_or counts s 0 ≡ length xs) × (jobs_of s order ≡ numbered s 0 xs)

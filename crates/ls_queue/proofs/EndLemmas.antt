@@ -1,4 +1,4 @@
--- Ends as they are joined and counted.
+-- How ends are joined and counted.
 use Rattle.std.proofs.Common.{◌≡◌, ◌≢◌, ℕ, zero, suc, ◌+◌, ◌-◌, ◌<◌, ◌≤◌, ◌⊎◌, inl, inr, ⊎_elim, Bool, true, false, true≢false, ◌||◌, ◌==◌, List, [], ◌∷◌, ◌++◌, length, set, get_or, refl, sym, ap, subst, ◌∙◌, arith, append_assoc, append-nil}
 use Rattle.std.specs.Prelude.{⊤, Some, slice_get, slice_index_or}
 use Rattle.std.specs.List.{AllByRecursion, remove}
@@ -23,7 +23,7 @@ pub none_left : {A : Type 0} (l : List A) → length l ≡ 0 → l ≡ []
 none_left [] e = refl
 none_left (x ∷ xs) e = absurd (omega arith)
 
--- without the element, where b says so
+-- the list without the element x if b is true, else with it
 pick : {A : Type 0} → Bool → A → List A → List A
 pick true x l = l
 pick false x l = x ∷ l
@@ -54,7 +54,7 @@ either : (c t : Bool) → (c || t) ≡ true → (c ≡ true) ⊎ (t ≡ true)
 either true t h = inl refl
 either false t h = inr h
 
--- ---- whether an end is there
+-- ---- whether a source has an end
 
 module _ {X : Type 0} where
   pub no_end_of : (source : ℕ) (ended : List (Ended X)) → has_end source ended ≡ false → AllByRecursion (λ (e : Ended X). e.source ≢ source) ended
@@ -134,7 +134,7 @@ module _ {X : Type 0} where
       (λ is. elim (eqb_tells e.source m) [ inl same ↦ ne_eqb e.source s (λ h'. n (sym h' ∙ same.1)) | inr other ↦ absurd (true≢false (sym is ∙ other.0)) ])
       h (stays m s es n)
 
-  -- where each source has an end, there are as many ends as sources, or more
+  -- if each source has an end, there are at least as many ends as sources
   pub enough_ends : (n : ℕ) (es : List (Ended X)) → EachHasEnd n es → n ≤ length es
   enough_ends zero es each = omega arith
   enough_ends (suc m) es each =
@@ -179,7 +179,7 @@ module _ {X : Type 0} where
   counted_from counts n s [] order c = absurd c
   counted_from counts n s (e ∷ es) order c = ⊎_elim (λ t. (let a = t.0 in let b = order.0 in omega arith)) (λ t. (let r = counted_from counts (suc n) s es order.1 t in omega arith)) c
 
-  -- where the ends are in order, a count is how many items its end has
+  -- if the ends are in order, a count is the number of items of its end
   count_from : (counts : List ℕ) (n i s : ℕ) (es : List (Ended X)) (end : Ended X) → s ≡ n + i → AreInOrder n es → slice_get es i ≡ Some end → IsCounted counts (parts_of es) s
       → slice_index_or counts s 0 ≡ length (items_ended end)
   count_from counts n i s [] end is order at c = absurd c

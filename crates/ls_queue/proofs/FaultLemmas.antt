@@ -1,4 +1,4 @@
--- Where a replay has no fault.
+-- What is true if a replay has no fault.
 use Rattle.std.proofs.Common.{◌≡◌, ℕ, ◌≤◌, Bool, true, false, not, cond, List, [], ◌∷◌, length, All, Option, Some, None, IsTrue, ◌+◌, refl, arith}
 use Rattle.std.specs.List.{position, prefix_len}
 use Rattle.std.proofs.lemmas.List.Elements.{All-nil, All-cons}
@@ -13,7 +13,7 @@ first_of-none (Some fault) number e = (cc, cc)
 first_of-none None (Some number) e = (refl, cc)
 first_of-none None None e = (refl, refl)
 
--- where each element of the front passes and the front is all, each passes
+-- if the longest front whose elements pass is the whole list, each element passes
 all_pass : (p : Step → Bool) (steps : List Step) → length steps ≤ prefix_len (λ step. not (not (p step))) steps → All (λ step. IsTrue (p step)) steps
 all_pass p [] whole = All-nil (λ step. IsTrue (p step))
 all_pass p (step ∷ steps) whole =
@@ -25,7 +25,7 @@ all_pass p (step ∷ steps) whole =
 position-none : (p : Step → Bool) (steps : List Step) → position (λ step. not (p step)) steps ≡ None → All (λ step. IsTrue (p step)) steps
 position-none p steps none = all_pass p steps (grind (arith, nat_tests))
 
--- the numbers are in range, and each step names a source that there is
+-- the numbers are in range, and each step that names a source names an existing one
 pub replay_fault-none : (sources capacity : ℕ) (steps : List Step) → replay_fault sources capacity steps ≡ None
     → (range_fault sources capacity ≡ None) × All (λ step. IsTrue (is_known sources step)) steps
 replay_fault-none sources capacity steps none =

@@ -81,7 +81,7 @@ was_closed-here s before close between =
     ∙ ap (λ b. was_closed s before || (b || was_closed s between)) (eq-eqb s s refl)
     ∙ or-true (was_closed s before)
 
--- a put of a closed source is answered Closed
+-- a put of a closed source returns Closed
 closed_put : (sources capacity s x : ℕ) (before : List Event) (r : Reply) → was_closed s before ≡ true → r ≡ lawful_reply sources capacity before (step.Put s x) → r ≡ reply.Put (put.Closed x)
 closed_put sources capacity s x before r closed lawful =
     lawful ∙ ap (λ b. reply.Put (if b then put.Closed x else (if length (sent s before) == spent_count then put.Spent x else (if length (held before) == capacity then put.Full x else put.Taken (length (sent s before)))))) closed

@@ -1,4 +1,4 @@
--- What a queue is after a history, in the history's words; and that its replies are the lawful ones.
+-- The state of a queue after a history, in terms of the history; and that its replies are the lawful ones.
 use Rattle.std.proofs.Common.{◌≡◌, ℕ, ◌+◌, ◌<◌, inl, inr, Bool, true, false, not, ◌&&◌, ◌||◌, List, [], ◌∷◌, ◌++◌, length, filter, drop, set, get_or, flat_map, All, IsTrue, ◌==◌, if◌then◌else◌, refl, sym, ap, subst, ◌∙◌, arith, suc, append-nil, append_assoc, length-append}
 use Rattle.std.specs.List.{list_all, range_with_len}
 use Rattle.std.proofs.lemmas.Bool.Decides.{eqb_tells, nat_tests}
@@ -19,8 +19,8 @@ use Rattle.ls_queue.specs.History.{Event, history, job_put, job_in, job_taken, j
 use Rattle.ls_queue.proofs.JobLemmas.{items_of-append, items_of-own, items_of-other, AreNumbered, AreNumbered-none, AreNumbered-one, AreNumbered-append, left_after}
 use Rattle.ls_queue.proofs.StepLemmas.{put_reply-number, replies_of-length}
 
--- The queue after these events: its counts are how many were sent, closed is what was closed, and what went in is what came out
--- and then what it holds.
+-- The queue after these events: its counts are the numbers of items sent, its closed sources those that were closed, and the jobs accepted are
+-- the jobs taken followed by the jobs held.
 pub record IsAfter (sources capacity : ℕ) (events : List Event) (q : Queue ℕ) : Type 0 where
   pub room : q.capacity ≡ capacity
   pub size : length q.counts ≡ sources
@@ -30,13 +30,13 @@ pub record IsAfter (sources capacity : ℕ) (events : List Event) (q : Queue ℕ
   pub split : jobs_in events ≡ jobs_out events ++ q.held
   pub numbered : AreNumbered [] (jobs_in events)
 
--- what is held is what the queue holds
+-- what is held by the history is what the queue holds
 pub IsAfter-held : (sources capacity : ℕ) (events : List Event) (q : Queue ℕ) → IsAfter sources capacity events q → held events ≡ q.held
 IsAfter-held sources capacity events q after =
     ap (filter (λ job. not (is_among (jobs_out events) job))) after.split
     ∙ left_after (jobs_out events) q.held (subst (AreNumbered []) after.split after.numbered)
 
--- what was taken, and then what is held, is what was sent
+-- what was taken, followed by what is held, is what was sent
 pub IsAfter-kept : (sources capacity : ℕ) (events : List Event) (q : Queue ℕ) → IsAfter sources capacity events q
     → (s : ℕ) → taken s events ++ items_of s (held events) ≡ sent s events
 IsAfter-kept sources capacity events q after s =
@@ -90,7 +90,7 @@ pub was_closed-push : (s : ℕ) (events : List Event) (event : Event) → was_cl
 was_closed-push s events event =
     list_any-append (λ (one : Event). closes s one.step) events (event ∷ []) ∙ ap (λ b. was_closed s events || b) (or-false (closes s event.step))
 
--- what an event does to a queue, in its own words
+-- what an event does to a queue, in terms of the event
 record Follows (sources : ℕ) (events : List Event) (q : Queue ℕ) (event : Event) (q' : Queue ℕ) : Type 0 where
   room : q'.capacity ≡ q.capacity
   size : length q'.counts ≡ length q.counts
@@ -120,7 +120,7 @@ IsAfter-next sources capacity events q event q' after next =
       numbered = subst (AreNumbered []) (sym all_in) (AreNumbered-append [] (jobs_in events) (job_in event) after.numbered next.numbered);
     }
 
--- a put that isn't taken in changes nothing
+-- a put whose item isn't accepted changes nothing
 put_back : (sources : ℕ) (events : List Event) (q : Queue ℕ) (s x : ℕ) (r : Put ℕ) → job_put s x (reply.Put r) ≡ []
     → Follows sources events q (record { step = step.Put s x; reply = reply.Put r }) q
 put_back sources events q s x r none = record {
@@ -133,7 +133,7 @@ put_back sources events q s x r none = record {
   numbered = subst (AreNumbered (jobs_in events)) (sym none) (AreNumbered-none (jobs_in events));
 }
 
--- a put that is taken in
+-- a put whose item is accepted
 put_in : (sources capacity : ℕ) (events : List Event) (q : Queue ℕ) (s x n : ℕ) → IsAfter sources capacity events q → s < sources → n ≡ count_of q s
     → Follows sources events q (record { step = step.Put s x; reply = reply.Put (put.Taken n) }) (after_reply q s x (put.Taken n))
 put_in sources capacity events q s x n after below number =
@@ -225,7 +225,7 @@ IsAfter-new sources capacity = record {
   numbered = AreNumbered-none [];
 }
 
--- the replies of a queue to known steps are lawful, and the queue is then as it is after them
+-- the replies of a queue to known steps are lawful, and its state afterwards is that after these events
 pub replies_of-lawful : (sources capacity : ℕ) (steps : List Step) (events : List Event) (q : Queue ℕ) → IsAfter sources capacity events q → All (λ step. IsTrue (is_known sources step)) steps
     → AreLawful sources capacity events (history steps (replies_of q steps)) × IsAfter sources capacity (events ++ history steps (replies_of q steps)) (after_steps q steps)
 replies_of-lawful sources capacity [] events q after there = (tt, subst (λ all. IsAfter sources capacity all q) (sym (append-nil events)) after)

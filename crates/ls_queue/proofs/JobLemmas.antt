@@ -1,4 +1,4 @@
--- Jobs whose numbers count up for each source: none stands twice, so those that are left are all but those that are gone.
+-- Jobs whose numbers count up for each source: none occurs twice, so the remaining jobs are all but those that are gone.
 use Rattle.std.proofs.Common.{◌+◌, ◌≡◌, ◌≢◌, ℕ, ◌<◌, inl, inr, Bool, true, false, not, cond, ◌||◌, List, [], ◌∷◌, ◌++◌, length, map, filter, ◌==◌, refl, sym, ap, subst, ◌∙◌, arith, append-nil, append_assoc}
 use Rattle.std.specs.List.{list_any, range_with_len}
 use Rattle.std.proofs.lemmas.Bool.{eq-eqb, ne_eqb}
@@ -21,7 +21,7 @@ items_of-own s n x = rw (eq-eqb s s refl) refl
 pub items_of-other : (s t n x : ℕ) → s ≢ t → items_of t (record { source = s; number = n; item = x } ∷ []) ≡ []
 items_of-other s t n x other = rw (ne_eqb s t other) refl
 
--- each job's number is how many jobs of its source stand before it
+-- each job's number is the number of jobs of its source before it
 pub AreNumbered : List (Job ℕ) → List (Job ℕ) → Type 0
 AreNumbered before [] = Unit {0}
 AreNumbered before (job ∷ jobs) = (job.number ≡ length (items_of job.source before)) × AreNumbered (before ++ job ∷ []) jobs
@@ -51,7 +51,7 @@ AreNumbered-back before [] ys numbered = subst (λ b. AreNumbered b ys) (sym (ap
 AreNumbered-back before (x ∷ xs) ys numbered =
     subst (λ b. AreNumbered b ys) (append_assoc before (x ∷ []) xs) (AreNumbered-back (before ++ x ∷ []) xs ys numbered.1)
 
--- each job's number is below how many of its source stand in a list
+-- each job's number is below the number of jobs of its source in a list
 AreBelow : List (Job ℕ) → List (Job ℕ) → Type 0
 AreBelow [] all = Unit {0}
 AreBelow (job ∷ jobs) all = (job.number < length (items_of job.source all)) × AreBelow jobs all
@@ -108,7 +108,7 @@ is_among-here front job back =
     ∙ ap (λ b. list_any (λ one. is_same one job) front || (b || list_any (λ one. is_same one job) back)) itself
     ∙ or-true (list_any (λ one. is_same one job) front) (list_any (λ one. is_same one job) back)
 
--- of the jobs that are gone none is left
+-- of the jobs that are gone none remains
 none_left : (front jobs : List (Job ℕ)) → filter (λ job. not (is_among (front ++ jobs) job)) jobs ≡ []
 none_left front [] = refl
 none_left front (job ∷ jobs) =
@@ -116,7 +116,7 @@ none_left front (job ∷ jobs) =
     subst (λ gone. filter (λ one. not (is_among gone one)) jobs ≡ []) (append_assoc front (job ∷ []) jobs) (none_left (front ++ job ∷ []) jobs) in
     ap (λ b. cond (not b) (job ∷ filter (λ one. not (is_among (front ++ job ∷ jobs) one)) jobs) (filter (λ one. not (is_among (front ++ job ∷ jobs) one)) jobs)) (is_among-here front job jobs) ∙ rest
 
--- of the jobs numbered after them all are left
+-- of the jobs numbered after them all remain
 all_left : (gone before jobs : List (Job ℕ)) → AreBelow gone before → AreNumbered before jobs → filter (λ job. not (is_among gone job)) jobs ≡ jobs
 unfolding AreNumbered
 all_left gone before [] below numbered = refl
@@ -132,7 +132,7 @@ left_after gone jobs numbered =
     ∙ ap (λ xs. xs ++ filter (λ job. not (is_among gone job)) jobs) (none_left [] gone)
     ∙ all_left gone gone jobs (AreBelow-numbered [] gone (AreNumbered-front [] gone jobs numbered)) (AreNumbered-back [] gone jobs numbered)
 
--- jobs that are numbered have, of each source, the numbers from how many came before
+-- numbered jobs have, for each source, consecutive numbers from the number of its jobs before them
 pub numbers_in_order : (s : ℕ) (before jobs : List (Job ℕ)) → AreNumbered before jobs → numbers_of s jobs ≡ range_with_len (length (items_of s before)) (length (items_of s jobs))
 unfolding AreNumbered
 numbers_in_order s before [] numbered = refl

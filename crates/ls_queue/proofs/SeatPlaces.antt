@@ -1,4 +1,4 @@
--- Seats by their places in a list.
+-- Seats by their index in a list.
 use Rattle.std.proofs.Common.{◌≡◌, ℕ, zero, suc, ◌<◌, List, [], ◌∷◌, length, sym, subst, arith}
 use Rattle.std.specs.Prelude.{slice_index_or}
 use Rattle.std.specs.List.{AllByRecursion}
@@ -7,7 +7,7 @@ use Rattle.ls_queue.specs.declared.running.SourceSeat.{SourceSeat}
 use Rattle.ls_queue.specs.declared.running.WorkerSeat.{WorkerSeat}
 use Rattle.ls_queue.specs.View.Running.{AreNewSources, AreNewWorkers, IsSourceAt, IsWorkerAt}
 
--- what holds at each place holds of each element
+-- what holds at each index holds of each element
 pub each_at : {A : Type 0} (P : A → Type 0) (xs : List A) → ((i : ℕ) (d : A) → i < length xs → P (slice_index_or xs i d)) → AllByRecursion P xs
 each_at P [] at = tt
 each_at P (x ∷ xs) at = (at 0 x (omega arith), each_at P xs (λ i d below. at (suc i) d (omega arith)))

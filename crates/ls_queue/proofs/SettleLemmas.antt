@@ -1,4 +1,4 @@
--- Worker seats as they are joined, and what is known of the last pass.
+-- How worker seats are joined, and what the holder of the last pass knows.
 use Rattle.std.proofs.Common.{◌≡◌, ℕ, suc, ◌+◌, ◌≤◌, Bool, true, false, true≢false, ◌&&◌, List, [], ◌∷◌, ◌++◌, length, refl, sym, ap, subst, ◌∙◌, arith, append_assoc, append-nil}
 use Rattle.std.specs.List.{AllByRecursion}
 use Rattle.crossbeam_channel.specs.Fifo.{Merges, Learns}
@@ -50,7 +50,7 @@ module _ {X : Type 0} where
   takes_done [] done = tt
   takes_done (seat ∷ seats) done = (and_left (is_done seat) (all_done seats) done, takes_done seats (and_right (is_done seat) (all_done seats) done))
 
-  -- what the last pass knows, once the seats of all workers are joined to a finished queue's
+  -- what the holder of the last pass knows, once the seats of all workers are joined to a finished queue's pass
   pub last_known : (f v : View X) (m s w : ℕ) (puts : List (Puts X)) (seats : List (WorkerSeat X)) → f ≡ ending_view m puts s w w → v ≡ with_takes f (takes_of seats)
       → v ≡ record { shares = m + length (takes_of seats); puts = puts; takes = takes_of seats; closes = true; sources = s; workers = w; marks = w }
   last_known f v m s w puts seats is made = made ∙ ap (λ y. with_takes y (takes_of seats)) is

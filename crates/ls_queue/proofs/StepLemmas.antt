@@ -28,11 +28,11 @@ number_of false true full count n x e = cc
 number_of false false true count n x e = cc
 number_of false false false count n x e = cc
 
--- an item that is taken in has its source's count as its number
+-- an accepted item has its source's count as its number
 pub put_reply-number : (q : Queue ℕ) (s x n : ℕ) → put_reply q s x ≡ put.Taken n → n ≡ count_of q s
 put_reply-number q s x n e = number_of (is_closed q s) (count_of q s == spent_count) (length q.held == q.capacity) (count_of q s) n x e
 
--- the replies so far, and those to the steps that are left, are all: one step more
+-- the replies so far, followed by those to the remaining steps, are all the replies: one step more
 pub replies_of-more : (steps : List Step) (i : ℕ) (d : Step) (q q' : Queue ℕ) (all before after : List Reply) (r : Reply) → i < length steps
     → all ≡ before ++ replies_of q (drop i steps) → r ≡ reply_of q (get_or steps i d) → q' ≡ after_step q (get_or steps i d) → after ≡ before ++ r ∷ []
     → all ≡ after ++ replies_of q' (drop (i + 1) steps)

@@ -1,4 +1,4 @@
--- Why a queue can't be made, or its steps can't be replayed: the first fault, in their order.
+-- Why a queue can't be made, or its steps can't be replayed: the first fault, in the order in which they are checked.
 use Rattle.std.specs.Prelude.{ℕ, ◌||◌, not, List, Option, Some, None, if◌then◌else◌, ◌==◌, nat_lt, position, option_map}
 use Rattle.ls_queue.specs.declared.steps.Step.{Step}
 use Rattle.ls_queue.specs.declared.faults.QueueFault.{QueueFault}
@@ -15,7 +15,7 @@ most_capacity = 256
 abbrev pub most_workers : ℕ
 most_workers = 16
 
--- a queue has 1 to 16 sources, and then a capacity of 1 to 256
+-- a queue has 1 to 16 sources and, checked after that, a capacity of 1 to 256
 abbrev pub range_fault : ℕ → ℕ → Option QueueFault
 range_fault sources capacity =
     (if sources == 0 || nat_lt most_sources sources then Some Sources else (if capacity == 0 || nat_lt most_capacity capacity then Some Capacity else None))
@@ -28,7 +28,7 @@ worker_fault None workers = (if workers == 0 || nat_lt most_workers workers then
 abbrev pub open_fault : ℕ → ℕ → ℕ → Option QueueFault
 open_fault sources workers capacity = worker_fault (range_fault sources capacity) workers
 
--- a fault of the numbers comes before the first step, counted from 0, that names no source of the queue
+-- a fault of the numbers, else the first step, counted from 0, that names a source which the queue doesn't have
 abbrev pub first_of : Option QueueFault → Option ℕ → Option QueueFault
 first_of (Some fault) number = Some fault
 first_of None number = option_map NoSource number

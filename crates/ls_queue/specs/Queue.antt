@@ -1,4 +1,4 @@
--- A bounded queue of several sources: its answer to each call, and what it is afterwards.
+-- A bounded queue of several sources: its reply to each call, and its state afterwards.
 use Rattle.std.specs.Prelude.{ℕ, ◌+◌, ◌-◌, ◌^◌, Bool, true, false, ◌&&◌, ◌==◌, if◌then◌else◌, List, [], ◌∷◌, ◌++◌, length, drop, filter, map, replicate, slice_index, slice_index_or, slice_set}
 use Rattle.ls_queue.specs.declared.replies.Job.{Job}
 use Rattle.ls_queue.specs.declared.replies.Put.{Put}
@@ -8,15 +8,15 @@ use Rattle.ls_queue.specs.declared.replies.Close.TheVariants as close
 use Rattle.ls_queue.specs.declared.replies.Take.{Take}
 use Rattle.ls_queue.specs.declared.replies.Take.TheVariants as take
 
--- What a queue is. The sources are numbered from 0: for each its count, how many of its items were taken in, and whether it
--- is closed. The jobs held were taken in and not handed out yet; the one held longest comes first.
+-- The state of a queue. The sources are numbered from 0: each has its count, the number of its items accepted so far, and is open or closed. The
+-- jobs held were accepted and not yet taken; the oldest comes first.
 pub record Queue (X : Type 0) : Type 0 where
   pub capacity : ℕ
   pub counts : List ℕ
   pub closed : List Bool
   pub held : List (Job X)
 
--- the number that no item has
+-- the count of a source that has used up its numbers: no item has this number
 abbrev pub spent_count : ℕ
 spent_count = 2 ^ 64 - 1
 
@@ -39,12 +39,12 @@ module _ {X : Type 0} where
   abbrev pub is_closed : Queue X → ℕ → Bool
   is_closed q s = slice_index_or q.closed s false
 
-  -- closed comes before spent, and spent before full
+  -- Closed is checked before Spent, and Spent before Full
   abbrev pub put_reply : Queue X → ℕ → X → Put X
   put_reply q s x =
       (if is_closed q s then put.Closed x else (if count_of q s == spent_count then put.Spent x else (if length q.held == q.capacity then put.Full x else put.Taken (count_of q s))))
 
-  -- an item that is taken in is held last, under its source's count, which grows by one
+  -- an accepted item becomes the last job held, numbered by its source's count, which grows by one
   abbrev pub after_reply : Queue X → ℕ → X → Put X → Queue X
   after_reply q s x (put.Taken n) = record q { counts = slice_set q.counts s (n + 1); held = q.held ++ record { source = s; number = n; item = x } ∷ [] }
   after_reply q s x (put.Closed y) = q
@@ -60,7 +60,7 @@ module _ {X : Type 0} where
   abbrev pub after_close : Queue X → ℕ → Queue X
   after_close q s = record q { closed = slice_set q.closed s true }
 
-  -- the first job held; where none is, Done if each source is closed, else Empty
+  -- the first job held; if none is, Done if each source is closed, else Empty
   abbrev pub take_of : List (Job X) → Bool → Take X
   take_of [] all_closed = (if all_closed then take.Done else take.Empty)
   take_of (job ∷ jobs) all_closed = take.Job job

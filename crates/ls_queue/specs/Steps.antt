@@ -1,4 +1,4 @@
--- A queue over a list of steps: its reply to each, and what it is afterwards.
+-- A queue that runs a list of steps: its reply to each, and its state afterwards.
 use Rattle.std.specs.Prelude.{ℕ, Bool, true, List, [], ◌∷◌, nat_lt}
 use Rattle.ls_queue.specs.declared.steps.Step.{Step}
 use Rattle.ls_queue.specs.declared.steps.Step.TheVariants as step

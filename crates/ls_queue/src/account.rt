@@ -1,4 +1,4 @@
-//! The rule of the channel of a running queue, and its kinds of step.
+//! The rule of a running queue's channel, which is an invariant, and the kinds of step that keep it.
 ghost use Rattle.std.specs.Prelude.{◌≡◌, ◌<◌, ◌≤◌, slice_index_or};
 ghost use Rattle.crossbeam_channel.specs.Ends.{sends_on, receives_on};
 
@@ -6,7 +6,7 @@ use crate::views::{Message, View};
 use crossbeam_channel::protocol::{Join, Lesson, Outcome, Protocol, Split};
 use crossbeam_channel::{Pass, RuledReceiver, RuledSender};
 
-/// The rule: the account of `specs/View/Account.antt`.
+/// The rule of the channel: `Kept` of `specs/View/Account.antt`.
 pub struct Rule;
 
 impl<T> Protocol<Message<T>, View<T>> for Rule {
@@ -17,7 +17,7 @@ impl<T> Protocol<Message<T>, View<T>> for Rule {
     ghost first = { first_view };
 }
 
-/// The closer makes a source seat.
+/// The step in which the closer makes a source seat.
 pub struct SourceSeated;
 
 impl<T> Split<View<T>> for SourceSeated {
@@ -29,7 +29,7 @@ impl<T> Split<View<T>> for SourceSeated {
     ghost right = { λ v. source_view v.sources [] };
 }
 
-/// The closer makes a worker seat.
+/// The step in which the closer makes a worker seat.
 pub struct WorkerSeated;
 
 impl<T> Split<View<T>> for WorkerSeated {
@@ -41,7 +41,7 @@ impl<T> Split<View<T>> for WorkerSeated {
     ghost right = { λ v. worker_view v.sources [] false };
 }
 
-/// A source seat sends a job.
+/// The step in which a source seat sends a job.
 pub struct JobSent;
 
 impl<T> Outcome<Message<T>, View<T>> for JobSent {
@@ -57,7 +57,7 @@ impl<T> Lesson<Message<T>, View<T>> for JobSent {
     ghost fact = { λ v items. ⊤ };
 }
 
-/// A worker seat receives a job or an end mark.
+/// The step in which a worker seat receives a job or an end mark.
 pub struct Received;
 
 impl<T> Outcome<Message<T>, View<T>> for Received {
@@ -72,7 +72,7 @@ impl<T> Lesson<Message<T>, View<T>> for Received {
     ghost fact = { λ v items. ⊤ };
 }
 
-/// The closer sends an end mark.
+/// The step in which the closer sends an end mark.
 pub struct MarkSent;
 
 impl<T> Outcome<Message<T>, View<T>> for MarkSent {
@@ -88,7 +88,7 @@ impl<T> Lesson<Message<T>, View<T>> for MarkSent {
     ghost fact = { λ v items. ⊤ };
 }
 
-/// The last pass is read.
+/// The step in which the last remaining pass is read.
 pub struct Settled;
 
 impl<T> Lesson<Message<T>, View<T>> for Settled {
@@ -97,7 +97,7 @@ impl<T> Lesson<Message<T>, View<T>> for Settled {
     ghost fact = { λ v items. IsSettled v items };
 }
 
-/// A seat's pass is joined to the closer's.
+/// The step that joins a seat's pass to the closer's.
 pub struct Joined;
 
 impl<T> Join<View<T>> for Joined {
@@ -108,17 +108,17 @@ impl<T> Join<View<T>> for Joined {
     ghost spent = { spent_view };
 }
 
-/// What a seat carries: a pass of the channel, which takes no bytes.
+/// A pass of the channel, as each seat and the closer carry one. It takes no bytes.
 pub type SeatPass<T> = Pass<Message<T>, View<T>>;
 
-/// The channel of a queue, with both its ends.
+/// The channel of a queue: its sender, its receiver, and the numbers of sources and workers.
 #[derive(Drop)]
 pub struct Channel<T: Drop> {
     pub entrance: RuledSender<Message<T>, View<T>, Rule>,
     pub exit: RuledReceiver<Message<T>, View<T>, Rule>,
-    /// How many sources it was made for, 1 to 16.
+    /// The number of sources, 1 to 16.
     pub sources: u8,
-    /// How many workers it was made for, 1 to 16.
+    /// The number of workers, 1 to 16.
     pub workers: usize,
     ghost one_channel: { receives_on exit ≡ sends_on entrance },
     ghost some_source: { 1 ≤ sources },
@@ -127,17 +127,18 @@ pub struct Channel<T: Drop> {
     ghost few_workers: { workers ≤ 16 },
 }
 
-/// How many items each source put, all of which were taken.
+/// The number of items that each source put. All of them were taken.
 #[derive(Drop)]
 pub struct Account {
-    /// For each source, how many items it put; 0 for a number that is no source's.
+    /// The number of items that each source put, by source; 0 beyond the last source.
     pub(crate) counts: [u64; 16],
     pub(crate) sources: u8,
     ghost few: { sources ≤ 16 },
 }
 
 impl Account {
-    /// How many items the source put. It is below the number of sources of the queue that was settled.
+    /// Returns the number of items that `source` put. `source` must be below the number of sources of the settled
+    /// queue.
     pub fn count(&self, source: u8) -> u64
         requires { source < self.now.sources }
         ensures { result ≡ slice_index_or self.now.counts source 0 }

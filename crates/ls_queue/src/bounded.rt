@@ -1,4 +1,4 @@
-//! The queue by itself, one call after the other.
+//! The bounded queue without threads: `Core`, used one call after another.
 ghost use Rattle.std.specs.Prelude.{◌≡◌, ◌<◌, ◌≤◌, ◌⊎◌, length, MatchResult, Some, None};
 ghost use Rattle.ls_queue.specs.Queue.{all_true, new_queue, put_reply, after_put, close_reply, after_close, take_reply, after_take};
 ghost use Rattle.ls_queue.specs.Faults.{range_fault};
@@ -10,16 +10,17 @@ use circular_buffer::HeapCircularBuffer;
 use std::alloc::Global;
 use std::marker::Model;
 
-/// A queue of at most `capacity` jobs, of sources numbered from 0. No call waits.
+/// A queue that holds at most `capacity` jobs, from sources numbered from 0. No call waits.
 ///
-/// It is seen as its capacity, the count of each source and whether it is closed, and the jobs held.
+/// In contracts it is its capacity, the count of each source and whether the source is closed, and the jobs held
+/// (`specs/Queue.antt`).
 #[derive(Drop)]
 pub struct Core<T> {
-    /// For each source, how many of its items were taken in: the number of its next one.
+    /// For each source, the number of its items accepted so far, which is also the number of its next item.
     counts: Vec<u64>,
     /// For each source, whether it is closed.
     closed: Vec<bool>,
-    /// The jobs held, the one held longest first, and room for as many as may be.
+    /// The jobs held, oldest first, in a buffer that has room for `capacity` jobs.
     held: HeapCircularBuffer<Job<T>>,
 }
 
@@ -36,10 +37,10 @@ impl<T> Model for Core<T> {
 }
 
 impl<T: Drop> Core<T> {
-    /// A queue of 1 to 16 sources, each open, that holds no job and at most `capacity`, which is 1 to 256. Fails for
-    /// the first of `Sources` and `Capacity` that is so; else only if an allocation fails.
+    /// Makes an empty queue of 1 to 16 sources, each open, that holds at most `capacity` jobs, 1 to 256. Fails with
+    /// `Sources` or else `Capacity` if that number is out of range; else only if an allocation fails (`NoMemory`).
     ///
-    /// It takes all the memory that the queue will need.
+    /// Allocates all the memory that the queue will need.
     pub fn new(alloc: Global, sources: u8, capacity: usize) -> Result<Core<T>, QueueFault>
         ensures { MatchResult result
             (λ queue. (range_fault sources capacity ≡ None) × (queue ≡ new_queue sources capacity))
@@ -56,7 +57,7 @@ impl<T: Drop> Core<T> {
         })
     }
 
-    /// How many sources there are, 1 to 16.
+    /// Returns the number of sources, 1 to 16.
     pub fn sources(&self) -> u8
         ensures value { result ≡ length self.now.counts }
         ensures lawful { IsCore self.now }
@@ -64,7 +65,7 @@ impl<T: Drop> Core<T> {
         self.counts.len() as u8
     }
 
-    /// The most jobs that it may hold, 1 to 256.
+    /// Returns the most jobs that the queue may hold, 1 to 256.
     pub fn capacity(&self) -> usize
         ensures value { result ≡ self.now.capacity }
         ensures lawful { IsCore self.now }
@@ -72,10 +73,10 @@ impl<T: Drop> Core<T> {
         self.held.capacity()
     }
 
-    /// Puts an item of a source, which is below the number of sources. Answers `Closed` exactly after a close of the
-    /// source; else `Spent` exactly if its number would be 2^64 - 1; else `Full` exactly if `capacity` jobs are held;
-    /// else its number, which is the count of the source's items so far. Where the item comes back, nothing has
-    /// changed.
+    /// Puts an item of `source`, which must be below the number of sources. Returns `Closed` exactly if the source was
+    /// closed before; else `Spent` exactly if the item's number would be 2^64 - 1; else `Full` exactly if `capacity`
+    /// jobs are held; else `Taken` with the item's number, which is the number of the source's items accepted before.
+    /// If the item is returned, nothing has changed.
     pub fn put(&mut self, source: u8, item: T) -> Put<T>
         requires { source < length self.old.counts }
         ensures reply { result ≡ put_reply self.old source item }
@@ -103,8 +104,8 @@ impl<T: Drop> Core<T> {
         }
     }
 
-    /// Closes a source, which is below the number of sources. Answers how many of its items were taken in, and whether
-    /// it was closed before; then nothing has changed.
+    /// Closes `source`, which must be below the number of sources. Returns the number of its items that were accepted:
+    /// as `Now`, or as `Already` if it was closed before; then nothing has changed.
     pub fn close(&mut self, source: u8) -> Close
         requires { source < length self.old.counts }
         ensures reply { result ≡ close_reply self.old source }
@@ -119,8 +120,8 @@ impl<T: Drop> Core<T> {
         Close::Now(count)
     }
 
-    /// Takes the job that was held longest. Where none is held, answers `Done` if each source is closed, else `Empty`,
-    /// and nothing has changed.
+    /// Takes the oldest job held. If none is held, returns `Done` if each source is closed, else `Empty`, and nothing
+    /// has changed.
     pub fn take(&mut self) -> Take<T>
         ensures reply { result ≡ take_reply self.old }
         ensures state { self.new ≡ after_take self.old }
@@ -133,7 +134,7 @@ impl<T: Drop> Core<T> {
     }
 }
 
-/// Whether each of these is true.
+/// Whether all of `flags` are true.
 fn all_true(flags: &[bool]) -> bool
     ensures { result ≡ all_true flags.now }
 {

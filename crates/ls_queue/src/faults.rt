@@ -14,8 +14,8 @@ pub const MOST_CAPACITY: usize = 256;
 /// The most workers of a running queue.
 pub const MOST_WORKERS: usize = 16;
 
-/// Why a queue can't be made, or its steps can't be replayed. They are looked for in the order `Sources`, `Capacity`,
-/// `Workers`, `NoSource`, `NoMemory`.
+/// Why a queue can't be made, or its steps can't be replayed. Of several faults the first is returned, in the order
+/// `Sources`, `Capacity`, `Workers`, `NoSource`, `NoMemory`.
 #[derive(Clone, Copy, Debug, Drop, PartialEq, Eq, Error)]
 pub enum QueueFault {
     /// The number of sources isn't 1 to 16.
@@ -24,13 +24,13 @@ pub enum QueueFault {
     /// The capacity isn't 1 to 256.
     #[error("capacity")]
     Capacity,
-    /// The number of workers isn't 1 to 16. No call answers it that knows no workers.
+    /// The number of workers isn't 1 to 16. Only `open` returns it.
     #[error("workers")]
     Workers,
     /// An allocation failed.
     #[error("no memory")]
     NoMemory,
-    /// The step of this number, from 0, names a source that the queue doesn't have. `replay` alone answers it.
+    /// The step with this index, from 0, names a source that the queue doesn't have. Only `replay` returns it.
     #[error("step {0}: no such source")]
     NoSource(usize),
 }
@@ -46,7 +46,7 @@ impl From<AllocError> for QueueFault {
     }
 }
 
-/// The fault of the numbers that a queue is made with, the first of `Sources` and `Capacity`, if there is one.
+/// Returns the first of `Sources` and `Capacity` that applies to these numbers, if one does.
 pub(crate) fn range_fault(sources: u8, capacity: usize) -> Option<QueueFault>
     ensures { result ≡ range_fault sources capacity }
 {
@@ -59,8 +59,7 @@ pub(crate) fn range_fault(sources: u8, capacity: usize) -> Option<QueueFault>
     None
 }
 
-/// The fault of the numbers that a running queue is made with, the first of `Sources`, `Capacity` and `Workers`, if
-/// there is one.
+/// Returns the first of `Sources`, `Capacity` and `Workers` that applies to these numbers, if one does.
 pub(crate) fn open_fault(sources: u8, workers: usize, capacity: usize) -> Option<QueueFault>
     ensures { result ≡ open_fault sources workers capacity }
 {

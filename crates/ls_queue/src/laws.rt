@@ -1,5 +1,5 @@
-//! What follows from lawful replies, whatever the steps, and from the account of a running queue. Each law is the
-//! contract of a function that has nothing to do.
+//! What follows from lawful replies, for any steps, and from the account of a running queue. Each law is the contract
+//! of a function with an empty body.
 ghost use Rattle.std.specs.Prelude.{◌≡◌, ◌≢◌, ℕ, ◌-◌, ◌<◌, ◌^◌, ◌++◌, [], ◌∷◌, List, length, All, IsTrue, None, Some, slice_get, slice_index_or};
 ghost use Rattle.std.specs.List.{AllByRecursion, range_with_len};
 ghost use Rattle.ls_queue.specs.Queue.{new_queue, numbers_of};
@@ -19,7 +19,7 @@ use crate::faults::QueueFault;
 use crate::replies::{Close, Put, Take};
 use crate::steps::{Reply, Step};
 
-/// The replies of a queue, step by step, are the lawful ones, and no others are.
+/// For steps that name existing sources, a queue's replies are lawful, and no other replies are.
 pub fn lawful_replies_are_the_queues()
     ensures lawful { (sources capacity : ℕ) (steps : List Step) → All (λ step. IsTrue (is_known sources step)) steps
         → IsReplay sources capacity steps (replies_of (new_queue sources capacity) steps) }
@@ -28,8 +28,8 @@ pub fn lawful_replies_are_the_queues()
         → replies ≡ replies_of (new_queue sources capacity) steps }
 {}
 
-/// A source's last number is 2^64 - 2: after it no item of the source is put in, whatever room there is, but what was
-/// put in is handed out, and the source can be closed.
+/// The last number of a source is 2^64 - 2, shown by an example: after it a put returns `Spent`, whether or not the
+/// queue is full, but the job held can still be taken, and the source can be closed.
 pub fn a_source_runs_out_of_numbers()
     ensures { replies_of (record (new_queue 1 1) { counts = (2 ^ 64 - 2) ∷ [] })
         (Step.Put 0 7 ∷ Step.Put 0 8 ∷ Step.Take ∷ Step.Put 0 9 ∷ Step.Close 0 ∷ Step.Put 0 9 ∷ [])
@@ -37,8 +37,8 @@ pub fn a_source_runs_out_of_numbers()
         ∷ Reply.Put (Put.Spent 9) ∷ Reply.Close (Close.Now (2 ^ 64 - 1)) ∷ Reply.Put (Put.Closed 9) ∷ [] }
 {}
 
-/// Each source's items are handed out once each, in the order put in: what was taken of it, and then what is held of
-/// it, is what it sent; and the jobs taken of it have the numbers from 0 on.
+/// Each source's items are taken once each, in the order put: those taken, followed by those held, are those that it
+/// sent; and the jobs taken have consecutive numbers from 0.
 pub fn items_are_handed_out_once_in_order()
     ensures order { (sources capacity : ℕ) (events : List Event) → IsHistory sources capacity events
         → (s : ℕ) → taken s events ++ items_of s (held events) ≡ sent s events }
@@ -46,8 +46,8 @@ pub fn items_are_handed_out_once_in_order()
         → (s : ℕ) → numbers_of s (jobs_out events) ≡ range_with_len 0 (length (taken s events)) }
 {}
 
-/// No item of a source is put in after its close: a put after it is answered Closed, and what the source sent stays
-/// what it was.
+/// No item of a source is accepted after its close: a later put returns `Closed`, and what the source sent stays the
+/// same.
 pub fn nothing_is_put_in_after_a_close()
     ensures closed { (sources capacity s x : ℕ) (before between later : List Event) (close reply : Reply)
         → AreLawful sources capacity [] (before ++ event (Step.Close s) close ∷ between ++ event (Step.Put s x) reply ∷ later)
@@ -57,7 +57,8 @@ pub fn nothing_is_put_in_after_a_close()
         → sent s (before ++ event (Step.Close s) close ∷ later) ≡ sent s before }
 {}
 
-/// Once a take answers Done, all that each source sent was taken; so it stays.
+/// Once a take returns `Done`, everything that each source sent has been taken, and this stays true after any later
+/// steps.
 pub fn all_is_taken_once_done()
     ensures { (sources capacity : ℕ) (before later : List Event)
         → IsHistory sources capacity (before ++ event Step.Take (Reply.Take Take.Done) ∷ later)
@@ -65,44 +66,45 @@ pub fn all_is_taken_once_done()
 {}
 
 /// Between any two steps of a running queue, whichever threads hold its seats: each item that was put is one job, which
-/// was taken by one worker, once, or else stands in the channel once; it has the number under which it was put, and
-/// there are no other jobs.
+/// either was taken once, by one worker, or is in the channel once; it has the number under which it was put, and there
+/// are no other jobs.
 pub fn each_item_is_taken_or_in_the_channel<T>()
     ensures once { (items : List (Message T)) (views : List (View T)) → Kept items views → EachOnce items views }
     ensures item { (items : List (Message T)) (views : List (View T)) → Kept items views → EachItem items views }
     ensures no_others { (items : List (Message T)) (views : List (View T)) → Kept items views → NoOthers items views }
 {}
 
-/// Between any two steps: the numbers of one source rise along the channel and along what each worker took, and each
-/// number that was taken is below all those in the channel.
+/// Between any two steps: the numbers of each source rise along the channel and along what each worker took, and each
+/// number that was taken is below all numbers of that source in the channel.
 pub fn numbers_rise_along_the_channel_and_at_each_worker<T>()
     ensures { (items : List (Message T)) (views : List (View T)) → Kept items views → EachRises items views }
 {}
 
 /// Between any two steps: the end marks taken and those in the channel are those that were sent, each with the number
-/// of items of every source, and in the channel no job stands behind one.
+/// of items of every source, and in the channel no job comes after a mark.
 pub fn no_job_stands_behind_an_end_mark<T>()
     ensures { (items : List (Message T)) (views : List (View T)) → Kept items views → MarksAreLast items views }
 {}
 
-/// Once a worker took an end mark, every item that was put has been taken, once: so Done means done.
+/// Once a worker has taken an end mark, every item that was put has been taken, once. So `Done` means done.
 pub fn all_is_taken_once_a_mark_is<T>()
     ensures { (items : List (Message T)) (views : List (View T)) → Kept items views → AllIsTaken views }
 {}
 
-/// Who has joined all passes, each worker's with its end mark, finds the channel empty.
+/// Once all passes are joined in one, each worker's with its end mark, the channel is empty.
 pub fn the_channel_is_empty_once_all_passes_are_joined<T>()
     ensures { (items : List (Message T)) (views : List (View T)) → Kept items views → LastIsSettled items views }
 {}
 
-/// If the ends were handed to `finish` in the order of their sources, each count of the account is how many items that
-/// source put before its end.
+/// If the ends were passed to `finish` in the order of their sources, each count of the account is the number of items
+/// that the source put before its end.
 pub fn each_count_is_that_of_its_end<T>()
     ensures { (counts : List ℕ) (ended : List (Ended T)) (s : ℕ) (end : Ended T) → AreInOrder 0 ended → slice_get ended s ≡ Some end
         → IsCounted counts (parts_of ended) s → slice_index_or counts s 0 ≡ length (items_ended end) }
 {}
 
-/// A source that `finish` names is one of the queue's; none of the ends is of it, and one is of each source below it.
+/// The source that `finish` names is one of the queue's. It has no end among those passed, and each source below it has
+/// one.
 pub fn the_lowest_missing_source_is_named<T>()
     ensures known { (sources source : ℕ) (ended : List (Ended T)) → IsLowestMissing sources ended source → source < sources }
     ensures missing { (sources source : ℕ) (ended : List (Ended T)) → IsLowestMissing sources ended source
@@ -111,15 +113,15 @@ pub fn the_lowest_missing_source_is_named<T>()
         → (s : ℕ) → s < source → (n : ℕ) × (end : Ended T) × (slice_get ended n ≡ Some end) × (end.source ≡ s) }
 {}
 
-/// Where a queue was settled: of each source the workers took the jobs with the numbers below its count, each once, and
-/// with the item that was put under it; and they took no others.
+/// After `settle` has succeeded: of each source the workers took the jobs with the numbers below its count, each once
+/// and with the item that was put under that number, and no others.
 pub fn a_settled_queue_was_taken_whole<T>()
     ensures { (queue : Queue T) (finished : Finished T) (seats : List (WorkerSeat T)) (counts : List ℕ) → Balances queue finished seats counts
         → TookAll (sources_of queue) (puts_of finished) seats counts }
 {}
 
-/// The least and the most that a queue can be opened with, and the fault of each number beside them; of several faults,
-/// the first.
+/// The smallest and the largest numbers that a queue can be opened with, the fault of each number just out of range,
+/// and the first fault where there are several.
 pub fn queues_have_these_limits()
     ensures least { open_fault 1 1 1 ≡ None }
     ensures most { open_fault 16 16 256 ≡ None }

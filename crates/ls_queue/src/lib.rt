@@ -1,9 +1,9 @@
-//! The bounded queue: several sources put items, takers take them as jobs, and each source may close.
+//! A bounded queue: several sources put items, the items are taken as jobs, and each source may close.
 //!
-//! What it hands on: a queue is its capacity, how many items each source has put and whether it is closed, and the jobs
-//! that are held, with its answer to each call and its state afterwards (`specs/Queue.antt`); a history is steps with
-//! their replies, of which is said what a source sent, what was taken of it and what is held, and which reply is the
-//! lawful one (`specs/History.antt`). `laws` ties the two, and says what follows for the items.
+//! What it defines: a queue is its capacity, the number of items each source has put and whether the source is closed,
+//! and the jobs held, with its reply to each call and its state afterwards (`specs/Queue.antt`); a history is a list of
+//! steps with their replies, which determine what a source sent, what was taken of it, what is held, and which reply is
+//! the lawful one (`specs/History.antt`). `laws` connects the two, and states what follows for the items.
 //!
 //! ```
 //! use ls_queue::{Core, QueueFault, Take};
@@ -19,22 +19,22 @@
 //! }
 //! ```
 //!
-//! `replay` answers a list of steps in one call, with a reply for each.
+//! `replay` runs a list of steps in one call and returns a reply for each.
 //!
-//! The running queue is the same for threads, over one bounded channel: each source and each worker has a seat. `open`
-//! makes the queue, its seats and a closer. Each source calls `put` with its seat for each item, and then `end`; each
-//! worker calls `take` until that answers Done; once all sources have ended, `finish` closes the queue; and when the
-//! workers are done, `settle` answers the account, how many items each source put. That whole, with a thread for each
-//! seat, is `use_queue` of `src/crowd.rt` in `ls_queue_tests`, by which the tests use a queue.
+//! The running queue does the same for threads, over one bounded channel. Each source and each worker has a seat.
+//! `open` makes the queue, its seats and a closer. Each source calls `put` with its seat for each item, and then `end`;
+//! each worker calls `take` until it returns `Done`; once all sources have ended, `finish` ends the queue; and once the
+//! workers are done, `settle` returns the account: the number of items that each source put. `use_queue` of
+//! `src/crowd.rt` in `ls_queue_tests`, by which the tests use a queue, does all of this with a thread for each seat.
 //!
-//! What is true between any two steps of its channel, for any number of threads, is the account
-//! (`specs/View/Account.antt`), and `laws` says what follows from it; what its calls do to seats and ends is said in
-//! `specs/View/Running.antt`. `docs/QUEUE.md` tells the whole.
+//! The account (`specs/View/Account.antt`) says what is true between any two steps on the channel, for any number of
+//! threads, and `laws` what follows from it; `specs/View/Running.antt` says what the calls do to seats and ends.
+//! `docs/QUEUE.md` explains it all.
 //!
-//! In reading order: `faults` (why a queue can't be made), `replies` (jobs and answers), `bounded` (`Core`, the queue
-//! by itself), `steps` (`replay`, a queue over a list of steps), `views` and `account` (what the channel carries, and
-//! the rule of its steps), `waiting` (how long one who waits looks before it sleeps), `running` (`open` to `settle`),
-//! `laws`.
+//! In reading order: `faults` (why a queue can't be made), `replies` (jobs and replies), `bounded` (`Core`, the queue
+//! without threads), `steps` (`replay`, a queue that runs a list of steps), `views` and `account` (what the channel
+//! carries, and the rule of its steps), `waiting` (how long a waiting thread polls before it sleeps), `running` (`open`
+//! to `settle`), `laws`.
 #![tactic(auto)]
 
 mod account;

@@ -1,4 +1,4 @@
-//! Jobs, and what the calls of a queue answer.
+//! Jobs, and the replies to the calls of a queue.
 
 /// An item that was put, with its source and its number among the items of that source, from 0.
 #[derive(Clone, Copy, Debug, Drop, PartialEq, Eq)]
@@ -8,20 +8,20 @@ pub struct Job<T> {
     pub item: T,
 }
 
-/// What a put answers. Where the item isn't taken in, it comes back.
+/// The reply to a put. If the item isn't accepted, the reply returns it.
 #[derive(Clone, Copy, Debug, Drop, PartialEq, Eq)]
 pub enum Put<T> {
-    /// The item was taken in, under this number.
+    /// The item was accepted, under this number.
     Taken(u64),
     /// The source was closed before.
     Closed(T),
     /// The source has used up its numbers: the next one would be 2^64 - 1.
     Spent(T),
-    /// As many jobs are held as the queue's capacity.
+    /// The queue holds as many jobs as its capacity.
     Full(T),
 }
 
-/// What a close answers: how many items of the source were taken in.
+/// The reply to a close, with the number of the source's items that were accepted.
 #[derive(Clone, Copy, Debug, Drop, PartialEq, Eq)]
 pub enum Close {
     /// The source is closed from now on.
@@ -30,12 +30,12 @@ pub enum Close {
     Already(u64),
 }
 
-/// What a take answers.
+/// The reply to a take.
 #[derive(Clone, Copy, Debug, Drop, PartialEq, Eq)]
 pub enum Take<T> {
-    /// The job that was held longest. It is held no longer.
+    /// The oldest job held, which is now removed.
     Job(Job<T>),
-    /// No job is held, and some source isn't closed.
+    /// No job is held, and some source is open.
     Empty,
     /// No job is held, and each source is closed.
     Done,

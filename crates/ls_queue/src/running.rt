@@ -1,4 +1,4 @@
-//! The queue that threads share.
+//! The queue that threads share, from `open` to `settle`.
 ghost use Rattle.std.specs.Prelude.{◌≡◌, ℕ, max, ◌<◌, ◌≤◌, ◌+◌, ◌-◌, ◌⊎◌, [], ◌∷◌, ◌++◌, length, true, false, Some, None, IfOk, MatchResult, MatchOption};
 ghost use Rattle.std.specs.List.{AllByRecursion};
 ghost use Rattle.crossbeam_channel.specs.Claims.{view, IsSeatAt};
@@ -20,7 +20,7 @@ use crossbeam_channel::bounded_with;
 use std::alloc::{AllocError, Global};
 use std::sync::Wait;
 
-/// A queue of several sources and several workers, in threads of their own.
+/// A queue of several sources and several workers, each in its own thread.
 #[derive(Drop)]
 pub struct Queue<T: Drop> {
     channel: Channel<T>,
@@ -38,19 +38,19 @@ pub struct SourceSeat<T> {
 /// The right to take jobs.
 #[derive(Drop)]
 pub struct WorkerSeat<T> {
-    /// Whether it was answered Done.
+    /// Whether `take` has returned Done to this seat.
     done: bool,
     patience: Patience,
     pass: SeatPass<T>,
 }
 
-/// The right to end the queue, once every source has ended.
+/// The right to finish the queue, once every source has ended.
 #[derive(Drop)]
 pub struct Closer<T> {
     pass: SeatPass<T>,
 }
 
-/// A source that puts no more: what `end` made of its seat.
+/// A source that has ended: what `end` returned for its seat.
 #[derive(Drop)]
 pub struct Ended<T> {
     pub source: u8,
@@ -59,10 +59,10 @@ pub struct Ended<T> {
     pass: SeatPass<T>,
 }
 
-/// A queue that was finished: every source has ended, and the end marks are sent.
+/// A finished queue: every source has ended, and the end marks are sent.
 #[derive(Drop)]
 pub struct Finished<T> {
-    /// For each source, how many items it put.
+    /// The number of items that each source put, by source.
     counts: [u64; 16],
     pass: SeatPass<T>,
 }
@@ -70,7 +70,7 @@ pub struct Finished<T> {
 /// Why a queue can't be finished.
 #[derive(Drop)]
 pub enum FinishFault<T> {
-    /// There is no end of this source, and it is the lowest such one. The closer and the ends come back.
+    /// This source, the lowest such, has no end among those passed. The closer and the ends are returned.
     MissingSource {
         source: u8,
         closer: Closer<T>,
@@ -83,11 +83,11 @@ pub enum FinishFault<T> {
 pub enum SettleCause {
     /// There are fewer seats than workers.
     MissingSeat,
-    /// A seat wasn't answered Done.
+    /// To some seat `take` hasn't returned Done yet.
     NotEmpty,
 }
 
-/// What couldn't be settled comes back, with the cause.
+/// Why a queue wasn't settled, with everything that was passed to `settle`.
 #[derive(Drop)]
 pub struct SettleFault<T: Drop> {
     pub cause: SettleCause,
@@ -96,20 +96,21 @@ pub struct SettleFault<T: Drop> {
     pub seats: Vec<WorkerSeat<T>>,
 }
 
-/// What a take answers.
+/// What a take returns.
 #[derive(Clone, Copy, Debug, Drop, PartialEq, Eq)]
 pub enum Taken<T> {
-    /// A job, which no other take answers.
+    /// A job, which no other take returns.
     Job(Job<T>),
     /// Every source has ended and every job was taken.
     Done,
 }
 
-/// A queue of 1 to 16 sources and 1 to 16 workers, with room for `capacity` jobs, which is 1 to 256, or for one a
-/// worker, if that is more; a seat for each source, in order from source 0; a seat for each worker; and the closer.
-/// Fails for the first of `Sources`, `Capacity` and `Workers` that is so; else only if an allocation fails.
+/// Makes a queue of 1 to 16 sources and 1 to 16 workers, whose channel has room for `capacity` jobs, 1 to 256, or for
+/// one job per worker if that is more. Returns it with a seat for each source, in order from source 0, a seat for each
+/// worker, and the closer. Fails with the first of `Sources`, `Capacity` and `Workers` whose number is out of range;
+/// else only if an allocation fails (`NoMemory`).
 ///
-/// It takes all the memory that the queue will need.
+/// Allocates all the memory that the queue will need.
 pub fn open<T: Drop, R: Wait>(
     _rt: &R,
     alloc: Global,
@@ -139,7 +140,7 @@ pub fn open<T: Drop, R: Wait>(
     Ok((queue, source_seats, worker_seats, Closer { pass }))
 }
 
-/// A seat for each source. `pass` is the closer's, before it has made a seat.
+/// Makes a seat for each source. `pass` is the closer's, which has made no seat yet.
 fn source_seats<T: Drop>(
     alloc: Global,
     channel: &Channel<T>,
@@ -162,7 +163,7 @@ fn source_seats<T: Drop>(
     Ok(seats)
 }
 
-/// A seat for each worker. `pass` is the closer's, when it has made the source seats alone.
+/// Makes a seat for each worker. `pass` is the closer's, which has made only the source seats.
 fn worker_seats<T: Drop>(
     alloc: Global,
     channel: &Channel<T>,
@@ -186,8 +187,9 @@ fn worker_seats<T: Drop>(
 }
 
 impl<T: Drop> Queue<T> {
-    /// Puts an item of the seat's source, and answers its number. Waits while there is no room. The item comes back
-    /// exactly if the source has used up its numbers: the next one would be 2^64 - 1. Then nothing has changed.
+    /// Puts an item of the seat's source and returns its number. Waits while the channel is full. `seat` must be one of
+    /// this queue's. Returns the item as an error exactly if the source has used up its numbers: the next one would be
+    /// 2^64 - 1. Then nothing has changed.
     pub fn put<R: Wait>(&self, rt: &R, seat: &mut SourceSeat<T>, item: T) -> Result<u64, T>
         requires { IsSourceSeat self.now seat.old }
         ensures seat { IsSourceSeat self.now seat.new × (seat.new.source ≡ seat.old.source) }
@@ -220,7 +222,8 @@ impl<T: Drop> Queue<T> {
         unreachable!()
     }
 
-    /// Ends a source: its seat is used up, so nothing is put after it. Answers the source, and how many items it put.
+    /// Ends a source: uses up its seat, so nothing is put after it. `seat` must be one of this queue's. Returns the
+    /// source, with the number of items it put.
     pub fn end<R: Wait>(&self, _rt: &R, seat: SourceSeat<T>) -> Ended<T>
         requires { IsSourceSeat self.now seat }
         ensures ended { IsEnded self.now result }
@@ -238,7 +241,7 @@ impl<T: Drop> Queue<T> {
         }
     }
 
-    /// Takes a job, or answers Done. Waits for a job or for the end.
+    /// Takes a job, or returns Done. Waits for a job or for the end. `seat` must be one of this queue's.
     pub fn take<R: Wait>(&self, rt: &R, seat: &mut WorkerSeat<T>) -> Taken<T>
         requires { IsWorkerSeat self.now seat.old }
         ensures seat { IsWorkerSeat self.now seat.new }
@@ -265,9 +268,9 @@ impl<T: Drop> Queue<T> {
         unreachable!()
     }
 
-    /// Ends the queue: sends one end mark for each worker. `ended` is what `end` made of the seats. Answers
-    /// `MissingSource` exactly if the end of a source isn't among them; then nothing is sent. Waits while there is no
-    /// room.
+    /// Finishes the queue: sends one end mark for each worker, and waits while the channel is full. `closer` and
+    /// `ended`, the results of `end`, must be this queue's. Fails with `MissingSource` exactly if some source has no
+    /// end among them; then nothing is sent.
     pub fn finish<R: Wait>(
         &self,
         rt: &R,
@@ -294,7 +297,7 @@ impl<T: Drop> Queue<T> {
     }
 }
 
-/// The lowest source that has no end among these, if there is one.
+/// Returns the lowest source that has no end among these, if there is one.
 fn missing<T>(sources: u8, ended: &[Ended<T>]) -> Option<u8>
     ensures { MatchOption result (EachHasEnd sources ended.now) (λ source. IsLowestMissing sources ended.now source) }
 {
@@ -306,7 +309,7 @@ fn missing<T>(sources: u8, ended: &[Ended<T>]) -> Option<u8>
     None
 }
 
-/// Whether the end of a source is among these.
+/// Whether the end of `source` is among these.
 fn has_end<T>(source: u8, ended: &[Ended<T>]) -> bool
     ensures { result ≡ has_end source ended.now }
 {
@@ -318,7 +321,7 @@ fn has_end<T>(source: u8, ended: &[Ended<T>]) -> bool
     false
 }
 
-/// Joins the passes of the ends to the closer's, and counts what each source put.
+/// Joins the passes of the ends to the closer's, and returns the number of items that each source put.
 fn join_ends<T: Drop>(
     channel: &Channel<T>,
     pass: &mut SeatPass<T>,
@@ -388,9 +391,9 @@ fn send_mark<T: Drop, R: Wait>(
     unreachable!()
 }
 
-/// Settles a queue whose workers have all been answered Done: says how many items each source put, all of which were
-/// taken. Answers `MissingSeat` if there are fewer seats than workers; else `NotEmpty` if some seat wasn't answered
-/// Done; then all comes back.
+/// Settles a queue whose workers are all done: returns the number of items that each source put, all of which were
+/// taken. `finished` and `seats` must be this queue's. Fails with `MissingSeat` if there are fewer seats than workers,
+/// else with `NotEmpty` if `take` hasn't returned Done to some seat; then everything that was passed is returned.
 pub fn settle<T: Drop, R: Wait>(
     _rt: &R,
     queue: Queue<T>,
@@ -430,7 +433,7 @@ pub fn settle<T: Drop, R: Wait>(
     })
 }
 
-/// Whether each of these was answered Done.
+/// Whether `take` has returned Done to each of these seats.
 fn all_done<T>(seats: &[WorkerSeat<T>]) -> bool
     ensures { result ≡ all_done seats.now }
 {

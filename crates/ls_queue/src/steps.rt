@@ -1,4 +1,4 @@
-//! A queue over a list of steps.
+//! A queue that runs a list of steps.
 ghost use Rattle.std.specs.Prelude.{◌≡◌, ◌⊎◌, IsTrue, All, length, IfOk, MatchResult, Some, None, not, position};
 ghost use Rattle.ls_queue.specs.Steps.{is_known, reply_of, after_step, replies_of};
 ghost use Rattle.ls_queue.specs.Faults.{replay_fault};
@@ -9,17 +9,17 @@ use crate::faults::{QueueFault, range_fault};
 use crate::replies::{Close, Put, Take};
 use std::alloc::{AllocError, Global};
 
-/// One call of a queue of numbers.
+/// One call on a queue whose items are numbers.
 #[derive(Clone, Copy, Debug, Drop, PartialEq, Eq)]
 pub enum Step {
-    /// A put of an item by a source.
+    /// Puts an item of a source: the source, then the item.
     Put(u8, u64),
-    /// A close of a source.
+    /// Closes a source.
     Close(u8),
     Take,
 }
 
-/// What the call answered.
+/// The reply to a step.
 #[derive(Clone, Copy, Debug, Drop, PartialEq, Eq)]
 pub enum Reply {
     Put(Put<u64>),
@@ -31,7 +31,7 @@ impl Step {
     ghost use Rattle.std.specs.Prelude.{◌≡◌};
     ghost use Rattle.ls_queue.specs.Steps.{is_known};
 
-    /// Whether a queue of so many sources has the source that the step names, if it names one.
+    /// Whether the source that the step names, if it names one, is below `sources`.
     pub fn is_known(&self, sources: u8) -> bool
         ensures { result ≡ is_known sources self.now }
     {
@@ -42,12 +42,12 @@ impl Step {
     }
 }
 
-/// The replies of a queue to these steps, one after the other: one a step, each the lawful one. So for each source the
-/// items that were taken, and after them those that are held, are the items that it sent.
+/// Runs these steps in order on a new queue and returns its replies: one for each step, each the lawful one. So for
+/// each source the items taken, followed by those still held, are the items that it sent.
 ///
-/// Fails for the first of these that is so: `Sources` (not 1 to 16), `Capacity` (not 1 to 256), `NoSource` with the
-/// number of the first step, from 0, that names a source which the queue doesn't have; else only if an allocation
-/// fails.
+/// Fails with the first of these that applies: `Sources` (not 1 to 16), `Capacity` (not 1 to 256), `NoSource` with the
+/// index, from 0, of the first step that names a source which the queue doesn't have; else only if an allocation fails
+/// (`NoMemory`).
 pub fn replay(
     alloc: Global,
     sources: u8,
@@ -66,7 +66,7 @@ pub fn replay(
     Ok(replies)
 }
 
-/// The fault of a replay, if there is one; that an allocation fails is none here.
+/// Returns the fault of these arguments, if there is one: the first of `Sources`, `Capacity` and `NoSource`.
 fn replay_fault(sources: u8, capacity: usize, steps: &[Step]) -> Option<QueueFault>
     ensures { result ≡ replay_fault sources capacity steps.now }
 {
@@ -77,14 +77,15 @@ fn replay_fault(sources: u8, capacity: usize, steps: &[Step]) -> Option<QueueFau
     Some(QueueFault::NoSource(number))
 }
 
-/// The number of the first step that names a source which the queue doesn't have.
+/// Returns the index of the first step that names a source which the queue doesn't have, if there is one.
 fn first_unknown(sources: u8, steps: &[Step]) -> Option<usize>
     ensures { result ≡ position (λ step. not (is_known sources step)) steps.now }
 {
     steps.iter().position(|step| !step.is_known(sources))
 }
 
-/// The replies of this queue to these steps, which name sources that it has.
+/// Runs these steps, which must name existing sources, and returns the queue's replies. Fails only if an allocation
+/// fails.
 fn replies_of(
     alloc: Global,
     queue: &mut Core<u64>,
@@ -101,7 +102,7 @@ fn replies_of(
     Ok(replies)
 }
 
-/// The reply to a step, which names a source that the queue has.
+/// Runs a step, which must name an existing source, and returns the queue's reply.
 fn reply_of(queue: &mut Core<u64>, step: Step) -> Reply
     requires known { IsTrue (is_known (length queue.old.counts) step) }
     ensures reply { result ≡ reply_of queue.old step }

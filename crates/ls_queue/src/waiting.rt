@@ -1,4 +1,4 @@
-//! How one who waits for a message looks for it, and then sleeps.
+//! How a thread waits for a message: it polls the channel, then sleeps.
 ghost use Rattle.std.specs.Prelude.{◌≡◌, MatchResult};
 ghost use Rattle.crossbeam_channel.specs.Claims.{view, IsSeatAt};
 ghost use Rattle.crossbeam_channel.specs.Ends.{receives_on};
@@ -10,40 +10,40 @@ use crossbeam_channel::{Pass, RecvError, RuledReceiver, TryRecvError};
 use std::hint::spin_loop;
 use std::sync::Wait;
 
-/// The fewest looks before a sleep, some microseconds long.
+/// The fewest polls before a sleep, which take some microseconds.
 const FEWEST_LOOKS: u32 = 50;
 
-/// The most looks before a sleep, a tenth of a millisecond long: two threads that were woken one after the other are
-/// at work again by then.
+/// The most polls before a sleep, which take a tenth of a millisecond: by then two threads that were woken one after
+/// the other are at work again.
 const MOST_LOOKS: u32 = 1600;
 
-/// How often one who waits looks before it sleeps: more often if looking has served it lately, and less often if it
+/// How often a waiting thread polls before it sleeps: more often if polling has helped it lately, and less often if it
 /// hasn't.
 ///
-/// A sleeper takes long to wake, and it costs who wakes it as much as a small frame takes to code. So looking is
-/// cheaper as long as those it waits for are at work on small jobs. If their jobs are large, or if others want the
-/// processor, it only takes time from them.
+/// A sleeping thread takes long to wake, and waking it costs as much as coding a small frame. So polling is cheaper as
+/// long as the threads it waits for are at work on small jobs. If their jobs are large, or if other threads need the
+/// processor, polling only takes time from them.
 #[derive(Drop)]
 pub struct Patience {
     looks: u32,
 }
 
 impl Patience {
-    /// The patience of one who hasn't waited yet.
+    /// Returns the patience of a thread that hasn't waited yet: the most polls.
     pub fn new() -> Patience
         ensures { result.looks ≡ most_looks }
     {
         Patience { looks: MOST_LOOKS }
     }
 
-    /// Looking has served.
+    /// Doubles the number of polls, up to the most, after polling has found a message.
     fn grow(&mut self)
         ensures { self.new.looks ≡ looks_after_service self.old.looks }
     {
         self.looks = self.looks.saturating_mul(2).min(MOST_LOOKS);
     }
 
-    /// Looking hasn't served.
+    /// Halves the number of polls, down to the fewest, after polling has found none.
     fn shrink(&mut self)
         ensures { self.new.looks ≡ looks_after_sleep self.old.looks }
     {
@@ -51,7 +51,8 @@ impl Patience {
     }
 }
 
-/// Receives a message as `recv_as` does, and waits for one: it looks as often as its patience says, and then sleeps.
+/// Receives a message as `recv_as` does, but polls as often as `patience` says before it sleeps. `pass` must be of this
+/// channel, and the step `M` must keep the rule `P`. If it fails, the pass's view is unchanged.
 pub fn receive<T: Drop, V, P: Protocol<T, V>, M: Outcome<T, V> + Lesson<T, V>, R: Wait>(
     rt: &R,
     exit: &RuledReceiver<T, V, P>,

@@ -3,7 +3,7 @@ use ls_queue::{Close, Core, Job, Put, QueueFault, Reply, Step, Take};
 use std::alloc::Global;
 use std::process::Abort;
 
-/// The reply to a step, if the queue has its source.
+/// Runs a step, and returns the reply if the queue has its source.
 fn answer(queue: &mut Core<u64>, step: Step) -> Option<Reply> {
     let sources = queue.sources();
     match step {
@@ -14,7 +14,7 @@ fn answer(queue: &mut Core<u64>, step: Step) -> Option<Reply> {
     }
 }
 
-/// That a queue gives these replies to these steps, if there was memory for it.
+/// Checks that a queue gives these replies to these steps, if its memory could be allocated.
 fn check_script(
     rt: &impl Abort,
     memory: Memory,
@@ -48,7 +48,7 @@ fn a_queue_answers_step_by_step_or_memory_is_refused(rt: HostRuntime) {
     check_script(&rt, Memory::Refusable, made, &STEPS, &REPLIES);
 }
 
-/// Numbers that a queue can't be made with.
+/// Numbers that a queue can't be made with: sources, capacity, and the fault.
 const BAD_RANGES: [(u8, usize, QueueFault); 7] = [
     (0, 0, QueueFault::Sources),
     (0, 1, QueueFault::Sources),
@@ -84,8 +84,8 @@ fn numbers_in_range_are_kept_with_ample_memory(rt: HostRuntime) {
     }
 }
 
-/// Each item of a queue of texts, as far as it can be made; those that a full or closed queue gives back come back
-/// whole.
+/// Whether a queue of texts returns texts unchanged: one that is put while the queue is full, and one that is taken.
+/// Fails only if an allocation fails.
 fn texts_come_back(alloc: Global) -> Result<bool, QueueFault> {
     let mut queue: Core<String> = Core::new(alloc, 1, 1)?;
     let first = String::from_str(alloc, "first")?;

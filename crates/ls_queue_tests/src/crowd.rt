@@ -1,4 +1,4 @@
-//! A queue whose seats have a thread each.
+//! A queue with a thread for each seat.
 ghost use Rattle.std.specs.Prelude.{◌≡◌, IfSome, IfOk};
 ghost use Rattle.std.specs.List.{AllByRecursion};
 ghost use Rattle.ls_queue.specs.View.Running.{sources_of, IsSourceSeat, IsWorkerSeat, IsEnded, IsCloser, IsFinished, AreAllSources, AreAllWorkers, AreWorkerSeats, AreEnds};
@@ -15,7 +15,7 @@ use std::sync::{Mutex, Wait};
 use std::thread;
 use std::thread::Threads;
 
-/// What a job was: its source, its number, its item.
+/// A job that was taken: its source, its number, its item.
 pub type Line = (u8, u64, u64);
 
 /// How a queue is used.
@@ -24,19 +24,19 @@ pub struct Usage {
     pub sources: u8,
     pub workers: usize,
     pub capacity: usize,
-    /// How many items each source puts.
+    /// The number of items that each source puts.
     pub items: u64,
-    /// What items and pauses are drawn from. If it is 0, an item is its number, and there are no pauses.
+    /// The seed of the items and pauses. If it is 0, an item is its number, and there are no pauses.
     pub seed: u64,
 }
 
 impl Usage {
-    /// The item that a source puts under this number.
+    /// Returns the item that a source puts under this number.
     fn item(&self, source: u8, number: u64) -> u64 {
         self.seed.wrapping_mul(u64::from(source)) ^ number
     }
 
-    /// A pause: none, a yield, or a few turns of a loop.
+    /// Pauses: not at all, by a yield, or by a few turns of a loop.
     fn pause(&self, dice: &mut u64) {
         if self.seed == 0 {
             return;
@@ -56,8 +56,8 @@ impl Usage {
     }
 }
 
-/// Uses a queue with a thread for each seat, and checks what comes of it: each item is taken once, under its number,
-/// and the account counts it.
+/// Uses a queue with a thread for each seat, and checks the result: each item is taken once, under its number, and the
+/// account counts it.
 pub fn use_queue<R: Threads + Wait + Abort + Sync>(rt: &R, alloc: Global, usage: Usage) {
     let Ok((queue, sources, workers, closer)) = open::<u64, R>(
         rt,
@@ -94,7 +94,7 @@ pub fn use_queue<R: Threads + Wait + Abort + Sync>(rt: &R, alloc: Global, usage:
     check_lines(rt, log.into_inner(), usage);
 }
 
-/// Has each source put its items in a thread of its own, and then finishes the queue.
+/// Puts the items of each source, in a thread of its own, and then finishes the queue.
 fn put_by_all<R: Threads + Wait + Abort + Sync>(
     rt: &R,
     alloc: Global,
@@ -113,7 +113,7 @@ fn put_by_all<R: Threads + Wait + Abort + Sync>(
     put_by_each(rt, queue, numbered, closer, usage)
 }
 
-/// Has each of these sources put its items in a thread of its own, and then finishes the queue.
+/// Puts the items of each of these sources, in a thread of its own, and then finishes the queue.
 fn put_by_each<R: Threads + Wait + Abort + Sync>(
     rt: &R,
     queue: &Queue<u64>,
@@ -138,7 +138,7 @@ fn put_by_each<R: Threads + Wait + Abort + Sync>(
     queue.finish(rt, closer, ended).ok()
 }
 
-/// Each of these seats, with its source before it.
+/// Pairs each of these seats with its source, which comes first.
 fn with_sources(
     alloc: Global,
     queue: &Queue<u64>,
@@ -178,7 +178,7 @@ fn put_items<R: Wait + Abort>(
     queue.end(rt, seat)
 }
 
-/// Has each worker take jobs in a thread of its own until it is answered Done.
+/// Takes jobs with each worker seat, in a thread of its own, until Done.
 fn take_by_all<R: Threads + Wait + Abort + Sync>(
     rt: &R,
     alloc: Global,
@@ -201,7 +201,7 @@ fn take_by_all<R: Threads + Wait + Abort + Sync>(
     Ok(back)
 }
 
-/// Takes jobs until the answer is Done, checks that the numbers of each source rise, and notes the jobs.
+/// Takes jobs until Done, checks that the numbers of each source rise, and logs the jobs.
 fn take_jobs<R: Wait + Abort>(
     rt: &R,
     alloc: Global,
@@ -231,7 +231,7 @@ fn take_jobs<R: Wait + Abort>(
     seat
 }
 
-/// Whether the numbers of each source rise.
+/// Whether the numbers of each source rise along these jobs.
 fn rise(lines: &[Line]) -> bool {
     let mut next: [u64; 16] = [0; 16];
     for (source, number, _) in lines {
@@ -246,7 +246,7 @@ fn rise(lines: &[Line]) -> bool {
     true
 }
 
-/// That the account counts what each source put.
+/// Checks that the account counts what each source put.
 fn check_account(rt: &impl Abort, account: &Account, usage: Usage)
     requires { account.now.sources ≡ usage.sources }
 {
@@ -255,7 +255,7 @@ fn check_account(rt: &impl Abort, account: &Account, usage: Usage)
     }
 }
 
-/// That these are the jobs of all sources, each once.
+/// Checks that these are the jobs of all sources, each once.
 fn check_lines(rt: &impl Abort, mut lines: Vec<Line>, usage: Usage) {
     lines.sort_unstable();
     let mut next = 0;

@@ -1,7 +1,7 @@
 //! The tests of `ls_queue`, through what it makes public.
 //!
-//! They stand in a crate of their own because a crate's tests are proved together with the whole crate, and those of
-//! `ls_queue` ask only for its statements.
+//! They are in a crate of their own because a crate's tests are proved together with the whole crate, while these need
+//! only the contracts of `ls_queue`.
 #![tactic(auto)]
 
 #[cfg(test)]

@@ -12,7 +12,7 @@ use std::process::Abort;
 use std::sync::Wait;
 use std::thread::Threads;
 
-/// Numbers that a running queue can't be made with: sources, workers, capacity.
+/// Numbers that a running queue can't be made with: sources, workers, capacity, and the fault.
 const BAD_RANGES: [(u8, usize, usize, QueueFault); 7] = [
     (0, 0, 0, QueueFault::Sources),
     (17, 0, 0, QueueFault::Sources),
@@ -35,7 +35,7 @@ fn numbers_out_of_range_are_refused(rt: HostRuntime) {
     }
 }
 
-/// That a call gave what it should.
+/// Checks that a put returned what it should.
 fn check_put(rt: &impl Abort, got: Result<u64, u64>, want: Result<u64, u64>) {
     check(rt, "put", got == want);
 }
@@ -44,7 +44,8 @@ fn check_taken(rt: &impl Abort, got: Taken<u64>, want: Taken<u64>) {
     check(rt, "take", got == want);
 }
 
-/// One item goes through a queue of one source and one worker: what the account counts, if there was memory for it.
+/// Passes one item through a queue of one source and one worker, and returns the count of its account. Fails only if an
+/// allocation fails.
 fn one_item<R: Wait + Abort>(rt: &R, alloc: Global) -> Result<u64, QueueFault> {
     let (queue, mut sources, mut workers, closer) = open::<u64, R>(rt, alloc, 1, 1, 1)?;
     let mut source = next_source(&queue, 0, &mut sources);
@@ -77,7 +78,7 @@ fn one_item<R: Wait + Abort>(rt: &R, alloc: Global) -> Result<u64, QueueFault> {
     }
 }
 
-/// The list with one more at its end.
+/// Returns the list with one more element at its end.
 fn pushed<X: Drop>(mut list: Vec<X>, one: X) -> Result<Vec<X>, AllocError>
     ensures { IfOk result (λ longer. longer.items ≡ list.items ++ one ∷ []) }
 {
@@ -85,7 +86,7 @@ fn pushed<X: Drop>(mut list: Vec<X>, one: X) -> Result<Vec<X>, AllocError>
     Ok(list)
 }
 
-/// That the answer is this, or that memory was refused if it may be.
+/// Checks that the result is this, or, if allocations may fail, that one did.
 fn check_answer(
     rt: &impl Abort,
     memory: Memory,
@@ -100,7 +101,7 @@ fn check_answer(
     check(rt, case, right);
 }
 
-/// A finish that is refused for this source; what it gives back.
+/// Calls `finish`, which must fail for this source, and returns what it gives back; `None` if it doesn't fail so.
 fn finish_too_early<R: Wait>(
     rt: &R,
     queue: &Queue<u64>,
@@ -124,8 +125,8 @@ fn finish_too_early<R: Wait>(
     }
 }
 
-/// A queue of two sources is finished with no end, then with that of the second source alone, then with both: 1 if it
-/// is refused twice and then finished.
+/// Finishes a queue of two sources with no end, then with that of the second source alone, then with both: returns 1 if
+/// this is refused twice and then succeeds.
 fn finished_at_last<R: Wait>(rt: &R, alloc: Global) -> Result<u64, QueueFault> {
     let (queue, mut sources, _workers, closer) = open::<u64, R>(rt, alloc, 2, 1, 1)?;
     let first = next_source(&queue, 0, &mut sources);
@@ -141,7 +142,7 @@ fn finished_at_last<R: Wait>(rt: &R, alloc: Global) -> Result<u64, QueueFault> {
     Ok(u64::from(queue.finish(rt, closer, ended).is_ok()))
 }
 
-/// A settling that is refused for this cause; what it gives back.
+/// Calls `settle`, which must fail for this cause, and returns what it gives back; `None` if it doesn't fail so.
 fn settle_too_early<R: Wait>(
     rt: &R,
     queue: Queue<u64>,
@@ -168,7 +169,7 @@ fn settle_too_early<R: Wait>(
     Some((queue, finished, seats))
 }
 
-/// The seat, which was answered Done.
+/// Checks that a take returns Done, and returns the seat.
 fn done<R: Wait + Abort>(rt: &R, queue: &Queue<u64>, mut seat: WorkerSeat<u64>) -> WorkerSeat<u64>
     requires { IsWorkerSeat queue.now seat }
     ensures { IsWorkerSeat queue.now result }
@@ -177,8 +178,8 @@ fn done<R: Wait + Abort>(rt: &R, queue: &Queue<u64>, mut seat: WorkerSeat<u64>) 
     seat
 }
 
-/// A queue of one source, which puts nothing, and two workers is settled with one seat, then with both, then once both
-/// are done: what the account counts at last.
+/// Settles a queue of one source, which puts nothing, and two workers with one seat, then with both, then once both are
+/// done: returns the count of the account that results.
 fn settled_at_last<R: Wait + Abort>(rt: &R, alloc: Global) -> Result<u64, QueueFault> {
     let (queue, mut sources, mut workers, closer) = open::<u64, R>(rt, alloc, 1, 2, 2)?;
     let source = next_source(&queue, 0, &mut sources);
@@ -219,7 +220,7 @@ fn settled_at_last<R: Wait + Abort>(rt: &R, alloc: Global) -> Result<u64, QueueF
     }
 }
 
-/// What a single thread can do with a queue.
+/// Checks what a single thread can do with a queue.
 fn check_calls<R: Wait + Abort>(rt: &R, alloc: Global, memory: Memory) {
     check_answer(rt, memory, "one item", one_item(rt, alloc), 1);
     check_answer(rt, memory, "finish", finished_at_last(rt, alloc), 1);
@@ -272,7 +273,7 @@ const CROWDS: [(u8, usize); 8] = [
     (16, 16),
 ];
 
-/// Has each of these crowds pass 100,000 items, with pseudo-random pauses, through a queue of this capacity.
+/// Passes 100,000 items, with pseudo-random pauses, through a queue of this capacity for each of these crowds.
 fn check_crowds<R: Threads + Wait + Abort + Sync>(rt: &R, alloc: Global, capacity: usize) {
     for (sources, workers) in CROWDS {
         let usage = Usage {

@@ -3,7 +3,7 @@ use ls_queue::{Job, QueueFault, Reply, Step, Take, replay};
 use std::alloc::{AllocError, Global};
 use std::process::Abort;
 
-/// That a replay answers so; or, if memory may be refused, that it says so.
+/// Checks that a replay returns this; or, if allocations may fail, that it says one did.
 fn check_replay(
     rt: &impl Abort,
     memory: Memory,
@@ -19,14 +19,14 @@ fn check_replay(
     }
 }
 
-/// The steps of the tables, and one that names a source which isn't there.
+/// Returns the steps of the tables, and one more that names a source which the queue doesn't have.
 fn and_a_stranger(alloc: Global) -> Result<Vec<Step>, AllocError> {
     let mut steps = Vec::from_slice(alloc, &STEPS)?;
     steps.push(Step::Put(2, 5))?;
     Ok(steps)
 }
 
-/// Sources, capacity, steps and the answer.
+/// Sources, capacity, steps and the result.
 const RUNS: [(u8, usize, &[Step], Result<&[Reply], QueueFault>); 9] = [
     (2, 2, &STEPS, Ok(&REPLIES)),
     (1, 1, &[], Ok(&[])),
@@ -73,7 +73,7 @@ fn a_source_that_is_not_there_is_named_with_ample_memory(rt: HostRuntime) {
     }
 }
 
-/// So many puts of one source, each followed by a take, and after them a close and two takes.
+/// Returns `count` puts of one source, each followed by a take, and after them a close and a take.
 fn rounds(alloc: Global, count: u64) -> Result<Vec<Step>, AllocError> {
     let mut steps = Vec::new(alloc);
     for item in 0..count {
@@ -85,7 +85,8 @@ fn rounds(alloc: Global, count: u64) -> Result<Vec<Step>, AllocError> {
     Ok(steps)
 }
 
-/// The items of the jobs that were handed out, each under its number; nothing where a reply is of another kind.
+/// Whether the takes returned `count` jobs, whose items and numbers count up from 0, and no Empty, and the last reply
+/// is Done.
 fn items_in_order(replies: &[Reply], count: u64) -> bool {
     let mut next = 0u64;
     for reply in replies {

@@ -5,7 +5,7 @@ ghost use Rattle.ls_queue.specs.View.Running.{AreNewSources, AreNewWorkers, IsSo
 use ls_queue::{Close, Job, Put, Queue, Reply, SourceSeat, Step, Take, WorkerSeat};
 use std::process::Abort;
 
-/// If memory may be refused, running out of it is an answer too.
+/// Whether allocations may fail in a test. If they may, running out of memory is a right result too.
 #[derive(Clone, Copy, Debug, PartialEq, Eq)]
 pub enum Memory {
     Ample,
@@ -57,17 +57,17 @@ pub const REPLIES: [Reply; 13] = [
     Reply::Take(Take::Done),
 ];
 
-/// That a reply is the wanted one.
+/// Checks that a reply is the wanted one.
 pub fn check_reply(rt: &impl Abort, case: &str, got: Option<Reply>, want: Reply) {
     assert_eq!(rt; got, Some(want), "{case}");
 }
 
-/// That this holds.
+/// Checks that this holds.
 pub fn check(rt: &impl Abort, case: &str, holds: bool) {
     assert!(rt; holds, "{case}");
 }
 
-/// The seat of source `number`, the first of those that are left of what `open` made.
+/// Removes and returns the seat of source `number`, which is the first of the remaining seats that `open` made.
 pub fn next_source<T: Drop>(
     queue: &Queue<T>,
     number: u8,
@@ -82,7 +82,7 @@ pub fn next_source<T: Drop>(
     seats.remove(0)
 }
 
-/// The first of those seats that are left of what `open` made.
+/// Removes and returns the first of the remaining seats that `open` made.
 pub fn next_worker<T: Drop>(queue: &Queue<T>, seats: &mut Vec<WorkerSeat<T>>) -> WorkerSeat<T>
     requires some { 0 < length seats.old.items }
     requires new { AreNewWorkers queue.now.channel seats.old.items }

@@ -1,4 +1,4 @@
--- Boxes, one more at a time.
+-- Boxes, as they are made one by one.
 use Rattle.std.proofs.Common.{◌≡◌, ℕ, suc, ◌+◌, ◌<◌, List, [], ◌∷◌, ◌++◌, length, map, take, set, get_or, sym, ap, ◌∙◌, arith}
 use Rattle.std.proofs.Math.Seq.{map-set_same, take-suc}
 use Rattle.std.proofs.Math.ListN.{get_or-map}
@@ -16,7 +16,7 @@ AreFrom-push_from n (i ∷ inboxes) inbox before is =
 pub AreFrom-push : (inboxes : List Inbox) (inbox : Inbox) → AreFrom 0 inboxes → inbox.source ≡ length inboxes → AreFrom 0 (inboxes ++ inbox ∷ [])
 AreFrom-push inboxes inbox before is = AreFrom-push_from 0 inboxes inbox before (omega arith)
 
--- ends whose channels are known, one more at a time; what an end's channel is, is a parameter
+-- ends of known channels, one more at a time; which channel an end belongs to is a parameter
 module _ {X Y C : Type 0} (channel : X → C) (other : Y → C) where
   -- one more on both sides
   pub both-push : (xs : List X) (ys : List Y) (x : X) (y : Y) → map channel xs ≡ map other ys → channel x ≡ other y → map channel (xs ++ x ∷ []) ≡ map other (ys ++ y ∷ [])
@@ -34,6 +34,6 @@ module _ {X C : Type 0} (channel : X → C) where
       map-append channel copies (x ∷ []) ∙ ap (λ l. l ++ channel x ∷ []) (before ∙ ap (take k) (sym same)) ∙ ap (λ c. take k (map channel xs) ++ c ∷ []) is
       ∙ sym next ∙ ap (λ n. take n (map channel xs)) (sym (add-one k)) ∙ ap (take (k + 1)) same
 
-  -- an element whose channel is that of the one that it replaces
+  -- an element is replaced by one of the same channel
   pub channel-set : (xs ys : List X) (k : ℕ) (x d : X) → map channel xs ≡ map channel ys → channel x ≡ channel (get_or xs k d) → map channel (set xs k x) ≡ map channel ys
   channel-set xs ys k x d before is = map-set_same channel xs k x d is ∙ before

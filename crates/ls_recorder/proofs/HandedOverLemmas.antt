@@ -19,7 +19,7 @@ module _ {X : Type 0} where
   within-length (x ∷ xs) (y ∷ ys) (inl same) = omega (arith, within-length xs ys same.1)
   within-length (x ∷ xs) (y ∷ ys) (inr later) = omega (arith, within-length (x ∷ xs) ys later)
 
-  -- what is within a list and as long is the list
+  -- a sublist that is as long as its list is that list
   within-all : (xs ys : List (Job X)) → IsWithin xs ys → length xs ≡ length ys → xs ≡ ys
   within-all [] [] within size = refl
   within-all [] (y ∷ ys) within size = absurd (omega (arith, size))
@@ -27,7 +27,7 @@ module _ {X : Type 0} where
   within-all (x ∷ xs) (y ∷ ys) (inl same) size = ap (λ z. z ∷ xs) same.0 ∙ ap (λ l. y ∷ l) (within-all xs ys same.1 (omega (arith, size)))
   within-all (x ∷ xs) (y ∷ ys) (inr later) size = (let more = within-length (x ∷ xs) ys later in absurd (omega (arith, size, more)))
 
-  -- all jobs are the first source's, if there is no other
+  -- if there is one source, all jobs are of that source
   jobs-of-first : (s : ℕ) → s ≡ 0 → (jobs : List (Job X)) → AllByRecursion (λ (j : Job X). j.source < 1) jobs → jobs_of s jobs ≡ jobs
   jobs-of-first s is [] all = refl
   jobs-of-first s is (j ∷ jobs) all =

@@ -1,4 +1,4 @@
--- How a lane ends, by what its two halves say.
+-- How a lane ends, from how its two halves ended.
 use Rattle.std.proofs.Common.{◌≡◌, ℕ, ◌+◌, ◌≤◌, inl, inr, Bool, true, false, List, [], ◌∷◌, ◌++◌, length, ◌⊎◌, Option, refl, sym, ap, subst, ◌∙◌, arith, IsTrue}
 use Rattle.std.specs.Prelude.{Result, Ok, Err, MatchResult, IfOk, IfErr}
 use Rattle.std.specs.Io.KnownBytes.{Appends}
@@ -54,7 +54,7 @@ module _ (tuning : Tuning) (items : List Ordered) (read mid : Option (List ℕ))
     put = run.put;
   }
 
-  -- the writing stopped
+  -- writing stopped
   stops-writing : (new start now : Option (List ℕ)) (fault : LaneFault) → HasRead tuning items read mid n → n ≤ most_frames → StopsWriting items start now fault
       → StopsLane tuning items read new start now fault
   stops-writing new start now (Input m fault) run few why = absurd why
@@ -66,7 +66,7 @@ module _ (tuning : Tuning) (items : List Ordered) (read mid : Option (List ℕ))
   stops-writing new start now TooMany run few why = (let size = count-put tuning items read mid n run in absurd (omega arith))
   stops-writing new start now (BadTuning m fault) run few why = absurd why
 
-  -- the reading stopped at the next frame, and all before it was written
+  -- reading stopped at the next frame, and all before it was written
   stops-reading : (new start now : Option (List ℕ)) (fault : LaneFault) → HasRead tuning items read mid n → n ≤ most_frames → StopsReading tuning mid new n fault
       → Appends start now (file items) → StopsLane tuning items read new start now fault
   stops-reading new start now (Input m fault) run few why wrote = record {
@@ -109,7 +109,7 @@ module _ (tuning : Tuning) (items : List Ordered) (read mid : Option (List ℕ))
     wrote = wrote-tuned start now run wrote;
   }
 
-  -- memory was refused to the reading half
+  -- an allocation of the reading half failed
   stops-memory : (new start now : Option (List ℕ)) (fault : LaneFault) → HasRead tuning items read mid n → n ≤ most_frames → fault ≡ NoMemory → Appends start now (file items)
       → StopsLane tuning items read new start now fault
   stops-memory new start now fault run few is wrote = rw is (HasPut-read new start now run few, wrote-front start now wrote)
@@ -141,7 +141,7 @@ reads-memory NotStarted old new why is = let clash : ⊥ = cc in absurd clash
 reads-memory TooMany old new why is = let clash : ⊥ = cc in absurd clash
 reads-memory (BadTuning m fault) old new why is = let clash : ⊥ = cc in absurd clash
 
--- the writing stopped, after a read that may have failed
+-- writing stopped, after a read that may have failed
 reads-writing : (items : List Ordered) (start now : Option (List ℕ)) (fault : LaneFault) (b : Bool) (old new : ℕ) → StopsWriting items start now fault → length items ≤ most_frames
     → new ≡ count_after b old → ReadsSo fault old new
 reads-writing items start now (Input m fault) b old new why few is = absurd why
@@ -167,7 +167,7 @@ not-writer tuning read read' n (BadTuning m fault) why = refl
 
 module _ {R W : Type 0} (remaining : R → Option (List ℕ)) (failed_reads : R → ℕ) (contents : W → Option (List ℕ)) (failed_writes : W → ℕ)
     (tuning : Tuning) (items : List Ordered) (reader reader' : R) (writer writer' : W) where
-  -- what a lane says of its end
+  -- what a lane promises of its end
   pub record Ends (result : Result ℕ LaneFault) : Type 0 where
     pub completes : IfOk result (Records tuning items (remaining reader) (remaining reader') (contents writer) (contents writer'))
     pub stops : IfErr result (λ fault. WasNotStarted items reader reader' writer writer' fault
@@ -175,13 +175,13 @@ module _ {R W : Type 0} (remaining : R → Option (List ℕ)) (failed_reads : R 
     pub reads : MatchResult result (λ n. failed_reads reader' ≡ failed_reads reader) (λ fault. ReadsSo fault (failed_reads reader) (failed_reads reader'))
     pub writes : failed_writes writer' ≡ count_after (failed_writer result) (failed_writes writer)
 
-  -- what the reading half says of its end
+  -- what the reading half promises of its end
   abbrev pub ReadSo : Result ℕ LaneFault → Type 0
   ReadSo read = MatchResult read
       (HasReadAll tuning items (remaining reader) (remaining reader'))
       (λ fault. ((fault ≡ NotStarted) × (items ≡ []) × (reader' ≡ reader)) ⊎ HasReadSome tuning items (remaining reader) (remaining reader') fault)
 
-  -- it wrote all that was put
+  -- all that was put was written
   pub ends-read : (read : Result ℕ LaneFault) → ReadSo read → failed_reads reader' ≡ count_after (failed_reader read) (failed_reads reader)
       → Appends (contents writer) (contents writer') (file items) → failed_writes writer' ≡ failed_writes writer → (length items ≡ 0 → writer' ≡ writer) → Ends read
   ends-read (Ok n) all reads wrote writes same = record {
@@ -217,7 +217,7 @@ module _ {R W : Type 0} (remaining : R → Option (List ℕ)) (failed_reads : R 
   read-before (Err fault) (inl none) = (0, remaining reader, HasRead-none tuning items (remaining reader) none.1, omega arith)
   read-before (Err fault) (inr some) = (some.n, some.before, some.run, some.few)
 
-  -- the writing stopped
+  -- writing stopped
   pub ends-stopped : (read : Result ℕ LaneFault) (fault : LaneFault) → ReadSo read → failed_reads reader' ≡ count_after (failed_reader read) (failed_reads reader)
       → StopsWriting items (contents writer) (contents writer') fault → failed_writes writer' ≡ count_after (blames_writer fault) (failed_writes writer) → Ends (Err fault)
   ends-stopped read fault so reads why writes =
@@ -238,7 +238,7 @@ module _ {R W : Type 0} (remaining : R → Option (List ℕ)) (failed_reads : R 
   ends-both read (Ok u) result is so reads why writes same = subst Ends (sym is) (ends-read read so reads why writes same)
   ends-both read (Err fault) result is so reads why writes same = subst Ends (sym is) (ends-stopped read fault so reads why writes)
 
--- nothing was read, put or written, since memory was refused
+-- an allocation failed before anything was read, put or written
 pub begins-without-memory : (tuning : Tuning) (items : List Ordered) (read written : Option (List ℕ)) → items ≡ [] → StopsLane tuning items read read written written NoMemory
 begins-without-memory tuning items read written none = (
   HasPut-read tuning items read read 0 read written written (HasRead-none tuning items read none) (omega arith),

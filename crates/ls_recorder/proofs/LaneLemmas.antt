@@ -1,4 +1,4 @@
--- What a lane put and what it wrote of that, step by step.
+-- What a lane put and what it wrote of it, step by step.
 use Rattle.std.proofs.Common.{◌≡◌, ℕ, ◌+◌, ◌-◌, ◌<◌, Bool, true, false, cond, List, [], ◌∷◌, ◌++◌, length, map, take, drop, Option, Some, None, IfSome, refl, sym, ap, subst, ◌∙◌, arith, append_assoc, append-nil}
 use Rattle.std.specs.Io.KnownBytes.{Appends}
 use Rattle.std.proofs.KnownBytes.{Appends-trans}
@@ -43,7 +43,7 @@ fewer-slots : (slots : List Slot) (piece : Job Ordered) → first_piece slots �
 fewer-slots [] piece is = let clash : ⊥ = cc in absurd clash
 fewer-slots (slot ∷ slots) piece is = omega arith
 
--- what is handed out
+-- the first order is handed out with its coded frame
 pub record HandsOut (c c' : Collection) (piece : Job Ordered) : Type 0 where
   pub orders : orders_in c ≡ piece.item ∷ orders_in c'
   pub first : c'.first ≡ c.first + 1
@@ -66,7 +66,7 @@ pub hands_out : (c c' : Collection) (piece : Job Ordered) → IsCollection c →
 hands_out c c' piece collection is after =
     subst (λ q. HandsOut c q piece) (sym (after ∙ ap (after_reply c) is)) (hands_out_so c piece collection is)
 
--- a piece that is accepted changes no order
+-- accepting a coded frame changes no order
 pub record Keeps (c c' : Collection) : Type 0 where
   pub orders : orders_in c' ≡ orders_in c
   pub first : c'.first ≡ c.first
@@ -89,7 +89,7 @@ keeps_so c piece none =
 pub keeps : (c c' : Collection) (piece : Job Ordered) → misfit_of c piece ≡ None → c' ≡ after_accept c piece → Keeps c c'
 keeps c c' piece none after = subst (λ q. Keeps c q) (sym after) (keeps_so c piece none)
 
--- an order that is booked where there is room comes last
+-- a booked order comes last, if there is room
 pub record Books (c c' : Collection) (order : Ordered) : Type 0 where
   pub orders : orders_in c' ≡ orders_in c ++ order ∷ []
   pub first : c'.first ≡ c.first
@@ -114,7 +114,7 @@ books c c' order room after = subst (λ q. Books c q order) (sym after) (books_s
 -- ---- writing
 
 module _ (items : List Ordered) (start : Option (List ℕ)) where
-  -- a piece was handed out and written
+  -- a coded frame was handed out and written
   pub writes-piece : (now now' : Option (List ℕ)) (c c' : Collection) (bytes : ℕ) (piece : Job Ordered) → HandsOut c c' piece → Appends now now' (coded piece.item)
       → IsWriting items start now c bytes → IsWriting items start now' c' (bytes + length (coded piece.item))
   writes-piece now now' c c' bytes piece out wrote writing = record {
@@ -124,7 +124,7 @@ module _ (items : List Ordered) (start : Option (List ℕ)) where
     bytes_are = ap (λ k. k + length (coded piece.item)) writing.bytes_are ∙ sym (length-append (file writing.done) (coded piece.item)) ∙ sym (ap length (file-push writing.done piece.item));
   }
 
-  -- a part of a piece that was handed out was written
+  -- a part of a coded frame that was handed out was written
   pub writes-part : (now now' : Option (List ℕ)) (c c' : Collection) (bytes here : ℕ) (piece : Job Ordered) → HandsOut c c' piece → here < length (coded piece.item)
       → Appends now now' (take here (coded piece.item)) → IsWriting items start now c bytes → WrotePart items start now' (bytes + here)
   writes-part now now' c c' bytes here piece out part wrote writing =
@@ -141,7 +141,7 @@ module _ (items : List Ordered) (start : Option (List ℕ)) where
         wrote = subst (Appends start now') (sym front) (Appends-trans start now now' (file writing.done) (take here (coded piece.item)) writing.wrote wrote);
       }
 
-  -- a piece was accepted
+  -- a coded frame was accepted
   pub writes-kept : (now : Option (List ℕ)) (c c' : Collection) (bytes : ℕ) → Keeps c c' → IsWriting items start now c bytes → IsWriting items start now c' bytes
   writes-kept now c c' bytes kept writing = record {
     done = writing.done;
@@ -159,7 +159,7 @@ module _ (items : List Ordered) (start : Option (List ℕ)) where
       let front : take (length writing.done) items ≡ writing.done = ap (take (length writing.done)) writing.items_are ∙ take-append_seam writing.done (orders_in c) in
       rw front writing.wrote
 
-  -- it stops with orders that wait, or with whatever
+  -- if it stops while orders wait, not all of them were written; in any case the first ones were
   pub writes-fewer : (now : Option (List ℕ)) (c : Collection) (bytes : ℕ) → 0 < length c.slots → IsWriting items start now c bytes → WroteFewer items start now
   writes-fewer now c bytes some writing = record {
     count = length writing.done;

@@ -1,15 +1,15 @@
--- Lists that grow at their ends, and lists beside one another.
+-- Lists that grow at their ends, and lists related element by element.
 use Rattle.std.proofs.Common.{◌≡◌, List, [], ◌∷◌, ◌++◌, length, refl, sym, ap, ◌∙◌, arith, append_assoc}
 use Rattle.std.specs.List.{AllZip}
 
--- two lists beside each other grow by an element each
+-- two related lists grow by an element each
 pub zip-more : {A B : Type 0} (R : A → B → Type 0) (xs : List A) (ys : List B) (x : A) (y : B) → AllZip R xs ys → R x y → AllZip R (xs ++ x ∷ []) (ys ++ y ∷ [])
 zip-more R [] [] x y all last = (last, tt)
 zip-more R [] (v ∷ vs) x y all last = absurd all
 zip-more R (u ∷ us) [] x y all last = absurd all
 zip-more R (u ∷ us) (v ∷ vs) x y all last = (all.0, zip-more R us vs x y all.1 last)
 
--- the first elements are beside zs, and the others are left
+-- the first elements are related to zs, and the others remain
 abbrev pub ZippedSoFar : {A B : Type 0} → (A → B → Type 0) → List A → List A → List B → Type 0
 ZippedSoFar {A} R all left zs = (done : List A) × (done ++ left ≡ all) × AllZip R done zs
 
@@ -18,7 +18,7 @@ pub zipped-more : {A B : Type 0} (R : A → B → Type 0) (all left rest : List 
 zipped-more R all left rest zs x z before first last =
     (before.0 ++ x ∷ [], append_assoc before.0 (x ∷ []) rest ∙ ap (λ l. before.0 ++ l) (sym first) ∙ before.1, zip-more R before.0 zs x z before.2 last)
 
--- three lists beside one another
+-- three lists, each related to the next
 pub zip-through : {A B C : Type 0} (R : A → B → Type 0) (S : B → C → Type 0) (xs : List A) (ys : List B) (zs : List C) → AllZip R xs ys → AllZip S ys zs
     → AllZip (λ x z. (y : B) × R x y × S y z) xs zs
 zip-through R S [] [] [] first second = tt

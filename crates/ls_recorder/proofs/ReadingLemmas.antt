@@ -17,7 +17,7 @@ use Rattle.ls_recorder.specs.View.Halves.{HasRead}
 pub HasRead-none : (tuning : Tuning) (items : List Ordered) (read : Option (List ℕ)) → items ≡ [] → HasRead tuning items read read 0
 HasRead-none tuning items read none = record { frames = []; count = refl; gave = GaveFrames-none IsImageOf read; put = (none, _) }
 
--- one frame more
+-- one more frame
 pub HasRead-more : (tuning : Tuning) (items items' : List Ordered) (read mid new : Option (List ℕ)) (n : ℕ) (order : Ordered) → HasRead tuning items read mid n
     → order.1 ≡ tuned tuning order.0.maxval → explicit_parameters (tuned tuning order.0.maxval) ≡ Ok order.1 → IsFrame order.0 → Gave mid new (λ image. IsImageOf image order.0)
     → items' ≡ items ++ order ∷ [] → HasRead tuning items' read new (n + 1)
@@ -37,6 +37,6 @@ pub lawful-frames : (tuning : Tuning) (frames : List Picture) → AreTuned tunin
 lawful-frames tuning [] tuned_all = tt
 lawful-frames tuning (f ∷ frames) tuned_all = (tuned_all.0.0, lawful-frames tuning frames tuned_all.1)
 
--- as many were put as were read
+-- as many orders were put as frames were read
 pub count-put : (tuning : Tuning) (items : List Ordered) (read mid : Option (List ℕ)) (n : ℕ) → HasRead tuning items read mid n → length items ≡ n
 count-put tuning items read mid n run = ap length run.put.0 ∙ length-map run.frames (λ (f : Picture). (f, tuned tuning f.maxval)) ∙ run.count

@@ -1,4 +1,4 @@
--- Lists of seats, lanes and tracks as they grow.
+-- Lists of seats, lanes and tracks, as they grow.
 use Rattle.std.proofs.Common.{◌≡◌, ℕ, suc, ◌+◌, ◌<◌, ◌≤◌, ◌⊎◌, inl, inr, Bool, true, false, true≢false, ◌&&◌, ◌||◌, ◌==◌, List, [], ◌∷◌, ◌++◌, length, refl, sym, ap, subst, ◌∙◌, arith, append_assoc, append-nil}
 use Rattle.std.specs.List.{AllByRecursion, AllZip}
 use Rattle.std.proofs.lemmas.List.{length_push}
@@ -94,7 +94,7 @@ module _ {R W : Type 0} (remaining : R → Option (List ℕ)) (failed_reads : R 
   done-more queue s n (f ∷ fs) (x ∷ xs) [] film e t all at last = absurd all
   done-more queue s n (f ∷ fs) (x ∷ xs) (y ∷ ys) film e t all at last = (all.0, done-more queue (suc s) n fs xs ys film e t all.1 (omega arith) last)
 
--- ---- what each loop keeps
+-- ---- invariants of the loops
 
 module _ {R W : Type 0} (remaining : R → Option (List ℕ)) (failed_reads : R → ℕ) (contents : W → Option (List ℕ)) (failed_writes : W → ℕ) (queue : Queue Ordered) where
   -- one more lane was joined
@@ -114,14 +114,14 @@ module _ {R W : Type 0} (remaining : R → Option (List ℕ)) (failed_reads : R 
         subst (λ n. AreStarted remaining failed_reads contents failed_writes queue n fs rest) (sym (length_push done f) ∙ refl) (subst (λ n. AreStarted remaining failed_reads contents failed_writes queue n fs rest) (omega arith) both.1),
       )
 
-  -- no lane is left
+  -- no lanes remain
   pub joined : (films done left : List (R × W × Tuning)) (es : List (Ended Ordered)) (ts : List (Track R W)) (lanes : List (Lane R W))
       → done ++ left ≡ films → AreDone remaining failed_reads contents failed_writes queue 0 done es ts → AreStarted remaining failed_reads contents failed_writes queue (length done) left lanes → lanes ≡ []
       → AreDone remaining failed_reads contents failed_writes queue 0 films es ts
   joined films done [] es ts lanes whole ended started none = subst (λ fs. AreDone remaining failed_reads contents failed_writes queue 0 fs es ts) (sym (append-nil done) ∙ whole) ended
   joined films done (f ∷ fs) es ts lanes whole ended started none = absurd (subst (AreStarted remaining failed_reads contents failed_writes queue (length done) (f ∷ fs)) none started)
 
--- the first of seats, and of inboxes, in order from source n on
+-- the first of the seats, and of the inboxes, in order from source n on
 pub seat-first : {X : Type 0} (channel : Channel X) (n : ℕ) (seats rest : List (SourceSeat X)) (seat : SourceSeat X) → seats ≡ seat ∷ rest → AreNewSources channel n seats
     → (IsSourceAt channel seat × (seat.source ≡ n) × (items_put seat ≡ [])) × AreNewSources channel (n + 1) rest
 seat-first channel n seats rest seat first all =
@@ -156,7 +156,7 @@ module _ {R W : Type 0} (remaining : R → Option (List ℕ)) (failed_reads : R 
     | inr later ↦ or_second (e.source == k) _ (done-each (suc s) fs es ts all.1 k (omega arith) (omega arith))
   ]
 
-  -- a source below s isn't counted by the ends from s on
+  -- the ends from source s on count nothing for a source below s
   not_below : (counts : List ℕ) (s : ℕ) (films : List (R × W × Tuning)) (es : List (Ended Ordered)) (ts : List (Track R W)) → AreDone remaining failed_reads contents failed_writes queue s films es ts
       → (k : ℕ) → k < s → IsCounted counts (parts_of es) k → ⊥
   not_below counts s [] [] [] all k less counted = counted
@@ -177,7 +177,7 @@ module _ {R W : Type 0} (remaining : R → Option (List ℕ)) (failed_reads : R 
     | inr later ↦ absurd (not_below counts (suc s) fs es ts all.1 s (omega arith) later)
   ]
 
-  -- and the counts of the sources after it are those of the ends after it
+  -- the counts of the sources after s are those of the ends after it
   counts-later : (counts : List ℕ) (s n : ℕ) (e : Ended Ordered) (es : List (Ended Ordered)) → e.source ≡ s
       → ((k : ℕ) → s ≤ k → k < s + suc n → IsCounted counts (parts_of (e ∷ es)) k) → (k : ℕ) → suc s ≤ k → k < suc s + n → IsCounted counts (parts_of es) k
   counts-later counts s n e es is counted k from less = elim (counted k (omega arith) (omega arith)) [
@@ -229,7 +229,7 @@ pub new-workers : {X : Type 0} (channel : Channel X) (seats : List (WorkerSeat X
 new-workers channel [] all = _
 new-workers channel (s ∷ ss) all = (all.0.0, new-workers channel ss all.1)
 
--- ---- what a lane answers
+-- ---- the result of a lane
 
 -- it wasn't started, or it ended in one of two ways
 pub did-lane : {A B C D : Type 0} (P : A → Type 0) (Q : LaneFault → Type 0) (r : Result A LaneFault) → IfOk r P → IfErr r (λ fault. ((fault ≡ NotStarted) × B × C × D) ⊎ Q fault)
@@ -248,7 +248,7 @@ recorded-count tuning items read read' written written' (Ok n) count is records 
     is ∙ (ap length records.put.0 ∙ (length-with_tuning tuning records.run.frames ∙ records.run.count))
 recorded-count tuning items read read' written written' (Err fault) count is records = records
 
--- ---- outboxes lead to all boxes
+-- ---- each outbox has a door to each inbox
 
 length-map : {A B : Type 0} (f : A → B) (xs : List A) → length (map f xs) ≡ length xs
 length-map f [] = refl

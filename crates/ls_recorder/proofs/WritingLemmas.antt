@@ -1,4 +1,4 @@
--- What a writing half says, step by step: orders are taken and booked, a piece is accepted or isn't, and more orders come after it stopped.
+-- The writing half, step by step: orders are taken and booked, a coded frame is accepted or refused, and more orders come after writing stopped.
 use Rattle.std.proofs.Common.{◌≡◌, ℕ, zero, suc, ◌+◌, ◌-◌, ◌<◌, ◌≤◌, ◌==◌, ◌||◌, not, nat_lt, nat_le, Bool, true, false, cond, List, [], ◌∷◌, ◌++◌, length, map, take, Option, Some, None, refl, sym, ap, subst, ◌∙◌, arith, append_assoc, append-nil}
 use Rattle.std.specs.List.{slice_get}
 use Rattle.std.specs.Io.KnownBytes.{Appends}
@@ -39,7 +39,7 @@ wrote-all items start now c bytes writing none =
     let all : items ≡ writing.done = writing.items_are ∙ ap (λ l. writing.done ++ l) (none-left c.slots none) ∙ append-nil writing.done in
     rw all writing.wrote
 
--- ---- more orders after it stopped
+-- ---- more orders come after writing stopped
 
 later-front : (items more : List Ordered) (start now : Option (List ℕ)) → WroteFront items start now → WroteFront (items ++ more) start now
 later-front items more start now wrote = record {
@@ -62,7 +62,7 @@ later-part items more start now bytes wrote =
       wrote = subst (Appends start now) (sym (ap (take bytes) all ∙ take-front bytes (file items) (file more) wrote.part)) wrote.wrote;
     }
 
--- the collector, if it had room for more orders
+-- the collector with more orders, as if it had room for them
 abbrev slots-of : List Ordered → List Slot
 slots-of more = map (λ (o : Ordered). record { order = o; piece = None }) more
 
@@ -86,7 +86,7 @@ later-writing items more start now c bytes writing = record {
   bytes_are = writing.bytes_are;
 }
 
--- the first of four that is so
+-- the first of four causes that applies
 abbrev first_of : (a b c d : Bool) → Option Cause
 first_of a b c d = cond a (Some Stranger) (cond b (Some NotBooked) (cond c (Some Twice) (cond d (Some OtherFrame) None)))
 
@@ -126,9 +126,9 @@ later-misfit c more piece m is other =
       (λ new. ap (λ s. not (is_of s piece.item)) (slot less (ltb-false piece.number c.first (first_false (nat_lt piece.number c.first) (has_piece (slot_of c piece.number)) new)))),
     ))
 
--- ---- what the half answers, once it has taken the orders that were left
+-- ---- the fault that is returned once the remaining orders are taken
 
--- a stop that isn't for a piece of an order that isn't booked
+-- writing stopped for anything but a coded frame whose order isn't booked
 pub later-stops : (items more : List Ordered) (start now : Option (List ℕ)) (f : LaneFault) → StopsWriting items start now f → (f ≡ fault.Misfit NotBooked → ⊥) → StopsWriting (items ++ more) start now f
 later-stops items more start now (fault.Input m f) why other = absurd why
 later-stops items more start now (fault.Output bytes) why other = later-part items more start now bytes why
@@ -152,7 +152,7 @@ not_first : (a b c d : Bool) → first_of a b c d ≡ Some NotBooked → a ≡ f
 not_first false b c d is = refl
 not_first true b c d is = let clash : ⊥ = cc in absurd clash
 
--- the order of the piece isn't booked at the end either
+-- the order of the coded frame isn't booked at the end either
 pub later-ahead : (items more : List Ordered) (start now : Option (List ℕ)) (ahead : ℕ) → IsAhead items start now ahead → length more ≤ ahead
     → StopsWriting (items ++ more) start now (fault.Misfit NotBooked)
 later-ahead items more start now ahead is few =
@@ -171,11 +171,11 @@ later-ahead items more start now ahead is few =
       },
     )
 
--- it is booked by then, further ahead than there is room
+-- it is booked by then, but further ahead than the collector has room
 pub later-beyond : (items more : List Ordered) (start now : Option (List ℕ)) (ahead : ℕ) → IsAhead items start now ahead → StopsWriting (items ++ more) start now fault.NoMemory
 later-beyond items more start now ahead is = later-front items more start now (writes-front items start now is.collection is.bytes is.writing)
 
--- ---- why it stops
+-- ---- why writing stops
 
 pub output-is-no-misfit : (bytes : ℕ) (m : Cause) → fault.Output bytes ≡ fault.Misfit m → ⊥
 output-is-no-misfit bytes m is = let clash : ⊥ = cc in clash
@@ -189,7 +189,7 @@ lost-is-no-misfit m is = let clash : ⊥ = cc in clash
 same-misfit : (a b : Cause) → fault.Misfit a ≡ fault.Misfit b → a ≡ b
 same-misfit a b is = cc
 
--- a piece was refused
+-- a coded frame was refused
 pub halts-refused : (items : List Ordered) (start now : Option (List ℕ)) (c : Collection) (bytes : ℕ) (piece : Job Ordered) (h : Halt) → IsWriting items start now c bytes → 0 < length c.slots
     → booked c ≡ length items → RefusesPiece c piece h → HaltsWriting items start now h
 halts-refused items start now c bytes piece (halt.Fault (fault.Input m f)) writing some counted why = absurd why

@@ -1,4 +1,4 @@
--- What a recording does, seen by its films, its threads and their boxes.
+-- What a recording does: its films' lanes, their halves, all its threads, and the boxes.
 pub mod Boxes
 pub mod Halves
 pub mod Lanes

@@ -1,4 +1,4 @@
-//! Boxes: answers go through them from any worker to the lane of their source.
+//! Boxes: channels that carry results from any worker to the lane of their source.
 mod ends;
 
 ghost use Rattle.std.specs.Prelude.{◌≡◌, ◌<◌, ◌⊎◌, None, Some, length, IfOk, MatchResult};
@@ -18,11 +18,11 @@ use ls_queue::Patience;
 use std::alloc::{AllocError, Global};
 use std::sync::Wait;
 
-/// An inbox for each of 1 to 16 sources, in order from source 0, and an outbox for each of 1 to 16 workers. The box of
-/// a source has room for as many answers as the window, which is 1 to 64. Fails for the first of `Sources`, `Workers`
-/// and `Window` that is so; else only if an allocation fails.
+/// Makes an inbox for each of 1 to 16 sources, in order from source 0, and an outbox for each of 1 to 16 workers. An
+/// inbox holds at most `window` results, 1 to 64. Fails with the first of `Sources`, `Workers` and `Window` that
+/// applies, else only if an allocation fails.
 ///
-/// It takes all the memory that the boxes will need.
+/// Allocates all the memory that the boxes will need.
 pub fn boxes<R: Wait>(
     _rt: &R,
     alloc: Global,
@@ -34,7 +34,7 @@ pub fn boxes<R: Wait>(
         (λ made. (box_fault sources workers window ≡ None) × AreBoxes sources workers window made.0.items made.1.items)
         (λ fault. (box_fault sources workers window ≡ Some fault) ⊎ ((box_fault sources workers window ≡ None) × (fault ≡ RecordFault.NoMemory))) }
 {
-    // Boxes hold no jobs: any capacity does.
+    // Boxes hold no jobs, so any capacity will do.
     let sizes = Sizes {
         workers,
         capacity: 1,
@@ -48,7 +48,7 @@ pub fn boxes<R: Wait>(
     Ok((inboxes, outboxes))
 }
 
-/// A box for each source, with a door that leads to it.
+/// Makes an inbox for each source, and a sender to each inbox.
 fn channels(
     alloc: Global,
     sources: u8,
@@ -76,7 +76,7 @@ fn channels(
     Ok((inboxes, doors))
 }
 
-/// An outbox for each worker, each with a door to where each of these leads.
+/// Makes an outbox for each worker, with a copy of each of these senders.
 fn outboxes(alloc: Global, mut doors: Vec<Door>, workers: usize) -> Result<Vec<Outbox>, AllocError>
     ensures { IfOk result (λ made. (length made.items ≡ workers) × AllByRecursion (λ (outbox : Outbox). LeadAlike outbox.doors.items doors.items) made.items) }
 {
@@ -88,7 +88,7 @@ fn outboxes(alloc: Global, mut doors: Vec<Door>, workers: usize) -> Result<Vec<O
     Ok(outboxes)
 }
 
-/// Another door to where each of these leads.
+/// Copies each of these senders.
 fn copies(alloc: Global, doors: &mut Vec<Door>) -> Result<Vec<Door>, AllocError>
     ensures same { IfOk result (λ copies. LeadAlike doors.new.items doors.old.items) }
     ensures copies { IfOk result (λ copies. LeadAlike copies.items doors.old.items) }

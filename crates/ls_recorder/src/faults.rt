@@ -1,8 +1,8 @@
-//! Why a recording isn't begun.
+//! The reasons why a recording isn't begun.
 use std::alloc::AllocError;
 use thiserror::Error;
 
-/// Why a recording isn't begun. They are looked for in this order.
+/// The reason why a recording isn't begun: the first of these that applies, in this order.
 #[derive(Clone, Copy, Debug, Drop, PartialEq, Eq, Error)]
 pub enum RecordFault {
     /// The number of sources isn't 1 to 16.
@@ -20,7 +20,7 @@ pub enum RecordFault {
     /// An allocation failed.
     #[error("no memory")]
     NoMemory,
-    /// A worker couldn't be started.
+    /// No thread can be made for a worker.
     #[error("not started")]
     NotStarted,
 }

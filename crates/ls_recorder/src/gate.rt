@@ -1,49 +1,53 @@
-//! What a recording lets be seen while it goes on.
+//! Observing a recording while it runs.
 use crate::lane::LaneFault;
 
-/// When a gate is passed.
+/// The moment at which a worker calls `Gate::pass`.
 #[derive(Clone, Copy, Debug, PartialEq, Eq)]
 pub enum Moment {
-    /// The job is about to be coded.
+    /// Before the job is coded.
     Before,
-    /// It was coded, or couldn't be, and isn't answered yet.
+    /// After the job was coded, or couldn't be, and before its result is sent.
     After,
 }
 
-/// What has come of a film. Of one film, `Reading`, `Read` and `Put` of a frame come in this order, and after those of
-/// the frame before; `Written` of a frame comes after that of the frame before; `Began` comes first and `Ended` last.
-/// `Stops` comes only for a fault that is none of reading.
+/// An event of a film. `Began` comes first and `Ended` last. `Reading`, `Read` and `Put` of a frame come in this order,
+/// after those of the frame before; `Written` of a frame comes after `Written` of the frame before, and may come before
+/// its `Put`. A lane for which no thread can be made has no `Began`, only `Ended` with `NotStarted`; a recording that
+/// isn't begun has no notices.
 #[derive(Clone, Copy, Debug, Drop, PartialEq, Eq)]
 pub enum Notice {
-    /// Its lane runs, and waits for a place in the window.
+    /// Its lane runs. Nothing is read yet.
     Began,
-    /// There is a place in the window, and the reader is asked for the frame of this number, from 0.
+    /// A place in the window is free, and the reader is asked for the frame of this number, from 0. The film may end
+    /// there.
     Reading(u64),
-    /// The frame of this number was read. It has so many bytes of samples, as its image has them: one for each sample
-    /// if the maxval is below 256, and else two.
+    /// The frame of this number was read. `bytes` is the size of its samples in its image: one byte for each sample if
+    /// the maxval is below 256, else two.
     Read { number: u64, bytes: u64 },
     /// The frame of this number is in the queue.
     Put(u64),
-    /// The codestream of the frame of this number was written, so many bytes.
+    /// The codestream of the frame of this number was written. It has `bytes` bytes.
     Written { number: u64, bytes: u64 },
-    /// Its lane stops for this fault, and ends with it as soon as a read that goes on has ended.
+    /// Its lane stops writing for this fault, and ends with it once a read in progress has ended. This isn't sent for a
+    /// fault of the reading half, nor after a coded frame whose order wasn't booked by then: `Ended` alone reports
+    /// these.
     Stops(LaneFault),
-    /// Its lane has ended: so many frames were recorded, or why it stopped.
+    /// Its lane ends: the number of frames recorded, or why it stopped.
     Ended(Result<u64, LaneFault>),
 }
 
-/// What each worker passes before and after each coding, and what is told what comes of each film. Nothing is promised
-/// of it: it can count, and hold up who calls it.
+/// Is called by each worker before and after each coding, and receives the notices of each film. Nothing is promised of
+/// an implementation: it can count, and it can hold up its callers.
 pub trait Gate: Sync {
-    /// The job of this source and this number is at this moment. Workers call it.
+    /// Called by a worker before or after it codes the job of this source and number.
     fn pass(&self, source: u8, number: u64, moment: Moment);
 
-    /// This has come of the film of this source. The film's lane calls it, by one thread that reads and another that
-    /// writes.
+    /// Called for each event of the film of this source. The lane's reading thread and its writing thread call it,
+    /// perhaps at the same time. If no thread can be made for the lane, the thread that called `record` does.
     fn notice(&self, _source: u8, _notice: Notice) {}
 }
 
-/// The gate that holds nobody up.
+/// A gate that holds nobody up.
 pub struct OpenGate;
 
 impl Gate for OpenGate {

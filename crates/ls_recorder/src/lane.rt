@@ -1,11 +1,11 @@
 //! The lane of a source: a film's way from its reader to its writer.
 //!
-//! It has two halves, each in a thread of its own, so that a piece is written when its turn comes, whatever the film's
-//! reader does. The reading half (`reading`) reads a frame once there is a place for it in the window (`places`), books
-//! its order for the writing half, and puts it into the queue. The writing half (`writing`) takes the orders that were
-//! booked, receives their pieces out of the source's box, and writes each when its turn comes, which gives its place
-//! back. The bookings are a queue of one source and one worker: so what was booked is what was taken, in order, as its
-//! account says.
+//! It has two halves, each in a thread of its own, so that a codestream is written once all before it are, whatever the
+//! film's reader does. The reading half (`reading`) reads a frame once a place in the window is free (`places`), books
+//! its order for the writing half, and puts it into the queue. The writing half (`writing`) takes the booked orders,
+//! receives their coded frames from the source's inbox, and writes them in order; each frees its place once it is
+//! written. The bookings are a queue of one source and one worker, so its account says that the orders taken are the
+//! orders booked, in order.
 mod places;
 mod reading;
 mod writing;
@@ -33,29 +33,32 @@ use std::thread::{Promise, Scope, Threads};
 use thiserror::Error;
 use writing::{Writing, WritingEnd, write_film};
 
-/// Why a lane stopped.
+/// The reason why a lane stopped.
 #[derive(Clone, Copy, Debug, Drop, PartialEq, Eq, Error)]
 pub enum LaneFault {
     /// The frame of this number, from 0, can't be read; the fault is never `NetpbmFault::NoMemory`. The codestreams of
     /// exactly the frames before it were written.
     #[error("frame {0}: {1}")]
     Input(u64, NetpbmFault),
-    /// A write failed when exactly so many bytes of the codestreams had gone out.
+    /// A write failed after exactly this many bytes of the codestreams.
     #[error("output failed after {0} bytes")]
     Output(u64),
-    /// Memory was refused, in the lane or to a worker. Whole codestreams of the first frames were written.
+    /// An allocation failed, in the lane or for a worker; or a coded frame came whose order was booked too far ahead
+    /// for the window. Complete codestreams of the first frames were written, perhaps of all that were put.
     #[error("no memory")]
     NoMemory,
-    /// A piece came that doesn't fit. Whole codestreams of the first frames were written, and not of all that were put.
+    /// A coded frame came that doesn't fit. Complete codestreams of the first frames were written, and not of all that
+    /// were put.
     #[error("pieces don't fit")]
     Misfit(Misfit),
-    /// No worker is left to answer. Whole codestreams of the first frames were written, and not of all that were put.
+    /// No worker is left. Complete codestreams of the first frames were written, and not of all that were put.
     #[error("workers lost")]
     Lost,
-    /// The lane couldn't be started. Nothing was read or written.
+    /// No thread can be made for the lane, or for its writing half. Nothing was read or written.
     #[error("not started")]
     NotStarted,
-    /// A frame numbered 4,294,967,295. The codestreams of exactly the frames before it were written.
+    /// The film has a frame numbered 4,294,967,295: more frames than a film may have. The codestreams of exactly the
+    /// frames before it were written.
     #[error("too many frames")]
     TooMany,
     /// The tuning gives no parameters for the maxval of the frame of this number, from 0. The codestreams of exactly
@@ -64,7 +67,8 @@ pub enum LaneFault {
     Tuning(u64, PresetFault),
 }
 
-/// What a lane answers: its source's end, its reader and its writer, and how many frames there were.
+/// The result of a lane: the end of its source, its reader and its writer, and the number of frames recorded, or why it
+/// stopped.
 #[derive(Drop)]
 pub struct LaneEnd<F, W> {
     pub ended: Ended<Order>,
@@ -73,18 +77,20 @@ pub struct LaneEnd<F, W> {
     pub result: Result<u64, LaneFault>,
 }
 
-/// Records the film of a source: reads its frames, orders each with the parameters that the tuning gives for it, puts
-/// them into the queue, and writes the codestreams that come out of the inbox, each as soon as it is its turn. At most
-/// `window` frames, 1 to 64, were read and not written. The seat has put nothing before; the inbox is of the seat's
-/// source.
+/// Records the film of a source: reads its frames, makes an order of each with the parameters that the tuning gives for
+/// it, puts the orders into the queue, and writes the codestreams that come out of the inbox in frame order, each once
+/// all before it are written. At most `window` frames are in progress, that is, read and not yet written.
 ///
-/// However it ends, the source is ended, and reader and writer come back. If their bytes are known (as in memory), the
-/// clauses say which were read and written, and of which frames. What is put before the frame at fault is written
-/// before the fault is answered; a fault met meanwhile is answered in its place, once the read that goes on by then has
-/// ended. After a fault nothing is said of the reader's place.
+/// Requires that the seat is of this queue and has put nothing, and that the window is 1 to 64. The inbox should be of
+/// the seat's source: coded frames of another source don't fit.
 ///
-/// It writes in a thread of its own; if none can be made, it answers `NotStarted`, with nothing read or written. It
-/// waits for that thread, for the queue and for workers; nothing is proved of when an answer comes.
+/// However it ends, the source is ended, and reader and writer are returned. If their bytes are known (as in memory),
+/// the clauses say which were read and written, and of which frames. A fault of reading is returned once the frames
+/// before it are written; if writing fails meanwhile, that fault is returned instead, once a read in progress has
+/// ended. After a fault nothing is said of the reader's position.
+///
+/// Writes in a thread of its own. If none can be made, the result is `NotStarted`, with nothing read or written. Waits
+/// for that thread, for the queue and for workers; nothing is promised of when it returns.
 pub fn lane<F: Feed + Drop, W: Outlet + Send + Drop, R: Threads + Wait + Sync>(
     rt: &R,
     alloc: Global,
@@ -118,7 +124,7 @@ pub fn lane<F: Feed + Drop, W: Outlet + Send + Drop, R: Threads + Wait + Sync>(
     watched_lane(rt, alloc, queue, &OpenGate, start)
 }
 
-/// What a lane starts with: the seat and the box of its source, its window, and its film.
+/// The input of a lane: the seat and the inbox of its source, its window, and its film.
 #[derive(Drop)]
 pub struct Start<F, W> {
     pub seat: SourceSeat<Order>,
@@ -127,13 +133,13 @@ pub struct Start<F, W> {
     pub film: (F, W, Tuning),
 }
 
-/// What stays the same all along a lane.
+/// The values that both halves of a lane share.
 #[derive(Drop)]
 struct Setting<'s, R, G> {
     rt: &'s R,
     alloc: Global,
     queue: &'s Queue<Order>,
-    /// What was read, for the writing half.
+    /// The queue by which the reading half passes its orders to the writing half.
     bookings: &'s Queue<Order>,
     gate: &'s G,
     source: u8,
@@ -142,13 +148,13 @@ struct Setting<'s, R, G> {
 }
 
 impl<R, G: Gate> Setting<'_, R, G> {
-    /// Shows what has come of the film.
+    /// Passes an event of the film to the gate.
     fn notice(&self, notice: Notice) {
         self.gate.notice(self.source, notice);
     }
 }
 
-/// As `lane`, with a gate that is shown what comes of the film.
+/// As `lane`, with a gate that is notified of the film's events.
 pub fn watched_lane<F: Feed + Drop, W: Outlet + Send + Drop, R: Threads + Wait + Sync, G: Gate>(
     rt: &R,
     alloc: Global,
@@ -234,7 +240,7 @@ pub fn watched_lane<F: Feed + Drop, W: Outlet + Send + Drop, R: Threads + Wait +
     }
 }
 
-/// What comes of a lane whose halves ended so.
+/// Combines the results of both halves: the writing half's fault if it has one, else the reading half's result.
 fn outcome(read: Result<u64, LaneFault>, wrote: Result<(), LaneFault>) -> Result<u64, LaneFault>
     ensures { MatchResult wrote (λ _. result ≡ read) (λ fault. result ≡ Err fault) }
 {
@@ -244,23 +250,23 @@ fn outcome(read: Result<u64, LaneFault>, wrote: Result<(), LaneFault>) -> Result
     }
 }
 
-/// What the two halves of a lane need beside its film, its seat and its box.
+/// The parts that the two halves of a lane need besides its film, its seat and its inbox.
 #[derive(Drop)]
 pub struct Parts {
     pub booked: SourceSeat<Order>,
     pub closer: Closer<Order>,
     pub places: Places,
-    /// Room for the end of `booked`.
+    /// Empty, with capacity for the end of `booked`.
     pub ended: Vec<Ended<Order>>,
     pub taker: WorkerSeat<Order>,
     pub collector: Collector,
     pub returns: Returns,
-    /// Room for `taker`.
+    /// Empty, with capacity for `taker`.
     pub seats: Vec<WorkerSeat<Order>>,
 }
 
-/// A queue for the bookings of a source, with its seats, and what else the halves of its lane need. Fails only if an
-/// allocation fails.
+/// Opens a queue for the bookings of a source, with its seats, and makes what else the halves of its lane need. Fails
+/// only if an allocation fails.
 fn parts_for<R: Wait>(
     rt: &R,
     alloc: Global,
@@ -294,7 +300,7 @@ fn parts_for<R: Wait>(
     Ok((bookings, parts))
 }
 
-/// What the thread of the writing half will answer.
+/// The promise of the writing half's thread: what its result is about.
 #[derive(Drop)]
 pub struct WritingOf<W: Outlet> {
     pub bookings: Snapshot<Queue<Order>>,
@@ -307,7 +313,7 @@ impl<W: Outlet + Drop> Promise<WritingEnd<W>> for WritingOf<W> {
     ghost kept_by = { λ p end. IsWritingEnd W.contents W.failed_writes p.bookings.value p.writer.value end };
 }
 
-/// As `run_halves`, in a scope of its own.
+/// Calls `run_halves` in a scope of its own.
 fn run_in_scope<F: Feed + Drop, W: Outlet + Send + Drop, R: Threads + Wait + Sync, G: Gate>(
     setting: &Setting<'_, R, G>,
     reading: Reading<F>,
@@ -329,8 +335,8 @@ fn run_in_scope<F: Feed + Drop, W: Outlet + Send + Drop, R: Threads + Wait + Syn
     )
 }
 
-/// Runs both halves to their ends. If no thread can be made for the writing half, nothing is read, and it has nothing
-/// to write.
+/// Runs both halves to their ends. If no thread can be made for the writing half, nothing is read, and the writing half
+/// runs in this thread, with nothing to write.
 fn run_halves<
     's,
     E,
@@ -372,7 +378,7 @@ fn run_halves<
     }
 }
 
-/// Ends the account of the bookings: what was taken is what was booked.
+/// Settles the queue of the bookings: the orders taken are the orders booked.
 fn hand_over<R: Wait>(
     rt: &R,
     bookings: Queue<Order>,

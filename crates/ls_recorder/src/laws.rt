@@ -1,10 +1,10 @@
-//! Laws: each is the contract of a function that has nothing to do.
+//! Laws: each is the contract of a function with an empty body.
 ghost use Rattle.std.specs.Prelude.{◌≡◌, None, Some};
 ghost use Rattle.ls_recorder.specs.Sizes.{record_fault};
 
 use crate::faults::RecordFault;
 
-/// The least and the most that films can be recorded with, and the fault of each number beside them; of several faults,
+/// The least and the greatest sizes of a recording, and the fault of each number just outside them; of several faults,
 /// the first.
 pub fn recordings_have_these_limits()
     ensures least { record_fault 1 1 1 1 ≡ None }

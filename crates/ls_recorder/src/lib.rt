@@ -1,9 +1,8 @@
 //! Recording films side by side, each as the codestreams of its frames, joined.
 //!
-//! Each film has a lane of its own (`record`), and workers code the frames of all. What came of each film, and what the
-//! account counts, says `specs/View/Recordings.antt`; what a lane does for its film, `specs/View/Lanes.antt`, and what
-//! each of its two halves does, `specs/View/Halves.antt`; whose the boxes are in which answers come from workers to
-//! lanes, `specs/View/Boxes.antt`.
+//! Each film has a lane of its own (`record`), and workers code the frames of all films. `specs/View/Recordings.antt`
+//! says what results for each film and what the account counts; `Lanes.antt` beside it, what a lane does for its film;
+//! `Halves.antt`, what each of a lane's two halves does; `Boxes.antt`, which boxes carry results from workers to lanes.
 //!
 //! ```
 //! use ls_frame::{Counted, Tuning};
@@ -31,12 +30,12 @@
 //! }
 //! ```
 //!
-//! Playing is of `ls_film`, and orders, pieces and the collector are those of `ls_pieces`: both are handed on by name.
-//! That films which are recorded come back is said in `ls_roundtrip`.
+//! Playing is in `ls_film`, and orders, coded frames and the collector are in `ls_pieces`; their names are exported
+//! here too. `ls_roundtrip` says that recorded films come back.
 //!
-//! In reading order: `sizes` (how many threads, how many places), `delivery` (how pieces come to their lane), `lane` (a
-//! film's way from its reader to its writer, `docs/LANE.md`), `working` (what a worker does), `gate` (what can be seen
-//! meanwhile), `recording` with its threads, `faults` (why a recording isn't begun); `laws`.
+//! In reading order: `sizes` (how many threads, how many places), `delivery` (how coded frames reach their lane),
+//! `lane` (a film's way from its reader to its writer, `docs/LANE.md`), `working` (what a worker does), `gate` (what
+//! can be observed meanwhile), `recording` with its threads, `faults` (why a recording isn't begun); `laws`.
 #![tactic(auto)]
 
 pub mod delivery;

@@ -1,4 +1,4 @@
-//! Recording films side by side: each has a lane, in a thread of its own, and workers code the frames of all.
+//! Recording films side by side: each has a lane, in a thread of its own, and workers code the frames of all films.
 mod lanes;
 mod threads;
 mod workers;
@@ -23,7 +23,7 @@ use std::sync::atomic::AtomicBool;
 use std::thread::Threads;
 use threads::{Parts, Ran, Room, Shared, flags_for, room_for, run_in_scope};
 
-/// A film's reader and writer as its lane gives them back, and how many frames it recorded, or why it stopped.
+/// The result of a film's lane: its reader and writer, and the number of frames recorded, or why it stopped.
 #[derive(Drop)]
 pub struct Track<R, W> {
     pub reader: R,
@@ -31,30 +31,32 @@ pub struct Track<R, W> {
     pub result: Result<u64, LaneFault>,
 }
 
-/// What came of a recording.
+/// The result of a recording.
 #[derive(Drop)]
 pub struct Recording<R, W> {
     /// A track for each film, in their order.
     pub tracks: Vec<Track<R, W>>,
-    /// How many frames of each film were put into the queue; of one that was recorded whole, all.
+    /// For each film, the number of frames put into the queue. Of a film that was recorded completely, that is all its
+    /// frames.
     pub account: Account,
 }
 
-/// Records 1 to 16 films side by side: of each the codestreams of its frames, joined. A film is what reads it, what its
-/// codestreams are written to, and a tuning of its coding parameters. 1 to 16 workers code the frames of all films; up
-/// to `capacity` frames, 1 to 256, wait for a worker, or one a worker if that is more; of each film up to `window`
-/// frames, 1 to 64, were read and aren't written.
+/// Records 1 to 16 films side by side, each as the codestreams of its frames, joined. A film is a reader, a writer for
+/// its codestreams, and a tuning of its coding parameters. 1 to 16 workers code the frames of all films. At most
+/// `capacity` frames, 1 to 256, wait for a worker, or one for each worker if that is more; of each film at most
+/// `window` frames, 1 to 64, are read and not yet written.
 ///
-/// Each film has a lane of its own, and no film's end or fault touches another (`lane::lane` says what each answers). A
-/// lane for which no thread can be made answers `NotStarted`, with nothing read or written, and the others go on. If
-/// the bytes of a film's reader and writer are known (as in memory), the clauses say which were read and written.
+/// Each film has a lane of its own, and no film's end or fault affects another (`lane::lane` says what each result
+/// means). A lane for which no thread can be made ends with `NotStarted`, with nothing read or written, and the others
+/// go on. If the bytes of a film's reader and writer are known (as in memory), the clauses say which were read and
+/// written.
 ///
-/// Fails for the first of `Sources`, `Workers`, `Capacity` and `Window` that is so; else for `NoMemory` only if an
-/// allocation fails, and for `NotStarted` only if no thread can be made for a worker. Then the films come back, with
-/// nothing read or written.
+/// Fails with the first of `Sources`, `Workers`, `Capacity` and `Window` that applies; else with `NoMemory` only if an
+/// allocation fails, and with `NotStarted` only if no thread can be made for a worker. Then the films are returned,
+/// with nothing read or written.
 ///
-/// The queue, the boxes and the room for what its threads answer are taken before it starts a thread; lanes and workers
-/// ask for memory as they go. It waits for its threads; nothing is proved of when they end.
+/// Allocates the queue, the boxes and the buffers for its threads' results before it starts a thread; lanes and workers
+/// allocate more as they go. Waits for its threads; nothing is promised of when they end.
 pub fn record<Rt: Threads + Wait + Sync, R: Feed + Send + Drop, W: Outlet + Send + Drop, G: Gate>(
     rt: &Rt,
     alloc: Global,
@@ -88,8 +90,8 @@ pub fn record<Rt: Threads + Wait + Sync, R: Feed + Send + Drop, W: Outlet + Send
     }
 }
 
-/// What a recording takes before it starts a thread: its queue with the seats and boxes, a flag for each source, and
-/// room for what its threads answer.
+/// The parts of a recording that are allocated before it starts a thread: its queue with the seats and boxes, a flag
+/// for each source, and buffers for its threads' results.
 #[derive(Drop)]
 struct Prepared<R: Feed + Drop, W: Outlet + Drop> {
     queue: Queue<Order>,
@@ -98,7 +100,8 @@ struct Prepared<R: Feed + Drop, W: Outlet + Drop> {
     room: Room<R, W>,
 }
 
-/// Takes what a recording of so many films needs before it starts a thread. Fails only if an allocation fails.
+/// Allocates what a recording of `sources` films needs before it starts a thread. Requires numbers within their limits.
+/// Fails only if an allocation fails.
 fn prepare<Rt: Wait, R: Feed + Drop, W: Outlet + Drop>(
     rt: &Rt,
     alloc: Global,
@@ -120,7 +123,7 @@ fn prepare<Rt: Wait, R: Feed + Drop, W: Outlet + Drop>(
     })
 }
 
-/// Records films by what was prepared for them; gives them back if a worker can't be started.
+/// Records films with what was prepared for them. Returns the films if no thread can be made for a worker.
 fn run_prepared<Rt: Threads + Wait + Sync, R: Feed + Send + Drop, W: Outlet + Send + Drop, G: Gate>(
     rt: &Rt,
     alloc: Global,
@@ -155,8 +158,9 @@ fn run_prepared<Rt: Threads + Wait + Sync, R: Feed + Send + Drop, W: Outlet + Se
     }
 }
 
-/// A queue with all its seats and as many places as the capacity or one a worker, and a box for each source, which
-/// holds as many answers as the window. Fails only if an allocation fails.
+/// Makes a queue with all its seats and with room for `capacity` jobs, or for one for each worker if that is more; and
+/// a box for each source, which holds at most `window` results. Requires numbers within their limits. Fails only if an
+/// allocation fails.
 fn make_queue<Rt: Wait>(
     rt: &Rt,
     alloc: Global,
@@ -190,7 +194,7 @@ fn make_queue<Rt: Wait>(
     ))
 }
 
-/// The account of a queue whose threads have ended.
+/// Settles the queue, whose threads have ended, and returns its account with the tracks.
 fn settled<Rt: Wait, R: Feed + Drop, W: Outlet + Drop>(
     rt: &Rt,
     queue: Queue<Order>,

@@ -1,4 +1,4 @@
-//! With how many threads and how much room films are recorded.
+//! The sizes of a recording: how many workers, and how many frames wait at once.
 ghost use Rattle.std.specs.Prelude.{◌≡◌};
 ghost use Rattle.ls_recorder.specs.Sizes.{record_fault};
 
@@ -6,8 +6,8 @@ use crate::faults::RecordFault;
 use ls_pieces::MOST_WINDOW;
 use ls_queue::{MOST_CAPACITY, MOST_SOURCES, MOST_WORKERS};
 
-/// How many workers there are, how many frames may wait for one, and how many of each film may be on their way to its
-/// file.
+/// The number of workers; the number of frames that may wait for a worker (`capacity`); and the number of frames of
+/// each film that may be read and not yet written (`window`).
 #[derive(Clone, Copy)]
 pub struct Sizes {
     pub workers: usize,
@@ -16,7 +16,7 @@ pub struct Sizes {
 }
 
 impl Sizes {
-    /// Why so many sources can't be recorded with these sizes, if they can't.
+    /// The first fault of a recording of `sources` films with these sizes, or `None` if it can be made.
     pub fn fault(self, sources: usize) -> Option<RecordFault>
         ensures { result ≡ record_fault sources self.workers self.capacity self.window }
     {

@@ -1,4 +1,4 @@
-//! What a worker does: it takes jobs, codes them, and answers into the boxes of their sources.
+//! A worker: it takes jobs, codes them, and sends the results to the inboxes of their sources.
 ghost use Rattle.std.specs.Prelude.{◌≡◌, ◌+◌, ◌≤◌, true, length};
 ghost use Rattle.ls_queue.specs.View.Running.{IsWorkerSeat, jobs_taken, is_done, sources_of};
 
@@ -9,21 +9,22 @@ use ls_queue::{Queue, Taken, WorkerSeat};
 use std::alloc::Global;
 use std::sync::Wait;
 
-/// What a worker did.
+/// The result of a worker.
 #[derive(Drop)]
 pub struct Worked {
-    /// Its seat, which was answered Done.
+    /// Its seat, whose last take returned Done.
     pub seat: WorkerSeat<Order>,
-    /// How many jobs it coded, as far as 64 bits count.
+    /// The number of jobs it coded; it stops counting at 2^64 - 1.
     pub coded: u64,
-    /// How many answers came back, since the lanes of their sources were gone.
+    /// The number of results that came back because the lane of their source was gone; it stops counting at 2^64 - 1.
     pub undelivered: u64,
 }
 
-/// Takes jobs until the queue is done, codes each, and answers it into the box of its source. It passes the gate before
-/// and after each coding. A job for whose coding memory is refused is answered with `Uncoded`.
+/// Takes jobs until the queue is done, codes each, and sends the result to the inbox of its source. Calls the gate
+/// before and after each coding. If an allocation fails in coding a job, its result is `Uncoded`.
 ///
-/// Waits for jobs, and while there is no room for an answer.
+/// Requires that the seat is of this queue, and that the outbox is for at least as many sources as the queue has. Waits
+/// for jobs, and while the inbox of a result is full.
 pub fn work<R: Wait, G: Gate>(
     rt: &R,
     alloc: Global,

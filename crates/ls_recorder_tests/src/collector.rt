@@ -4,14 +4,14 @@ use ls_pieces::{Collector, CollectorFault, Misfit};
 use std::alloc::Global;
 use std::process::Abort;
 
-/// A call of a collector, and what it answers.
+/// A call of a collector, and what it should return.
 #[derive(Clone, Copy)]
 enum Call {
-    /// Books an order for a pixel of this sample: its number, or none if it comes back.
+    /// Books an order for a pixel of this sample: its number, or `None` if the order is returned.
     Book(u16, Option<u64>),
-    /// Accepts the piece of this source and number, for a pixel of this sample coded with this RESET.
+    /// Accepts the coded frame of this source and number, for a pixel of this sample coded with this RESET.
     Accept(u8, u64, u16, u16, Result<(), Misfit>),
-    /// Hands out the piece of this number, or none.
+    /// Hands out the coded frame of this number, or none.
     Next(Option<u64>),
 }
 
@@ -34,7 +34,7 @@ const CALLS: &[Call] = &[
     Call::Accept(1, 0, 0, 64, Err(Misfit::Stranger)),
 ];
 
-/// Whether a call answers what it should. `None` if memory is refused.
+/// Whether a call returns what it should. `None` if an allocation fails.
 fn is_right(alloc: Global, collector: &mut Collector, call: Call) -> Option<bool> {
     match call {
         Call::Book(sample, number) => {
@@ -51,7 +51,7 @@ fn is_right(alloc: Global, collector: &mut Collector, call: Call) -> Option<bool
     }
 }
 
-/// Whether all calls answer what they should. `None` if memory is refused.
+/// Whether all calls return what they should. `None` if an allocation fails.
 fn all_are_right(alloc: Global, collector: &mut Collector) -> Option<bool> {
     let mut right = true;
     for call in CALLS {
@@ -60,7 +60,7 @@ fn all_are_right(alloc: Global, collector: &mut Collector) -> Option<bool> {
     Some(right)
 }
 
-/// Whether all calls of a new collector answer what they should. `None` if memory is refused.
+/// Whether all calls of a new collector return what they should. `None` if an allocation fails.
 fn are_right(alloc: Global) -> Option<bool> {
     let mut collector = Collector::new(alloc, 0, 2).ok()?;
     all_are_right(alloc, &mut collector)
@@ -76,7 +76,7 @@ fn pieces_go_out_in_order_or_memory_is_refused(rt: HostRuntime) {
     check(&rt, "calls", are_right(rt.alloc()), false);
 }
 
-/// Windows, and why there is no collector with them.
+/// Windows, and why a collector can't have each, if it can't.
 const WINDOWS: &[(usize, Option<CollectorFault>)] = &[
     (0, Some(CollectorFault::Window)),
     (1, None),
@@ -85,7 +85,8 @@ const WINDOWS: &[(usize, Option<CollectorFault>)] = &[
     (usize::MAX, Some(CollectorFault::Window)),
 ];
 
-/// Whether a collector with this window is made, or is not for its reason.
+/// Whether a collector with this window is made, or refused for this reason. If memory isn't ample, an allocation may
+/// also fail.
 fn is_so(alloc: Global, window: usize, fault: Option<CollectorFault>, ample: bool) -> bool {
     match Collector::new(alloc, 0, window) {
         Ok(_) => fault.is_none(),

@@ -5,7 +5,7 @@ use std::alloc::Global;
 use std::process::Abort;
 use std::sync::Wait;
 
-/// Numbers that boxes can't be made with: sources, workers, window; and why not.
+/// Numbers that boxes can't be made with, as sources, workers and window; and why not.
 type BadRange = (u8, usize, usize, RecordFault);
 
 const BAD_RANGES: &[BadRange] = &[
@@ -31,14 +31,14 @@ fn numbers_out_of_range_are_refused(rt: HostRuntime) {
     }
 }
 
-/// Boxes, what is sent through them, and what comes out of them then.
+/// Boxes, what is sent to them, and what is then received from them.
 struct Case {
     sources: u8,
     workers: usize,
     window: usize,
-    /// By which worker, to which source, and the number of the piece.
+    /// The worker that sends, the source, and the number of the coded frame.
     sent: &'static [(usize, u8, u64)],
-    /// Out of the box of which source, and the number of the piece, or none if nothing comes.
+    /// The source whose inbox is read, and the number of the coded frame; `None` if nothing comes.
     received: &'static [(usize, Option<u64>)],
 }
 
@@ -64,7 +64,7 @@ const TWO_BOXES: Case = Case {
     ],
 };
 
-/// Whether all pieces are sent. `None` if memory is refused.
+/// Whether all coded frames are sent. `None` if an allocation fails.
 fn are_sent<R: Wait>(
     rt: &R,
     alloc: Global,
@@ -80,7 +80,7 @@ fn are_sent<R: Wait>(
     Some(true)
 }
 
-/// Whether the next answer in a box is the piece of this number; or whether nothing comes, if there is none.
+/// Whether the next result in an inbox is the coded frame of this number; or, for `None`, whether nothing comes.
 fn comes<R: Wait>(rt: &R, inbox: &mut Inbox, number: Option<u64>) -> bool {
     match inbox.recv(rt) {
         Some(Ok(piece)) => Some(piece.number()) == number,
@@ -89,7 +89,7 @@ fn comes<R: Wait>(rt: &R, inbox: &mut Inbox, number: Option<u64>) -> bool {
     }
 }
 
-/// Whether these come out of the boxes of their sources.
+/// Whether these are received from the inboxes of their sources.
 fn all_come<R: Wait>(rt: &R, inboxes: &mut [Inbox], received: &[(usize, Option<u64>)]) -> bool {
     for (source, number) in received {
         let Some(inbox) = inboxes.get_mut(*source) else {
@@ -102,7 +102,7 @@ fn all_come<R: Wait>(rt: &R, inboxes: &mut [Inbox], received: &[(usize, Option<u
     true
 }
 
-/// Whether what is sent comes out, and nothing when nobody is left to send. `None` if memory is refused.
+/// Whether what is sent is received, and then nothing, as no sender is left. `None` if an allocation fails.
 fn answers_come_out<R: Wait>(rt: &R, alloc: Global, case: &Case) -> Option<bool> {
     let (mut inboxes, mut outboxes) = boxes(
         rt,
@@ -116,7 +116,7 @@ fn answers_come_out<R: Wait>(rt: &R, alloc: Global, case: &Case) -> Option<bool>
     Some(sent && all_come(rt, &mut inboxes, case.received))
 }
 
-/// Whether an answer comes back when the lane is gone. `None` if memory is refused.
+/// Whether a result is returned to its sender when the lane is gone. `None` if an allocation fails.
 fn an_answer_comes_back<R: Wait>(rt: &R, alloc: Global) -> Option<bool> {
     let (inbox, mut outbox) = one_box(rt, alloc, 1)?;
     drop(inbox);

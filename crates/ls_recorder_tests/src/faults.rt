@@ -1,7 +1,7 @@
 use crate::testing::check_text;
 use ls_recorder::RecordFault;
 
-/// Faults, and their texts.
+/// Faults, and their messages.
 const TEXTS: &[(RecordFault, &str)] = &[
     (RecordFault::Sources, "sources"),
     (RecordFault::Workers, "workers"),

@@ -13,15 +13,16 @@ use std::alloc::Global;
 use std::sync::Wait;
 use std::thread::Threads;
 
-/// What lies in a lane's box: the piece of this number, of a pixel of this sample; or that it couldn't be coded.
+/// A result in a lane's inbox: the coded frame of this number, for a pixel of this sample; or a job that couldn't be
+/// coded.
 #[derive(Clone, Copy, Drop)]
 enum Sent {
     Piece(u64, u16),
     Uncoded(u64),
 }
 
-/// A lane that is alone: what it reads, with which tuning and window, what lies in its box, and what happens to its
-/// writer; and then what it answers, how many frames it put, and what it wrote.
+/// A lane with no workers: the film that it reads, its tuning and window, the results in its inbox, and what happens to
+/// its writer; and then its result, the number of frames it put, and what it wrote.
 struct Case {
     film: &'static [u8],
     tuning: Tuning,
@@ -166,7 +167,7 @@ const CASES: &[Case] = &[
     },
 ];
 
-/// What a worker would send. `None` if memory is refused.
+/// Makes the result that a worker would send. `None` if an allocation fails.
 fn answer_of(alloc: Global, sent: Sent) -> Option<Answer> {
     match sent {
         Sent::Piece(number, sample) => Some(Ok(pixel_piece(alloc, 0, number, sample, 64)?)),
@@ -174,7 +175,7 @@ fn answer_of(alloc: Global, sent: Sent) -> Option<Answer> {
     }
 }
 
-/// Whether these answers are sent. `None` if memory is refused.
+/// Whether these results are sent. `None` if an allocation fails.
 fn are_sent<R: Wait>(rt: &R, alloc: Global, outbox: &mut Outbox, answers: &[Sent]) -> Option<bool> {
     for sent in answers {
         if !is_sent(rt, outbox, 0, answer_of(alloc, *sent)?) {
@@ -184,7 +185,7 @@ fn are_sent<R: Wait>(rt: &R, alloc: Global, outbox: &mut Outbox, answers: &[Sent
     Some(true)
 }
 
-/// A box in which these answers lie, and nobody is left to send more. `None` if memory is refused.
+/// An inbox with these results, to which nobody can send any more. `None` if an allocation fails.
 fn box_with<R: Wait>(rt: &R, alloc: Global, answers: &[Sent]) -> Option<Inbox> {
     let (inbox, mut outbox) = one_box(rt, alloc, 8)?;
     if are_sent(rt, alloc, &mut outbox, answers)? {
@@ -194,7 +195,7 @@ fn box_with<R: Wait>(rt: &R, alloc: Global, answers: &[Sent]) -> Option<Inbox> {
     }
 }
 
-/// A queue of one source, and its seat. `None` if memory is refused.
+/// A queue of one source, and its seat. `None` if an allocation fails.
 fn queue_and_seat<R: Wait>(rt: &R, alloc: Global) -> Option<(Queue<Order>, SourceSeat<Order>)>
     ensures seat { IfSome result (λ made. IsSourceSeat made.0 made.1) }
     ensures new { IfSome result (λ made. items_put made.1 ≡ []) }
@@ -204,7 +205,7 @@ fn queue_and_seat<R: Wait>(rt: &R, alloc: Global) -> Option<(Queue<Order>, Sourc
     Some((queue, seat))
 }
 
-/// Whether a lane goes as it should, of the source of this seat, and with this box.
+/// Whether a lane with this seat and this inbox ends as it should.
 fn ends_so<R: Threads + Wait + Sync>(
     rt: &R,
     alloc: Global,
@@ -235,7 +236,7 @@ fn ends_so<R: Threads + Wait + Sync>(
         && end.writer.get_ref().written() == case.written
 }
 
-/// Whether a lane goes as it should. `None` if memory is refused.
+/// Whether a lane ends as it should. `None` if an allocation fails.
 fn is_right<R: Threads + Wait + Sync>(rt: &R, alloc: Global, case: &Case) -> Option<bool> {
     let inbox = box_with(rt, alloc, case.answers)?;
     let (queue, seat) = queue_and_seat(rt, alloc)?;
@@ -249,7 +250,7 @@ fn a_lane_writes_what_it_read_or_says_where_it_stopped_with_ample_memory(rt: Hos
     }
 }
 
-/// Faults, and their texts.
+/// Faults, and their messages.
 const TEXTS: &[(LaneFault, &str)] = &[
     (
         LaneFault::Input(3, NetpbmFault::BadMagic),

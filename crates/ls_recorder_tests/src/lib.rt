@@ -1,7 +1,7 @@
-//! The tests of `ls_pieces`, `ls_recorder` and `ls_roundtrip`, through what they make public.
+//! The tests of `ls_pieces`, `ls_recorder` and `ls_roundtrip`, through their public items.
 //!
-//! They stand in a crate of their own because a crate's tests are proved together with the whole crate, and
-//! `ls_recorder` takes the longest.
+//! They are in a crate of their own because a crate's tests are proved together with the whole crate, and `ls_recorder`
+//! takes the longest.
 #![tactic(auto)]
 
 #[cfg(test)]

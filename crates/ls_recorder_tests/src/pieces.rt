@@ -5,7 +5,7 @@ use ls_queue::Job;
 use std::alloc::Global;
 use std::process::Abort;
 
-/// The sample and the RESET of a pixel up to 255, and its codestream.
+/// The sample of a pixel, up to 255, its RESET, and its codestream.
 type Pixel = (u16, u16, &'static [u8]);
 
 const PIXELS: &[Pixel] = &[
@@ -33,7 +33,7 @@ const PIXELS: &[Pixel] = &[
     ),
 ];
 
-/// Whether this is the piece of a pixel, as job 5 of source 3.
+/// Whether this is the coded frame of a pixel, as job 5 of source 3.
 fn is_piece_of(pixel: &Pixel, piece: &Coded) -> bool {
     let (sample, reset, codestream) = *pixel;
     piece.source() == 3
@@ -43,7 +43,8 @@ fn is_piece_of(pixel: &Pixel, piece: &Coded) -> bool {
         && piece.bytes() == codestream
 }
 
-/// Whether the piece of a pixel, as job 5 of source 3, is as it should be; or else says whose job couldn't be done.
+/// Whether the coded frame of a pixel, as job 5 of source 3, is right; or, if memory isn't ample, the failure names
+/// that job.
 fn is_coded(alloc: Global, pixel: &Pixel, ample: bool) -> Option<bool> {
     let (sample, reset, _) = *pixel;
     let job = Job {

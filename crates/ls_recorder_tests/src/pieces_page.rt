@@ -41,7 +41,7 @@ const TWO_CODESTREAMS: &[u8] = b"\xff\xd8\
 \xff\xf7\x00\x0b\x08\x00\x01\x00\x01\x01\x01\x11\x00\
 \xff\xda\x00\x08\x01\x01\x00\x00\x00\x00\x40\xff\xd9";
 
-/// Whether two pixels come in order. `None` if memory is refused.
+/// Whether two pixels are put in order. `None` if an allocation fails.
 fn are_in_order(alloc: Global) -> Option<bool> {
     let black = pixel_order(alloc, 0, 64)?;
     let white = pixel_order(alloc, 255, 64)?;

@@ -1,12 +1,12 @@
-//! Orders of single pixels, and their pieces.
+//! Orders of single pixels, and their coded frames.
 use ls_frame::{Frame, Kind, Presets};
 use ls_pieces::{Coded, Order};
 use ls_queue::Job;
 use std::alloc::Global;
 use std::sync::Arc;
 
-/// An order for a gray pixel of this sample up to 255, with the default thresholds and this RESET. `None` if memory is
-/// refused.
+/// An order for a gray pixel of this sample, up to 255, with the default thresholds and this RESET. `None` if an
+/// allocation fails.
 pub fn pixel_order(alloc: Global, sample: u16, reset: u16) -> Option<Order> {
     let mut samples = Vec::new(alloc);
     samples.push(sample).ok()?;
@@ -22,7 +22,7 @@ pub fn pixel_order(alloc: Global, sample: u16, reset: u16) -> Option<Order> {
     Some(Order::new(frame, presets))
 }
 
-/// The piece of such an order, under this source and number.
+/// The coded frame of such an order, with this source and number. `None` if an allocation fails.
 pub fn pixel_piece(
     alloc: Global,
     source: u8,

@@ -12,22 +12,22 @@ use std::sync::Wait;
 use std::sync::atomic::{AtomicBool, AtomicU64, Ordering};
 use std::thread::Threads;
 
-/// The image of Annex H.3, and then one whose sample is over its maxval.
+/// The image of T.87's Annex H.3, and then one with a sample greater than its maxval.
 const SPOILT: &[u8] = b"P5\n4 4\n255\n\
 \x00\x00\x5a\x4a\x44\x32\x2b\xcd\x40\x91\x91\x91\x64\x91\x91\x91\
 P5\n1 1\n7\n\x08";
 
-/// A film in memory, what it is recorded to, and its tuning.
+/// A film in memory, the writer of its recording, and its tuning.
 type Film = (Counted<Pieces<'static>>, Counted<Sink>, Tuning);
 
-/// A film in memory, of which at most so many bytes are read and written a call. The read of this number fails, and the
-/// writer meets this.
+/// A film in memory whose reader and writer pass at most `most` bytes a call. Read number `failing` fails, and `mishap`
+/// happens to the writer.
 fn film_of(film: &'static [u8], most: usize, failing: Option<usize>, mishap: Mishap) -> Film {
     let reader = Counted::new(Pieces::new(film, most, failing));
     (reader, Counted::new(Sink::new(most, mishap)), DEFAULTS)
 }
 
-/// A film and another, to which nothing happens. `None` if memory is refused.
+/// A film, and another to which nothing happens. `None` if an allocation fails.
 fn beside(alloc: Global, first: Film, other: &'static [u8]) -> Option<Vec<Film>>
     ensures { IfSome result (λ films. length films.items ≡ 2) }
 {
@@ -37,20 +37,21 @@ fn beside(alloc: Global, first: Film, other: &'static [u8]) -> Option<Vec<Film>>
     Some(films)
 }
 
-/// How a lane ended, and what it wrote.
+/// The result of a lane, and the bytes that it wrote.
 type Outcome<'a> = (Result<u64, LaneFault>, &'a [u8]);
 
-/// How the lane of such a film ended.
+/// The track of such a film.
 type FilmTrack = Track<Counted<Pieces<'static>>, Counted<Sink>>;
 
-/// Whether a track ended so. If memory may be refused, it may also say so, and have written the first bytes alone.
+/// Whether a track ended like this. If memory isn't ample, it may instead have run out of memory or threads, and have
+/// written only the first bytes.
 fn ended(track: &FilmTrack, want: &Outcome<'_>, ample: bool) -> bool {
     let got = (track.result, track.writer.get_ref().written());
     let refused = got.0 == Err(LaneFault::NoMemory) || got.0 == Err(LaneFault::NotStarted);
     got == *want || !ample && refused && want.1.starts_with(got.1)
 }
 
-/// Whether so many frames are counted of a track, if it was recorded whole.
+/// Whether `count` is the number of frames recorded, if the track was recorded completely.
 fn is_counted(track: &FilmTrack, count: u64) -> bool {
     match track.result {
         Ok(frames) => frames == count,
@@ -58,7 +59,7 @@ fn is_counted(track: &FilmTrack, count: u64) -> bool {
     }
 }
 
-/// Whether a track ended so, and so many frames are counted of it.
+/// Whether a track ended like this, and `count` is right for it.
 fn is_right(track: Option<&FilmTrack>, count: u64, want: &Outcome<'_>, ample: bool) -> bool {
     match track {
         Some(track) => is_counted(track, count) && ended(track, want, ample),
@@ -66,14 +67,15 @@ fn is_right(track: Option<&FilmTrack>, count: u64, want: &Outcome<'_>, ample: bo
     }
 }
 
-/// Whether two tracks ended so, and these are the counts of their frames.
+/// Whether two tracks ended like this, and these are the counts of their frames.
 fn are_right(tracks: &[FilmTrack], counts: [u64; 2], want: &[Outcome<'_>; 2], ample: bool) -> bool {
     tracks.len() == 2
         && is_right(tracks.first(), counts[0], &want[0], ample)
         && is_right(tracks.last(), counts[1], &want[1], ample)
 }
 
-/// Whether recording these films ends so, and the account has these counts. If memory may be refused, it may be before.
+/// Whether recording these films ends like this, with these counts in the account. If memory isn't ample, it may fail
+/// to begin.
 fn records<R: Threads + Wait + Sync>(
     rt: &R,
     alloc: Global,
@@ -96,7 +98,7 @@ fn records<R: Threads + Wait + Sync>(
     }
 }
 
-/// Whether two films are recorded by so many workers, with such a window. `None` if memory is refused.
+/// Whether two films are recorded with these numbers of workers and window. `None` if an allocation fails.
 fn two_films<R: Threads + Wait + Sync>(
     rt: &R,
     alloc: Global,
@@ -126,7 +128,8 @@ fn films_are_recorded_or_memory_is_refused(rt: HostRuntime) {
     check_recordings(&rt, rt.alloc(), false);
 }
 
-/// Whether a film that ends so leaves the black pixel beside it whole. `None` if memory is refused.
+/// Whether a film that ends like this leaves the recording of the black pixel beside it intact. `None` if an allocation
+/// fails.
 fn ends_alone<R: Threads + Wait + Sync>(
     rt: &R,
     alloc: Global,
@@ -146,9 +149,9 @@ fn a_spoilt_film_ends_its_own_lane_with_ample_memory(rt: HostRuntime) {
     check(&rt, "a spoilt film", right, true);
 }
 
-/// Whether a lane that reads byte by byte ends at the read of this number. `None` if memory is refused.
+/// Whether a lane that reads byte by byte ends at the read of this number. `None` if an allocation fails.
 fn ends_at_read<R: Threads + Wait + Sync>(rt: &R, alloc: Global, call: u8) -> Option<bool> {
-    // Twelve of each image, and the end.
+    // Twelve reads for each image, and one for the end.
     let before = call / 12;
     let fault = LaneFault::Input(u64::from(before), NetpbmFault::Io);
     let coded = TWO_CODESTREAMS.get(..28 * usize::from(before))?;
@@ -164,7 +167,7 @@ fn a_failed_read_ends_its_own_lane_with_ample_memory(rt: HostRuntime) {
     }
 }
 
-/// Whether a lane that writes byte by byte ends at the write of this number. `None` if memory is refused.
+/// Whether a lane that writes byte by byte ends at the write of this number. `None` if an allocation fails.
 fn ends_at_write<R: Threads + Wait + Sync>(rt: &R, alloc: Global, call: usize) -> Option<bool> {
     let coded = TWO_CODESTREAMS.get(..call)?;
     let want = (Err(LaneFault::Output(call as u64)), coded);
@@ -188,8 +191,7 @@ fn a_failed_write_of_ten_bytes_ends_its_own_lane_with_ample_memory(rt: HostRunti
     check(&rt, "the fourth write", right, true);
 }
 
-/// Films that a recording can't be made of, or numbers that it can't be made with: films, workers, capacity, window; and
-/// why not.
+/// Numbers that a recording can't be made with, as films, workers, capacity and window; and why not.
 type BadRange = (usize, usize, usize, usize, RecordFault);
 
 const BAD_RANGES: &[BadRange] = &[
@@ -203,7 +205,8 @@ const BAD_RANGES: &[BadRange] = &[
     (1, 1, 1, 65, RecordFault::Window),
 ];
 
-/// So many times this film, of which at most so many bytes are read and written a call. `None` if memory is refused.
+/// `count` copies of this film, of which at most `most` bytes are read and written a call. `None` if an allocation
+/// fails.
 fn copies_of(alloc: Global, count: usize, film: &'static [u8], most: usize) -> Option<Vec<Film>> {
     let mut films: Vec<Film> = Vec::new(alloc);
     for _film in 0..count {
@@ -212,7 +215,7 @@ fn copies_of(alloc: Global, count: usize, film: &'static [u8], most: usize) -> O
     Some(films)
 }
 
-/// Whether a recording is refused for this reason, and the films come back. `None` if memory is refused.
+/// Whether a recording is refused for this reason, and the films are returned. `None` if an allocation fails.
 fn is_refused<R: Threads + Wait + Sync>(rt: &R, alloc: Global, range: &BadRange) -> Option<bool> {
     let (count, workers, capacity, window, want) = *range;
     let films = copies_of(alloc, count, BLACK, 1)?;
@@ -230,8 +233,8 @@ fn numbers_out_of_range_are_refused_with_ample_memory(rt: HostRuntime) {
     }
 }
 
-/// A gate that lets the first frame be coded only when the second was, and the second only when the first is begun:
-/// which nobody passes in time if jobs aren't in work side by side.
+/// A gate that lets the first frame be coded only once the second was, and the second only once the first has begun:
+/// both are in time only if jobs are coded side by side.
 #[derive(Drop)]
 struct SideBySide {
     begun: AtomicBool,
@@ -239,7 +242,7 @@ struct SideBySide {
     late: AtomicBool,
 }
 
-/// Waits for a flag for so many turns; if it isn't set by then, it is late.
+/// Spins until a flag is set, for a limited number of turns; if it isn't set by then, it is late.
 fn wait_for(flag: &AtomicBool, late: &AtomicBool) {
     for _turn in 0..200_000_000u32 {
         if flag.load(Ordering::SeqCst) {
@@ -264,7 +267,7 @@ impl Gate for SideBySide {
     }
 }
 
-/// Whether a film of two frames is recorded through this gate, with this window. `None` if memory is refused.
+/// Whether a film of two frames is recorded through this gate, with this window. `None` if an allocation fails.
 fn records_through<R: Threads + Wait + Sync, G: Gate>(
     rt: &R,
     alloc: Global,
@@ -278,7 +281,7 @@ fn records_through<R: Threads + Wait + Sync, G: Gate>(
     }
 }
 
-/// Whether the last of these tracks is that of two frames.
+/// Whether the last of these tracks is a complete recording of the two frames.
 fn is_whole(tracks: &[FilmTrack]) -> bool {
     match tracks.last() {
         Some(track) => ended(track, &(Ok(2), TWO_CODESTREAMS), true),
@@ -330,7 +333,7 @@ fn a_frame_is_written_whatever_its_reader_does_next_with_ample_memory(rt: HostRu
     }
 }
 
-/// A gate that counts what comes of a film.
+/// A gate that counts the events of a film.
 #[derive(Drop)]
 struct Counts {
     began: AtomicU64,

@@ -8,7 +8,8 @@ use std::process::Abort;
 use std::sync::Wait;
 use std::thread::Threads;
 
-/// Whether of each film its recording is this, and what is played is the film; or memory was refused, if it may be.
+/// Whether a film's recording is this, and playing it gives the film. If memory isn't ample, an allocation may also
+/// fail.
 fn comes_back(
     played_back: &PlayedBack,
     film: &[u8],
@@ -21,7 +22,7 @@ fn comes_back(
     recorded && (played || !ample) || !ample && played_back.recorded.is_err()
 }
 
-/// How many workers there are, the window, and how many players.
+/// The number of workers, the window, and the number of players.
 const MEANS: [(usize, usize, u8); 6] = [
     (1, 1, 1),
     (1, 8, 16),
@@ -31,7 +32,7 @@ const MEANS: [(usize, usize, u8); 6] = [
     (4, 8, 1),
 ];
 
-/// Whether two films come back from a recording by such numbers. `None` if memory is refused.
+/// Whether two films come back from a recording with these numbers. `None` if an allocation fails.
 fn two_come_back<R: Threads + Wait + Sync>(
     rt: &R,
     alloc: Global,
@@ -39,7 +40,7 @@ fn two_come_back<R: Threads + Wait + Sync>(
     ample: bool,
 ) -> Option<bool> {
     let (workers, window, players) = means;
-    // There has to be one.
+    // At least one player is required.
     let players = usize::from(players).max(1);
     let sizes = Sizes {
         workers,

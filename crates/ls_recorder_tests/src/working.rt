@@ -9,7 +9,7 @@ use std::alloc::Global;
 use std::sync::Wait;
 use std::sync::atomic::{AtomicU64, Ordering};
 
-/// A gate that counts how often it was passed.
+/// A gate that counts how often it is called.
 #[derive(Drop)]
 struct Counter {
     before: AtomicU64,
@@ -43,7 +43,7 @@ fn only_worker(queue: &Queue<Order>, mut seats: Vec<WorkerSeat<Order>>) -> Worke
     seats.remove(0)
 }
 
-/// Whether the next piece in the box is of this number and this sample.
+/// Whether the next coded frame in the inbox has this number and this sample.
 fn comes_out<R: Wait>(rt: &R, inbox: &mut Inbox, number: u64, sample: u16) -> bool {
     match inbox.recv(rt) {
         Some(Ok(piece)) => {
@@ -53,7 +53,7 @@ fn comes_out<R: Wait>(rt: &R, inbox: &mut Inbox, number: u64, sample: u16) -> bo
     }
 }
 
-/// A finished queue in which a black and a white pixel wait, and its worker's seat. `None` if memory is refused.
+/// A finished queue with a black and a white pixel in it, and its worker's seat. `None` if an allocation fails.
 fn two_pixels<R: Wait>(rt: &R, alloc: Global) -> Option<(Queue<Order>, WorkerSeat<Order>)>
     ensures seat { IfSome result (λ made. IsWorkerSeat made.0 made.1) }
     ensures one { IfSome result (λ made. sources_of made.0 ≡ 1) }
@@ -65,7 +65,7 @@ fn two_pixels<R: Wait>(rt: &R, alloc: Global) -> Option<(Queue<Order>, WorkerSea
     Some((queue, worker))
 }
 
-/// Puts a black and a white pixel, and finishes the queue. `None` if memory is refused.
+/// Puts a black and a white pixel, and finishes the queue. `None` if an allocation fails.
 fn put_and_finish<R: Wait>(
     rt: &R,
     alloc: Global,
@@ -82,7 +82,7 @@ fn put_and_finish<R: Wait>(
     queue.finish(rt, closer, ended).ok()
 }
 
-/// Puts a black and a white pixel, and ends the source. `None` if memory is refused.
+/// Puts a black and a white pixel, and ends the source. `None` if an allocation fails.
 fn put_two<R: Wait>(
     rt: &R,
     alloc: Global,
@@ -97,7 +97,8 @@ fn put_two<R: Wait>(
     Some(queue.end(rt, source))
 }
 
-/// How many pixels a worker codes that is given two, and how many answers come back to it. `None` if memory is refused.
+/// Gives a worker two pixels. Returns the number that it codes, and the number of results that come back to it; `None`
+/// if an allocation fails.
 fn code_two<R: Wait, G: Gate>(
     rt: &R,
     alloc: Global,
@@ -112,12 +113,12 @@ fn code_two<R: Wait, G: Gate>(
     Some((worked.coded, worked.undelivered))
 }
 
-/// Whether the pieces of both pixels come out of the box, and then nothing.
+/// Whether the coded frames of both pixels come out of the inbox, and then nothing.
 fn both_come_out<R: Wait>(rt: &R, inbox: &mut Inbox) -> bool {
     comes_out(rt, inbox, 0, 0) && comes_out(rt, inbox, 1, 255) && inbox.recv(rt).is_none()
 }
 
-/// Whether a worker codes two pixels, one after the other, and counts them. `None` if memory is refused.
+/// Whether a worker codes two pixels, one after the other, and counts them. `None` if an allocation fails.
 fn two_pixels_are_coded<R: Wait>(rt: &R, alloc: Global) -> Option<bool> {
     let (mut inbox, outbox) = one_box(rt, alloc, 2)?;
     let gate = Counter {
@@ -135,8 +136,8 @@ fn jobs_are_coded_and_answered_with_ample_memory(rt: HostRuntime) {
     check(&rt, "two pixels", right, true);
 }
 
-/// Whether a worker codes two pixels whose lane is gone, and counts that both answers came back. `None` if memory is
-/// refused.
+/// Whether a worker codes two pixels whose lane is gone, and counts that both results came back. `None` if an
+/// allocation fails.
 fn two_pixels_come_back<R: Wait>(rt: &R, alloc: Global) -> Option<bool> {
     let (inbox, outbox) = one_box(rt, alloc, 2)?;
     drop(inbox);

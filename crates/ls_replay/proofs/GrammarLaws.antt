@@ -1,4 +1,4 @@
--- A text is a steps file, or breaks at one line: what is read of it is what the grammar says, in both directions.
+-- A text is a steps file, or has a first line that isn't legal: reading agrees with the grammar, in both directions.
 use Rattle.std.proofs.Common.{◌⊎◌, inl, inr, ◌≡◌, ℕ, ◌+◌, ◌-◌, ◌^◌, ◌<◌, Bool, true, false, not, ◌&&◌, cond, if◌then◌else◌, IsTrue, List, [], ◌∷◌, ◌++◌, length, drop, Option, Some, None, Result, Ok, Err, MatchResult, IfOk, IfErr, bytes_eq, codes, refl, sym, ap, subst, ◌∙◌, arith, append-nil}
 use Rattle.std.specs.List.{prefix_len, slice_split, onto_first, join_with_byte, AllByRecursion}
 use Rattle.std.proofs.lemmas.Bool.{eqb-true}
@@ -15,13 +15,13 @@ use Rattle.ls_replay.proofs.GrammarLemmas.{blanks-none, words-none, words-found,
 
 -- ---- lines
 
--- nothing follows a line without words
+-- after a line without words there are no words
 blank-after : (text : List ℕ) → HasWords text [] → HasWords (after_word text) []
 blank-after text all =
     let none : after_word text ≡ [] = ap (λ t. drop (prefix_len (λ c. not (is_blank c)) t) t) (blanks-none text all) in
     subst AreBlanks (sym none) tt
 
--- a line that says a step is read as it
+-- a line that says a step is read as that step
 pub line-read : (text : List ℕ) (st : Step) → IsLine text (st ∷ []) → line_of text ≡ line.Step st
 line-read text (step.Put s x) (words, has, (a, b, same, source, small, item, large)) =
     let all : HasWords text (codes "put" ∷ a ∷ b ∷ []) = subst (HasWords text) same has in
@@ -145,7 +145,7 @@ lines-of-text text lines is = ap lines_of is.joined ∙ lines-joined lines is.so
 
 -- ---- steps
 
--- lines that are steps, and then one that is none
+-- legal lines, followed by one that isn't
 record IsBroken (n : ℕ) (lines : List (List ℕ)) (k : ℕ) : Type 0 where
   front : List (List ℕ)
   text : List ℕ
@@ -224,7 +224,7 @@ says-line n text [] rest says = ap (λ l. after_line n l rest) (blank-read text 
 says-line n text (st ∷ []) rest says = ap (λ l. after_line n l rest) (line-read text st says)
 says-line n text (st ∷ other ∷ steps) rest says = absurd says
 
--- lines that say steps, and then others
+-- lines that say steps, followed by others
 says-front : (n : ℕ) (front back : List (List ℕ)) (steps : List Step) → AreLines front steps → steps_from n (front ++ back) ≡ with_front steps (steps_from (n + length front) back)
 says-front n [] back steps says =
     sym (with-nothing (steps_from n back)) ∙ ap (λ all. with_front all (steps_from n back)) (sym says) ∙ ap (λ k. with_front steps (steps_from k back)) (omega arith)
@@ -273,7 +273,7 @@ break-is_read text k broken =
     ∙ ap (λ l. with_front broken.steps (after_line (1 + length broken.front) l (steps_from (1 + length broken.front + 1) broken.back))) (line-breaks broken.line broken.breaks)
     ∙ ap Err (omega (arith, broken.count))
 
--- ---- an answer
+-- ---- a result
 
 module _ {X : Type 0} (items : X → List Step) (text : List ℕ) where
   pub answer-ok : (r : Result X StepsFault) → MatchResult r (λ v. steps_of text ≡ Ok (items v)) (λ fault. IsReadFault text fault) → IfOk r (λ v. IsStepsFile text (items v))

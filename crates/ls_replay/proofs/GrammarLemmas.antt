@@ -1,4 +1,4 @@
--- What is read of a line is what the grammar says, in both directions.
+-- Reading a line agrees with the grammar, in both directions.
 use Rattle.std.proofs.Common.{◌⊎◌, inl, inr, ◌≡◌, ℕ, ◌+◌, ◌-◌, ◌^◌, ◌<◌, ◌≤◌, Bool, true, false, not, ◌&&◌, cond, if◌then◌else◌, nat_le, IsTrue, List, [], ◌∷◌, ◌++◌, length, take, drop, suc, Option, Some, None, bytes_eq, codes, refl, sym, ap, subst, ◌∙◌, arith, append-nil}
 use Rattle.std.specs.List.{prefix_len, AllByRecursion, list_all}
 use Rattle.std.proofs.lemmas.Bool.Decides.{nat_tests}
@@ -84,7 +84,7 @@ words-more text words some more =
       more,
     )
 
--- blanks in front of a text change neither its first word nor what follows it
+-- leading blanks change neither the first word of a text nor what follows it
 without-blanks : (blanks text : List ℕ) → AreBlanks blanks → without_blanks (blanks ++ text) ≡ without_blanks text
 without-blanks [] text all = refl
 without-blanks (c ∷ blanks) text all =
@@ -125,7 +125,7 @@ blanks-none (c ∷ text) all =
 pub no-words-found : (text : List ℕ) → HasWords text [] → first_word text ≡ []
 no-words-found text all = ap (λ t. take (prefix_len (λ c. not (is_blank c)) t) t) (blanks-none text all)
 
--- a text is blanks, or has a byte that is none after them
+-- a text is blanks alone, or blanks followed by a byte that is none
 starts : (text : List ℕ) → (without_blanks text ≡ []) ⊎ ((c : ℕ) × (rest : List ℕ) × (without_blanks text ≡ c ∷ rest) × (is_blank c ≡ false))
 starts [] = inl refl
 starts (c ∷ text) =
@@ -139,7 +139,7 @@ starts (c ∷ text) =
     ] in
     both refl
 
--- where no word is found, there are only blanks
+-- if no word is found, there are only blanks
 pub words-none : (text : List ℕ) → is_none (first_word text) ≡ true → HasWords text []
 words-none text none =
     elim (starts text) [
@@ -215,7 +215,7 @@ same_bytes xs ys e = (bytes_eq-Decides xs ys).0 e
 some-word : (word : List ℕ) → 0 < length word → is_none word ≡ false
 some-word word some = grind (arith, nat_tests)
 
--- a line that is read as a step says it
+-- a line that is read as a step says that step
 pub line-says : (text : List ℕ) (st : Step) → line_of text ≡ line.Step st → IsLine text (st ∷ [])
 line-says text st e =
     let one = after_word text in

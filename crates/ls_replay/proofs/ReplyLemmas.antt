@@ -1,4 +1,4 @@
--- The lines of replies, one after the other.
+-- The lines of replies, in order.
 use Rattle.std.proofs.Common.{◌≡◌, ℕ, ◌+◌, ◌-◌, ◌^◌, ◌<◌, ◌≤◌, min, List, ◌∷◌, ◌++◌, length, take, drop, get_or, Option, sym, ap, subst, ◌∙◌, arith, add-one, length-append}
 use Rattle.std.specs.Io.KnownBytes.{Appends}
 use Rattle.std.proofs.KnownBytes.{Appends-trans}
@@ -14,7 +14,7 @@ lines_at replies i d inside =
     ap reply_lines (sym (take-append-drop i replies)) ∙ flat_map-append reply_line (take i replies) (drop i replies)
     ∙ ap (λ rest. reply_lines (take i replies) ++ reply_lines rest) (drop-cons replies i d inside ∙ ap (λ k. get_or replies i d ∷ drop k replies) (sym (add-one i)))
 
--- a write failed in the line of number i
+-- a write failed in the line of reply i
 lines_broken_off : (old mid new : Option (List ℕ)) (replies : List Reply) (i n w : ℕ) (d : Reply) → i < length replies → w < length (reply_line (get_or replies i d))
     → n ≡ min (length (reply_lines (take i replies))) (2 ^ 64 - 1) → length (reply_lines replies) < 2 ^ 64
     → Appends old mid (reply_lines (take i replies)) → Appends mid new (take w (reply_line (get_or replies i d)))
@@ -42,7 +42,7 @@ lines_part replies i n w d inside part count =
     ap length (lines_at replies i d inside) ∙ length-append front (line ++ rest) ∙ ap (λ k. length front + k) (length-append line rest) in
     omega (arith, size, part, count)
 
--- the same of a piece that is the line
+-- the same for bytes that are the line
 pub piece_broken_off : (old mid new : Option (List ℕ)) (replies : List Reply) (i n w sum : ℕ) (d : Reply) (piece : List ℕ) → i < length replies → piece ≡ reply_line (get_or replies i d) → w < length piece
     → n ≡ min (length (reply_lines (take i replies))) (2 ^ 64 - 1) → sum ≡ min (n + w) (2 ^ 64 - 1)
     → Appends old mid (reply_lines (take i replies)) → Appends mid new (take w piece) → length (reply_lines replies) < 2 ^ 64

@@ -1,4 +1,4 @@
--- Reading lines, words and numbers, piece by piece.
+-- Steps in reading lines, words and numbers.
 use Rattle.std.proofs.Common.{◌≡◌, ℕ, ◌+◌, ◌-◌, ◌*◌, ◌<◌, ◌≤◌, Bool, true, false, not, ◌&&◌, cond, if◌then◌else◌, nat_le, List, [], ◌∷◌, ◌++◌, length, take, drop, fold, get_or, suc, Some, None, Result, Ok, Err, refl, sym, ap, ◌∙◌, arith, add-one, append_assoc}
 use Rattle.std.specs.List.{prefix_len, slice_split, onto_first, list_all}
 use Rattle.std.proofs.Math.Seq.{drop-cons}

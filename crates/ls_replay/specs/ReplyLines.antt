@@ -1,4 +1,4 @@
--- The lines that are written of replies.
+-- The lines that are written for replies.
 use Rattle.std.specs.Prelude.{ℕ, List, ◌++◌, flat_map, codes, decimal}
 use Rattle.ls_queue.specs.declared.replies.Job.{Job}
 use Rattle.ls_queue.specs.declared.replies.Put.TheVariants as put
@@ -7,7 +7,7 @@ use Rattle.ls_queue.specs.declared.replies.Take.TheVariants as take
 use Rattle.ls_queue.specs.declared.steps.Reply.{Reply}
 use Rattle.ls_queue.specs.declared.steps.Reply.TheVariants as reply
 
--- source, number and item, with one blank between
+-- source, number and item, separated by single blanks
 abbrev pub job_line : Job ℕ → List ℕ
 job_line job = codes "job " ++ decimal job.source ++ codes " " ++ decimal job.number ++ codes " " ++ decimal job.item ++ codes "\n"
 

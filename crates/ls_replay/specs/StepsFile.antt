@@ -7,7 +7,7 @@ use Rattle.ls_replay.specs.declared.steps_file.StepsFault.{StepsFault}
 use Rattle.ls_replay.specs.declared.steps_file.StepsFault.TheVariants.{NotAStep, NoMemory}
 use Rattle.ls_queue.specs.declared.steps.Step.TheVariants as step
 
--- a blank stands between words and at either end of a line; a TAB is none
+-- a blank, between words and at either end of a line; a TAB isn't one
 abbrev pub is_blank : ℕ → Bool
 is_blank c = c == 32
 
@@ -20,12 +20,12 @@ is_end c = c == 10
 abbrev pub AreBlanks : List ℕ → Type 0
 AreBlanks text = AllByRecursion (λ c. IsTrue (is_blank c)) text
 
--- a word is one or more bytes, and no blank
+-- a word is one or more bytes, none of which is a blank
 pub record IsWord (word : List ℕ) : Type 0 where
   pub some : 0 < length word
   pub each : AllByRecursion (λ c. IsTrue (not (is_blank c))) word
 
--- a word ends where a blank follows, or nothing
+-- a word ends before a blank, or at the end of the line
 abbrev pub EndsWord : List ℕ → Type 0
 EndsWord [] = Unit {0}
 EndsWord (c ∷ text) = IsTrue (is_blank c)
@@ -38,7 +38,7 @@ HasWords text (word ∷ words) =
 
 -- ---- steps
 
--- the decimal digits of a number, perhaps with zeros in front
+-- the decimal digits of a number, perhaps with leading zeros
 abbrev pub Writes : List ℕ → ℕ → Type 0
 Writes word n = IsNumber word × (decimal_value word ≡ n)
 
@@ -56,12 +56,12 @@ IsLine text (step ∷ other ∷ steps) = ⊥
 
 -- ---- lines
 
--- lines that say these steps, one after the other
+-- lines that say these steps, in order
 abbrev pub AreLines : List (List ℕ) → List Step → Type 0
 AreLines [] steps = steps ≡ []
 AreLines (line ∷ lines) steps = (here : List Step) × (rest : List Step) × (steps ≡ here ++ rest) × IsLine line here × AreLines lines rest
 
--- A text is its lines with LF between each two; no line has one. So a text that ends with LF has an empty line last.
+-- A text is its lines, separated by LF; no line contains one. So the last line of a text that ends with LF is empty.
 pub record IsText (text : List ℕ) (lines : List (List ℕ)) : Type 0 where
   pub some : 0 < length lines
   pub joined : text ≡ join_with_byte 10 lines
@@ -72,7 +72,7 @@ pub record IsStepsFile (text : List ℕ) (steps : List Step) : Type 0 where
   pub text_is : IsText text lines
   pub says : AreLines lines steps
 
--- legal lines, and then the first that breaks, the n-th line from 1
+-- legal lines, followed by the first line that isn't, which is the n-th, from 1
 pub record BreaksAt (text : List ℕ) (n : ℕ) : Type 0 where
   pub front : List (List ℕ)
   pub line : List ℕ
@@ -83,7 +83,7 @@ pub record BreaksAt (text : List ℕ) (n : ℕ) : Type 0 where
   pub says : AreLines front steps
   pub breaks : (steps : List Step) → IsLine line steps → ⊥
 
--- a fault but for memory that was refused names the first line that breaks
+-- a fault other than NoMemory names the first line that isn't legal
 abbrev pub IsFaultOf : List ℕ → StepsFault → Type 0
 IsFaultOf text (NotAStep n) = BreaksAt text n
 IsFaultOf text NoMemory = Unit {0}

@@ -1,4 +1,4 @@
-//! What `replay` reads and writes: a steps file, and the reply lines of a queue.
+//! The text formats of `replay`: the steps file that it reads, and the reply lines that it writes.
 //!
 //! ```
 //! use ls_frame::Outlet;
@@ -14,7 +14,7 @@
 //! }
 //! ```
 //!
-//! In reading order: `steps_file` (the text of the steps), `replies` (the lines).
+//! In reading order: `steps_file` (reading the steps), `replies` (writing the lines).
 #![tactic(auto)]
 
 mod replies;

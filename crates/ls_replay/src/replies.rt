@@ -8,13 +8,13 @@ use itoa::Buffer;
 use ls_frame::{Outlet, WriteFault, lay, write_bytes};
 use ls_queue::{Close, Job, Put, Reply, Take};
 
-/// The most bytes of a line.
+/// The bytes of a line's buffer. A line has at most 50.
 const ROOM: usize = 64;
 
 /// Writes a line for each reply.
 ///
-/// It allocates nothing. On a fault exactly the first `written` bytes of the lines went out, if that is a `usize`:
-/// lines of 2^64 bytes or more would be of more replies than any memory holds.
+/// Allocates nothing. On a fault exactly the first `written` bytes of the lines were written, if the lines have fewer
+/// than 2^64 bytes in all: more would come from more replies than any memory holds.
 pub fn print_replies<W: Outlet>(writer: &mut W, replies: &[Reply]) -> Result<(), WriteFault>
     ensures ok { OnOk result (Appends (W.contents writer.old) (W.contents writer.new) (reply_lines replies.now)) }
     ensures fault { length (reply_lines replies.now) < 2 ^ 64 → IfErr result
@@ -38,7 +38,7 @@ pub fn print_replies<W: Outlet>(writer: &mut W, replies: &[Reply]) -> Result<(),
     Ok(())
 }
 
-/// Lays the line of a reply at the front of `line`, and says where it ends.
+/// Writes the line of a reply to the front of `line`, and returns its length.
 fn put_reply(line: &mut [u8; ROOM], reply: &Reply) -> usize
     ensures laid { take result line.new ≡ reply_line reply.now }
     ensures within { result ≤ 50 }
@@ -56,7 +56,7 @@ fn put_reply(line: &mut [u8; ROOM], reply: &Reply) -> usize
     }
 }
 
-/// Lays a word and a number, and LF.
+/// Writes a word of at most 8 bytes, a number and LF to the front of `line`, and returns their length.
 fn put_numbered(line: &mut [u8; ROOM], word: &[u8], number: u64) -> usize
     requires { length word.now ≤ 8 }
     ensures laid { take result line.new ≡ word.now ++ decimal number ++ codes "\n" }
@@ -68,7 +68,8 @@ fn put_numbered(line: &mut [u8; ROOM], word: &[u8], number: u64) -> usize
     lay(line, end, b"\n")
 }
 
-/// Lays `job` and a job's source, number and item, with one blank between, and LF.
+/// Writes `job` and a job's source, number and item, separated by single blanks, and LF to the front of `line`, and
+/// returns their length.
 fn put_job(line: &mut [u8; ROOM], job: &Job<u64>) -> usize
     ensures laid { take result line.new ≡ job_line job.now }
     ensures within { result ≤ 50 }

@@ -9,10 +9,10 @@ use ls_queue::Step;
 use std::alloc::{AllocError, Global};
 use thiserror::Error;
 
-/// Why a steps file can't be read.
+/// Why the text of a steps file can't be read as steps.
 #[derive(Clone, Copy, Debug, Drop, PartialEq, Eq, Error)]
 pub enum StepsFault {
-    /// The line of this number, from 1, is the first that is neither a step nor without words.
+    /// The line with this number, from 1, is the first that has words but is no step.
     #[error("line {0}: not a step")]
     NotAStep(usize),
     /// An allocation failed.
@@ -34,13 +34,13 @@ impl From<AllocError> for StepsFault {
 /// The most bytes of a steps file.
 const MOST_BYTES: usize = 16_777_216;
 
-/// How many bytes are asked for at once at most.
+/// The most bytes that are asked for at once.
 const PIECE: usize = 65_536;
 
-/// Why the bytes of a steps file can't be had.
+/// Why the text of a steps file can't be read from its reader.
 #[derive(Clone, Copy, Debug, Drop, PartialEq, Eq, Error)]
 pub enum TextFault {
-    /// There are more than 16,777,216.
+    /// The text has more than 16,777,216 bytes.
     #[error("too long")]
     TooLong,
     #[error("read failed")]
@@ -50,17 +50,18 @@ pub enum TextFault {
     NoMemory,
 }
 
-/// What a line of a steps file is.
+/// A line of a steps file, classified.
 #[derive(Clone, Copy, Drop)]
 enum Line {
     /// It has no words.
     Blank,
     Step(Step),
-    /// It has words, but is no step.
+    /// It has words but is no step.
     Other,
 }
 
-/// All bytes of a reader, up to its end. Of a text that is too long no more is read than shows it.
+/// Reads all bytes of a reader, up to its end. Fails with `TooLong` if there are more than 16,777,216, and has then
+/// read one byte more than that.
 pub fn read_text<R: Feed>(alloc: Global, reader: &mut R) -> Result<Vec<u8>, TextFault> {
     let mut text = Vec::new(alloc);
     let mut piece = [0u8; PIECE];
@@ -82,8 +83,8 @@ pub fn read_text<R: Feed>(alloc: Global, reader: &mut R) -> Result<Vec<u8>, Text
     Err(TextFault::TooLong)
 }
 
-/// The steps of a steps file, one after the other; or the number of its first line, from 1, that has words and is no
-/// step. Else it fails only if an allocation fails.
+/// Returns the steps of a steps file, in order. Fails with `NotAStep` and the number, from 1, of the first line that
+/// has words but is no step; else only if an allocation fails (`NoMemory`).
 ///
 /// A line is a step, or has no words. Lines end with LF, which the last one may lack.
 pub fn read_steps(alloc: Global, text: &[u8]) -> Result<Vec<Step>, StepsFault>
@@ -97,7 +98,7 @@ pub fn read_steps(alloc: Global, text: &[u8]) -> Result<Vec<Step>, StepsFault>
     read_lines(alloc, text)
 }
 
-/// Reads the lines one after the other.
+/// Reads the lines in order, and returns their steps.
 fn read_lines(alloc: Global, text: &[u8]) -> Result<Vec<Step>, StepsFault>
     ensures { MatchResult result (λ steps. steps_of text.now ≡ Ok steps.items) (λ fault. IsReadFault text.now fault) }
 {
@@ -117,7 +118,7 @@ fn read_lines(alloc: Global, text: &[u8]) -> Result<Vec<Step>, StepsFault>
     Ok(steps)
 }
 
-/// The first line of a text, and the text after its LF, if it has one.
+/// Returns the first line of a text, and the text after its LF, if it has one.
 fn next_line(text: &[u8]) -> (&[u8], Option<&[u8]>)
     ensures lines { lines_of text.now ≡ result.0.now ∷ lines_after result.1 }
     ensures shorter { left_in result.1 ≤ length text.now }
@@ -130,7 +131,7 @@ fn next_line(text: &[u8]) -> (&[u8], Option<&[u8]>)
     }
 }
 
-/// How many bytes stand before the first LF.
+/// Returns the number of bytes before the first LF, or of all bytes if there is none.
 fn line_at_front(text: &[u8]) -> usize
     ensures value { result ≡ prefix_len (λ c. not (is_end c)) text.now }
     ensures within { result ≤ length text.now }
@@ -138,7 +139,7 @@ fn line_at_front(text: &[u8]) -> usize
     text.iter().take_while(|byte| **byte != b'\n').count()
 }
 
-/// What a line is, without its LF.
+/// Classifies a line, which is given without its LF.
 fn line_of(line: &[u8]) -> Line
     ensures { result ≡ line_of line.now }
 {
@@ -155,7 +156,7 @@ fn line_of(line: &[u8]) -> Line
     }
 }
 
-/// The step that these words say, of which the last may be empty.
+/// Returns the step that these words say, or `Other` if they say none. Words that the line doesn't have are empty.
 fn step_of(first: &[u8], second: &[u8], third: &[u8]) -> Line
     ensures { result ≡ step_of first.now second.now third.now }
 {
@@ -176,7 +177,7 @@ fn step_of(first: &[u8], second: &[u8], third: &[u8]) -> Line
     }
 }
 
-/// The first word of a line, or nothing where it has none, and what follows it.
+/// Returns the first word of a line, which is empty if the line has none, and what follows it.
 fn next_word(line: &[u8]) -> (&[u8], &[u8])
     ensures word { result.0.now ≡ first_word line.now }
     ensures rest { result.1.now ≡ after_word line.now }
@@ -186,7 +187,7 @@ fn next_word(line: &[u8]) -> (&[u8], &[u8])
     (&line[..end], &line[end..])
 }
 
-/// How many blanks stand at the front.
+/// Returns the number of blanks at the front.
 fn blanks_at_front(line: &[u8]) -> usize
     ensures value { result ≡ prefix_len is_blank line.now }
     ensures within { result ≤ length line.now }
@@ -194,7 +195,7 @@ fn blanks_at_front(line: &[u8]) -> usize
     line.iter().take_while(|byte| **byte == b' ').count()
 }
 
-/// How many bytes stand before the first blank.
+/// Returns the number of bytes before the first blank, or of all bytes if there is none.
 fn word_at_front(line: &[u8]) -> usize
     ensures value { result ≡ prefix_len (λ c. not (is_blank c)) line.now }
     ensures within { result ≤ length line.now }
@@ -202,7 +203,7 @@ fn word_at_front(line: &[u8]) -> usize
     line.iter().take_while(|byte| **byte != b' ').count()
 }
 
-/// The number that a word writes, if it is at most `most`.
+/// Returns the number that a word writes in decimal digits, if it does and if that is at most `most`.
 fn number_of(word: &[u8], most: u64) -> Option<u64>
     ensures { result ≡ number_of most word.now }
 {

@@ -32,7 +32,7 @@ use Rattle.ls_recorder.proofs.ListLemmas.{zip-through, zip-weaker}
 use Rattle.ls_recorder.proofs.RecordingLemmas.{each-track}
 use Rattle.ls_roundtrip.specs.View.RoundTrips.{by_default, ComesBack, StopsShort, ShowsFront, PlaysFront, CameOf, ComeBack, PlaysBack, IntoMemory, held_by, IsUnrecorded, IsPlayed}
 
--- ---- a film of Netpbm images is of one list of frames
+-- ---- the bytes of a film determine its frames
 
 some_magic : (kind : Kind) → 0 < length (magic kind)
 some_magic Gray = omega arith

@@ -1,8 +1,8 @@
-//! What the recorder is for, in one function: films that are recorded side by side come back, whatever the threads do
-//! that code them and those that decode them (`record_and_play`, `specs/View/RoundTrips.antt`).
+//! The purpose of the recorder, in one function: films that are recorded side by side come back, however the threads
+//! that code and those that decode run (`record_and_play`, `specs/View/RoundTrips.antt`).
 //!
-//! No program calls it. It is what `ls_recorder` and `ls_player` say together, over films in memory, where nothing is
-//! left unknown.
+//! No program calls it. Its contract combines those of `ls_recorder` and `ls_player`, for films in memory, where all
+//! bytes are known.
 //!
 //! ```
 //! use ls_frame::Tuning;

@@ -1,4 +1,4 @@
-//! Films that are recorded side by side, and played back.
+//! Recording films side by side, and playing back each recording.
 ghost use Rattle.std.specs.Prelude.{◌≡◌, ◌⊎◌, ◌<◌, ◌≤◌, ◌^◌, [], None, Some, length, vec_capacity, IfOk, IfErr};
 ghost use Rattle.std.specs.List.{AllZip};
 ghost use Rattle.ls_roundtrip.specs.View.RoundTrips.{IsUnrecorded, IsPlayed, ComeBack};
@@ -19,31 +19,31 @@ use std::thread::Threads;
 /// A film in memory that was recorded and played back.
 #[derive(Drop)]
 pub struct PlayedBack {
-    /// Its recording, as far as it was written.
+    /// Its recording: the bytes that were written.
     pub recording: Vec<u8>,
-    /// How many frames were recorded, or why that stopped.
+    /// The number of frames recorded, or why recording stopped.
     pub recorded: Result<u64, LaneFault>,
-    /// What the recording shows, as far as it was played.
+    /// The images played back from the recording: the bytes that were written.
     pub shown: Vec<u8>,
-    /// How many frames were played, or why that stopped.
+    /// The number of frames played, or why playing stopped.
     pub played: Result<u64, PlayFault>,
 }
 
-/// Records films side by side, each with its tuning, and plays back what was recorded of each, one after the other and
-/// each by so many players.
+/// Records films side by side, each with its tuning, and plays back each recording, one after the other, with `players`
+/// players each.
 ///
-/// With any numbers of workers and players, any capacity and any window, and in whatever order the threads run: of each
-/// film that was recorded whole (`recorded` is `Ok`), the recording is the codestreams of all its frames, in order,
-/// with nothing between; if its tuning is all zeros, that is what `ls_film::code_film` writes of the film. Playing it
-/// shows exactly the film's frames, each as its canonical Netpbm image, unless memory is refused. Of a film whose lane
-/// stopped, the recording is what its fault says (`LaneFault`); but for `Output` it is whole codestreams, and playing
-/// it shows exactly their frames, unless memory is refused.
+/// For any numbers of workers and players, any capacity and window, and any order in which the threads run: if a film
+/// was recorded completely (`recorded` is `Ok`), its recording is the codestreams of all its frames, in order, with
+/// nothing between; if its tuning is all zeros, that is what `ls_film::code_film` writes of the film. Playing it gives
+/// exactly the film's frames, each as its canonical Netpbm image, unless an allocation fails. If a film's lane stopped,
+/// its recording is what the fault says (`LaneFault`); except after `Output` it is complete codestreams, and playing it
+/// gives exactly their frames, unless an allocation fails.
 ///
-/// Fails for `NoMemory` only if an allocation fails; else for the first of `Sources`, `Workers`, `Capacity` and
-/// `Window` that is so; else for `NotStarted` only if no thread can be made for a worker. Then nothing comes back.
-/// Where none can be made for a player, the calling thread plays.
+/// Fails with `NoMemory` only if an allocation fails; else with the first of `Sources`, `Workers`, `Capacity` and
+/// `Window` that applies; else with `NotStarted` only if no thread can be made for a worker. Then nothing is returned.
+/// If no thread can be made for a player, the calling thread plays.
 ///
-/// It requires at least one player, and no more than 2^32.
+/// Requires at least one player, and at most 2^32.
 pub fn record_and_play<Rt: Threads + Wait + Sync, G: Gate>(
     rt: &Rt,
     alloc: Global,
@@ -80,10 +80,10 @@ pub fn record_and_play<Rt: Threads + Wait + Sync, G: Gate>(
     }
 }
 
-/// A film in memory, and where its recording goes.
+/// A film in memory, the writer of its recording, and its tuning.
 type Unrecorded<'a> = (&'a [u8], Counted<Vec<u8>>, Tuning);
 
-/// Films, each with an empty recording.
+/// The films, each with an empty recording. Fails only if an allocation fails.
 fn unrecorded<'a>(
     alloc: Global,
     mut films: Vec<(&'a [u8], Tuning)>,
@@ -99,7 +99,7 @@ fn unrecorded<'a>(
     Ok(made)
 }
 
-/// Plays back what was recorded of each film. It requires room for as many answers.
+/// Plays back the recording of each film. Requires that `room` is empty, with capacity for as many results as tracks.
 fn play_all<Rt: Threads + Sync>(
     rt: &Rt,
     alloc: Global,
@@ -121,7 +121,7 @@ fn play_all<Rt: Threads + Sync>(
     played_back
 }
 
-/// Plays back what was recorded of a film.
+/// Plays back the recording of a film.
 fn play_back<Rt: Threads + Sync>(
     rt: &Rt,
     alloc: Global,

@@ -1,4 +1,4 @@
--- The salvage of a recording in memory; and of one with no damage.
+-- The salvage of a recording in memory, and of one without damage.
 use Rattle.std.proofs.Common.{false, ◌≡◌, inl, inr, ℕ, ◌<◌, ◌≤◌, List, [], ◌∷◌, ◌++◌, length, take, drop, Option, Some, Result, Ok, Err, MatchResult, IfOk, IfErr, refl, sym, ap, subst, ◌∙◌, arith}
 use Rattle.std.proofs.lemmas.List.{length-append, length-take-le, take-append-drop}
 use Rattle.ls_frame.specs.Picture.{Picture}
@@ -22,7 +22,7 @@ use Rattle.ls_salvage.proofs.SalvageLemmas.{some_bytes, one_front, whole_ones, u
 same_some : (one other : List Gap) → Some one ≡ Some other → one ≡ other
 same_some one other same = cc
 
--- no read failed, if the count of those that did is as it was
+-- if the count of failed reads hasn't changed, no read failed
 pub no_failed_read : (result : Result Salvaged SalvageFault) → 0 ≡ count_after (failed_reader result) 0 → IfErr result (λ fault. blames_reader fault ≡ false)
 no_failed_read (Ok salvaged) same = tt
 no_failed_read (Err fault) same = never_blamed (blames_reader fault) same
@@ -48,7 +48,7 @@ module _ (only : (one other rest : List ℕ) (f g : Picture) → Spells one f �
 
   -- ---- no damage
 
-  -- the frames of a film are those of the parts that were read, and those of what is left
+  -- the frames of a film are those of the parts that were read, and then those of what is left
   film_parts : (bytes rest : List ℕ) (frames : List Picture) (parts : List Part) → IsFilm Spells bytes frames → AreParts bytes parts rest
       → (more : List Picture) × (frames ≡ frames_of parts ++ more) × IsFilm Spells rest more
   film_parts bytes rest frames [] film are = (frames, refl, subst (λ s. IsFilm Spells s frames) are film)
@@ -61,7 +61,7 @@ module _ (only : (one other rest : List ℕ) (f g : Picture) → Spells one f �
       (next.0, ap (λ h. h ∷ frames) alike.0 ∙ ap (λ s. g ∷ s) next.1, next.2)
   film_parts bytes rest (f ∷ frames) (gap size fault ∷ parts) film are = absurd (are.1.none.none film.0 film.1 f film.2 film.3)
 
-  -- what is left of a film that isn't at its end begins with a codestream
+  -- if a film isn't at its end, what is left of it begins with a codestream
   no_more : (rest : List ℕ) (more : List Picture) → IsFilm Spells rest more → BeginsWithNone rest → ⊥
   no_more rest [] film none = omega (arith, ap length film, none.some)
   no_more rest (f ∷ more) film none = none.none film.0 film.1 f film.2 film.3

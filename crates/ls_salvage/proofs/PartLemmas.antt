@@ -1,4 +1,4 @@
--- The next part of a recording: what taking its bytes, decoding them and looking for the next start give together.
+-- The next part of a recording: combining the reading of its bytes, their decoding and the search for the next start.
 use Rattle.std.proofs.Common.{Some, None, true, false, ◌≡◌, ◌⊎◌, inl, inr, ◌<◌, ◌≤◌, ◌+◌, ◌↔◌, ℕ, List, [], ◌∷◌, ◌++◌, length, take, drop, Option, refl, sym, ap, subst, ◌∙◌, arith, append_assoc, append-nil}
 use Rattle.std.proofs.lemmas.List.{length-append, length-take, take-append-drop, drop_at}
 use Rattle.std.specs.Io.KnownBytes.{prepend_known}
@@ -18,7 +18,7 @@ use Rattle.ls_salvage.proofs.SalvageLemmas.{some_bytes}
 
 -- ---- a frame
 
--- a codestream at the front of the bytes that were read is all of them
+-- a codestream at the front of the bytes that were read is all of these bytes
 pub gave_frame : (read read' : Option (List ℕ)) (bytes : List ℕ) (used count : ℕ) (f : Picture) (P : List ℕ → Type 0)
     → Gave read read' (λ front. (bytes ≡ front) × P front)
     → (Tells read → (front rest : List ℕ) (g : Picture) → known read ≡ front ++ rest → Spells front g → bytes ≡ front)
@@ -39,7 +39,7 @@ some_taken bytes used f spells = omega (arith, length-take used bytes, some_byte
 pub no_refusal : (fault : StreamFault) → is_refusal fault ≡ false → fault ≡ stream.NoMemory → ⊥
 no_refusal fault other is = let refused : is_refusal fault ≡ true = ap is_refusal is in let clash : ⊥ = cc in absurd clash
 
--- where the codestream that was read begins with none, so do all bytes; and their first fault is that of it
+-- if the bytes that were read begin with no codestream, neither do all bytes, and their first fault is the same
 pub breaks : (read read' : Option (List ℕ)) (bytes : List ℕ) (fault : StreamFault) (P : List ℕ → Type 0)
     → Gave read read' (λ front. (bytes ≡ front) × P front) → ((front : List ℕ) → P front → 0 < length front)
     → (Tells read → (front rest : List ℕ) (f : Picture) → known read ≡ front ++ rest → Spells front f → bytes ≡ front)
@@ -68,7 +68,7 @@ pub gave_bytes : (read read' : Option (List ℕ)) (bytes items : List ℕ) (P : 
 gave_bytes read read' bytes items P gives some is = λ told.
     let gave = gives told in (gave.0, gave.1, gave.2, (sym (is ∙ gave.3.0), some gave.1 gave.3.1))
 
--- a codestream that has become too large is none
+-- the fault TooLarge is neither that of a failed read nor that of a failed allocation
 too_large : (next_fault.TooLarge ≡ next_fault.Io) ⊎ (next_fault.TooLarge ≡ next_fault.NoMemory) → ⊥
 too_large (inl e) = let clash : ⊥ = cc in absurd clash
 too_large (inr e) = let clash : ⊥ = cc in absurd clash

@@ -22,7 +22,7 @@ use Rattle.ls_salvage.specs.View.Telling.{TellsMore}
 use Rattle.ls_salvage.specs.View.Runs.{Completes, HasRun, StopsAfter, Anything, BeginsWithOne, IsEndless, IsTooMuch, Stops, IsSmall, no_progress, after_frame, after_gap, HandsOn, StopsHandingOn}
 use Rattle.ls_salvage.proofs.SalvageLemmas.{parts_then, bytes_of-append, frames_of-append, gaps_after-append}
 
--- ---- gaps that were told
+-- ---- gaps that were reported
 
 TellsMore-nil : (a : Option (List Gap)) → TellsMore a a []
 TellsMore-nil None = refl
@@ -34,7 +34,7 @@ TellsMore-trans (Some x) b c first then p q =
     let after : c ≡ Some ((x ++ first) ++ then) = subst (λ m. TellsMore m c then) p q in
     after ∙ ap (λ s. Some s) (append_assoc x first then)
 
--- ---- parts, one more at their end
+-- ---- one more part at the end
 
 all_more : {A : Type 0} (P : A → Type 0) (xs : List A) (x : A) → AllByRecursion P xs → P x → AllByRecursion P (xs ++ x ∷ [])
 all_more P [] x all last = (last, _)

@@ -1,4 +1,4 @@
--- What the parts of a recording are: where one of them stands, and that they are settled by the bytes.
+-- The parts of a recording: where each stands, and that the bytes determine them.
 use Rattle.std.proofs.Common.{drop-drop, ◌≡◌, ◌⊎◌, inl, inr, ℕ, zero, suc, ◌+◌, ◌<◌, ◌≤◌, ltb, List, [], ◌∷◌, ◌++◌, length, take, drop, refl, sym, ap, subst, ◌∙◌, arith, append_assoc, append-nil}
 use Rattle.std.proofs.lemmas.Bool.{cases_Bool, ltb-true, ltb-false}
 use Rattle.std.proofs.lemmas.List.{length-append, length-drop, length-take-le, take-append-drop, drop-append-le}
@@ -44,14 +44,14 @@ gaps_after-append frames place (gap count fault ∷ parts) more =
     ap (λ s. record { frame = frames; place = place; count = count; fault = fault } ∷ s)
     (gaps_after-append frames (place + count) parts more ∙ ap (λ s. gaps_after frames (place + count) parts ++ s) (gaps_at _ _ _ _ more refl (omega arith)))
 
--- the parts and the rest are all bytes
+-- the parts and the rest together are all bytes
 pub parts_length : (bytes rest : List ℕ) (parts : List Part) → AreParts bytes parts rest → length bytes ≡ bytes_of parts + length rest
 parts_length bytes rest [] are = omega (arith, ap length are)
 parts_length bytes rest (frame count f ∷ parts) are = omega (arith, are.0, length-drop count bytes, parts_length (drop count bytes) rest parts are.2)
 parts_length bytes rest (gap count fault ∷ parts) are =
     omega (arith, are.0, to_next-most bytes, length-drop count bytes, parts_length (drop count bytes) rest parts are.2)
 
--- the gaps stand at their places in all bytes, from this place on
+-- the gaps are at their places in all bytes, from this place on
 pub gaps_stand : (all bytes rest : List ℕ) (frames place : ℕ) (parts : List Part) → place ≤ length all → drop place all ≡ bytes → AreParts bytes parts rest
     → AllByRecursion (IsGapOf all) (gaps_after frames place parts)
 gaps_stand all bytes rest frames place [] far here are = tt
@@ -99,12 +99,12 @@ shown_stands bytes rest parts (gap size fault ∷ before) after count f are is =
       next.6,
     )
 
--- ---- settled by the bytes
+-- ---- determined by the bytes
 
 no_start : (byte : ℕ) (bytes : List ℕ) → [] ≡ byte ∷ bytes → ⊥
 no_start byte bytes is = let clash : ⊥ = cc in absurd clash
 
--- a codestream has bytes
+-- a codestream isn't empty
 pub some_bytes : (bytes : List ℕ) (f : Picture) → Spells bytes f → 0 < length bytes
 unfolding codestream_bytes
 some_bytes [] f spells = absurd (no_start _ _ spells.spelled)
@@ -121,7 +121,7 @@ same_parts one other parts others is are = cc
 
 module _ (only : (one other rest : List ℕ) (f g : Picture) → Spells one f → Spells other g → other ≡ one ++ rest → rest ≡ [])
     (same : (bytes : List ℕ) (f g : Picture) → Spells bytes f → Spells bytes g → f ≡ g) where
-  -- the codestream at the front of bytes is one, and of one frame
+  -- at most one codestream is at the front of bytes, and it is of one frame
   pub one_front : (front rest other more : List ℕ) (f g : Picture) → front ++ rest ≡ other ++ more → Spells front f → Spells other g → (f ≡ g) × (rest ≡ more)
   one_front front rest other more f g whole one two = elim (two_fronts front rest other more whole) [
     | inl first ↦
@@ -134,7 +134,7 @@ module _ (only : (one other rest : List ℕ) (f g : Picture) → Spells one f �
         (same other f g (rw (sym is) one) two, sym (second.2 ∙ ap (λ s. s ++ rest) none))
   ]
 
-  -- the frame at the front of bytes is one
+  -- at most one frame is at the front of bytes
   two_frames : (bytes : List ℕ) (count size : ℕ) (f g : Picture) → count ≤ length bytes → size ≤ length bytes → Spells (take count bytes) f → Spells (take size bytes) g
       → (f ≡ g) × (count ≡ size)
   two_frames bytes count size f g within within' one two =
@@ -165,9 +165,9 @@ module _ (only : (one other rest : List ℕ) (f g : Picture) → Spells one f �
         let rest : parts ≡ others = one_salvage (drop count bytes) parts others (bytes_after count bytes are) one.2 (rw far other.2) in
         same_parts _ _ _ _ (ap (λ h. gap count h) why ∙ ap (λ n. gap n cause) far) rest
 
-  -- ---- codestreams that are whole
+  -- ---- complete codestreams
 
-  -- what is shown, or held, by later parts
+  -- what later parts show or hold
   shown_later : (part : Part) (parts : List Part) (place count : ℕ) (f : Picture) → IsShownAt parts place count f → IsShownAt (part ∷ parts) (size_of part + place) count f
   shown_later part parts place count f shown =
       (part ∷ shown.0, shown.1, ap (λ s. part ∷ s) shown.2, ap (λ n. size_of part + n) shown.3)

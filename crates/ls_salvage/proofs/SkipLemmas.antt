@@ -1,4 +1,4 @@
--- Looking for the next start, byte by byte.
+-- The search for the next start, byte by byte.
 use Rattle.std.proofs.Common.{Option, None, Some, ◌≡◌, ◌⊎◌, inl, inr, ℕ, ◌+◌, ◌<◌, ◌≤◌, true, false, eqb, List, [], ◌∷◌, ◌++◌, length, refl, sym, ap, ◌∙◌, arith, append_assoc, append-nil}
 use Rattle.std.specs.List.{AllByRecursion}
 use Rattle.std.proofs.lemmas.List.{length-append}
@@ -11,7 +11,7 @@ use Rattle.ls_salvage.specs.Starts.{may_follow_soi, is_start, to_start}
 use Rattle.ls_salvage.specs.View.Skipping.{held, GoesOn, FoundStart, IsPassing, HasSkipped}
 use Rattle.ls_salvage.proofs.StartLemmas.{to_start-none, to_start-here}
 
--- ---- bytes that begin no start
+-- ---- bytes that don't begin a start
 
 other_first : (byte : ℕ) (bytes : List ℕ) → (byte ≡ 255 → ⊥) → is_start (byte ∷ bytes) ≡ false
 unfolding is_start
@@ -35,7 +35,7 @@ other_fourth : (a b c byte : ℕ) (bytes : List ℕ) → may_follow_soi byte ≡
 unfolding is_start
 other_fourth a b c byte bytes other = and_right (eqb a 255) _ (and_right (eqb b 216) _ (and_right (eqb c 255) _ other))
 
--- one byte is passed over that isn't FF, or one before another than the second of SOI
+-- a byte is passed over if it isn't FF, or if the byte after it isn't the second of SOI
 passed_other : (byte : ℕ) (bytes : List ℕ) → (byte ≡ 255 → ⊥) → to_start (byte ∷ bytes) ≡ 1 + to_start bytes
 passed_other byte bytes other = omega (arith, to_start-none byte bytes (other_first byte bytes other))
 
@@ -50,7 +50,7 @@ passed_three : (byte : ℕ) (bytes : List ℕ) → may_follow_soi byte ≡ false
 passed_three byte bytes other =
     omega (arith, to_start-none 255 (216 ∷ 255 ∷ byte ∷ bytes) (other_fourth 255 216 255 byte bytes other), passed_other 216 (255 ∷ byte ∷ bytes) (λ e. omega (arith, e)))
 
--- ---- one byte more
+-- ---- one more byte
 
 pub begun_after_nothing : (byte : ℕ) → byte ≡ 255 → GoesOn Nothing byte SoiBegun
 begun_after_nothing byte is = rw is (record { passed = []; split = refl; far = λ bytes. omega arith })
@@ -96,7 +96,7 @@ nothing_after_ff byte other others = record {
 
 pub ruleset after_ff_lemmas = (found_after_ff, soi_after_ff, nothing_after_ff)
 
--- ---- a run of bytes
+-- ---- a sequence of bytes
 
 consumed : (a b : Option (List ℕ)) (bytes : List ℕ) → Consumes a b bytes → Tells a → Tells b × (known a ≡ bytes ++ known b)
 consumed (Some x) None bytes given told = absurd given
@@ -107,7 +107,7 @@ passed_run : (run : List ℕ) (last : ℕ) (bytes : List ℕ) → AllByRecursion
 passed_run [] last bytes unmarked = omega arith
 passed_run (byte ∷ run) last bytes unmarked = omega (arith, passed_other byte (run ++ last ∷ bytes) unmarked.0, passed_run run last bytes unmarked.1)
 
--- of the bytes so many were read: those passed over, and then those held; and after them this one
+-- `count` of the bytes were read, those passed over and then those held; and after them this one
 pub record HasRead (matched : Matched) (count : ℕ) (old new : List ℕ) (last : ℕ) : Type 0 where
   pub passed : List ℕ
   pub split : old ≡ passed ++ (held matched ++ last ∷ new)
@@ -137,7 +137,7 @@ unless_run : (matched : Matched) (most : ℕ) (run : List ℕ) → (matched ≡ 
 unless_run matched most run (inl none) few = inl none
 unless_run matched most run (inr one) few = inr (no_run run (omega (arith, one)))
 
--- what was appended, if nothing stood there
+-- what was appended to an empty vector
 pub run_length : (most last : ℕ) (mid new : Option (List ℕ)) (before items : List ℕ) → before ≡ [] → (taken : TakesUntil 255 most mid new before items last)
     → length items ≡ length taken.run + 1
 run_length most last mid new before items none taken =
@@ -148,7 +148,7 @@ pub run_few : (most last : ℕ) (mid new : Option (List ℕ)) (before items : Li
 run_few most last mid new before items none taken =
     (omega (arith, run_length most last mid new before items none taken), omega (arith, run_length most last mid new before items none taken, taken.few))
 
--- so far, whatever the reader's first bytes were
+-- the state so far, in terms of the reader's bytes, if these are known
 abbrev pub HasGivenPassed : Matched → ℕ → Option (List ℕ) → Option (List ℕ) → Type 0
 HasGivenPassed matched count old new = Tells old → Tells new × IsPassing matched count (known old) (known new)
 

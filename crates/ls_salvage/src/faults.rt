@@ -1,11 +1,11 @@
-//! Why the reading of a recording stopped.
+//! The reasons why the reading of a recording stopped, and why its salvage did.
 ghost use Rattle.std.specs.Prelude.{◌≡◌, ℕ};
 ghost use Rattle.ls_salvage.specs.View.Ends.{salvage_fault};
 
 use std::alloc::AllocError;
 use thiserror::Error;
 
-/// Why no more is read.
+/// The reason why reading stopped.
 #[derive(Clone, Copy, Debug, Drop, PartialEq, Eq)]
 pub enum ReadFault {
     /// A read failed.
@@ -14,7 +14,7 @@ pub enum ReadFault {
     NoMemory,
     /// 4,294,967,295 bytes, the most of a codestream, show neither its end nor a fault.
     NoEnd,
-    /// A gap has more than 2^62 bytes.
+    /// No start was found in 2^62 bytes or more, and the search gave up.
     TooMuch,
 }
 
@@ -29,27 +29,27 @@ impl From<AllocError> for ReadFault {
     }
 }
 
-/// Why the salvage of a recording stopped.
+/// The reason why the salvage of a recording stopped.
 ///
-/// The text of exactly the frames of the parts before was written, except after `Output`, and exactly their gaps were
-/// told.
+/// Exactly the text of the frames of the parts before was written, except after `Output`, and exactly their gaps were
+/// reported.
 #[derive(Clone, Copy, Debug, Drop, PartialEq, Eq, Error)]
 pub enum SalvageFault {
-    /// A read failed when so many frames had been written.
+    /// A read failed after this many frames had been written.
     #[error("read failed")]
     Io(u64),
-    /// A write failed when exactly so many bytes of the text had gone out.
+    /// A write failed after exactly this many bytes of the text.
     #[error("output failed after {0} bytes")]
     Output(u64),
-    /// Memory was refused: for a codestream, its frame or its text, for bytes put back, or for telling of a gap. It is
+    /// An allocation failed: for a codestream, its frame or its text, for bytes put back, or for reporting a gap. It is
     /// no damage.
     #[error("no memory")]
     NoMemory,
     /// 4,294,967,295 bytes, the most of a codestream, show neither its end nor a fault. They can't be put back.
     #[error("no end within 4294967295 bytes")]
     NoEnd,
-    /// A frame numbered 4,294,967,295, the first past the most of a film; or, with the same text, a part after 2^62
-    /// bytes or a gap of more.
+    /// A frame numbered 4,294,967,295, the first past the most of a film. Or, with the same message: the parts so far
+    /// have 2^62 bytes or more, or the search for a start gave up after 2^62 bytes or more.
     #[error("too many frames")]
     TooMuch,
 }
@@ -66,7 +66,7 @@ impl From<AllocError> for SalvageFault {
 }
 
 impl SalvageFault {
-    /// What a fault of reading is to a salvage, after so many frames.
+    /// Converts a fault of reading to one of a salvage that has written this many frames.
     pub fn of(frames: u64, fault: ReadFault) -> SalvageFault
         ensures { result ≡ salvage_fault frames fault }
     {

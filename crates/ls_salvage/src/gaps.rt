@@ -1,4 +1,4 @@
-//! Gaps of a recording, and what is told of them.
+//! Gaps of a recording, and to whom they are reported.
 ghost use Rattle.std.specs.Prelude.{◌≡◌, List, [], ◌∷◌, Option, OnOk, OnErr};
 ghost use Rattle.ls_salvage.specs.declared.gaps.Gap.{Gap};
 ghost use Rattle.ls_salvage.specs.View.Telling.{TellsMore};
@@ -6,31 +6,31 @@ ghost use Rattle.ls_salvage.specs.View.Telling.{TellsMore};
 use ls_stream::StreamFault;
 use std::alloc::AllocError;
 
-/// Bytes of a recording that were passed over.
+/// Consecutive bytes of a recording that were passed over.
 #[derive(Clone, Copy, Debug, Drop, PartialEq, Eq)]
 pub struct Gap {
-    /// How many frames were shown before it.
+    /// The number of frames shown before it.
     pub frame: u64,
-    /// How many bytes of the recording stand before it.
+    /// The number of bytes of the recording before it.
     pub place: u64,
-    /// How many bytes it has.
+    /// The number of bytes in it.
     pub count: u64,
-    /// Why no codestream begins with its first byte; never `StreamFault::NoMemory`.
+    /// The fault of the bytes from its first on, with which no codestream begins; never `StreamFault::NoMemory`.
     pub fault: StreamFault,
 }
 
-/// What is told of gaps.
+/// Receives the gaps of a recording.
 pub trait Gaps {
-    /// The gaps that it was told of, in order, if they are known.
+    /// The gaps reported to it, in order, if they are known.
     ghost told: { Self → Option (List Gap) };
 
-    /// Tells of one gap more. If an allocation fails, it wasn't told.
+    /// Reports one more gap. If an allocation fails, the gap isn't reported.
     fn tell(&mut self, gap: Gap) -> Result<(), AllocError>
         ensures told { OnOk result (TellsMore (told self.old) (told self.new) (gap ∷ [])) }
         ensures kept { OnErr result (told self.new ≡ told self.old) };
 }
 
-/// Gaps in memory, in order.
+/// Collects the gaps in memory, in order.
 impl Gaps for Vec<Gap> {
     ghost use Rattle.std.specs.Prelude.{Some};
 

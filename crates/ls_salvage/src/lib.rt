@@ -1,10 +1,11 @@
-//! Salvage: the frames of a recording that is damaged, and the gaps between them.
+//! Salvage: reading the frames of a damaged recording, and the gaps between them.
 //!
-//! What it hands on: a recording's bytes are parts, each a frame's codestream or a gap (`specs/Salvage.antt`), and they
-//! are settled by the bytes (`specs/View/Salvaged.antt`); a gap goes up to the next place where a codestream may begin
-//! (`specs/Starts.antt`). A salvage writes the frames and tells of the gaps, or says which parts it got through
-//! (`specs/View/Runs.antt`). Wherever a whole codestream of a frame stands, it is shown, unless one that is shown holds
-//! its beginning; and with no damage a salvage shows what `ls_film::play` does (`laws`).
+//! A recording's bytes are parts, each a frame's codestream or a gap (`specs/Salvage.antt`), and the bytes determine
+//! the parts (`specs/View/Salvaged.antt`). A gap goes up to the next start, that is, the next place where a codestream
+//! may begin (`specs/Starts.antt`). A salvage writes the frames and reports the gaps, or says after which parts it
+//! stopped (`specs/View/Runs.antt`); it gives up after 2^62 bytes, and where no start is found within that many.
+//! Wherever a complete codestream of a frame stands, it is shown, unless one that is shown holds its beginning; and
+//! with no damage a salvage shows what `ls_film::play` does (`laws`).
 //!
 //! ```
 //! use ls_salvage::{Gap, SalvageFault, salvage_bytes};
@@ -19,12 +20,12 @@
 //! ```
 //!
 //! Over files, `salvage` takes a `Buffered::new(alloc, Counted::new(file))?` and a `Counted::new(file)`, of `ls_frame`,
-//! a text (`ImageText`, or `NoText` to look for damage alone), and who is told of the gaps (`Gaps`; a `Vec<Gap>` is
-//! one).
+//! a text (`ImageText`, or `NoText` to look only for damage), and a receiver of the gaps (`Gaps`, which a `Vec<Gap>`
+//! implements).
 //!
-//! In reading order: `salvaging` (part by part), `parts` (the next part), `starts` (the next place where a codestream
-//! may begin), `gaps` (who is told of them), `texts` (what is written of frames), `faults` (why a salvage stopped),
-//! `memory` (over bytes in memory), `laws`.
+//! In reading order: `salvaging` (part by part), `parts` (the next part), `starts` (the search for the next start),
+//! `gaps` (to whom they are reported), `texts` (what is written of frames), `faults` (why a salvage stopped), `memory`
+//! (over bytes in memory), `laws`.
 #![tactic(auto)]
 
 pub mod faults;

@@ -16,12 +16,13 @@ use ls_frame::{Buffered, Counted};
 use ls_stream::laws::{no_codestream_begins_another, one_frame_each};
 use std::alloc::Global;
 
-/// The canonical Netpbm images of a recording's frames, as far as they were written, its gaps, as far as they were
-/// told, and how the salvage ended.
+/// Salvages a recording in memory: the canonical Netpbm images of its frames, as far as they were written, its gaps, as
+/// far as they were reported, and how the salvage ended.
 ///
-/// Each whole codestream of a frame is shown, unless one that is shown holds its beginning. A fault says what `salvage`
-/// says of it; it is never `Io`, since memory is read, and `Output` says that memory was refused for the images. If the
-/// recording is the codestreams of frames and nothing else, these are shown and there is no gap; or memory was refused.
+/// Each complete codestream of a frame is shown, unless one that is shown holds its beginning. A fault means what
+/// `salvage` says of it; it is never `Io`, since memory is read, and `Output` means that an allocation failed for the
+/// images. If the recording is codestreams of frames and nothing else, fewer than 2^62 bytes and no more frames than a
+/// film may have, these are shown and there is no gap, unless an allocation fails.
 pub fn salvage_bytes(
     alloc: Global,
     recording: &[u8],

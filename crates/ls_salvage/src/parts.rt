@@ -13,29 +13,30 @@ use ls_frame::{Buffered, Feed, Frame};
 use ls_stream::{NextFault, StreamFault, decode_frame, next_stream};
 use std::alloc::Global;
 
-/// What is found where a codestream is due.
+/// A frame or a fault, found where a codestream should begin.
 #[derive(Drop)]
 enum Found {
-    /// A frame, and how many bytes its codestream has.
+    /// A frame, and the number of bytes of its codestream.
     Frame(Frame, u64),
-    /// Why there is none, and the bytes that were read.
+    /// The fault, and the bytes that were read.
     Fault(StreamFault, Vec<u8>),
 }
 
 /// The next part of a recording.
 #[derive(Drop)]
 pub enum NextPart {
-    /// A frame, and how many bytes its codestream has.
+    /// A frame, and the number of bytes of its codestream.
     Frame(Frame, u64),
-    /// How many bytes were passed over, and why.
+    /// The number of bytes passed over, and why.
     Gap(u64, StreamFault),
 }
 
 /// Takes the next part of a recording off a reader, and not a byte more; `None` exactly at the end.
 ///
-/// A part has less than 2^63 bytes. `Io` and `NoMemory` say that a read or an allocation failed; `NoEnd`, that as many
-/// bytes as a codestream may have show neither its end nor a fault; `TooMuch`, that none begins here and 2^62 bytes or
-/// more are left, past the most that are passed over. After a fault nothing is said of the reader's place.
+/// A part has at least one byte and fewer than 2^63. `Io` and `NoMemory` say that a read or an allocation failed;
+/// `NoEnd`, that as many bytes as a codestream may have show neither its end nor a fault; `TooMuch`, that no codestream
+/// begins here, 2^62 bytes or more are left, and the search for the next start gave up. After a fault nothing is said
+/// of the reader's position.
 pub fn next_part<R: Feed>(
     alloc: Global,
     reader: &mut Buffered<R>,
@@ -62,8 +63,8 @@ pub fn next_part<R: Feed>(
     }
 }
 
-/// Takes the next codestream off a reader and decodes it; `None` exactly at the end. That memory is refused is no fault
-/// of the bytes.
+/// Takes the next codestream off a reader and decodes it; `None` exactly at the end. A failed allocation is returned as
+/// `NoMemory`, not as a fault of the bytes.
 fn find_next<R: Feed>(alloc: Global, reader: &mut R) -> Result<Option<Found>, ReadFault>
     ensures found { IfOk result (λ next. IfSome next (λ found. IsFound (R.remaining reader.old) (R.remaining reader.new) found)) }
     ensures end { IfOk result (λ next. IfNone next (WasAtEnd (R.remaining reader.old) (R.remaining reader.new))) }
@@ -79,7 +80,7 @@ fn find_next<R: Feed>(alloc: Global, reader: &mut R) -> Result<Option<Found>, Re
         Err(NextFault::Io) => return Err(ReadFault::Io),
         Err(NextFault::NoMemory) => return Err(ReadFault::NoMemory),
     };
-    // The frame's memory can begin behind the codestream then, and not behind room for more of it.
+    // So the frame's memory can begin right after the codestream, and not after unused capacity.
     bytes.shrink_to_fit();
     match decode_frame(alloc, &bytes) {
         Ok(decoded) => Ok(Some(Found::Frame(decoded.frame, bytes.len() as u64))),
@@ -88,7 +89,7 @@ fn find_next<R: Feed>(alloc: Global, reader: &mut R) -> Result<Option<Found>, Re
     }
 }
 
-/// Whether memory was refused, which is no fault of the bytes.
+/// Whether an allocation failed, which is no fault of the bytes.
 fn is_refusal(fault: StreamFault) -> bool
     ensures { result ≡ is_refusal fault }
 {
@@ -98,8 +99,9 @@ fn is_refusal(fault: StreamFault) -> bool
     }
 }
 
-/// Passes over bytes that were read, of which no front is a codestream, and those after them up to the next start, and
-/// says how many they are. All but the first of those that were read are put back for that.
+/// Passes over a gap, and returns the number of its bytes. It begins with the first of the bytes that were read, no
+/// front of which is a codestream, and goes up to the next start after that byte. The other bytes that were read are
+/// put back first, since that start may be among them.
 pub fn pass_gap<R: Feed>(
     alloc: Global,
     reader: &mut Buffered<R>,

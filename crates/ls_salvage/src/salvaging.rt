@@ -1,4 +1,4 @@
-//! Salvage: the frames of a recording's whole codestreams are written, and its gaps told.
+//! Salvage: writes the frames of a recording's complete codestreams, and reports the gaps.
 ghost use Rattle.std.specs.Prelude.{◌≡◌, ℕ, ◌<◌, ◌≤◌, ◌^◌, List, Option, IfOk, IfErr, OnErr};
 ghost use Rattle.ls_frame.specs.Picture.{Picture};
 ghost use Rattle.ls_salvage.specs.declared.gaps.Gap.{Gap};
@@ -19,21 +19,21 @@ use ls_frame::{Buffered, Feed, Frame, Outlet, write_bytes};
 use ls_stream::StreamFault;
 use std::alloc::Global;
 
-/// How many frames a salvage wrote, and how many gaps it told.
+/// The number of frames that a salvage wrote, and the number of gaps that it reported.
 #[derive(Clone, Copy, Debug, Drop, PartialEq, Eq)]
 pub struct Salvaged {
     /// The frames whose text was written.
     pub frames: u64,
-    /// The gaps that were told.
+    /// The gaps that were reported.
     pub gaps: u64,
 }
 
-/// How far a salvage is.
+/// The progress of a salvage.
 #[derive(Clone, Copy)]
 struct Progress {
     /// The frames that were written.
     frames: u64,
-    /// The gaps that were told.
+    /// The gaps that were reported.
     gaps: u64,
     /// The bytes of the parts so far.
     place: u64,
@@ -41,17 +41,17 @@ struct Progress {
     written: u64,
 }
 
-/// Writes the text of the frames of a recording, wherever a whole codestream of one stands, tells of the gaps between
-/// them, and says how many there were of each.
+/// Writes the text of the frames of a recording, wherever a complete codestream of one stands, reports the gaps between
+/// them, and returns how many there were of each.
 ///
 /// After bytes that begin with no codestream it goes on at the next start after the first of them: SOI, and FF with a
-/// code that may follow it. With no damage it writes what `ls_film::play` does. A frame is written whole before the
-/// next part is read. If the bytes of reader and writer are known (as in memory), and what was told, the clauses say
-/// which they were. After a fault nothing is said of the reader's place.
+/// code that may follow it. The search for a start gives up after 2^62 bytes (`TooMuch`). With no damage it writes what
+/// `ls_film::play` does. A frame is written completely before the next part is read. If the bytes of reader and writer
+/// are known (as in memory), and the gaps reported, the clauses say which they were. After a fault nothing is said of
+/// the reader's position.
 ///
-/// It holds the bytes of one codestream, or as far as they are read of what should be one, and its frame. Of bytes at
-/// fault it holds two copies while they are put back: after a gap's first byte these are read again, from the next
-/// start on.
+/// Holds in memory the bytes of one codestream, or what was read of a damaged one, and its frame. Bytes at fault are
+/// held twice while they are put back: all but the first are read again, to find the next start.
 pub fn salvage<T: Text, G: Gaps, R: Feed, W: Outlet>(
     alloc: Global,
     reader: &mut Buffered<R>,
@@ -96,7 +96,7 @@ impl Progress {
     }
 }
 
-/// Writes the text of a frame, or tells of a gap, and says how far it is then.
+/// Writes the text of a frame, or reports a gap. Returns the progress after it.
 fn hand_on<T: Text, G: Gaps, W: Outlet>(
     alloc: Global,
     next: NextPart,
@@ -122,7 +122,7 @@ fn hand_on<T: Text, G: Gaps, W: Outlet>(
     }
 }
 
-/// Writes the chunk of the frame of so many bytes.
+/// Writes the chunk of a frame whose codestream has `count` bytes. Returns the progress after it.
 fn show_frame<T: Text, W: Outlet>(
     alloc: Global,
     frame: &Frame,
@@ -152,7 +152,7 @@ fn show_frame<T: Text, W: Outlet>(
     }
 }
 
-/// Tells of the gap of so many bytes.
+/// Reports a gap of `count` bytes. Returns the progress after it.
 fn tell_gap<G: Gaps>(
     count: u64,
     fault: StreamFault,

@@ -1,4 +1,4 @@
-//! Looking for the next place where a codestream may begin.
+//! The search for the next start, that is, for the next place where a codestream may begin.
 ghost use Rattle.std.specs.Prelude.{◌≡◌, ◌≢◌, ◌⊎◌, ◌<◌, ◌≤◌, ◌+◌, length, true, false, IfOk, IfErr, IfSome, IfNone};
 ghost use Rattle.std.specs.List.{AllByRecursion};
 ghost use Rattle.ls_frame.specs.View.Chunks.{left_in, inner_reader};
@@ -12,7 +12,7 @@ use crate::faults::ReadFault;
 use ls_frame::{Buffered, Feed, FeedFault};
 use std::alloc::Global;
 
-/// The byte before the code of each marker, before which it may stand as a fill byte too (T.81 B.1.1.2).
+/// The byte before the code of each marker; it may also stand before a marker as a fill byte (T.81 B.1.1.2).
 const FF: u8 = 0xFF;
 
 /// The code of SOI, start of image (T.81 B.2.1 and Table B.1).
@@ -33,13 +33,13 @@ const APP0: u8 = 0xE0;
 /// The code of APP15, the last for application data (T.81 Table B.1).
 const APP15: u8 = 0xEF;
 
-/// The bytes that are asked of the reader at once.
+/// The most bytes that are asked of the reader at once.
 const MOST_AT_ONCE: usize = 65_536;
 
-/// The most bytes that are passed over for a start, and that stand before a part: 2^62.
+/// After this many bytes the search for a start gives up; after parts of this many bytes a salvage does: 2^62.
 pub const MOST_PLACE: u64 = 4_611_686_018_427_387_904;
 
-/// How much of SOI and the FF after it was just read.
+/// The part of a start, up to the FF after SOI, that was just read.
 #[derive(Clone, Copy)]
 enum Matched {
     Nothing,
@@ -51,10 +51,11 @@ enum Matched {
     SoiAndFf,
 }
 
-/// Takes the bytes up to the next start off a reader, or all if there is none, and says how many they were.
+/// Takes the bytes up to the next start off a reader, or all if there is none, and returns the number of them, at most
+/// 2^62 + 65,536.
 ///
-/// It keeps 64 KiB of them at most. `TooMuch` says that there were 2^62 bytes without a start; `Io` and `NoMemory`,
-/// that a read or an allocation failed. After a fault nothing is said of the reader's place.
+/// Holds at most 64 KiB of them. The search gives up after 2^62 bytes without a complete start: `TooMuch`. `Io` and
+/// `NoMemory` say that a read or an allocation failed. After a fault nothing is said of the reader's position.
 pub fn skip_to_start<R: Feed>(alloc: Global, reader: &mut Buffered<R>) -> Result<u64, ReadFault>
     ensures skipped { IfOk result (λ count. Tells (left_in R.remaining reader.old)
         → Tells (left_in R.remaining reader.new) × HasSkipped count (known (left_in R.remaining reader.old)) (known (left_in R.remaining reader.new))) }
@@ -85,7 +86,8 @@ pub fn skip_to_start<R: Feed>(alloc: Global, reader: &mut Buffered<R>) -> Result
     Err(ReadFault::TooMuch)
 }
 
-/// Takes bytes up to and with the first FF, `most` at most, and answers the last of them; `None` at the end of input.
+/// Takes bytes up to and including the first FF, at most `most`, and appends them. Returns the last of them; `None` at
+/// the end of input. Requires that `most` is at least 1.
 fn next_bytes<R: Feed>(
     reader: &mut R,
     most: usize,
@@ -107,7 +109,7 @@ fn next_bytes<R: Feed>(
 }
 
 impl Matched {
-    /// How many bytes may be taken at once: all up to an FF as long as nothing is matched, else one.
+    /// The number of bytes that may be taken at once: up to the next FF while nothing is matched, else one.
     fn most_at_once(self) -> usize
         ensures some { 0 < result }
         ensures most { result ≤ 65536 }
@@ -119,7 +121,7 @@ impl Matched {
         }
     }
 
-    /// How much is matched with one byte more; `None` if it is a start.
+    /// Matches one more byte. Returns how much is matched then; `None` if the byte completes a start.
     #[tactic(auto, using(crate::proofs::SkipLemmas::after_lemmas))]
     fn after(self, byte: u8) -> Option<Matched>
         ensures goes_on { IfSome result (λ next. GoesOn self byte next) }
@@ -135,7 +137,7 @@ impl Matched {
     }
 }
 
-/// The same after SOI and FF.
+/// As `Matched::after`, when SOI and FF are matched.
 #[tactic(auto, using(crate::proofs::SkipLemmas::after_ff_lemmas))]
 fn after_ff(byte: u8) -> Option<Matched>
     ensures goes_on { IfSome result (λ next. GoesOn Matched.SoiAndFf byte next) }
@@ -150,8 +152,8 @@ fn after_ff(byte: u8) -> Option<Matched>
     Some(Matched::Nothing)
 }
 
-/// Whether this byte may stand after SOI and FF: the code of a marker that may, or FF, since the one before it may be a
-/// fill byte.
+/// Whether this byte may follow SOI and FF: the code of a marker that may, or FF, since the one before it may be a fill
+/// byte.
 fn may_follow_soi(code: u8) -> bool
     ensures { result ≡ may_follow_soi code }
 {

@@ -1,4 +1,4 @@
-//! What is written of the frames of a recording.
+//! The text that is written of the frames of a recording.
 ghost use Rattle.std.specs.Prelude.{[], refl};
 
 use ls_film::engine::Text;
@@ -6,7 +6,7 @@ pub use ls_film::playing::ImageText;
 use ls_frame::Frame;
 use std::alloc::{AllocError, Global};
 
-/// Nothing, for callers that look for damage alone.
+/// A text with nothing in it, for callers that only look for damage.
 pub struct NoText;
 
 impl Text for NoText {

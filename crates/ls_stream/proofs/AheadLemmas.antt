@@ -1,5 +1,5 @@
--- Miscellaneous segments at the front of bytes, up to another marker: what is read of bytes is spelled so, what is spelled so is
--- read, and a segment more.
+-- Miscellaneous segments at the front of bytes, up to another marker: what is read of bytes is what they are by the grammar, what is so by
+-- the grammar is read, and one more segment.
 use Rattle.std.proofs.Common.{◌≡◌, ℕ, zero, suc, ◌+◌, ◌^◌, ◌<◌, ◌≤◌, Bool, true, false, List, [], ◌∷◌, ◌++◌, length, replicate, Option, None, Some, Ok, Err, refl, sym, ap, subst, ◌∙◌, arith, append_assoc, length-append}
 use Rattle.std.specs.Prelude.{IsTrue}
 use Rattle.std.proofs.lemmas.Bool.{false≢true}
@@ -27,7 +27,7 @@ abbrev pub MayCome : Bool → Miscellaneous → Type 0
 MayCome true s = MayFollowScan s
 MayCome false s = Unit {0}
 
--- a miscellaneous segment stands in front
+-- a miscellaneous segment is at the front
 pub record SegmentRead (late : Bool) (written : Parameters) (bytes : List ℕ) (last : Parameters) (rest : List ℕ) : Type 0 where
   pub one : Miscellaneous
   pub whole : bytes ≡ one_miscellaneous_bytes one ++ rest
@@ -35,7 +35,7 @@ pub record SegmentRead (late : Bool) (written : Parameters) (bytes : List ℕ) (
   pub may : MayCome late one
   pub last_is : last ≡ last_presets written (one ∷ [])
 
--- a marker that isn't of a miscellaneous segment, and may stand somewhere
+-- a marker that isn't of a miscellaneous segment, and that may come somewhere
 abbrev pub Stops : Marker → Type 0
 Stops StartOfImage = ⊥
 Stops EndOfImage = Unit {0}
@@ -56,7 +56,7 @@ stop_is (Application code) stops = absurd stops
 stop_is Comment stops = absurd stops
 stop_is (Other code) stops = absurd stops
 
--- a marker stands in front, and fill bytes before it
+-- a marker is at the front, after fill bytes
 pub record MarkerRead (written : Parameters) (bytes : List ℕ) (m : Marker) (last : Parameters) (rest : List ℕ) : Type 0 where
   pub fill : ℕ
   pub whole : bytes ≡ filled fill (marker m) ++ rest
@@ -145,7 +145,7 @@ part_read late written bytes found are e =
     let read = marker_read bytes next.0 next.1 in
     after_read late written bytes next.0.1 read.0 next.0.0 found (bytes_along (filled read.0 (marker next.0.0)) next.0.1 are read.1) read.2 read.1 next.2
 
--- ---- what is left is shorter
+-- ---- fewer bytes are left
 
 skipped_shorter : (written : Parameters) (bytes : List ℕ) (found : Found) → skipped_at written bytes ≡ Ok found → length found.2 ≤ length bytes
 skipped_shorter written bytes found e =
@@ -191,7 +191,7 @@ part_shorter late written bytes found e =
       length-append (replicate read.0 255) (marker next.0.0),
     )
 
--- ---- one segment more
+-- ---- one more segment
 
 next_by : (o : Option Marker) (last : Parameters) (rest : List ℕ) (f g : Parameters → List ℕ → Ahead) → (o ≡ None → f last rest ≡ g last rest)
     → unless_marker f o last rest ≡ unless_marker g o last rest
@@ -203,7 +203,7 @@ same_next : (r : Part) (f g : Parameters → List ℕ → Ahead) → ((last : Pa
 same_next (Ok found) f g same = next_by found.0 found.1 found.2 f g (λ none. same found.1 found.2 (ap (λ (o : Option Marker). Ok (o, found.1, found.2)) none))
 same_next (Err fault) f g same = refl
 
--- the length of the bytes is enough
+-- the number of bytes is enough
 enough : (late : Bool) (a b : ℕ) (written : Parameters) (bytes : List ℕ) → length bytes ≤ a → length bytes ≤ b → ahead_within a late written bytes ≡ ahead_within b late written bytes
 unfolding ahead_within part_at marker_at
 enough late zero zero written bytes first second = refl
@@ -296,9 +296,9 @@ pub ahead_read : (late : Bool) (written : Parameters) (bytes : List ℕ) (found 
 unfolding ahead_at
 ahead_read late written bytes found are e = within_read (length bytes) late written bytes found are e
 
--- ---- what is spelled is read
+-- ---- what is so by the grammar is read
 
--- a skipped marker has a code of its own, as that of preset parameters has, and what stands after it is skipped
+-- a skipped marker has a code of its own, as has that of preset parameters, and what follows it is skipped
 skipped_is : (m : Marker) → IsTrue (is_skipped m) → IsMarker m
 skipped_is StartOfImage is = absurd (false≢true is)
 skipped_is EndOfImage is = absurd (false≢true is)
@@ -324,7 +324,7 @@ after_skipped late written (Application code) bytes is = refl
 after_skipped late written Comment bytes is = refl
 after_skipped late written (Other code) bytes is = absurd (false≢true is)
 
--- a marker and what stands after it
+-- a marker and what follows it
 pub part_after : (late : Bool) (written : Parameters) (fill : ℕ) (m : Marker) (rest : List ℕ) → IsMarker m
     → part_at late written (filled fill (marker m) ++ rest) ≡ after_marker late written m rest
 unfolding part_at

@@ -1,4 +1,4 @@
--- Bytes have one first fault, and so what is taken as the next codestream is decoded as all bytes from it on are.
+-- Bytes have one first fault, so what is taken as the next codestream is decoded as all bytes from it on are.
 use Rattle.std.proofs.lemmas.List.{length-take}
 use Rattle.std.proofs.Common.{◌≡◌, ◌↔◌, ℕ, ◌≤◌, List, [], ◌++◌, length, take, drop, inl, inr, Option, None, Some, Result, Ok, Err, sym, ◌∙◌, ap, subst, append_assoc, append-nil, take-append-drop, arith}
 use Rattle.std.specs.Prelude.{IfOk, IfSome, MatchOption}

@@ -1,5 +1,5 @@
--- Reading the outline of a codestream goes along with reading its extent: each part that the one reads the other passes, and where
--- the one wants a byte that isn't there, so does the other.
+-- Reading the outline of a codestream goes along with reading its extent: each part that the one reads the other passes, and where the one
+-- needs a byte after the end, so does the other.
 use Rattle.std.proofs.Common.{◌≡◌, ℕ, zero, suc, ◌+◌, ◌*◌, ◌<◌, ◌&&◌, Bool, true, false, cond, eqb, leb, List, [], ◌∷◌, length, drop, Option, None, Some, Result, Ok, Err, MatchResult, refl, sym, ap, subst, arith}
 use Rattle.std.specs.Prelude.{slice_index, not}
 use Rattle.ls_frame.specs.declared.frame.Kind.{Kind}
@@ -44,7 +44,7 @@ both_along : {X Y : Type 0} (then : Y → Left) (r : Result X StreamFault) (f : 
 both_along then (Ok x) f g next = next x
 both_along then (Err fault) f g next = λ e. ap (λ d. failed {X = List ℕ} d) e
 
--- a step that wants no byte
+-- a step that needs no byte
 IsNoByte : {X : Type 0} → Result X StreamFault → Type 0
 IsNoByte r = r ≡ Err Truncated → ⊥
 
@@ -54,13 +54,13 @@ unfolding IsNoByte
 inside_along then (Ok x) f extent no_byte next = next x
 inside_along {X} then (Err fault) f extent no_byte next = λ e. absurd (no_byte (ap (λ d. failed {X = X} d) e))
 
--- a test that is met, or another fault than the end
+-- a test that passes, or a fault other than the end
 tested_along : {Y : Type 0} (then : Y → Left) (test : Bool) (fault : StreamFault) (r : Result Y StreamFault) (extent : Left) → (fault ≡ Truncated → ⊥)
     → (test ≡ true → IsAlong then r extent) → IsAlong then (wanted test fault >>= λ passed. r) extent
 tested_along then true fault r extent other next = next refl
 tested_along then false fault r extent other next = λ e. absurd (other e)
 
--- ---- contents want no byte
+-- ---- contents need no byte
 
 no_bad : BadSegment ≡ Truncated → ⊥
 no_bad e = cc

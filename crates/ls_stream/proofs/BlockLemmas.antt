@@ -1,4 +1,4 @@
--- A block of samples that are known ahead.
+-- A block of samples that are examined ahead.
 use Rattle.std.proofs.Common.{◌≡◌, ℕ, ◌+◌, ◌-◌, ◌<◌, ◌≤◌, ℤ, pos, List, length, get_or, sym, ◌∙◌, ap, subst, inl, inr, arith}
 use Rattle.std.proofs.Math.ListN.{set}
 use Rattle.std.proofs.lemmas.Bool.{cases_lt}
@@ -12,7 +12,7 @@ made context prediction sample = record { context = context; prediction = predic
 same_parts : (a b c x y z : ℕ) → a ≡ x → b ≡ y → c ≡ z → made x y z ≡ made a b c
 same_parts a b c x y z e f g = ap (λ n. made n y z) (sym e) ∙ ap (λ n. made a n z) (sym f) ∙ ap (made a b) (sym g)
 
--- one place more of which something holds
+-- something holds of one more place
 pub one_more : (xs ys zs : List ℕ) (start k : ℕ) (one : Mirrored) (P : ℕ → Mirrored → Type 0) → start ≤ k → k - start < length xs → k - start < length ys → k - start < length zs → P k one
     → ((j : ℕ) → start ≤ j → j < k → P j (made (get_or xs (j - start) 0) (get_or ys (j - start) 0) (get_or zs (j - start) 0)))
     → (j : ℕ) → start ≤ j → j < k + 1
@@ -31,7 +31,7 @@ one_more xs ys zs start k one P from in_xs in_ys in_zs here before j low high =
           (same_parts _ _ _ _ _ _ (get_or-set_same xs (k - start) one.context 0 in_xs) (get_or-set_same ys (k - start) one.prediction 0 in_ys) (get_or-set_same zs (k - start) one.sample 0 in_zs)) here)
     ]
 
--- ---- a block of what the line above says
+-- ---- a block of what the line above decides
 
 abbrev seen : ℤ → ℕ → ℕ → FromAbove
 seen half rise fall = record { half = half; rise = rise; fall = fall }

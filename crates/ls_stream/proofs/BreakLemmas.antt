@@ -1,4 +1,4 @@
--- A fault of what is read off bytes is one of the ways in which they break the grammar.
+-- A fault of reading bytes is one of the ways in which they break the grammar.
 use Rattle.std.proofs.Common.{◌≡◌, ℕ, zero, suc, ◌+◌, ◌-◌, ◌*◌, ◌≤◌, Bool, true, false, cond, leb, eqb, List, [], ◌∷◌, ◌++◌, length, take, drop, replicate, inl, inr, Option, None, Some, Result, Ok, Err, refl, sym, ap, subst, ◌∙◌, arith, append_assoc}
 use Rattle.std.specs.List.{AllByRecursion}
 use Rattle.std.proofs.lemmas.Bool.{cases_Bool, cond-true, cond-false, eqb-true, eqb-false, leb-true, leb-false}
@@ -139,7 +139,7 @@ part_breaks d written bytes fault are e = elim (step_err (marker_at bytes) (λ n
       after_breaks d written read.0 next.0.0 next.0.1 bytes fault (bytes_along (filled read.0 (marker next.0.0)) next.0.1 are read.1) read.1 (marker_is bytes next.0 next.1) next.2
 ]
 
--- ---- miscellaneous segments, and what stands after them
+-- ---- miscellaneous segments, and what follows them
 
 may_stand : (late : Bool) (s : Miscellaneous) → MayPrecedeScans s → MayCome late s → MayStand late s
 may_stand true s lawful may = may

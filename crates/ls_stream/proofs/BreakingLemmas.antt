@@ -1,4 +1,4 @@
--- How bits break where a span is due, as the calls say it.
+-- How bits break where a span is due, in the form of the contracts.
 use Rattle.std.proofs.Common.{◌≡◌, ℕ, ◌+◌, ◌-◌, ◌^◌, ◌<◌, min, Bool, true, List, ◌∷◌, Result, Ok, Err, inl, inr, subst}
 use Rattle.std.specs.Prelude.{IfErr}
 use Rattle.ls_bits.specs.declared.source.CodeFault.{CodeFault}

@@ -1,4 +1,4 @@
--- What is written of a frame are bytes.
+-- The codestream that is written for a frame consists of bytes.
 use Rattle.std.proofs.Common.{ℕ, zero, suc, ◌+◌, ◌^◌, ◌<◌, ◌≤◌, ◌++◌, [], ◌∷◌, Bool, true, false, cond, List, length, map, flat_map, inr, refl, sym, subst, arith}
 use Rattle.std.specs.List.{range_with_len}
 use Rattle.ls_frame.specs.declared.frame.Kind.{Kind}

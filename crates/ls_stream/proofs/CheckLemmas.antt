@@ -1,4 +1,4 @@
--- The contents of segments fail with the fault of the first check that isn't met.
+-- Contents of segments fail with the fault of the first check that they don't pass.
 use Rattle.std.proofs.Common.{◌≡◌, ℕ, ◌+◌, Bool, true, false, cond, eqb, List, [], ◌∷◌, get_or, None, Some, Result, Ok, Err, MatchResult, refl, sym, subst}
 use Rattle.std.specs.Prelude.{◌||◌, not}
 use Rattle.std.specs.List.{list_any}
@@ -12,7 +12,7 @@ use Rattle.ls_stream.specs.Faults.{Check, first_unmet, component_checks, size_ch
 use Rattle.ls_stream.specs.Segments.{field_of}
 use Rattle.ls_stream.specs.View.Reading.{◌>>=◌, wanted, kind_of_count, id_of, ids_of, frame_header_of, preset_fields_of, scan_header_of}
 
--- what is read passes the checks, and a fault is that of the first that isn't met
+-- what is read passes the checks, and a fault is that of the first check that fails
 pub record Agrees {X : Type 0} (checks : List Check) (r : Result X StreamFault) : Type 0 where
   pub same : MatchResult r (λ x. first_unmet checks ≡ None) (λ fault. first_unmet checks ≡ Some fault)
 
@@ -105,7 +105,7 @@ frame_agrees contents =
     (test_agrees _ _ _ _ (named_gray contents (size_checks 1 contents) _ (λ ids. test_agrees _ _ _ _ (record { same = refl }))))
     (test_agrees _ _ _ _ (named_color contents (size_checks 3 contents) _ (λ ids. test_agrees _ _ _ _ (record { same = refl }))))))))
 
--- ---- what that says of faults and of what is read
+-- ---- for faults, and for what is read
 
 pub unmet_of : {X : Type 0} (checks : List Check) (r : Result X StreamFault) (fault : StreamFault) → Agrees checks r → r ≡ Err fault → first_unmet checks ≡ Some fault
 unmet_of checks r fault agrees e = MatchResult-at_err (λ x. first_unmet checks ≡ None) (λ fault. first_unmet checks ≡ Some fault) fault e agrees.same

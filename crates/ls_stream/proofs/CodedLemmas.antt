@@ -1,4 +1,4 @@
--- The bits of spans after events are those from the state of the events on.
+-- The bits of spans after events are those from the events' state on.
 use Rattle.std.proofs.Common.{◌≡◌, ℕ, ◌+◌, Bool, true, false, cond, List, [], ◌∷◌, ◌++◌, refl, sym, ◌∙◌, ap, append_assoc}
 use Rattle.ls_frame.specs.Parameters.{Parameters}
 use Rattle.ls_coding.specs.Interruptions.{Counts, ri_type_of, interruption_error}

@@ -1,4 +1,4 @@
--- The contexts of a row, kept as numbers with a sign.
+-- The contexts of a row, kept as signed numbers.
 use Rattle.std.proofs.Common.{◌≡◌, ℕ, zero, suc, ◌+◌, ◌<◌, ◌≤◌, false, ℤ, pos, negsuc, List, length, get_or, refl, sym, ◌∙◌, subst, inl, inr, arith}
 use Rattle.std.proofs.Math.ListN.{set}
 use Rattle.std.proofs.lemmas.Bool.{cases_lt, ne_eqb}
@@ -8,7 +8,7 @@ use mir.Val.{of_z}
 use Rattle.ls_coding.specs.declared.neighbours.Neighbours.{Neighbours}
 use Rattle.ls_coding.specs.Contexts.{is_zero, is_run}
 
--- one place more of which something holds
+-- something holds of one more place
 pub set_more : (xs : List ℤ) (start k : ℕ) (x : ℤ) (P : ℕ → ℤ → Type 0) → k < length xs → P k x → ((j : ℕ) → start ≤ j → j < k → P j (get_or xs j (pos 0)))
     → (j : ℕ) → start ≤ j → j < k + 1 → P j (get_or (set xs k x) j (pos 0))
 set_more xs start k x P inside here before j low h =

@@ -1,4 +1,4 @@
--- The words that a decoder takes, and the samples that they are of.
+-- The words that a decoder reads, and the samples that they stand for.
 use Rattle.std.proofs.Common.{◌≡◌, ℕ, ◌+◌, ◌/◌, ◌^◌, ◌<◌, arith, ◌≤◌, List, Bool, ◌++◌, refl, sym, ◌∙◌, ap, subst}
 use Rattle.ls_bits.specs.declared.source.CodeFault.{CodeFault}
 use Rattle.ls_bits.specs.declared.source.CodeFault.TheVariants.{OutOfBits, NotCanonical}
@@ -18,7 +18,7 @@ no_word : (k glimit qbpp v : ℕ) (bits rest : List Bool) (fault : CodeFault) �
 no_word k glimit qbpp v bits rest NotCanonical golomb fault word = canonical k glimit qbpp bits v rest golomb word fault
 no_word k glimit qbpp v bits rest OutOfBits golomb fault word = fault.0 v word.value (rest, word.word)
 
--- by which code the words of all samples of a kind are read
+-- the code of the words of all samples of a kind
 pub record IsCode (plan : Planned) (word_of : ℕ → Word) (k glimit qbpp maxval : ℕ) : Type 0 where
   pub golomb : IsGolomb plan.k plan.glimit (qbpp_of maxval)
   pub read_by : (x : ℕ) → IsReadBy plan (word_of x)
@@ -42,7 +42,7 @@ given : (plan : Planned) (word_of : ℕ → Word) (k glimit qbpp maxval : ℕ) (
 given plan word_of k glimit qbpp maxval P code h =
     subst (λ n. P plan.k plan.glimit n) code.qbpp_is (subst (λ n. P plan.k n qbpp) code.glimit_is (subst (λ n. P n glimit qbpp) code.k_is h))
 
--- nothing is taken where no word is in front
+-- no word is read if none is at the front
 pub none_taken : (plan : Planned) (word_of : ℕ → Word) (k glimit qbpp maxval x : ℕ) (bits rest : List Bool) (fault : CodeFault) → IsCode plan word_of k glimit qbpp maxval
     → GolombFault k glimit qbpp bits fault → (word_of x).value ≤ most_value (qbpp_of maxval)
     → bits ≡ code_word (word_of x).k (word_of x).glimit (qbpp_of maxval) (word_of x).value ++ rest → ⊥
@@ -50,7 +50,7 @@ none_taken plan word_of k glimit qbpp maxval x bits rest fault code malformed sm
     no_word plan.k plan.glimit (qbpp_of maxval) (word_of x).value bits rest fault code.golomb
     (given plan word_of k glimit qbpp maxval (λ a b c. GolombFault a b c bits fault) code malformed) (takes plan word_of k glimit qbpp maxval x bits rest code small e)
 
--- the word that was taken is the one that is in front
+-- the word that was read is the one at the front
 taken_is : (plan : Planned) (word_of : ℕ → Word) (k glimit qbpp maxval x value : ℕ) (bits new rest : List Bool) → IsCode plan word_of k glimit qbpp maxval
     → TakesWord k glimit qbpp bits value new → (word_of x).value ≤ most_value (qbpp_of maxval)
     → bits ≡ code_word (word_of x).k (word_of x).glimit (qbpp_of maxval) (word_of x).value ++ rest → ((word_of x).value ≡ value) × (rest ≡ new)
@@ -73,7 +73,7 @@ pub no_sample_taken : (plan : Planned) (word_of : ℕ → Word) (IsSample : ℕ 
 no_sample_taken plan word_of IsSample k glimit qbpp maxval x value bits new rest code took none here small e =
     none x here (taken_is plan word_of k glimit qbpp maxval x value bits new rest code took small e).0
 
--- the bits begin with the word of the sample that has the value of the word that was taken
+-- the bits begin with the word of the sample that has the value of the word that was read
 pub sample_bits : (plan : Planned) (word_of : ℕ → Word) (IsSample : ℕ → Type 0) (k glimit qbpp maxval value found : ℕ) (bits new : List Bool)
     → IsCode plan word_of k glimit qbpp maxval → TakesWord k glimit qbpp bits value new → IsTheSample IsSample (λ one. (word_of one).value) value found
     → bits ≡ code_word (word_of found).k (word_of found).glimit (qbpp_of maxval) (word_of found).value ++ new
@@ -83,7 +83,7 @@ sample_bits plan word_of IsSample k glimit qbpp maxval value found bits new code
     ∙ ap (λ n. code_word (word_of found).k n (qbpp_of maxval) value ++ new) (sym (code.read_by found).same_limit)
     ∙ ap (λ n. code_word (word_of found).k (word_of found).glimit (qbpp_of maxval) n ++ new) (sym is.has_value)
 
--- a short word that is surely a sample's
+-- a short word that surely stands for a sample
 pub sure_takes : (p : Parameters) (k glimit value : ℕ) (bits rest : List Bool) → 0 < p.maxval → p.maxval ≤ 65535 → glimit ≡ limit_of p.maxval
     → value / 2 ^ k < sure_zeros p k → bits ≡ short_word k value ++ rest → TakesWord k glimit (qbpp_of p.maxval) bits value rest
 sure_takes p k glimit value bits rest some most limit few e =

@@ -1,4 +1,4 @@
--- What is read of a row: the planes that may be it, after each span.
+-- Reading a row: the planes that it may be of, after each span.
 use Rattle.std.proofs.Common.{◌≡◌, ◌≢◌, ℕ, ◌+◌, ◌-◌, ◌*◌, ◌<◌, ◌≤◌, Bool, true, false, ltb, List, ◌∷◌, ◌++◌, length, get_or, inl, inr, refl, sym, ◌∙◌, ap, subst, append_assoc, ℤ, pos, neg_ℤ, ◌≤ℤ◌, arith}
 use Rattle.std.proofs.Math.ListN.{set}
 use Rattle.std.proofs.lemmas.Int.{ints}
@@ -38,7 +38,7 @@ first_span plane span later more spans s rest e =
 
 -- ---- buffers
 
--- what is in a row's buffer up to a column, and what was read after it
+-- a row's buffer up to a column, and what was read after it
 pub record IsLonger (line new : List ℕ) (j : ℕ) : Type 0 where
   pub before : (k : ℕ) → k ≤ j → get_or new k 0 ≡ get_or line k 0
 
@@ -66,7 +66,7 @@ one_less plane i j end line new longer reach before c h = sym (longer.before (c 
 abbrev word_of : Coding → Neighbours → ℕ → List Bool
 word_of s n x = golomb_bits s.parameters (regular_word_in s n x)
 
--- only this sample can be read, and these bits are then left
+-- only this sample can be read, and leaves these bits
 abbrev pub IsOnlySample : ℕ → Coding → Neighbours → List Bool → ℕ → List Bool → Type 0
 IsOnlySample maxval s n bits x new =
     (other : ℕ) (rest : List Bool) → other ≤ maxval → bits ≡ golomb_bits s.parameters (regular_word_in s n other) ++ rest
@@ -157,13 +157,13 @@ run_split plane i j count true s more rest inside is has =
 run_split plane i j count false s more rest inside is has =
     first_span plane (run_span i j count false) (row_from plane i (j + count + 1)) more (row_from plane i j) s rest (row_from-run plane i j count false inside is has.length_is has.interrupted_is)
 
--- only this run can be read, and these bits are then left
+-- only this run can be read, and leaves these bits
 abbrev pub IsOnlyRun : ℕ → ℕ → List Bool → ℕ → Bool → List Bool → Type 0
 IsOnlyRun left index bits count interrupted new =
     (other : ℕ) (ends : Bool) (rest : List Bool) → EndsInLine left other ends → bits ≡ run_bits index (run_of other ends) ++ rest
     → (other ≡ count) × (ends ≡ interrupted) × (rest ≡ new)
 
--- what a plane that may be read says of the run that was read
+-- a plane that may be what is read has the run that was read
 record Runs (plane : Plane) (i j count : ℕ) (interrupted : Bool) (s : Coding) (more : List Span) (rest new : List Bool) : Type 0 where
   has : HasRun plane i j count interrupted
   left_are : new ≡ after_run plane i j count interrupted s more rest
@@ -264,7 +264,7 @@ no_run maxval width j above line s bits inside is none plane i row more rest m =
 
 -- ---- the sample that interrupts a run
 
--- only this sample can be read, and these bits are then left
+-- only this sample can be read, and leaves these bits
 abbrev pub IsOnlyInterruption : ℕ → Coding → Neighbours → List Bool → ℕ → List Bool → Type 0
 IsOnlyInterruption maxval s n bits x new =
     (other : ℕ) (rest : List Bool) → Interrupts maxval n.a other → bits ≡ golomb_bits s.parameters (interruption_word_in s n other) ++ rest
@@ -291,7 +291,7 @@ interrupts plane i j count maxval width above line n row e value other = record 
   other = λ h. other (h ∙ ap (λ (m : Neighbours). m.a) e ∙ value);
 }
 
--- after a run's samples, the value of the run is left of the next one
+-- after a run's samples, the run's value is to the left of the next one
 pub run_value_at : (j count : ℕ) (line new : List ℕ) (v : ℕ) → IsLonger line new j → get_or line j 0 ≡ v
     → ((c : ℕ) → j ≤ c → c < j + count → get_or new (c + 1) 0 ≡ get_or line j 0) → get_or new (j + count) 0 ≡ v
 run_value_at j count line new v longer value filled =
@@ -376,7 +376,7 @@ no_break maxval width j count above line mid_line s bits mid n inside short is a
     none (at plane i (j + count)) _ (interrupts plane i j count maxval width above mid_line n row at_break value (found.other refl))
     (found.left_are ∙ by_neighbours plane i (j + count) r n more rest next)
 
--- ---- as the calls say it
+-- ---- in the form of the contracts
 
 pub half_through : (z : ℤ) → neg_ℤ (pos 360) ≤ℤ z → z ≤ℤ pos 360 → to_z w16 (of_z w16 z) ≡ z
 half_through z low high = through_16 z (omega (arith, ints, low)) (omega (arith, ints, high))
@@ -402,12 +402,12 @@ small_repeated maxval column end line new small repeated k =
 pub longer_by_run : (column end : ℕ) (line new : List ℕ) → AreRepeated line column end new → IsLonger line new column
 longer_by_run column end line new repeated = record { before = repeated.before }
 
--- from place to place
+-- from one place to another
 pub same_on : (maxval width : ℕ) (above : List ℕ) (one two three : Place) → AreSamePlanes maxval width above one two → AreSamePlanes maxval width above two three → AreSamePlanes maxval width above one three
 same_on maxval width above one two three f g plane i row more rest =
     (λ m. (g plane i row more rest).0 ((f plane i row more rest).0 m), λ m. (f plane i row more rest).1 ((g plane i row more rest).1 m))
 
--- half of a context, handed on as it is
+-- half of a context, passed on unchanged
 pub half_passed : (p : Parameters) (b c d : ℕ) (z : ℤ) → z ≡ half_context p b c d → to_z w16 (of_z w16 z) ≡ half_context p b c d
 half_passed p b c d z e =
     let range = half_range p b c d in

@@ -1,4 +1,4 @@
--- Codestreams as others may write them, each a value of the grammar.
+-- Codestreams as other programs may write them, each as a value of the grammar.
 use Rattle.std.proofs.Common.{◌≡◌, ℕ, ◌<◌, ◌≤◌, ◌++◌, Bool, true, false, List, [], ◌∷◌, length, ltb, replicate, refl, ap, ◌∙◌, arith}
 use Rattle.std.specs.Prelude.{◌&&◌, Ok}
 use Rattle.std.proofs.lemmas.Bool.{ltb-true, and_parts}

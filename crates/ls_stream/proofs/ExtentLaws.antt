@@ -1,4 +1,4 @@
--- The bytes of the next codestream, by its markers alone, and what decoding finds in them: what it would find in all that was left.
+-- The bytes of the next codestream, found by its markers alone, and what decoding finds in them: the same as in all remaining bytes.
 use Rattle.std.proofs.Common.{◌≡◌, ◌⊎◌, ℕ, ◌+◌, ◌-◌, ◌<◌, ◌≤◌, ltb, List, [], ◌∷◌, ◌++◌, length, take, drop, inl, inr, Option, None, Some, Result, Ok, Err, MatchResult, refl, sym, ap, ◌∙◌, arith, append_assoc, append-nil, length-append, take-append-drop}
 use Rattle.std.specs.Prelude.{MatchOption, IfOk, IfSome}
 use Rattle.std.proofs.lemmas.Bool.{cases_Bool, cond-true, cond-false, le-ltb, ltb-true, ltb-false}
@@ -43,7 +43,7 @@ spelled_alone front f spelled = ap extent_at (sym (append-nil front)) ∙ spelli
 pub never_undecided : (front : List ℕ) (f : Picture) → Spells front f → extent_at front ≡ Err Truncated → ⊥
 never_undecided front f spelled e = no_err [] Truncated (sym (spelled_alone front f spelled) ∙ e)
 
--- of two fronts of the same bytes the shorter begins the longer
+-- of two fronts of the same bytes the shorter is a front of the longer
 shorter_front : (one other x y : List ℕ) → one ++ x ≡ other ++ y → length one ≤ length other → take (length one) other ≡ one
 shorter_front one other x y same few =
     sym (take-append-le (length one) other y few) ∙ ap (take (length one)) (sym same) ∙ take_at one x (length one) refl
@@ -123,7 +123,7 @@ one_is_next bytes rest other left next next' same = elim (cases_Bool (ltb (lengt
   ]
 ]
 
--- ---- the outline of what was left
+-- ---- the outline of all remaining bytes
 
 -- an outline of decided bytes isn't undecided
 pub along_err : {X : Type 0} (after : X → Left) (r : Result X StreamFault) (extent : Left) → IsAlong after r extent → r ≡ Err Truncated → extent ≡ Err Truncated
@@ -136,7 +136,7 @@ too_few_for_both bytes e = along_err (λ (x : Outline × List ℕ). Ok x.1) (out
 decided_outline : (bytes : List ℕ) → (extent_at bytes ≡ Err Truncated → ⊥) → outline_at bytes ≡ Err Truncated → ⊥
 decided_outline bytes decided e = decided (too_few_for_both bytes e)
 
--- what is read of no more bytes than the most is read of all of them
+-- what is read of bytes, no more than the most, is read of all of them
 of_few : {X : Type 0} (bytes : List ℕ) (r : Take X) → length bytes ≤ most_bytes → of_all bytes r ≡ r
 of_few bytes (Ok found) few = ap (λ bs. Ok (found.0, found.1 ++ bs)) (drop_all most_bytes bytes few) ∙ ap (λ bs. Ok (found.0, bs)) (append-nil found.1)
 of_few bytes (Err fault) few = ap (λ (f : StreamFault). Err f) (cond-false (ltb most_bytes (length bytes)) (past_most fault) fault (le-ltb most_bytes (length bytes) few))
@@ -164,7 +164,7 @@ left_none : {X : Type 0} (r : Take X) → with_left [] r ≡ r
 left_none (Ok found) = ap (λ bs. Ok (found.0, bs)) (append-nil found.1)
 left_none (Err fault) = refl
 
--- the outline of the next codestream is that of all that was left
+-- the outline of the next codestream is that of all remaining bytes
 pub next_outline : (bytes rest : List ℕ) → IsNext bytes rest → outline_of (bytes ++ rest) ≡ with_left rest (outline_of bytes)
 unfolding outline_of
 next_outline bytes rest next = elim next.enough [
@@ -185,13 +185,13 @@ next_outline bytes rest next = elim next.enough [
 
 -- ---- for the code
 
--- nothing is no codestream of a frame
+-- no bytes are no codestream of a frame
 nothing_spelled : (front rest : List ℕ) (f : Picture) → [] ≡ front ++ rest → Spells front f → ⊥
 unfolding extent_at start_at
 nothing_spelled [] rest f same spelled = never_undecided [] f spelled refl
 nothing_spelled (byte ∷ front) rest f same spelled = absurd (let size = ap length same in omega arith)
 
--- nor is a front of too many undecided bytes
+-- nor is a front of too many undecided bytes one
 long_spelled : (old new front rest : List ℕ) (f : Picture) → IsTooLong old new → old ≡ front ++ rest → Spells front f → ⊥
 long_spelled old new front rest f long same spelled =
     let few : length front ≤ length long.read = omega (arith, long.most, spelled.short) in

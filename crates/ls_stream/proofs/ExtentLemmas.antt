@@ -1,4 +1,4 @@
--- The bytes of the next codestream, byte by byte: where they were read to, and what they are once they show an end or a fault.
+-- The bytes of the next codestream, byte by byte: up to where they were read, and what they are once they show an end or a fault.
 use Rattle.std.proofs.Common.{◌≡◌, ℕ, ◌+◌, ◌<◌, ◌≤◌, leb, List, [], ◌∷◌, ◌++◌, length, take, inl, inr, Err, refl, sym, ap, ◌∙◌, arith, append_assoc, append-nil, length-append}
 use Rattle.std.proofs.lemmas.Bool.{cases_Bool, leb-true, leb-false}
 use Rattle.std.proofs.lemmas.List.{take-append-le, take_all}
@@ -27,7 +27,7 @@ reached_undecided place bytes reached = ap extent_at (sym (append-nil bytes)) �
 grown_one : (bytes : List ℕ) (byte : ℕ) → length (bytes ++ byte ∷ []) ≡ length bytes + 1
 grown_one bytes byte = length-append bytes (byte ∷ [])
 
--- one byte more
+-- one more byte
 pub one_more : (place next : Awaited) (bytes : List ℕ) (byte : ℕ) → IsPlaceAfter place bytes → GoesOn place byte next → IsPlaceAfter next (bytes ++ byte ∷ [])
 one_more place next bytes byte reached goes =
     let all : List ℕ = bytes ++ byte ∷ [] in

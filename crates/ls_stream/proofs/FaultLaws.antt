@@ -73,7 +73,7 @@ wrong_end (Application code) stops other = absurd stops
 wrong_end Comment stops other = absurd stops
 wrong_end (Other code) stops other = absurd stops
 
--- it stands after miscellaneous segments
+-- it comes after miscellaneous segments
 misplaced_after : (d : Due) (written : Parameters) (bytes : List ℕ) (next : Stands) (fault : StreamFault) → AheadRead (is_late d) written bytes next → marker_fault d next.0 ≡ Some fault
     → BreaksAfter d bytes fault
 misplaced_after d written bytes next fault read no_place = record {
@@ -195,7 +195,7 @@ start_breaks (first ∷ second ∷ bytes) fault e =
       ]
     ]
 
--- ---- where the identifiers stand
+-- ---- the places of the identifiers
 
 some_components : (kind : Kind) → 0 < components kind
 some_components Gray = omega arith
@@ -401,7 +401,7 @@ planes_break p width height component (id ∷ later) bytes fault are stops =
       ],
     )
 
--- an opening that was read stands there
+-- an opening that was read is at the front
 pub opening_has : (bytes : List ℕ) (h : FrameHeader) (p : Parameters) (rest : List ℕ) (opening : OpeningRead bytes h p rest)
     → HasScan bytes opening.contents opening.before opening.between rest
 opening_has bytes h p rest opening =

@@ -1,4 +1,4 @@
--- Bytes that a reader gave up to a marker, after those that it gave before, and the place that they lead to.
+-- Bytes that are taken from a reader up to a marker, after those that were taken before, and the place to which they lead.
 use Rattle.std.proofs.Common.{◌≡◌, ℕ, suc, Bool, true, false, ◌-◌, ◌<◌, ◌≤◌, List, [], ◌∷◌, ◌++◌, ◌⊎◌, inl, inr, length, get_or, Option, Some, IfSome, refl, sym, ap, subst, ◌∙◌, arith, append_assoc, append-nil, length-append}
 use Rattle.std.proofs.lemmas.Bool.{cases_order}
 use Rattle.ls_frame.specs.View.Known.{Tells, TakesPast, ArePassed, known}
@@ -11,7 +11,7 @@ use Rattle.ls_stream.specs.View.Places.{GoesOn, Ends, IsPlaceAfter, read_on}
 use Rattle.ls_stream.proofs.ExtentLemmas.{one_more, ended}
 use Rattle.ls_stream.proofs.PlaceLemmas.{data_ff, data_other, code_low}
 
--- Before a byte of data: these bytes lead to a place from which that byte leads on as from data.
+-- Before a byte of data: these bytes lead to a place from which that byte leads on as it does from data.
 record IsBefore (place : Awaited) (bytes : List ℕ) (last : ℕ) : Type 0 where
   from : Awaited
   reached : IsPlaceAfter from bytes
@@ -52,7 +52,7 @@ passed_on false bytes (byte ∷ run) last reached low passed =
           (λ no. let clash : ⊥ = cc in absurd clash) (λ k less is. passed (suc k) (omega (arith, less)) is)
     ])
 
--- so it is with what stands before a single byte
+-- the same for what comes before a single byte
 run_on : (place : Awaited) (bytes run : List ℕ) (last most : ℕ) → IsPlaceAfter place bytes → (place ≡ awaited.Data) ⊎ (most ≡ 1) → length run < most → ArePassed 255 128 (run ++ last ∷ [])
     → IsBefore place (bytes ++ run) last
 unfolding after_ff
@@ -63,7 +63,7 @@ run_on place bytes (byte ∷ run) last most reached (inl here) few passed =
     (passed_on false bytes (byte ∷ run) last (subst (λ p. IsPlaceAfter p bytes) here reached) (λ no. let clash : ⊥ = cc in absurd clash) passed)
 run_on place bytes (byte ∷ run) last most reached (inr one) few passed = absurd (omega (arith, one))
 
--- those bytes but the last lead to where it leads on as from the place, and all that was read is what was given
+-- all those bytes but the last lead to a place from which the last leads on as from `place`; what was read is what the reader gave
 pub record IsOneMore (place : Awaited) (first new : Option (List ℕ)) (after : List ℕ) (last : ℕ) : Type 0 where
   pub before : List ℕ
   pub from : Awaited
@@ -107,6 +107,6 @@ ended_with place first new after rest last one ends = subst (λ bs. IsNext bs re
 pub length_with : (place : Awaited) (first new : Option (List ℕ)) (after : List ℕ) (last : ℕ) → IsOneMore place first new after last → length after ≤ most_bytes
 length_with place first new after last one = let few = one.few in omega (arith, ap length one.parts, length-append one.before (last ∷ []))
 
--- what is known of an answer that is there
+-- what is known of a returned value
 pub if_some : {A : Type 0} (P : A → Type 0) (next : Option A) (x : A) → next ≡ Some x → IfSome next P → P x
 if_some P next x is holds = let found : IfSome (Some x) P = subst (λ o. IfSome o P) is holds in found

@@ -1,4 +1,4 @@
--- Each way in which bytes break the grammar is the fault of what is read of them.
+-- Each way in which bytes break the grammar is the fault of reading them.
 use Rattle.std.proofs.Common.{◌≡◌, ℕ, zero, suc, ◌+◌, ◌/◌, ◌^◌, ◌<◌, ◌≤◌, Bool, true, false, cond, leb, eqb, List, [], ◌∷◌, ◌++◌, length, take, drop, replicate, inl, inr, Option, None, Some, Result, Ok, Err, refl, sym, ap, subst, ◌∙◌, arith, append_assoc, take-append-drop}
 use Rattle.std.specs.Prelude.{slice_index}
 use Rattle.std.specs.List.{AllByRecursion}
@@ -129,9 +129,9 @@ contents_fail d m bytes fault f are (fails contents rest whole unmet) inside =
     step_is (contents_at bytes) f (contents, rest) (ap contents_at whole ∙ contents_again contents rest (segment_short contents rest (subst AreBytes whole are)))
     ∙ inside contents rest unmet
 
--- ---- miscellaneous segments, and what stands after them
+-- ---- miscellaneous segments, and what follows them
 
--- What is read where something is due fails: before another marker; or that marker may not stand there; or its segment breaks.
+-- Reading fails where something is due: before another marker; or that marker may not come there; or its segment breaks.
 data AheadFails (d : Due) (ahead : Ahead) (fault : StreamFault) : Type 0 where
   fails_before : ahead ≡ Err fault → AheadFails d ahead fault
   stands_wrong : (next : Stands) → ahead ≡ Ok next → Stops next.0 → marker_fault d next.0 ≡ Some fault → AheadFails d ahead fault
@@ -147,7 +147,7 @@ after_fails : (d : Due) (written : Parameters) (bytes : List ℕ) (m : Marker) (
     → after_marker (is_late d) written m rest ≡ Err fault → AheadFails d (ahead_at (is_late d) written bytes) fault
 after_fails d written bytes m rest fault same e = fails_before (ahead_at-fault (is_late d) written bytes fault (same ∙ e))
 
--- a marker that may not stand there
+-- a marker that may not come there
 presets_wrong : (late : Bool) (rest : List ℕ) (fault : StreamFault) → cond late (Some (Unsupported what.LseLate)) None ≡ Some fault → presets_at late rest ≡ Err fault
 presets_wrong true rest fault is = ap (λ (f : StreamFault). Err f) (some_same (Unsupported what.LseLate) fault is)
 presets_wrong false rest fault is = absurd (none_some fault is)

@@ -1,4 +1,4 @@
--- No codestream begins another, and each spells one frame and no other.
+-- No codestream is a proper front of another, and each is that of one frame only.
 use Rattle.std.proofs.Common.{◌≡◌, ℕ, zero, suc, ◌+◌, ◌*◌, ◌/◌, ◌%◌, ◌<◌, ◌≤◌, Bool, true, false, cond, ltb, List, [], ◌∷◌, ◌++◌, Ok, Err, length, drop, get_or, refl, sym, ◌∙◌, ap, subst, append-nil, arith}
 use Rattle.std.specs.Prelude.{Option, None, Some}
 use Rattle.std.proofs.Math.Nat.{mod-lt, div-lt_iff_lt-mul}
@@ -28,7 +28,7 @@ use Rattle.ls_stream.proofs.StepLemmas.{step_ok, same_ok}
 abbrev read_to : Outline → List ℕ → Take Outline
 read_to o rest = Ok (o, rest)
 
--- what is read of the same bytes is the same
+-- reading the same bytes gives the same
 one_outline : (a b : Outline) (x y bytes : List ℕ) → outline_at bytes ≡ read_to a x → outline_at bytes ≡ read_to b y → (a ≡ b) × (x ≡ y)
 one_outline a b x y bytes e f =
     let same : ◌≡◌ {A = Outline × List ℕ} (a, x) (b, y) = same_ok (a, x) (b, y) (sym e ∙ f) in

@@ -1,4 +1,4 @@
--- What a picture's planes keep to, and a frame's.
+-- Properties of a picture's planes, and of a frame's.
 use Rattle.std.proofs.Common.{◌≡◌, ℕ, ◌+◌, ◌*◌, ◌/◌, ◌%◌, ◌<◌, ◌≤◌, ◌++◌, [], Bool, true, false, Option, Some, None, is_some, nat_lt, List, length, get_or, not, sym, ◌∙◌, ap, subst, append-nil, inl, inr, true≢false, arith, mul-div_cancel}
 use Rattle.std.specs.List.{AllByRecursion, position, position_or_len}
 use Rattle.std.proofs.Math.Nat.{mod-lt, div-lt_iff_lt-mul}
@@ -34,7 +34,7 @@ formed f frame = record {
   count = frame.count;
 }
 
--- each sample is at most maxval, and what isn't there is 0
+-- each sample is at most maxval, and one past the end reads as 0
 small_at : (maxval : ℕ) (samples : List ℕ) → AllByRecursion (λ sample. sample ≤ maxval) samples → (k : ℕ) → get_or samples k 0 ≤ maxval
 small_at maxval samples each k =
     elim (cases_lt k (length samples)) [
@@ -45,7 +45,7 @@ small_at maxval samples each k =
 pub samples_small : (f : Picture) → IsFrame f → (k : ℕ) → get_or f.samples k 0 ≤ f.maxval
 samples_small f frame = small_at f.maxval f.samples frame.each
 
--- where each is at most maxval, none is found over it
+-- if each is at most maxval, the search finds none over it
 pub none_found : (maxval : ℕ) (samples : List ℕ) → ((k : ℕ) → get_or samples k 0 ≤ maxval) → position (λ sample. nat_lt maxval sample) samples ≡ None
 none_found maxval samples small =
     let least : ℕ = position_or_len (λ sample. nat_lt maxval sample) samples in
@@ -55,13 +55,13 @@ none_found maxval samples small =
       | inr long ↦ cond-false _ _ _ (le-ltb least (length samples) long)
     ]
 
--- where no sample is found over maxval, none is
+-- if the search finds no sample over maxval, none is
 pub none_over : (maxval : ℕ) (samples : List ℕ) (found : Option ℕ) → found ≡ position (λ sample. nat_lt maxval sample) samples → is_some found ≡ false
     → (k : ℕ) → get_or samples k 0 ≤ maxval
 none_over maxval samples None e not_some = small_at maxval samples (none_above maxval samples (sym e))
 none_over maxval samples (Some place) e not_some = absurd (true≢false not_some)
 
--- and where one is, it is
+-- and if it finds one, one is
 pub one_over : (maxval : ℕ) (samples : List ℕ) (found : Option ℕ) → found ≡ position (λ sample. nat_lt maxval sample) samples → is_some found ≡ true
     → ((k : ℕ) → get_or samples k 0 ≤ maxval) → ⊥
 one_over maxval samples found e some small = true≢false (sym some ∙ ap is_some (e ∙ none_found maxval samples small))
@@ -74,7 +74,7 @@ pub few_components : (kind : Kind) → components kind ≤ 3
 few_components Gray = omega arith
 few_components Color = omega arith
 
--- a picture's planes have its rows
+-- a picture's planes have its number of rows
 pub plane_length : (f : Picture) → IsFormed f → (component : ℕ) → length (plane_of f component).samples ≡ f.width * f.height
 unfolding component_of
 plane_length f is component =
@@ -90,7 +90,7 @@ plane_rows f is component =
     ap (λ n. rows_from (plane_of f component) n 0)
     (ap (λ n. n / f.width) (plane_length f is component ∙ turned) ∙ mul-div_cancel f.height some)
 
--- the bits of all rows, put from a scan's start on, are the plane's
+-- the bits of all rows, coded from a scan's start on, are the plane's
 pub all_rows : (p : Parameters) (f : Picture) → IsFormed f → (component : ℕ) (bits : List Bool) (s : Coding)
     → all_from (plane_of f component) bits s [] ≡ all_from (plane_of f component) [] (state_of p []) (rows_from (plane_of f component) f.height 0 ++ [])
     → bits ≡ plane_bits p (plane_of f component)
@@ -100,7 +100,7 @@ all_rows p f is component bits s e =
     ∙ ap (λ xs. bits_from (plane_of f component) xs (state_of p [])) (append-nil (rows_from (plane_of f component) f.height 0) ∙ sym (plane_rows f is component))
     ∙ sym (plane_from p (plane_of f component))
 
--- ---- the same, of a picture's shape and its samples
+-- ---- the same, for a picture's shape and its samples
 
 pub length_of : (f : Picture) (shape : Shape) (samples : List ℕ) → IsShapeOf f shape → samples ≡ f.samples → length samples ≡ shape.height * (shape.width * shape.components)
 length_of f shape samples is same =
@@ -166,7 +166,7 @@ small_of f samples p s frame same e maxval k =
 
 -- ---- planes
 
--- a sample of a picture stands in a plane
+-- a sample of a picture is in a plane
 sample_in_plane : (f : Picture) → IsFormed f → (k : ℕ) → k < length f.samples
     → get_or f.samples k 0 ≡ get_or (plane_of f (k % components f.kind)).samples (k / components f.kind) 0
 unfolding component_of
@@ -179,7 +179,7 @@ sample_in_plane f is k inside =
     ap (λ n. get_or f.samples n 0) (sym split)
     ∙ sym (get_or-map-range_with_len (λ n. get_or f.samples (n * count + k % count) 0) 0 (length f.samples / count) (k / count) (k / count) 0 (omega arith) (omega arith))
 
--- one plane more is seen to be of samples within maxval
+-- after one more plane, its samples are known to be at most maxval
 pub one_more_plane : (f : Picture) (maxval count component : ℕ) → component ≡ count → ((i : ℕ) → i < count → (k : ℕ) → get_or (plane_of f i).samples k 0 ≤ maxval)
     → ((k : ℕ) → get_or (plane_of f component).samples k 0 ≤ maxval) → (i : ℕ) → i < count + 1 → (k : ℕ) → get_or (plane_of f i).samples k 0 ≤ maxval
 one_more_plane f maxval count component e before here i inside =
@@ -188,7 +188,7 @@ one_more_plane f maxval count component e before here i inside =
       | inr last ↦ let same : component ≡ i = omega arith in subst (λ n. (k : ℕ) → get_or (plane_of f n).samples k 0 ≤ maxval) same here
     ]
 
--- a picture whose planes are of samples within maxval is a frame
+-- a picture whose planes have samples of at most maxval is a frame
 pub frame_of_planes : (f : Picture) → IsFormed f → ((component : ℕ) → component < components f.kind → (k : ℕ) → get_or (plane_of f component).samples k 0 ≤ f.maxval) → IsFrame f
 frame_of_planes f is within =
     let some : 0 < components f.kind = omega (arith, some_components f.kind) in

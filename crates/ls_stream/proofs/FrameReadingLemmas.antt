@@ -1,4 +1,4 @@
--- What is read of a codestream's scans, one after the other, and of the frame that they say.
+-- Reading a codestream's scans, one after the other, and the frame that results.
 use Rattle.std.proofs.Common.{◌≡◌, ◌≢◌, ℕ, zero, suc, ◌+◌, ◌-◌, ◌*◌, ◌/◌, ◌%◌, ◌<◌, ◌≤◌, List, [], ◌∷◌, ◌++◌, Result, Ok, Err, length, length-append, length-drop, take, drop, take-append-drop, get_or, inl, inr, refl, sym, ◌∙◌, ap, subst, append_assoc, true≢false, eq-eqb, eqb, arith}
 use Rattle.std.specs.Prelude.{is_ok, IfOk, IfErr, if◌then◌else◌, Bool, true, false, not, ◌||◌, None, option_map}
 use Rattle.std.specs.List.{AllByRecursion}
@@ -102,7 +102,7 @@ next_data (id ∷ later) bytes scans left e = let more = more_of id later bytes 
 
 -- ---- some scans of all
 
--- the scans of the first components were read, and of no other samples are their data
+-- the scans of the first components were read, and their data are those of no other samples
 pub record IsReadTo (p : Parameters) (width height count : ℕ) (later first rest : List ℕ) (component : ℕ) (samples : List ℕ) : Type 0 where
   pub found : List (List ℕ)
   pub all : length found ≡ component
@@ -125,7 +125,7 @@ none_read p width height count later first samples = record {
   only = λ i plane h. absurd (omega arith);
 }
 
--- the other components are as they were
+-- the other components are unchanged
 pub same_component : (height width count other : ℕ) (samples new : List ℕ) → 1 ≤ count → length new ≡ length samples → length samples ≡ height * width * count
     → ((k : ℕ) → get_or new (k * count + other) 0 ≡ get_or samples (k * count + other) 0) → component_of count other new ≡ component_of count other samples
 unfolding component_of
@@ -139,7 +139,7 @@ same_component height width count other samples new some len whole same =
     ∙ same k
     ∙ sym (get_or-map-range_with_len (λ n. get_or samples (n * count + other) 0) 0 (length samples / count) k k 0 (omega (arith, places)) (omega arith)))
 
--- what a scan more leaves of those before it, and what it is itself
+-- what one more scan leaves of those before it, and what it is itself
 pub record IsScanRead (p : Parameters) (width height count component : ℕ) (bytes samples new : List ℕ) : Type 0 where
   pub coded : IsCoded p (component_plane width count component new) (data_at bytes)
   pub only : (plane : Plane) → IsSamplePlane p.maxval width height plane → IsCoded p plane (data_at bytes) → plane ≡ component_plane width count component new
@@ -337,7 +337,7 @@ plane_is f maxval width height i frame e g h = record {
   small = λ k. omega (arith, plane_small f frame i k, e);
 }
 
--- ---- as the calls say it
+-- ---- in the form of the contracts
 
 pub gives_ok : {X Y : Type 0} (view : X → Y) (r : Result X StreamFault) (read : Result Y StreamFault) (P : X → Type 0) → Gives view r read
     → ((x : X) → read ≡ Ok (view x) → P x) → IfOk r P
@@ -365,7 +365,7 @@ id_after header component h =
     ∙ sym (get_or-take (components header.kind) header.ids (1 + component) 0 (omega arith))
     ∙ sym (get_or-drop 1 (ids_in header) component 0)
 
--- of a shape with the numbers of a header
+-- for a shape with the numbers of a header
 pub scan_read : (p : Parameters) (w h n width height count component : ℕ) (bytes samples new : List ℕ) → w ≡ width → h ≡ height → n ≡ count → component < n
     → length samples ≡ height * width * count → IsCoded p (component_plane w n component new) (data_at bytes)
     → ((plane : Plane) → IsSamplePlane p.maxval w h plane → IsCoded p plane (data_at bytes) → plane ≡ component_plane w n component new)
@@ -444,7 +444,7 @@ frame_has_outline bytes f header p opened left put = record {
       (subst (λ (plane : Plane). IsCoded p plane (scan_in put.scans i)) (plane_by_header f header i put.kind put.width) (put.are.coded i (omega (arith, put.are.all)))));
 }
 
--- ---- what any outline of the bytes says
+-- ---- any outline of the bytes
 
 pub record IsThatOutline (header : FrameHeader) (p : Parameters) (opened left : List ℕ) (o : Outline) : Type 0 where
   pub header_is : o.header ≡ header
@@ -454,7 +454,7 @@ pub record IsThatOutline (header : FrameHeader) (p : Parameters) (opened left : 
 abbrev Opened : Type 0
 Opened = FrameHeader × Parameters × List ℕ
 
--- the outline that an opening and its scans make
+-- the outline of an opening and its scans
 abbrev made_of : Opened → Scans × List ℕ → Take Outline
 made_of x found = Ok (outline x.0 x.1 found.0, found.1)
 
@@ -476,7 +476,7 @@ that_outline bytes header p opened left o e f =
       scans_are = b.1 ∙ ap (λ (x : Outline × List ℕ). Ok (x.0.scans, x.1)) made;
     }
 
--- the planes of a frame that an outline says
+-- the planes of a frame that an outline fits
 planes_coded : (header : FrameHeader) (p : Parameters) (opened left : List ℕ) (o : Outline) (f : Picture) → IsThatOutline header p opened left o → IsOutlineOf f o
     → (i : ℕ) → i < components header.kind → IsCoded p (plane_of f i) (scan_in o.scans i)
 planes_coded header p opened left o f that is i h =
@@ -601,7 +601,7 @@ no_fault f frame =
     ∙ cond-false _ _ _ (ne_eqb f.maxval 0 (λ e. absurd (omega (arith, frame.some_maxval))))
     ∙ ap (option_map SampleTooLarge) (none_found f.maxval f.samples (samples_small f frame))
 
--- ---- what is at the front of bytes
+-- ---- the codestream at the front of bytes
 
 pub bytes_take : (n : ℕ) (bytes : List ℕ) → AreBytes bytes → AreBytes (take n bytes)
 bytes_take zero bytes are = tt
@@ -662,7 +662,7 @@ found_at bytes front rest f e spelled =
       count = omega arith;
     }
 
--- what is left is the same
+-- the same bytes are left
 pub same_left : (bytes : List ℕ) (o other : Outline) (left rest : List ℕ) → outline_at bytes ≡ Ok (o, left) → outline_at bytes ≡ Ok (other, rest) → left ≡ rest
 same_left bytes o other left rest e f =
     let same : ◌≡◌ {A = Outline × List ℕ} (o, left) (other, rest) = same_ok (o, left) (other, rest) (sym e ∙ f) in
@@ -672,6 +672,6 @@ either_way : (test : Bool) → (if test then NoMemory else NoMemory) ≡ NoMemor
 either_way true = refl
 either_way false = refl
 
--- samples that were written back whole into the vector that they are lent from
+-- samples that were written back completely into the vector from which they are borrowed
 pub written_back : (len : ℕ) (new items : List ℕ) → length new ≡ len → take len (new ++ drop (length new) items) ≡ new
 written_back len new items e = ap (λ n. take n (new ++ drop (length new) items)) (sym e) ∙ take-append_seam new (drop (length new) items)

@@ -1,11 +1,11 @@
--- How long the data at the front of bytes is.
+-- The number of bytes of the data at the front.
 use Rattle.std.proofs.Common.{◌≡◌, ℕ, zero, suc, ◌<◌, ◌≤◌, inl, inr, true, false, eqb, leb, ltb, List, [], ◌∷◌, ◌++◌, length, take, refl, sym, ◌∙◌, ap, arith}
 use Rattle.std.proofs.lemmas.List.{take_at, drop_at}
 use Rattle.std.proofs.lemmas.Bool.{cases_Bool, and_parts, and_from, both_ways, cond-true, cond-false, leb-true, le-ltb, ltb-true, ne_eqb, false≢true}
 use Rattle.ls_bits.specs.Data.{goes_on, is_data, IsData, starts_marker, DataAtFront}
 use Rattle.ls_stream.specs.View.Outlines.{data_length, data_at, after_data}
 
--- ---- the steps of its length
+-- ---- the steps of computing it
 
 pub length-none : data_length [] ≡ 0
 unfolding data_length

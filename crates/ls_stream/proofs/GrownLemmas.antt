@@ -1,4 +1,4 @@
--- What is read of bytes is read of more bytes too, unless it wants a byte that isn't there.
+-- What is read of bytes is read of more bytes too, unless a byte is needed after their end.
 use Rattle.std.proofs.Common.{◌≡◌, ◌⊎◌, ℕ, zero, suc, ◌+◌, ◌-◌, ◌*◌, ◌≤◌, Bool, true, false, cond, leb, ltb, eqb, List, [], ◌∷◌, ◌++◌, length, take, drop, inl, inr, Option, None, Some, Result, Ok, Err, refl, sym, ap, subst, ◌∙◌, arith, length-append}
 use Rattle.std.specs.Prelude.{slice_index}
 use Rattle.std.proofs.lemmas.Bool.{cases_Bool, le-leb, leb-true}
@@ -46,7 +46,7 @@ step_grown add then (Ok x) all f g (inr e) next = subst (λ r. IsGrown then (f x
 step_grown {X} {Y} add then (Err fault) all f g (inl e) next = inl (ap (λ d. failed {X = Y} d) (same_fault {A = X} fault Truncated e))
 step_grown add then (Err fault) all f g (inr e) next = inr (ap (λ r. r >>= g) e)
 
--- a first step that looks at no bytes
+-- a first step that reads no bytes
 pub same_grown : {X Y : Type 0} (then : Y → Y) (r : Result X StreamFault) (f g : X → Result Y StreamFault) → ((x : X) → IsGrown then (f x) (g x)) → IsGrown then (r >>= f) (r >>= g)
 same_grown then (Ok x) f g next = next x
 same_grown then (Err fault) f g next = inr refl
@@ -100,7 +100,7 @@ marker_grown (byte ∷ bytes) more =
 abbrev Contents : Type 0
 Contents = List ℕ × List ℕ
 
--- the contents by the length that they say
+-- the contents, by the length before them
 said : ℕ → List ℕ → List ℕ → Result Contents StreamFault
 said n rest bytes = wanted (leb 2 n) BadSegment >>= λ least. wanted (leb n (length bytes)) Truncated >>= λ whole. Ok (take (n - 2) rest, drop n bytes)
 
@@ -130,7 +130,7 @@ contents_grown (high ∷ low ∷ rest) more =
 
 -- ---- data
 
--- more bytes don't make the data longer, or no marker is there after it
+-- more bytes don't make the data longer, or no marker follows it
 pub data_grown : (bytes more : List ℕ) → (data_length (bytes ++ more) ≡ data_length bytes) ⊎ (marker_at (after_data bytes) ≡ Err Truncated)
 unfolding marker_at code_at
 data_grown [] more = inr (rw length-none refl)

@@ -1,4 +1,4 @@
--- The contents of a frame header: what is read of bytes is spelled so, and what is spelled so is read.
+-- The contents of a frame header: what is read of bytes is what they are by the grammar, and what is so by the grammar is read.
 use Rattle.std.proofs.Common.{◌≡◌, ℕ, zero, suc, ◌+◌, ◌*◌, ◌^◌, ◌<◌, ◌≤◌, false, cond, leb, eqb, List, [], ◌∷◌, length, map, flat_map, get_or, take, inl, inr, Result, Ok, Err, refl, sym, ap, subst, ◌∙◌, arith}
 use Rattle.std.specs.Prelude.{◌&&◌, ◌||◌, not}
 use Rattle.std.specs.List.{list_any}
@@ -24,7 +24,7 @@ byte contents i = get_or contents i 0
 
 -- ---- the identifiers
 
--- an identifier that is read: at its place, with sampling factors 1, and none of those before
+-- an identifier that is read: at its place, with sampling factors 1, and different from those before
 record IdRead (before contents : List ℕ) (place id : ℕ) : Type 0 where
   is : id ≡ byte contents place
   sampled : byte contents (place + 1) ≡ 17
@@ -116,7 +116,7 @@ gray_read contents ids e =
       count = refl;
     }
 
--- the identifiers of three components, each read where it stands
+-- the identifiers of three components, each read at its place
 color_joined : (contents ids : List ℕ) (one two three : ℕ) → IdRead [] contents 6 one → IdRead (one ∷ []) contents 9 two → IdRead (one ∷ two ∷ []) contents 12 three
     → one ∷ two ∷ three ∷ [] ≡ ids → ComponentsRead Color contents ids
 unfolding header_in components_in component
@@ -232,7 +232,7 @@ header_read contents h are e =
     header_joined contents kind h6.0 h are (eqb-true _ _ h5.0) (kind_read (byte contents 5) kind h4.1) (leb-true 2 precision bits.0) (leb-true precision 16 bits.1)
     (positive width (not-true _ h3.0)) (ids_read kind contents h6.0 h6.1) (same_ok (record { precision = precision; height = height; width = width; kind = kind; ids = h6.0 }) h h7.1)
 
--- ---- what is spelled is read
+-- ---- what is a header by the grammar is read
 
 abbrev header_of : ℕ → ℕ → ℕ → List Component → Header
 header_of precision height width cs = record { precision = precision; height = height; width = width; components = cs }

@@ -1,4 +1,4 @@
--- What is put of a codestream, part by part.
+-- What is appended of a codestream, part by part.
 use Rattle.std.proofs.Common.{◌≡◌, ℕ, zero, suc, ◌+◌, ◌*◌, ◌-◌, ◌/◌, ◌<◌, ◌≤◌, ◌++◌, [], ◌∷◌, Bool, List, length, map, flat_map, inr, refl, sym, ◌∙◌, ap, append_assoc, append-nil, length-append, arith}
 use Rattle.std.specs.List.{range_with_len}
 use Rattle.std.proofs.lemmas.List.{flat_map_more}
@@ -54,7 +54,7 @@ scan_more f p bytes start header all component e g h =
     ∙ flat_map_more (scan_of f p) bytes (range_with_len 0 component) component
     ∙ ap (λ ns. bytes ++ flat_map (scan_of f p) ns) (sym (range_push 0 component ∙ ap (λ n. range_with_len 0 component ++ n ∷ []) last))
 
--- room for one scan more
+-- capacity for one scan more
 pub room_left : (count component size : ℕ) → component < count → (count - component) * size ≡ size + (count - (component + 1)) * size
 room_left count component size h =
     let one : count - component ≡ 1 + (count - (component + 1)) = omega arith in
@@ -94,7 +94,7 @@ all_put f p bytes one two three four five e1 e2 e3 e4 e5 =
     e5 ∙ ap (λ x. x ++ marker EndOfImage) four_is ∙ append_assoc bytes (((start ++ header) ++ tables) ++ scans) (marker EndOfImage)
     ∙ ap (λ x. bytes ++ x) (sym (codestream_is f p))
 
--- the room for all of it
+-- the capacity for all of it
 pub room_is : (f : Picture) (p : Parameters) → bound f p ≡ 2 + (10 + 3 * components f.kind) + presets_length p + (components f.kind * (10 + scan_bound f p) + 2)
 unfolding bound headers_length
 room_is f p =

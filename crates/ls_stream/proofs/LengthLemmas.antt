@@ -77,7 +77,7 @@ within_bound f p frame legal same =
       scans_length f p 0 (components f.kind) frame legal same,
     )
 
--- LIMIT bits for each of all samples, seven to a byte, and a byte more for each component
+-- LIMIT bits for each sample, seven to a byte, and one more byte for each component
 pub bound_small : (f : Picture) (p : Parameters) → sample_count f.kind f.width f.height ≤ most_samples → IsLegal p → bound f p < 2 ^ 32
 bound_small f p samples_few legal =
     let count = components f.kind in

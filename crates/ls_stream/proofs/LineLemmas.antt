@@ -7,7 +7,7 @@ use Rattle.ls_coding.specs.declared.neighbours.Neighbours.{Neighbours}
 use Rattle.ls_stream.specs.Planes.{Plane, at, around, left, above, above_left, above_right}
 use Rattle.ls_stream.specs.View.LineBuffers.{row_of, line_of, neighbours_in, AreLines, HoldsLine}
 
--- the plane has a whole row i
+-- the plane has a complete row i
 abbrev pub HasRow : Plane → ℕ → Type 0
 HasRow plane i = (i + 1) * plane.width ≤ length plane.samples
 
@@ -93,12 +93,12 @@ left_before : (plane : Plane) (i j end : ℕ) (line : List ℕ) → get_or line 
 left_before plane i zero end line first before h = first
 left_before plane i (suc j) end line first before h = let next : suc j ≡ j + 1 = omega arith in ap (λ n. get_or line n 0) next ∙ before j (omega arith)
 
--- what is left of a row's first sample
+-- the sample to the left of a row's first one
 pub first_left : (plane : Plane) (i : ℕ) (above_buffer line : List ℕ) → 1 ≤ plane.width → HasRow plane i → HoldsLine plane i above_buffer → get_or line 0 0 ≡ get_or above_buffer 1 0
     → get_or line 0 0 ≡ left plane i 0
 first_left plane i above_buffer line some h over_is first = first ∙ over_is 1 (omega arith) ∙ over plane i 0 h some
 
--- of a sample whose row is known to the left of it
+-- for a sample whose row is known to the left of it
 pub around_before : (plane : Plane) (i j end : ℕ) (above_buffer line : List ℕ) → HasRow plane i → j < plane.width → HoldsLine plane i above_buffer → get_or line 0 0 ≡ left plane i 0
     → ((c : ℕ) → c < end → get_or line (c + 1) 0 ≡ at plane i c) → j ≤ end → neighbours_in above_buffer line j ≡ around plane i j
 unfolding neighbours around
@@ -147,7 +147,7 @@ pub filled : (plane : Plane) (i : ℕ) (above_buffer buffer : List ℕ) → 1 �
     → HoldsLine plane (suc i) buffer
 filled = filled_at
 
--- a line is of samples where what it was made of is
+-- a line has samples of at most maxval if what it was made of has
 filled_small : (maxval width count component : ℕ) (above_buffer buffer row : List ℕ) → 1 ≤ width → length buffer ≡ width + 2 → ((k : ℕ) → get_or above_buffer k 0 ≤ maxval) → ((k : ℕ) → get_or row k 0 ≤ maxval)
     → get_or buffer 0 0 ≡ get_or above_buffer 1 0 → ((k : ℕ) → k < width → get_or buffer (k + 1) 0 ≡ get_or row (k * count + component) 0) → get_or buffer (width + 1) 0 ≡ get_or buffer width 0
     → (k : ℕ) → get_or buffer k 0 ≤ maxval
@@ -176,7 +176,7 @@ row_small maxval stride start samples row whole same small k =
       | inr far ↦ let none : get_or row k 0 ≡ 0 = get_or_past row k 0 (omega arith) in omega arith
     ]
 
--- the same, where the row is of samples that are
+-- the same, if the row has
 pub small_line : (maxval width count component start : ℕ) (samples row above_buffer buffer : List ℕ) → 1 ≤ width → length buffer ≡ width + 2
     → ((k : ℕ) → get_or above_buffer k 0 ≤ maxval) → length row ≡ width * count → ((k : ℕ) → k < width * count → get_or row k 0 ≡ get_or samples (start + k) 0)
     → ((k : ℕ) → get_or samples k 0 ≤ maxval) → get_or buffer 0 0 ≡ get_or above_buffer 1 0 → ((k : ℕ) → k < width → get_or buffer (k + 1) 0 ≡ get_or row (k * count + component) 0)
@@ -184,7 +184,7 @@ pub small_line : (maxval width count component start : ℕ) (samples row above_b
 small_line maxval width count component start samples row above_buffer buffer some line_length above_small row_length same small first middle last =
     filled_small maxval width count component above_buffer buffer row some line_length above_small (row_small maxval (width * count) start samples row row_length same small) first middle last
 
--- the samples of one row more are seen to be within
+-- after one more row, its samples are known to be at most maxval
 pub one_more_seen : (plane : Plane) (maxval i : ℕ) (line : List ℕ) → ((k : ℕ) → k < i * plane.width → get_or plane.samples k 0 ≤ maxval)
     → ((k : ℕ) → k < plane.width → get_or line (k + 1) 0 ≡ at plane i k) → ((k : ℕ) → get_or line k 0 ≤ maxval)
     → (k : ℕ) → k < (i + 1) * plane.width → get_or plane.samples k 0 ≤ maxval
@@ -197,7 +197,7 @@ one_more_seen plane maxval i line seen middle small k h =
           omega (arith, middle (k - i * plane.width) inside, small (k - i * plane.width + 1), ap (λ n. get_or plane.samples n 0) place)
     ]
 
--- those of all rows
+-- the samples of all rows
 pub all_seen : (plane : Plane) (maxval height : ℕ) → length plane.samples ≡ plane.width * height → ((k : ℕ) → k < height * plane.width → get_or plane.samples k 0 ≤ maxval)
     → (k : ℕ) → get_or plane.samples k 0 ≤ maxval
 all_seen plane maxval height whole seen k =

@@ -1,4 +1,4 @@
--- Bytes and markers at the front of bytes, one by one, for the loops that read them; and which marker a code is.
+-- Bytes and markers at the front of bytes, one by one, for the loops that read them; and the marker of a code.
 use Rattle.std.proofs.Common.{◌≡◌, ℕ, zero, suc, ◌≤◌, Bool, true, false, cond, leb, eqb, List, [], ◌∷◌, ◌++◌, length, drop, get_or, replicate, Ok, Err, inl, inr, refl, sym, ap, subst, ◌∙◌, arith, append_assoc}
 use Rattle.std.specs.Prelude.{IsTrue}
 use Rattle.std.proofs.lemmas.Bool.{cases_Bool, cond_both, cond-false, cond-true, eq-eqb, ne_eqb, eqb-true, eqb-false, leb-true, and_parts}
@@ -50,9 +50,9 @@ code_at-code bytes rest byte found some other = rw (code_at-byte bytes, found, n
 
 pub ruleset code_lemmas = (code_at-fault, code_at-fill, code_at-zero, code_at-code)
 
--- ---- which marker a code is
+-- ---- the marker of a code
 
--- the code of a marker's code is that code
+-- the code of the marker of a code is that code
 pub code_back : (code : ℕ) → code_of (marker_of code) ≡ code
 code_back code =
     let P : Marker → Type 0 = λ m. code_of m ≡ code in
@@ -102,7 +102,7 @@ application_is code h =
 
 -- ---- markers
 
--- one FF more in front, or after other FFs
+-- one more FF at the front, or after other FFs
 pub fill_moves : (fill : ℕ) (bytes : List ℕ) → 255 ∷ (replicate fill 255 ++ bytes) ≡ replicate fill 255 ++ 255 ∷ bytes
 fill_moves zero bytes = refl
 fill_moves (suc fill) bytes = ap (λ bs. 255 ∷ bs) (fill_moves fill bytes)

@@ -223,7 +223,7 @@ only_memory true (BadCode component) e = e
 only_memory true (LeftoverBits component) e = e
 only_memory true NoMemory e = e
 
--- it is NoMemory of all bytes only if it is that of the first
+-- all bytes fail with NoMemory only if the first ones do
 pub memory_of_first : (bytes : List ℕ) (fault : StreamFault) → fault_of bytes fault ≡ NoMemory → fault ≡ NoMemory
 memory_of_first bytes fault e = only_memory (nat_lt most_bytes (length bytes)) fault e
 

@@ -1,5 +1,5 @@
--- Bytes past the most that a codestream has: what is read of any bytes is a codestream, a codestream is read, and what isn't read
--- breaks the grammar.
+-- Bytes after the most that a codestream may have: what is read of any bytes is a codestream, a codestream is read, and bytes that aren't
+-- read break the grammar.
 use Rattle.std.proofs.Common.{◌≡◌, ℕ, ◌+◌, ◌-◌, ◌<◌, ◌≤◌, List, ◌++◌, length, take, drop, Ok, Err, refl, sym, ap, subst, ◌∙◌, arith, append_assoc, take-append-drop, length-append}
 use Rattle.std.proofs.Math.Seq.{take-append-add}
 use Rattle.std.proofs.lemmas.List.{length-take, take_all, drop-drop, drop_at}
@@ -15,7 +15,7 @@ use Rattle.ls_stream.proofs.BreakLemmas.{no_err}
 use Rattle.ls_stream.proofs.FaultLaws.{outline_faults_break}
 use Rattle.ls_stream.proofs.OutlineLemmas.{outlines_spell, spellings_have_outlines}
 
--- what was read of all bytes was read of the first
+-- what was read of all bytes was read of the first ones
 pub of_all-ok : {X : Type 0} (bytes : List ℕ) (r : Take X) (found : X × List ℕ) → of_all bytes r ≡ Ok found
     → (left : List ℕ) × (r ≡ Ok (found.0, left)) × (left ++ drop most_bytes bytes ≡ found.1)
 of_all-ok {X} bytes (Ok read) found e =
@@ -23,7 +23,7 @@ of_all-ok {X} bytes (Ok read) found e =
     (read.1, ap (λ (p : X × List ℕ). Ok (p.0, read.1)) same, ap (λ (p : X × List ℕ). p.1) same)
 of_all-ok bytes (Err fault) found e = absurd cc
 
--- the first bytes, with a whole front of no more than the most
+-- the first bytes, with a complete front that is no longer than the most
 pub first_of : (most : ℕ) (front rest : List ℕ) → length front ≤ most → take most (front ++ rest) ≡ front ++ take (most - length front) rest
 first_of most front rest few =
     let size : most ≡ length front + (most - length front) = omega arith in
@@ -65,7 +65,7 @@ spellings_have_bounded_outlines front rest f spells =
       found.2,
     )
 
--- a fault of all bytes is one of the first
+-- a fault of all bytes is one of the first ones
 pub of_all-err : {X : Type 0} (bytes : List ℕ) (r : Take X) (fault : StreamFault) → of_all bytes r ≡ Err fault → (cause : StreamFault) × (r ≡ Err cause) × (fault ≡ fault_of bytes cause)
 of_all-err {X} bytes (Ok read) fault e = absurd (no_err (read.0, read.1 ++ drop most_bytes bytes) fault e)
 of_all-err {X} bytes (Err cause) fault e = (cause, refl, sym (same_fault {A = X × List ℕ} (fault_of bytes cause) fault e))
@@ -81,15 +81,15 @@ bounded_faults_break bytes fault are e =
 
 -- ---- for the code
 
--- of more bytes so many are first ones
+-- of more bytes, the first ones are `most`
 pub first_full : (most : ℕ) (bytes : List ℕ) → most < length bytes → most ≡ length (take most bytes)
 first_full most bytes more = omega (arith, length-take most bytes)
 
--- no more bytes than that are all first ones
+-- no more bytes than that are all among the first ones
 pub first_all : (bytes : List ℕ) → length bytes ≤ most_bytes → take most_bytes bytes ≡ bytes
 first_all bytes few = take_all most_bytes bytes few
 
--- another fault stays
+-- another fault is unchanged
 pub past_other : (fault : StreamFault) → (fault ≡ Truncated → ⊥) → past_most fault ≡ fault
 past_other Truncated other = absurd (other refl)
 past_other NotSoi other = refl

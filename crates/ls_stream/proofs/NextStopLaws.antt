@@ -1,5 +1,5 @@
--- Decoding the next codestream stops where decoding all bytes from it on stops: its markers show where it ends or what breaks it, so
--- each step on the way reads the same of more bytes.
+-- Decoding the next codestream stops where decoding all bytes from it on stops: its markers show where it ends or what breaks it, so each
+-- step on the way reads the same of more bytes.
 use Rattle.std.proofs.Common.{◌≡◌, ℕ, ◌+◌, ◌-◌, ◌≤◌, true, cond, eqb, ltb, List, [], ◌∷◌, ◌++◌, length, take, drop, inl, inr, ◌⊎◌, Result, Ok, Err, refl, sym, ap, subst, ◌∙◌, append-nil}
 use Rattle.std.proofs.lemmas.Bool.{cases_Bool, cond-false, le-leb, le-ltb, ltb-false, and_from, false≢true}
 use Rattle.ls_frame.specs.Parameters.{Parameters}
@@ -73,7 +73,7 @@ starts_more [] more starts = absurd (false≢true starts)
 starts_more (byte ∷ []) more starts = absurd (false≢true starts)
 starts_more (byte ∷ next ∷ bytes) more starts = starts
 
--- what stands after the data of a scan isn't too few bytes
+-- what comes after the data of a scan isn't too few bytes
 abbrev DataDecided : List ℕ → Type 0
 DataDecided bytes = IsDecided (segments_at (after_data bytes))
 

@@ -1,5 +1,5 @@
--- Bits that are at fault in a plane are at fault in one way: two planes whose first spans stand in front agree on the samples of these,
--- and then on the fault.
+-- Bits that break in a plane break in one way: two planes with whose first spans the bits begin agree on the samples of these spans, and
+-- then on the fault.
 use Rattle.std.proofs.Common.{◌≡◌, ℕ, zero, suc, ◌+◌, ◌-◌, ◌*◌, ◌<◌, ◌≤◌, Bool, true, false, cond, ltb, List, [], ◌∷◌, ◌++◌, get_or, ◌⊎◌, inl, inr, refl, sym, ◌∙◌, ap, subst, append_assoc, arith}
 use Rattle.std.proofs.lemmas.Bool.{false≢true, ltb-true, ltb-false, cases_lt}
 use Rattle.ls_frame.specs.Parameters.{Parameters, IsLegal}
@@ -79,7 +79,7 @@ around_same maxval one other i j agree inside =
     ∙ ap (λ v. neighbours_of (left other i j) (above other i j) v (above_right one i j)) (above_left_same maxval one other n i j agree (omega arith) inside)
     ∙ ap (neighbours_of (left other i j) (above other i j) (above_left other i j)) (above_right_same maxval one other n i j agree (omega arith) inside)
 
--- one sample more
+-- one more sample
 agree_more : (maxval : ℕ) (one other : Plane) (i j : ℕ) → Agree maxval one other (i * one.width + j) → at one i j ≡ at other i j → Agree maxval one other (i * one.width + (j + 1))
 agree_more maxval one other i j a e = record {
   widths = a.widths;
@@ -93,7 +93,7 @@ agree_more maxval one other i j a e = record {
   ];
 }
 
--- samples more that equal the one to their left, in both
+-- more samples that equal the one to their left, in both
 agree_run : (maxval : ℕ) (one other : Plane) (i j count : ℕ) → Agree maxval one other (i * one.width + j) → left one i j ≡ left other i j
     → count ≤ run_length one i j → count ≤ run_length other i j → Agree maxval one other (i * one.width + (j + count))
 agree_run maxval one other i j count a e few few' =
@@ -115,14 +115,14 @@ agree_run maxval one other i j count a e few few' =
 
 -- ---- where a span is due
 
--- it breaks, or its bits stand in front, and a later one breaks
+-- it breaks, or the bits begin with its bits, and a later one breaks
 next_span : (plane : Plane) (span : Span) (later more spans : List Span) (s : Coding) (bits : List Bool) (fault : CodeFault) → spans ≡ span ∷ later
     → BreaksSpans plane (spans ++ more) s bits fault
     → BreaksSpan plane span s bits fault ⊎ ((new : List Bool) × (bits ≡ span_bits_in plane span s ++ new) × BreaksSpans plane (later ++ more) (span_after plane span s) new fault)
 unfolding BreaksSpans
 next_span plane span later more spans s bits fault e malformed = subst (λ (xs : List Span). BreaksSpans plane (xs ++ more) s bits fault) e malformed
 
--- Both break at one place, with one fault; or both rows stand in front, and they break later.
+-- Both break at one place, with one fault; or the bits begin with both rows, and break later.
 record BreakLater (p : Parameters) (one other : Plane) (i : ℕ) (more more' : List Span) (f g : CodeFault) : Type 0 where
   events : List Event
   bits : List Bool
@@ -135,7 +135,7 @@ record BreakLater (p : Parameters) (one other : Plane) (i : ℕ) (more more' : L
 abbrev Meets : Parameters → Plane → Plane → ℕ → List Span → List Span → CodeFault → CodeFault → Type 0
 Meets p one other i more more' f g = (f ≡ g) ⊎ BreakLater p one other i more more' f g
 
--- from a column on, within so many columns
+-- from a column on, within this number of columns
 abbrev MeetFrom : ℕ → Type 0
 MeetFrom most =
     (p : Parameters) (one other : Plane) (i j : ℕ) (events : List Event) (bits : List Bool) (more more' : List Span) (f g : CodeFault) → IsLegal p → IsLawful p events
@@ -187,8 +187,8 @@ at_sample most again p one other i j events bits more more' f g legal lawful uni
 
 -- ---- a run
 
--- Where a run is due: it breaks; or the sample breaks that interrupts one of so many samples; or it stands in front to the line's end, or
--- with the sample that interrupts it, and a later span breaks.
+-- Where a run is due: it breaks; or the sample breaks that interrupts a run of some samples; or the bits begin with a run to the line's
+-- end, or with one and the sample that interrupts it, and a later span breaks.
 data AtRun (plane : Plane) (i j : ℕ) (s : Coding) (bits : List Bool) (more : List Span) (fault : CodeFault) : Type 0 where
   breaks_run : BreaksRun s.run_index (plane.width - j) bits fault → AtRun plane i j s bits more fault
   breaks_sample : (count : ℕ) (mid : List Bool) → count ≤ run_length plane i j → j + count < plane.width → bits ≡ run_bits s.run_index (run_of count true) ++ mid
@@ -225,7 +225,7 @@ at_run : (plane : Plane) (i j : ℕ) (s : Coding) (bits : List Bool) (more : Lis
     → BreaksSpans plane (row_from plane i j ++ more) s bits fault → AtRun plane i j s bits more fault
 at_run plane i j s bits more fault inside is malformed = at_run_by plane i j s bits more fault (ltb (j + run_length plane i j) plane.width) inside is refl malformed
 
--- a run of so many samples stands in front
+-- the bits begin with a run of this number of samples
 record RunInFront (left : ℕ) (index : ℕ) (bits : List Bool) (count : ℕ) (interrupted : Bool) (rest : List Bool) : Type 0 where
   ends : EndsInLine left count interrupted
   stands : bits ≡ run_bits index (run_of count interrupted) ++ rest
@@ -236,7 +236,7 @@ to_sample width j index count bits rest short e = record { ends = record { full 
 to_end : (width j index count : ℕ) (bits rest : List Bool) → j + count ≡ width → bits ≡ run_bits index (run_of count false) ++ rest → RunInFront (width - j) index bits count false rest
 to_end width j index count bits rest full e = record { ends = record { full = λ h. omega arith; short = λ h. absurd (false≢true h) }; stands = e }
 
--- two that do are one
+-- two such runs are one
 front_once : (left index count other : ℕ) (interrupted ends : Bool) (bits rest others : List Bool) → RunInFront left index bits count interrupted rest → RunInFront left index bits other ends others
     → (other ≡ count) × (ends ≡ interrupted) × (others ≡ rest)
 front_once left index count other interrupted ends bits rest others one two = run_once index left count interrupted bits rest one.ends one.stands other ends others two.ends two.stands

@@ -33,7 +33,7 @@ apart e = cc
 stops_apart : stops.Marker ≡ stops.End → ⊥
 stops_apart e = cc
 
--- what runs out of bits goes on as no wrong code does
+-- bits that run out don't break by a wrong code too
 not_wrong : (p : Parameters) (width height : ℕ) (bits : List Bool) → IsLegal p → 1 ≤ width → BreakInPlane p width height bits NotCanonical → BreakInPlane p width height bits OutOfBits → ⊥
 not_wrong p width height bits legal some wrong short = apart (one_break p width height bits NotCanonical OutOfBits legal some wrong.breaks short.breaks)
 
@@ -59,7 +59,7 @@ one_data_fault p width height component stuffed stop f g legal some (leftover h 
 one_data_fault p width height component stuffed stop f g legal some (leftover h e) (input_ends h' is e') = absurd (not_left_over p width height (unstuff stuffed) OutOfBits h' h)
 one_data_fault p width height component stuffed stop f g legal some (leftover h e) (leftover h' e') = e ∙ sym e'
 
--- the data of a plane is at no fault
+-- the data of a plane has no fault
 no_plane_at_fault : (p : Parameters) (width height : ℕ) (stuffed : List ℕ) (fault : CodeFault) → IsPlaneData p width height stuffed → BreakInPlane p width height (unstuff stuffed) fault → ⊥
 no_plane_at_fault p width height stuffed fault whole malformed = malformed.no_plane whole.plane whole.is_plane whole.coded.more whole.coded.bits
 

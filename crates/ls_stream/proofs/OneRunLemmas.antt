@@ -1,4 +1,4 @@
--- Bits that break where a run or a word is due break there in one way, and then no run and no word stands in front.
+-- Bits that break where a run or a word is due break there in one way, and then begin with no run and no word.
 use Rattle.std.proofs.Common.{◌≡◌, ℕ, ◌+◌, ◌-◌, ◌^◌, ◌<◌, ◌≤◌, min, Bool, true, false, List, [], ◌∷◌, ◌++◌, length, length-append, inl, inr, refl, sym, ◌∙◌, ap, subst, mod-eq_of_lt, arith}
 use Rattle.ls_frame.specs.Parameters.{Parameters, IsLegal, limit_of, qbpp_of}
 use Rattle.ls_bits.specs.declared.source.CodeFault.{CodeFault}
@@ -57,7 +57,7 @@ one_run_fault index left bits others f g (no_room count more e fits room fault) 
 one_run_fault index left bits others f g (no_room count more e fits room fault) (rest_ends more' e' short' fault') same = absurd (too_short index count more' more (sym e' ∙ sym same ∙ e) short')
 one_run_fault index left bits others f g (no_room count more e fits room fault) (no_room count' more' e' fits' room' fault') same = fault ∙ sym fault'
 
--- and then no run stands in front
+-- and then the bits begin with no run
 not_begun : (index left count : ℕ) (interrupted : Bool) (bits rest : List Bool) (f : CodeFault) → BreaksRun index left bits f → 0 < left → EndsInLine left count interrupted
     → RunBegins index left count interrupted bits rest → ⊥
 not_begun index left count interrupted bits rest f (bits_end e fault) some ends b = no_begin index left count interrupted bits rest e b
@@ -87,7 +87,7 @@ golomb_once k glimit qbpp bits OutOfBits NotCanonical h h' = absurd (h.1 h')
 golomb_once k glimit qbpp bits NotCanonical OutOfBits h h' = absurd (h'.1 h)
 golomb_once k glimit qbpp bits NotCanonical NotCanonical h h' = refl
 
--- a word in front leaves one fault
+-- a word at the front leaves one fault
 golomb_word : (k glimit qbpp value : ℕ) (bits rest : List Bool) (f g : CodeFault) → GolombFault k glimit qbpp bits f → TakesWord k glimit qbpp bits value rest → g ≡ NotCanonical → f ≡ g
 golomb_word k glimit qbpp value bits rest OutOfBits g h takes e = absurd (h.0 value takes.value (rest, takes.word))
 golomb_word k glimit qbpp value bits rest NotCanonical g h takes e = sym e
@@ -103,7 +103,7 @@ golomb_no_word : (k glimit qbpp value : ℕ) (bits rest : List Bool) (f : CodeFa
 golomb_no_word k glimit qbpp value bits rest OutOfBits code h takes = h.0 value takes.value (rest, takes.word)
 golomb_no_word k glimit qbpp value bits rest NotCanonical code h takes = canonical k glimit qbpp bits value rest code takes h
 
--- and then no sample's word stands in front
+-- and then the bits begin with no sample's word
 no_word : (plan : Planned) (value_of : ℕ → ℕ) (IsSample : ℕ → Type 0) (qbpp x : ℕ) (bits rest : List Bool) (f : CodeFault) → IsGolomb plan.k plan.glimit qbpp
     → IsSample x → TakesWord plan.k plan.glimit qbpp bits (value_of x) rest → BreaksWord plan value_of IsSample qbpp bits f → ⊥
 no_word plan value_of IsSample qbpp x bits rest f code is takes (inl h) = golomb_no_word plan.k plan.glimit qbpp (value_of x) bits rest f code h takes

@@ -1,4 +1,4 @@
--- What an opening says of the frame.
+-- What an opening determines of the frame.
 use Rattle.std.proofs.Common.{◌≡◌, ℕ, List, ◌++◌, take, Ok, get_or, refl, sym, ◌∙◌, ap}
 use Rattle.ls_bits.specs.Bits.{AreBytes}
 use Rattle.ls_frame.specs.Picture.{Picture, IsFrame, components}
@@ -14,7 +14,7 @@ use Rattle.ls_stream.proofs.OutlineLemmas.{opening_read}
 use Rattle.ls_stream.proofs.FaultLaws.{opening_has, parameters_stand}
 use Rattle.ls_stream.proofs.FrameReadingLemmas.{IsFoundAt, found_at, that_outline}
 
--- no front is a codestream where no outline says a frame
+-- no front is a codestream if no outline fits a frame
 pub no_front : (bytes first : List ℕ) → first ≡ take most_bytes bytes
     → ((o : Outline) (left : List ℕ) (f : Picture) → outline_at first ≡ Ok (o, left) → IsFrame f → IsOutlineOf f o → ⊥)
     → (front rest : List ℕ) (f : Picture) → bytes ≡ front ++ rest → Spells front f → ⊥
@@ -46,7 +46,7 @@ bits_at : (contents : List ℕ) (h : FrameHeader) → HeaderRead contents h → 
 unfolding header_contents
 bits_at contents h read = sym read.precision ∙ sym (ap (λ (bs : List ℕ). get_or bs 0 0) read.whole)
 
--- an opening that was read says what stands there
+-- an opening that was read has the values of the bytes
 pub opening_says : (bytes : List ℕ) (h : FrameHeader) (p : Parameters) (opened : List ℕ) → AreBytes (take most_bytes bytes)
     → opening_at (take most_bytes bytes) ≡ Ok (h, p, opened)
     → SaysSo (record { bytes = bytes; precision = h.precision; kind = h.kind; width = h.width; height = h.height; parameters = p })

@@ -1,4 +1,4 @@
--- Outlines and the grammar say the same: what is read of bytes is a codestream, and a codestream is read.
+-- Outlines agree with the grammar: what is read of bytes is a codestream, and a codestream is read.
 use Rattle.std.proofs.Common.{◌≡◌, ℕ, zero, suc, ◌+◌, ◌^◌, ◌<◌, ◌≤◌, Bool, true, false, eqb, List, [], ◌∷◌, ◌++◌, length, map, drop, get_or, replicate, Result, Ok, Err, refl, sym, ap, subst, ◌∙◌, arith, append_assoc, take-append-drop}
 use Rattle.std.specs.Prelude.{IsTrue, slice_index}
 use Rattle.std.specs.List.{AllByRecursion}
@@ -189,7 +189,7 @@ stuffed scans = map (λ s. s.stuffed) scans
 abbrev AllFollow : List Scan → Type 0
 AllFollow scans = AllByRecursion (λ s. AllByRecursion MayFollowScan s.after) scans
 
--- what stands after the header of a scan: its data, and the scans of the components after it
+-- what comes after the header of a scan: its data, and the scans of the components after it
 abbrev from_data : List Component → Scan → List Scan → ℕ → List ℕ → List ℕ
 from_data later scan scans last_fill rest =
     scan.stuffed ++ (miscellaneous_bytes scan.after ++ (scans_bytes later scans ++ (filled last_fill (marker EndOfImage) ++ rest)))
@@ -367,7 +367,7 @@ opening_read bytes found are e =
       rest_are = scan.rest_are;
     })
 
--- ---- a whole codestream that is read
+-- ---- a complete codestream that is read
 
 some_components : (kind : Kind) → 0 < components kind
 some_components Gray = omega arith
@@ -407,7 +407,7 @@ data_of_scans : (p : Parameters) (f : Picture) (component : ℕ) (scans : List S
 data_of_scans p f component [] are = tt
 data_of_scans p f component (scan ∷ scans) are = (are.0, data_of_scans p f (suc component) scans are.1)
 
--- the codestream that bytes are, up to what is left of them
+-- the codestream of bytes, up to those that are left
 record StreamRead (bytes : List ℕ) (o : Outline) (rest : List ℕ) : Type 0 where
   stream : Codestream
   whole : bytes ≡ codestream_bytes stream ++ rest
@@ -525,7 +525,7 @@ segments_start (skipped fill m contents ∷ segments) bytes may starts =
     ap starts_marker (append_assoc (filled fill (segment m contents)) (miscellaneous_bytes segments) bytes) ∙ segment_starts fill m contents _ (high_code m may.0.marker_is)
 segments_start (presets fill p ∷ segments) bytes may starts = absurd may.0
 
--- ---- what is spelled is read
+-- ---- what is so by the grammar is read
 
 pub frame_spelled : (contents : List ℕ) (h : FrameHeader) (fill : ℕ) (segments : List Miscellaneous) (rest : List ℕ) → frame_header_of contents ≡ Ok h → 2 + length contents < 2 ^ 16
     → AllByRecursion MayPrecedeScans segments

@@ -1,4 +1,4 @@
--- One byte more of a codestream: where reading goes on from with it, or what ends there.
+-- One more byte of a codestream: from where reading goes on with it, or what ends there.
 use Rattle.std.proofs.Common.{◌≡◌, ℕ, zero, suc, ◌+◌, ◌-◌, ◌*◌, ◌<◌, ◌≤◌, true, leb, ltb, List, [], ◌∷◌, ◌⊎◌, length, drop, replicate, inl, inr, Option, None, Some, Result, Ok, Err, refl, sym, ap, subst, ◌∙◌, arith, length-append, length-drop}
 use Rattle.std.specs.Prelude.{IfNone}
 use Rattle.std.proofs.lemmas.Bool.{cases_Bool, eq-eqb, ne_eqb, le-leb, le-ltb, lt-ltb, lt-leb, ltb-true, ltb-false}
@@ -22,7 +22,7 @@ use Rattle.ls_stream.proofs.MarkerLemmas.{marker_read}
 use Rattle.ls_stream.proofs.SegmentLemmas.{contents_shorter}
 use Rattle.ls_stream.proofs.FrontLemmas.{length-pair, length-marker, length-other}
 
--- ---- a segment or a scan more
+-- ---- one more segment or scan
 
 -- the same first step, and second steps that agree after it
 pub same_steps : {A B : Type 0} (r : Result A StreamFault) (f g : A → Result B StreamFault) → ((x : A) → r ≡ Ok x → f x ≡ g x) → (r >>= f) ≡ (r >>= g)
@@ -52,7 +52,7 @@ marker_shorter bytes found e =
     let read = marker_read bytes found e in
     omega (arith, ap length read.1, length-append (filled read.0 (marker found.0)) found.1, length-append (replicate read.0 255) (marker found.0))
 
--- the length of the bytes is enough
+-- the number of bytes is enough
 enough : (a b : ℕ) (bytes : List ℕ) → length bytes ≤ a → length bytes ≤ b → segments_within a bytes ≡ segments_within b bytes
 unfolding segments_within marker_at
 enough zero zero bytes first second = refl
@@ -66,7 +66,7 @@ enough (suc a) (suc b) bytes first second =
     let less = marker_shorter bytes n e in
     same_after n.0 n.1 (segments_within a) (segments_within b) (λ rest fewer. enough a b rest (omega arith) (omega arith)))
 
--- a marker, and what stands after it
+-- a marker, and what follows it
 pub segments_at-next : (bytes : List ℕ) → segments_at bytes ≡ (marker_at bytes >>= λ next. after_any segments_at next.0 next.1)
 unfolding segments_at segments_within marker_at
 segments_at-next [] = refl
@@ -76,7 +76,7 @@ segments_at-next (byte ∷ bytes) =
     let less = marker_shorter (byte ∷ bytes) n e in
     same_after n.0 n.1 (segments_within (length bytes)) segments_at (λ rest fewer. enough (length bytes) (length rest) rest (omega arith) (omega arith)))
 
--- ---- no byte more
+-- ---- no more bytes
 
 pub read_on-none : (place : Awaited) → read_on place [] ≡ Err Truncated
 unfolding read_on extent_at start_at segments_at segments_within marker_at code_at contents_at data_length
@@ -208,7 +208,7 @@ length_read f high low bytes some =
       | inr past ↦ rw (both, least, past) refl
     ]
 
--- after the two bytes of a length, the others are so many
+-- after the two bytes of a length, this number of bytes follows
 later_bytes : (high low n more : ℕ) (bytes : List ℕ) → n ≡ suc (suc more) → drop n (high ∷ low ∷ bytes) ≡ drop more bytes
 later_bytes high low n more bytes e = ap (λ k. drop k (high ∷ low ∷ bytes)) e
 
@@ -227,7 +227,7 @@ length_two f high low two = record {
       ∙ sym (read_on-place f bytes);
 }
 
--- so many contents are there, or fewer
+-- whether all bytes of the contents follow, in two forms
 same_test : (n more len : ℕ) → n ≡ more + 3 → leb n (suc (suc len)) ≡ ltb more len
 same_test n more len e = elim (cases_Bool (ltb more len)) [
   | inl here ↦ let less : more < len = ltb-true more len here in le-leb n (suc (suc len)) (omega arith) ∙ sym here

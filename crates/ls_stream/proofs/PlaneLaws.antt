@@ -1,4 +1,4 @@
--- A plane's bits tell it apart: the same bits begin with those of no other plane of its width and height.
+-- A plane's bits identify it: the same bits begin with those of no other plane of its width and height.
 use Rattle.std.proofs.Common.{◌≡◌, ℕ, zero, suc, ◌+◌, ◌-◌, ◌*◌, ◌^◌, ◌<◌, ◌≤◌, min, Bool, true, false, ltb, List, [], ◌∷◌, ◌++◌, length, get_or, inl, inr, refl, sym, ◌∙◌, ap, subst, append_assoc, mod-eq_of_lt, arith}
 use Rattle.std.proofs.lemmas.Bool.{false≢true, ltb-true, ltb-false, cases_lt}
 use Rattle.ls_frame.specs.Parameters.{Parameters, IsLegal}
@@ -34,7 +34,7 @@ few_of : (left count : ℕ) (interrupted : Bool) → EndsInLine left count inter
 few_of left count true ends = let short = ends.short refl in omega arith
 few_of left count false ends = let full = ends.full refl in omega arith
 
--- runs of fewer samples than these are told apart by their bits
+-- runs of fewer samples than these differ in their bits
 abbrev RunsAreOnce : ℕ → Type 0
 RunsAreOnce most =
     (index left count other : ℕ) (interrupted ends : Bool) (bits rest others : List Bool) → count < most → EndsInLine left count interrupted → EndsInLine left other ends
@@ -333,7 +333,7 @@ stored plane width i row e = record {
   kept = λ r j h k. refl;
 }
 
--- the line above a row, of a plane that has the same rows above it
+-- the line above a row, for a plane that has the same rows above it
 held_line : (maxval width height i : ℕ) (plane other : Plane) → 1 ≤ width → i ≤ height → IsSamplePlane maxval width height plane → IsSamplePlane maxval width height other
     → HoldsRows other i 1 0 plane.samples → HoldsLine other i (line_of plane i)
 held_line maxval width height zero plane other some inside is is' rows = none_above other (line_of plane 0) (λ k h. no_sample plane k (omega (arith, is.width_is, is'.width_is)))

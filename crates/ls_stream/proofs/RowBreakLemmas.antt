@@ -29,7 +29,7 @@ breaks_after : (plane : Plane) (span : Span) (later more spans : List Span) (s :
 unfolding BreaksSpans
 breaks_after plane span later more spans s bits new fault e f malformed = subst (λ (xs : List Span). BreaksSpans plane (xs ++ more) s bits fault) (sym e) (inr (new, f, malformed))
 
--- what a longer buffer holds, the shorter one does
+-- what a longer buffer holds, a shorter one does
 holds_shorter : (plane : Plane) (i : ℕ) (above line new : List ℕ) (column end : ℕ) → IsLonger line new column → column ≤ end → HoldsRowTo plane i above new end
     → HoldsRowTo plane i above line column
 holds_shorter plane i above line new column end longer reach holds = record {

@@ -88,9 +88,9 @@ run_is plane i j end above line lines inside h =
     (λ k l m. sym (lines.samples k (omega (arith, h.high))) ∙ h.equal k l m ∙ value)
     (λ neighbours_in e. h.other neighbours_in (lines.samples end neighbours_in ∙ e ∙ sym value)))
 
--- ---- as the code has them, by the column after the run
+-- ---- in the form of the code, by the column after the run
 
--- what is left of that column is the run's value
+-- the sample to the left of that column has the run's value
 pub run_value : (line : List ℕ) (width j end : ℕ) → IsRunEnd line width j end → get_or line end 0 ≡ get_or line j 0
 run_value line width j end h =
     elim (cases_lt j end) [

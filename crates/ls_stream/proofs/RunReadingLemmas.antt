@@ -10,7 +10,7 @@ use Rattle.ls_coding.proofs.RunLaws.{one_bit_more, one_bit_left, no_bit_left, bi
 use Rattle.ls_coding.proofs.RunLemmas.{some_samples, walked_one}
 use Rattle.ls_stream.specs.View.Decoding.{EndsInLine}
 
--- ---- a bit in front
+-- ---- a bit at the front
 
 first_of : List Bool → Bool
 first_of [] = false
@@ -28,8 +28,8 @@ pub one_or_zero : (x y : List Bool) → true ∷ x ≡ false ∷ y → ⊥
 unfolding first_of
 one_or_zero x y e = true≢false (ap first_of e)
 
--- how the bits of a run begin that ends in a line with so many samples left: with a bit 1 for 2^J samples, or for what is left; or with
--- a bit 0, and what is left in J bits
+-- how the bits begin of a run that ends in a line with this number of samples left: with a bit 1 for 2^J samples, or for the samples that
+-- are left; or with a bit 0, and the rest in J bits
 pub data RunBegins (index left count : ℕ) (interrupted : Bool) (bits rest : List Bool) : Type 0 where
   whole_one : 2 ^ order index ≤ count → bits ≡ true ∷ (run_bits (min (index + 1) 31) (run_of (count - 2 ^ order index) interrupted) ++ rest)
       → RunBegins index left count interrupted bits rest
@@ -53,13 +53,13 @@ begins index left count interrupted bits rest some ends e =
       | inr enough ↦ whole_one enough (e ∙ ap (λ x. x ++ rest) (one_bit_more index count interrupted enough))
     ]
 
--- what is left of a run, and of its line, after so many samples
+-- what is left of a run, and of its line, after this number of samples
 pub ends_later : (left so_far other : ℕ) (interrupted : Bool) → so_far ≤ other → so_far ≤ left → EndsInLine left other interrupted → EndsInLine (left - so_far) (other - so_far) interrupted
 ends_later left so_far other interrupted h k ends = record { full = λ e. let full = ends.full e in omega arith; short = λ e. let short = ends.short e in omega arith }
 
 -- ---- while bits are read
 
--- so many samples were read of a run that began at one place, and the bits that are left are now those at the other
+-- of a run that began at one place this number of samples was read, and the bits that are left are those at the other place
 pub record IsInRun (left so_far first index : ℕ) (start bits : List Bool) : Type 0 where
   pub runs : (count : ℕ) (interrupted : Bool) (rest : List Bool)
       → (start ≡ run_bits first (run_of (so_far + count) interrupted) ++ rest) ↔ (bits ≡ run_bits index (run_of count interrupted) ++ rest)
@@ -74,7 +74,7 @@ begun left index bits = record {
   longer = λ other interrupted rest ends e. omega arith;
 }
 
--- the bits that are left, of a run that may have been begun
+-- the bits that are left, of a run that may be partly read
 to_come : (left so_far first index other : ℕ) (interrupted : Bool) (start bits rest : List Bool) → IsInRun left so_far first index start bits → so_far < left
     → EndsInLine left other interrupted → start ≡ run_bits first (run_of other interrupted) ++ rest → RunBegins index (left - so_far) (other - so_far) interrupted bits rest
 to_come left so_far first index other interrupted start bits rest in_run short ends e =
@@ -111,7 +111,7 @@ one_read left so_far first index count next start bits new in_run short e f g mo
       omega arith;
 }
 
--- a bit 1 that ends the line
+-- a bit 1 that completes the line
 pub last_one : (left so_far first index count : ℕ) (start bits new : List Bool) → IsInRun left so_far first index start bits
     → bits ≡ true ∷ new → 0 < count → count ≤ 2 ^ order index → start ≡ run_bits first (run_of (so_far + count) false) ++ new
 last_one left so_far first index count start bits new in_run e some few =
@@ -149,7 +149,7 @@ only_to_end left so_far first index count other interrupted start bits new rest 
     only_last index left so_far count other interrupted bits new rest e f short few ends (in_run.longer other interrupted rest ends g)
     (to_come left so_far first index other interrupted start bits rest in_run short ends g)
 
--- ---- where the bits end, or no run goes on so
+-- ---- where the bits end, or continue as no run's do
 
 pub no_begin : (index left count : ℕ) (interrupted : Bool) (bits rest : List Bool) → bits ≡ [] → RunBegins index left count interrupted bits rest → ⊥
 no_begin index left count interrupted bits rest none (whole_one enough e) = absurd (omega (arith, ap length (sym none ∙ e)))
@@ -172,7 +172,7 @@ pub few_bits : (left so_far first index other : ℕ) (interrupted : Bool) (start
 few_bits left so_far first index other interrupted start bits new rest in_run short e few ends f =
     few_begin index (left - so_far) (other - so_far) interrupted bits new rest e few (to_come left so_far first index other interrupted start bits rest in_run short ends f)
 
--- a bit 0, and the samples that are left
+-- a bit 0, and the rest of the run
 pub break_read : (left so_far first index count : ℕ) (start bits mid new : List Bool) → IsInRun left so_far first index start bits
     → bits ≡ false ∷ mid → mid ≡ bits_of (order index) count ++ new → count < 2 ^ order index → start ≡ run_bits first (run_of (so_far + count) true) ++ new
 break_read left so_far first index count start bits mid new in_run e f few =
@@ -216,7 +216,7 @@ pub next_index : (s t : Coding) (count : ℕ) → t ≡ run_after s (run_of coun
 next_index s t count e f =
     ap (λ (x : Coding). x.run_index) e ∙ ap (λ n. index_at s.run_index (run_of n false)) f ∙ ap (λ (w : Walk). w.index) (walked_one s.run_index)
 
--- ---- as the calls say it
+-- ---- in the form of the contracts
 
 pub bit_is_one : (value : ℕ) (bits new : List Bool) → bits ≡ bits_of 1 value ++ new → value ≡ 1 → bits ≡ true ∷ new
 bit_is_one value bits new e one = e ∙ ap (λ n. bits_of 1 n ++ new) one

@@ -48,7 +48,7 @@ rows_later p q width height count component i above line read samples new s t bi
 
 -- ---- in a row
 
--- a plane whose rows above one are among samples, and that one in a buffer
+-- a plane whose rows above one are among the samples, and whose next row is in a buffer
 cell : ℕ → ℕ → ℕ → ℕ → List ℕ → List ℕ → ℕ → ℕ
 cell width count component i samples line k = cond (ltb k (i * width)) (get_or samples (k * count + component) 0) (get_or line (k - i * width + 1) 0)
 

@@ -1,4 +1,4 @@
--- What is read of a scan, row by row.
+-- Reading a scan, row by row.
 use Rattle.std.proofs.Common.{◌≡◌, ◌≢◌, ◌↔◌, ℕ, suc, ◌+◌, ◌-◌, ◌*◌, ◌/◌, ◌%◌, ◌<◌, ◌≤◌, Bool, List, [], ◌++◌, length, get_or, inl, inr, refl, sym, ◌∙◌, ap, subst, mul-div_cancel, arith}
 use Rattle.std.proofs.Math.ListN.{set}
 use Rattle.std.proofs.Math.Nat.{mod-lt, div-lt_iff_lt-mul}
@@ -36,13 +36,13 @@ row_bits plane height i s rest h =
     ap (λ (xs : List Span). bits_from plane xs s ++ rest)
     (rows_from-next plane height i h ∙ ap (λ (xs : List Span). xs ++ rows_from plane (height - (i + 1)) (i + 1)) (row_from-start plane i))
 
--- those after a row that is read
+-- the bits of the rows after one that is read
 later_bits : (plane : Plane) (width height i : ℕ) (s : Coding) (rest : List Bool) → plane.width ≡ width
     → bits_from plane (row_from plane i width ++ rows_from plane (height - (i + 1)) (i + 1)) s ++ rest ≡ bits_from plane (rows_from plane (height - (i + 1)) (i + 1)) s ++ rest
 later_bits plane width height i s rest e =
     ap (λ (xs : List Span). bits_from plane (xs ++ rows_from plane (height - (i + 1)) (i + 1)) s ++ rest) (row_from-end plane i width (omega arith))
 
--- what is known of the samples before and after a row was read: the row is there, and those above it are as they were
+-- the samples before and after a row was read: the row is among them, and those above it are unchanged
 pub record IsStored (width count component i : ℕ) (samples new : List ℕ) (line : List ℕ) : Type 0 where
   pub stored : (j : ℕ) → j < width → get_or new ((i * width + j) * count + component) 0 ≡ get_or line (j + 1) 0
   pub kept : (r j : ℕ) → r < i → j < width → get_or new ((r * width + j) * count + component) 0 ≡ get_or samples ((r * width + j) * count + component) 0
@@ -73,7 +73,7 @@ pub row_in : (plane : Plane) (width count component i : ℕ) (samples new line :
 row_in plane width count component i samples new line e is rows c h =
     sym (is.stored c h) ∙ sym (by_width plane.width width count component i c new e) ∙ rows i c (omega arith) (omega arith)
 
--- a row more is read
+-- one more row is read
 pub row_read : (maxval width height count component i : ℕ) (above line read samples new : List ℕ) (s t : Coding) (bits left : List Bool) (plane : Plane) (rest : List Bool) → i < height → 1 ≤ width
     → IsSamplePlane maxval width height plane → (HoldsRows plane i count component samples → HoldsLine plane i above)
     → AreSamePlanes maxval width above (place 0 line s bits) (place width read t left) → get_or line 0 0 ≡ get_or above 1 0 → get_or read 0 0 ≡ get_or line 0 0
@@ -120,7 +120,7 @@ no_row maxval width height count component i above line samples s bits plane res
       bits_are = m.bits_are ∙ row_bits plane height i s rest inside;
     })
 
--- the line that stands above the next row
+-- the line above the next row
 pub line_held : (maxval width height count component i : ℕ) (above line read samples new : List ℕ) (plane : Plane) → i < height → 1 ≤ width
     → IsSamplePlane maxval width height plane → (HoldsRows plane i count component samples → HoldsLine plane i above)
     → get_or line 0 0 ≡ get_or above 1 0 → get_or read 0 0 ≡ get_or line 0 0 → length read ≡ width + 2
@@ -159,7 +159,7 @@ component_at width height count component k samples some e h =
     let places : length samples / count ≡ height * width = ap (λ n. n / count) e ∙ mul-div_cancel (height * width) positive in
     get_or-map-range_with_len (λ n. get_or samples (n * count + component) 0) 0 (length samples / count) k k 0 (omega arith) (omega arith)
 
--- a plane all of whose rows stand among the samples is the component's
+-- a plane all of whose rows are among the samples is the component's
 pub all_rows_are : (maxval width height count component : ℕ) (samples : List ℕ) (plane : Plane) → 1 ≤ width → 1 ≤ count → length samples ≡ height * width * count
     → IsSamplePlane maxval width height plane → HoldsRows plane height count component samples → plane ≡ component_plane width count component samples
 all_rows_are maxval width height count component samples plane some_width some e is rows =
@@ -204,7 +204,7 @@ all_spans maxval width height plane some is =
     ap (λ n. rows_from plane (n / plane.width) 0) is.count ∙ ap (λ w. rows_from plane (height * width / w) 0) is.width_is
     ∙ ap (λ n. rows_from plane n 0) (mul-div_cancel height positive ∙ none)
 
--- at a scan's start any plane may be read whose bits are in front
+-- at a scan's start, any plane may be read whose bits are at the front
 pub starts : (maxval width height count component : ℕ) (plane : Plane) (samples : List ℕ) (s : Coding) (bits rest : List Bool) → 1 ≤ width → IsSamplePlane maxval width height plane
     → s ≡ state_of s.parameters [] → bits ≡ plane_bits s.parameters plane ++ rest → RowsMayBeRead plane height 0 count component samples s bits rest
 starts maxval width height count component plane samples s bits rest some is e f = record {
@@ -219,7 +219,7 @@ started maxval width height count component plane samples s bits rest some is e 
     m.bits_are ∙ ap (λ (t : Coding). bits_from plane (rows_from plane (height - 0) 0) t ++ rest) e
     ∙ ap (λ x. x ++ rest) (sym (plane_from s.parameters plane ∙ ap (λ (xs : List Span). bits_from plane xs (state_of s.parameters [])) (all_spans maxval width height plane some is)))
 
--- at its end only the rest is left
+-- at its end, only the rest is left
 none_left : (plane : Plane) (height : ℕ) (s : Coding) (rest : List Bool) → bits_from plane (rows_from plane (height - height) height) s ++ rest ≡ rest
 unfolding bits_from
 none_left plane height s rest =

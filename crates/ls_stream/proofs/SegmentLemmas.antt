@@ -1,4 +1,4 @@
--- The contents of segments: what is read of bytes is spelled so, and what is spelled so is read.
+-- The contents of segments: what is read of bytes is what they are by the grammar, and what is so by the grammar is read.
 use Rattle.std.proofs.Common.{◌≡◌, ℕ, zero, suc, ◌+◌, ◌-◌, ◌*◌, ◌/◌, ◌%◌, ◌^◌, ◌<◌, ◌≤◌, true, leb, eqb, List, [], ◌∷◌, ◌++◌, length, take, drop, get_or, Result, Ok, refl, sym, ap, subst, ◌∙◌, arith, take-append-drop, length-append, length-drop}
 use Rattle.std.proofs.lemmas.Bool.{leb-true, le-leb, eqb-true, eq-eqb}
 use Rattle.std.proofs.lemmas.List.{length-take, take_at, drop_at, drop_more, drop_all}
@@ -19,7 +19,7 @@ two_high high low l = omega arith
 two_low : (high low : ℕ) → low < 256 → (256 * high + low) % 256 ≡ low
 two_low high low l = omega arith
 
--- two bytes are those of the number that they say
+-- two bytes are those of their value
 pub two_are : (high low : ℕ) → high < 256 → low < 256 → two_bytes (256 * high + low) ≡ high ∷ low ∷ []
 two_are high low h l =
     ap (λ n. n ∷ (256 * high + low) % 256 ∷ []) (two_high high low l) ∙ ap (λ n. high ∷ n ∷ []) (two_low high low l)
@@ -27,7 +27,7 @@ two_are high low h l =
 pub two_small : (high low : ℕ) → high < 256 → low < 256 → 256 * high + low < 2 ^ 16
 two_small high low h l = omega arith
 
--- and say it
+-- and have it
 pub two_again : (n : ℕ) → 256 * (n / 256) + n % 256 ≡ n
 two_again n = omega arith
 
@@ -87,7 +87,7 @@ contents_read (high ∷ low ∷ more) found are e =
     (subst (λ rest. ContentsRead bytes (take (n - 2) more) rest) (sym (drop_two high low n more least))
     (contents_by high low more n are refl least (leb-true n (length bytes) second.0)))
 
--- what is left is no longer
+-- the bytes that are left are no more
 pub contents_shorter : (bytes : List ℕ) (found : List ℕ × List ℕ) → contents_at bytes ≡ Ok found → length found.1 ≤ length bytes
 unfolding contents_at
 contents_shorter bytes found e =

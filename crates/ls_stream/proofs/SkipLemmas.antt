@@ -1,4 +1,4 @@
--- Reading over scans, whose data isn't decoded.
+-- Skipping scans, whose data isn't decoded.
 use Rattle.std.proofs.Common.{◌≡◌, ℕ, ◌+◌, ◌-◌, ◌≤◌, List, [], ◌∷◌, ◌++◌, length, take, drop, Result, Ok, Err, refl, sym, ap, ◌∙◌, arith, take-append-drop, length-append}
 use Rattle.ls_bits.specs.Bits.{AreBytes}
 use Rattle.ls_frame.specs.Parameters.{Parameters}
@@ -13,7 +13,7 @@ use Rattle.ls_stream.proofs.FrameReadingLemmas.{left_short}
 
 -- ---- the scans
 
--- what is made of what was read leaves as much
+-- converting what was read leaves the same bytes
 made_of : {X Y : Type 0} (r : Take X) (f : X × List ℕ → Y) → rest_of (r >>= λ found. Ok (f found, found.1)) ≡ rest_of r
 made_of (Ok found) f = refl
 made_of (Err fault) f = refl
@@ -25,7 +25,7 @@ rest_more id later bytes rest e =
     ap rest_of (step_is (next_scan_at id (after_data bytes)) (λ r. scans_at later r >>= λ found. Ok (data_at bytes ∷ found.0, found.1)) rest e)
     ∙ made_of (scans_at later rest) (λ found. data_at bytes ∷ found.0)
 
--- where there is none
+-- if that header can't be read
 pub rest_stopped : (id : ℕ) (later bytes : List ℕ) (fault : StreamFault) → next_scan_at id (after_data bytes) ≡ Err fault → rest_of (scans_at (id ∷ later) bytes) ≡ Err fault
 unfolding scans_at
 rest_stopped id later bytes fault e =
@@ -40,7 +40,7 @@ pub rest_last : (bytes : List ℕ) → rest_of (scans_at [] bytes) ≡ end_at (a
 unfolding scans_at
 rest_last bytes = rest_end (data_at bytes) (end_at (after_data bytes))
 
--- ---- the whole
+-- ---- all of it
 
 has_rest : {X : Type 0} (r : Take X) (left : List ℕ) → rest_of r ≡ Ok left → (x : X) × (r ≡ Ok (x, left))
 has_rest (Ok found) left e = let same : found.1 ≡ left = cc in (found.0, ap (λ rest. Ok (found.0, rest)) same)
@@ -53,7 +53,7 @@ has_fault (Err other) fault e = let same : other ≡ fault = cc in ap (λ (f : S
 abbrev outline : FrameHeader × Parameters × List ℕ → List (List ℕ) → Outline
 outline opening scans = record { header = opening.0; parameters = opening.1; scans = scans }
 
--- the scans after an opening were read over
+-- the scans after an opening were skipped
 pub skipped : (opened : Opened) (header : FrameHeader) (p : Parameters) (rest left : List ℕ) → AreBytes (take most_bytes opened.bytes)
     → opening_at (take most_bytes opened.bytes) ≡ Ok (header, p, rest) → rest_of (scans_at (drop 1 (ids_in header)) rest) ≡ Ok left
     → opened.precision ≡ header.precision → opened.kind ≡ header.kind → opened.width ≡ header.width → opened.height ≡ header.height → opened.parameters ≡ p
@@ -75,7 +75,7 @@ skipped opened header p rest left are opens reads precision kind width height pa
     let says : IsOutlineFrom opened o = record { precision = sym precision; kind = sym kind; width = sym width; height = sym height; parameters = sym parameters } in
     (few, (o, left ++ more, ap (of_all bytes) read, omega (arith, few, sizes, length-append left more), says))
 
--- there is none
+-- the opening can't be read
 pub not_opened : (bytes first : List ℕ) (fault : StreamFault) → first ≡ take most_bytes bytes → opening_at first ≡ Err fault → outline_of bytes ≡ Err (fault_of bytes fault)
 unfolding outline_of outline_at
 not_opened bytes first fault same opens =
@@ -83,7 +83,7 @@ not_opened bytes first fault same opens =
     of_all bytes (r >>= λ opened. scans_at (drop 1 (ids_in opened.0)) opened.2 >>= λ found. Ok (outline opened found.0, found.1)))
     (ap opening_at (sym same) ∙ opens)
 
--- they have a fault
+-- the scans can't be read
 pub not_skipped : (bytes : List ℕ) (header : FrameHeader) (p : Parameters) (rest : List ℕ) (fault : StreamFault) → opening_at (take most_bytes bytes) ≡ Ok (header, p, rest)
     → rest_of (scans_at (drop 1 (ids_in header)) rest) ≡ Err fault → outline_of bytes ≡ Err (fault_of bytes fault)
 unfolding outline_of outline_at

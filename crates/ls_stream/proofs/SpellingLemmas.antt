@@ -1,4 +1,4 @@
--- What is written of a frame spells it.
+-- The codestream that is written for a frame is one of it by the grammar.
 use Rattle.std.proofs.Common.{◌≡◌, ℕ, zero, suc, ◌+◌, ◌^◌, ◌<◌, ◌≤◌, [], ◌∷◌, Bool, true, false, cond, eqb, eqb→eq, length, map, None, inr, refl, sym, ◌∙◌, ap, subst, arith}
 use Rattle.std.specs.Prelude.{not, ◌&&◌, Ok}
 use Rattle.std.proofs.Math.Pow.{pow_mono}
@@ -41,7 +41,7 @@ header_of f frame = record {
 
 -- ---- the parameters
 
--- that nothing is found that keeps legal parameters from Table C.2
+-- legal parameters have no fault by Table C.2
 abbrev pub LegalAreKept : Type 0
 LegalAreKept = (p : Parameters) → IsLegal p → preset_fault p ≡ None
 
@@ -64,7 +64,7 @@ explicit_kept : LegalAreKept → (p : Parameters) → IsLegal p → explicit_par
 unfolding explicit_parameters
 explicit_kept kept p legal = ap (λ fault. unless_fault fault p) (kept p legal)
 
--- what is written is chosen
+-- a parameter that is written isn't replaced by its default
 chosen : (n default : ℕ) → 0 < n → or_default n default ≡ n
 chosen zero default some = absurd (omega arith)
 chosen (suc n) default some = cond-false _ _ _ (ne_eqb (suc n) 0 (λ e. absurd (omega arith)))
@@ -96,7 +96,7 @@ tuned_default : (maxval : ℕ) → tuned (record { t1 = 0; t2 = 0; t3 = 0; reset
 unfolding tuned default_parameters
 tuned_default maxval = refl
 
--- and the precision's own where none are written
+-- and the precision's defaults if none are written
 default_again : LegalAreKept → (p : Parameters) → IsLegal p → p ≡ default_parameters (greatest_maxval (bpp_of p.maxval)) → parameters_of (bpp_of p.maxval) no_presets ≡ Ok p
 default_again kept p legal e =
     unless_over (bpp_of p.maxval) no_presets (omega arith) ∙ ap explicit_parameters (tuned_default (greatest_maxval (bpp_of p.maxval)) ∙ sym e) ∙ explicit_kept kept p legal

@@ -1,4 +1,4 @@
--- What a step that didn't fail gave, and that a step after another doesn't fail.
+-- The value of a step that didn't fail, and that a step after another doesn't fail.
 use Rattle.std.proofs.Common.{◌≡◌, ◌⊎◌, inl, inr, Bool, true, false, Result, Ok, Err, refl, sym, ap}
 use Rattle.ls_stream.specs.declared.faults.StreamFault.{StreamFault}
 use Rattle.ls_stream.specs.View.Reading.{◌>>=◌, wanted}
@@ -13,7 +13,7 @@ pub test_ok : {B : Type 0} (test : Bool) (fault : StreamFault) (r : Result B Str
 test_ok true fault r y e = (refl, e)
 test_ok false fault r y e = absurd cc
 
--- the last test of all
+-- the last test
 pub passed_ok : (test : Bool) (fault : StreamFault) (y : Unit {0}) → wanted test fault ≡ Ok y → test ≡ true
 passed_ok true fault y e = refl
 passed_ok false fault y e = absurd cc
@@ -34,7 +34,7 @@ done x = Ok x
 pub same_ok : {A : Type 0} (x y : A) → done x ≡ done y → x ≡ y
 same_ok x y e = cc
 
--- ---- what failed
+-- ---- faults
 
 abbrev failed : {A : Type 0} → StreamFault → Result A StreamFault
 failed fault = Err fault
@@ -42,13 +42,13 @@ failed fault = Err fault
 pub same_fault : {A : Type 0} (fault other : StreamFault) → failed {A = A} fault ≡ failed {A = A} other → fault ≡ other
 same_fault fault other e = cc
 
--- the first step, or the second
+-- the first step fails, or the second
 pub step_err : {A B : Type 0} (r : Result A StreamFault) (f : A → Result B StreamFault) (fault : StreamFault) → (r >>= f) ≡ Err fault
     → (r ≡ Err fault) ⊎ ((x : A) × (r ≡ Ok x) × (f x ≡ Err fault))
 step_err (Ok x) f fault e = inr (x, refl, e)
 step_err {A} {B} (Err other) f fault e = inl (ap (λ d. failed {A = A} d) (same_fault {A = B} other fault e))
 
--- the test, or what follows it
+-- the test fails, or what follows it
 pub test_err : {B : Type 0} (test : Bool) (other : StreamFault) (r : Result B StreamFault) (fault : StreamFault) → (wanted test other >>= λ passed. r) ≡ Err fault
     → ((test ≡ false) × (fault ≡ other)) ⊎ ((test ≡ true) × (r ≡ Err fault))
 test_err true other r fault e = inr (refl, e)

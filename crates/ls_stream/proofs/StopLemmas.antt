@@ -1,4 +1,4 @@
--- Where decoding stops, as the calls say it.
+-- Where decoding stops, in the form of the contracts.
 use Rattle.std.proofs.Common.{◌≡◌, ℕ, List, refl}
 use Rattle.ls_frame.specs.Parameters.{Parameters}
 use Rattle.ls_bits.specs.declared.data.Stop.{Stop}

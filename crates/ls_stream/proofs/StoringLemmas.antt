@@ -1,4 +1,4 @@
--- Where the samples of a row stand among those of all components.
+-- Where the samples of a row are among those of all components.
 use Rattle.std.proofs.Common.{◌≡◌, ◌≢◌, ℕ, zero, suc, ◌+◌, ◌*◌, ◌^◌, ◌%◌, ◌<◌, ◌≤◌, ◌⊎◌, List, get_or, inl, inr, sym, ◌∙◌, ap, subst, arith}
 use Rattle.std.proofs.lemmas.Bool.{cases_lt}
 use Rattle.std.proofs.lemmas.Nat.{mul-le, mul-add-lt, mod-mul-add}
@@ -13,7 +13,7 @@ place_inside row width height column count component h k l =
     let whole : count * (height * width) ≡ height * width * count = omega arith in
     omega arith
 
--- what is computed on the way to a place is no more than it
+-- what is computed on the way to a place is no greater than the place
 pub steps_inside : (row width height column count component : ℕ) → row < height → column < width → component < count → height * width * count < 2 ^ 32
     → (row * width < 2 ^ 32) × (row * width + column < 2 ^ 32) × ((row * width + column) * count < 2 ^ 32) × ((row * width + column) * count + component < 2 ^ 32)
 steps_inside row width height column count component h k l few =

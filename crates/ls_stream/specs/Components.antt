@@ -4,7 +4,7 @@ use Rattle.std.specs.List.{range_with_len}
 use Rattle.ls_frame.specs.Picture.{Picture, components}
 use Rattle.ls_stream.specs.Planes.{Plane}
 
--- the samples of a component: those whose places leave its number when divided by how many components there are
+-- the samples of one of `count` components: those at the places that leave the component's number when divided by `count`
 unfoldable pub component_of : ℕ → ℕ → List ℕ → List ℕ
 component_of count component samples = map (λ k. slice_index samples (k * count + component)) (range_with_len 0 (length samples / count))
 

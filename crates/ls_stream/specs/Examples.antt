@@ -1,4 +1,4 @@
--- Small planes, to show the definitions at work.
+-- Small planes and frames, as examples of the definitions.
 use Rattle.std.specs.Prelude.{ℕ, List, [], ◌∷◌}
 use Rattle.ls_frame.specs.declared.frame.Kind.{Kind}
 use Rattle.ls_frame.specs.declared.frame.Kind.TheVariants.{Gray}
@@ -14,7 +14,7 @@ use Rattle.ls_stream.specs.Layout.{codestream}
 unfoldable pub scan : Parameters → Plane → List ℕ
 scan p plane = stuff (plane_bits p plane)
 
--- those of a plane of this width, with the default parameters of a maxval
+-- the scan of a plane of this width, with the default parameters of a maxval
 unfoldable pub default_scan : ℕ → ℕ → List ℕ → List ℕ
 default_scan maxval width samples = scan (default_parameters maxval) (record { width = width; samples = samples })
 
@@ -22,7 +22,7 @@ default_scan maxval width samples = scan (default_parameters maxval) (record { w
 abbrev pub annex_h_picture : List ℕ
 annex_h_picture = 0 ∷ 0 ∷ 90 ∷ 74 ∷ 68 ∷ 50 ∷ 43 ∷ 205 ∷ 64 ∷ 145 ∷ 145 ∷ 145 ∷ 100 ∷ 145 ∷ 145 ∷ 145 ∷ []
 
--- and its scan
+-- its scan
 abbrev pub annex_h_scan : List ℕ
 annex_h_scan =
     192 ∷ 0 ∷ 0 ∷ 108 ∷ 128 ∷ 32 ∷ 142 ∷ 1 ∷ 192 ∷ 0 ∷ 0 ∷ 87 ∷ 64 ∷ 0 ∷ 0
@@ -37,7 +37,7 @@ lone kind maxval samples = record { kind = kind; width = 1; height = 1; maxval =
 unfoldable pub lone_codestream : Kind → ℕ → List ℕ → List ℕ
 lone_codestream kind maxval samples = codestream (lone kind maxval samples) (default_parameters maxval)
 
--- the bytes before the data of a lone gray sample of maxval 255, but for preset parameters
+-- the bytes before the scan of a lone gray sample of maxval 255, without preset parameters
 abbrev pub lone_head : List ℕ
 lone_head = 255 ∷ 216 ∷ 255 ∷ 247 ∷ 0 ∷ 11 ∷ 8 ∷ 0 ∷ 1 ∷ 0 ∷ 1 ∷ 1 ∷ 1 ∷ 17 ∷ 0 ∷ []
 
@@ -59,18 +59,18 @@ soi = 255 ∷ 216 ∷ []
 abbrev pub lone_header : ℕ → ℕ → List ℕ
 lone_header id table = 255 ∷ 247 ∷ 0 ∷ 11 ∷ 8 ∷ 0 ∷ 1 ∷ 0 ∷ 1 ∷ 1 ∷ id ∷ 17 ∷ table ∷ []
 
--- a COM with the letter A, and an APP8 with nothing
+-- a COM segment with the letter A, and an APP8 segment with no contents
 abbrev pub comment_a : List ℕ
 comment_a = 255 ∷ 254 ∷ 0 ∷ 3 ∷ 65 ∷ []
 
 abbrev pub empty_app8 : List ℕ
 empty_app8 = 255 ∷ 232 ∷ 0 ∷ 2 ∷ []
 
--- preset parameters with this RESET, and a 0 for each other
+-- preset parameters with this RESET, and 0 for each other
 abbrev pub lone_reset : ℕ → List ℕ
 lone_reset reset = 255 ∷ 248 ∷ 0 ∷ 13 ∷ 1 ∷ 0 ∷ 0 ∷ 0 ∷ 0 ∷ 0 ∷ 0 ∷ 0 ∷ 0 ∷ 0 ∷ reset ∷ []
 
--- a codestream of that sample, but for what differs
+-- a codestream of that sample, with these variable parts
 abbrev pub lone_grammar : List Miscellaneous → (id table : ℕ) → List Miscellaneous → Scan → ℕ → Codestream
 lone_grammar before id table between scan fill = record {
   before = before;

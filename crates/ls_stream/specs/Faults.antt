@@ -1,5 +1,5 @@
--- How bytes break the grammar of a codestream, as far as markers and segments go: the legal parts from the left, and then what
--- breaks the next one.
+-- How bytes break the grammar of a codestream, as far as markers and segments go: legal parts from the left, and then what breaks the next
+-- one.
 use Rattle.std.specs.Prelude.{◌≡◌, ◌≢◌, ℕ, suc, ◌+◌, ◌*◌, ◌<◌, ◌≤◌, ◌&&◌, ◌||◌, ◌==◌, not, nat_le, Bool, true, false, if◌then◌else◌, List, [], ◌∷◌, ◌++◌, length, drop, replicate, slice_index, ◌⊎◌, Option, None, Some, Ok, Err}
 use Rattle.std.specs.List.{AllByRecursion, list_any}
 use Rattle.ls_frame.specs.declared.presets.PresetFault.{PresetFault}
@@ -18,27 +18,27 @@ use Rattle.ls_stream.specs.Grammar.{filled, Miscellaneous, miscellaneous_bytes, 
 
 -- ---- what is due
 
--- After miscellaneous segments: the frame header, the header of the scan of the first component, by its identifier, that of a later
--- one, and EOI.
+-- What is due after miscellaneous segments: the frame header; the header of the first component's scan, by the component's identifier; that
+-- of a later component's scan; or EOI.
 pub data Due : Type 0 where
   frame_header : Due
   first_scan : (id : ℕ) → Due
   next_scan : (id : ℕ) → Due
   end_marker : Due
 
--- whether a scan was before
+-- whether a scan came before
 abbrev pub is_late : Due → Bool
 is_late frame_header = false
 is_late (first_scan id) = false
 is_late (next_scan id) = true
 is_late end_marker = true
 
--- the miscellaneous segments that may stand there
+-- the miscellaneous segments that may come there
 abbrev pub MayStand : Bool → Miscellaneous → Type 0
 MayStand false s = MayPrecedeScans s
 MayStand true s = MayFollowScan s
 
--- SOF55, SOS and EOI, where another of them is due
+-- the fault of SOF55, SOS and EOI where another of them is due
 abbrev pub start_of_frame_fault : Due → Option StreamFault
 start_of_frame_fault frame_header = None
 start_of_frame_fault (first_scan id) = Some BadSegment
@@ -57,7 +57,7 @@ end_of_image_fault (first_scan id) = Some BadSegment
 end_of_image_fault (next_scan id) = Some BadSegment
 end_of_image_fault end_marker = None
 
--- what keeps a marker from standing there
+-- the fault of a marker that may not come there
 abbrev pub marker_fault : Due → Marker → Option StreamFault
 marker_fault d StartOfImage = Some (Unsupported (what.Marker (code_of StartOfImage)))
 marker_fault d EndOfImage = end_of_image_fault d
@@ -70,7 +70,7 @@ marker_fault d (Other code) = Some (Unsupported (what.Marker code))
 
 -- ---- contents
 
--- A test, and the fault if it fails; and the fault of the first that does.
+-- A test, and the fault if it fails. Of several checks, the fault of the first that fails.
 abbrev pub Check : Type 0
 Check = Bool × StreamFault
 
@@ -78,7 +78,7 @@ abbrev pub first_unmet : List Check → Option StreamFault
 first_unmet [] = None
 first_unmet (check ∷ checks) = if check.0 then first_unmet checks else Some check.1
 
--- a component whose identifier is none of those before, with sampling factors 1
+-- a component whose identifier differs from those before, with sampling factors 1
 abbrev pub component_checks : List ℕ → List ℕ → ℕ → List Check → List Check
 component_checks before contents place more =
     (not (list_any (λ id. id == slice_index contents place) before), BadSegment)
@@ -132,7 +132,7 @@ due_checks (first_scan id) contents = scan_checks id contents
 due_checks (next_scan id) contents = scan_checks id contents
 due_checks end_marker contents = []
 
--- the checks of a segment that stands there; a segment that is skipped has none
+-- the checks of a segment that may come there; a skipped segment has none
 abbrev pub contents_checks : Due → Marker → List ℕ → List Check
 contents_checks d StartOfImage contents = []
 contents_checks d EndOfImage contents = []
@@ -145,7 +145,7 @@ contents_checks d (Other code) contents = []
 
 -- ---- a segment
 
--- EOI has none
+-- whether a marker has a segment: all supported ones but SOI and EOI
 abbrev pub has_segment : Marker → Bool
 has_segment StartOfImage = false
 has_segment EndOfImage = false
@@ -156,7 +156,7 @@ has_segment (Application code) = true
 has_segment Comment = true
 has_segment (Other code) = false
 
--- After a marker that may stand there: no length; one below 2; one that is longer than the bytes; contents that fail a check.
+-- After a marker that may come there: no length; one below 2; one that is longer than the bytes; contents that fail a check.
 pub data BreaksSegment (d : Due) (m : Marker) (bytes : List ℕ) (fault : StreamFault) : Type 0 where
   no_length : length bytes < 2 → fault ≡ Truncated → BreaksSegment d m bytes fault
   bad_length : (n : ℕ) (rest : List ℕ) → bytes ≡ two_bytes n ++ rest → n < 2 → fault ≡ BadSegment → BreaksSegment d m bytes fault
@@ -164,8 +164,8 @@ pub data BreaksSegment (d : Due) (m : Marker) (bytes : List ℕ) (fault : Stream
   fails : (contents rest : List ℕ) → bytes ≡ (two_bytes (2 + length contents) ++ contents) ++ rest → first_unmet (contents_checks d m contents) ≡ Some fault
       → BreaksSegment d m bytes fault
 
--- Where a marker is due: the bytes end; no FF; FFs and then 00; a marker that may not stand there; or one that may, and a segment
--- that breaks.
+-- Where a marker is due: the bytes end; no FF; FFs and then 00; a marker that may not come there; or one that may, with a segment that
+-- breaks.
 pub data BreaksMarker (d : Due) (bytes : List ℕ) (fault : StreamFault) : Type 0 where
   ends : (fill : ℕ) → bytes ≡ replicate fill 255 → fault ≡ Truncated → BreaksMarker d bytes fault
   no_marker : (byte : ℕ) (rest : List ℕ) → bytes ≡ byte ∷ rest → byte ≢ 255 → fault ≡ BadSegment → BreaksMarker d bytes fault
@@ -184,21 +184,21 @@ pub record BreaksAfter (d : Due) (bytes : List ℕ) (fault : StreamFault) : Type
 
 -- ---- a codestream
 
--- SOI isn't there
+-- SOI is missing
 pub data BreaksStart (bytes : List ℕ) (fault : StreamFault) : Type 0 where
   no_byte : bytes ≡ [] → fault ≡ Truncated → BreaksStart bytes fault
   one_byte : bytes ≡ 255 ∷ [] → fault ≡ Truncated → BreaksStart bytes fault
   another_first : (byte : ℕ) (rest : List ℕ) → bytes ≡ byte ∷ rest → byte ≢ 255 → fault ≡ NotSoi → BreaksStart bytes fault
   another_second : (byte : ℕ) (rest : List ℕ) → bytes ≡ 255 ∷ byte ∷ rest → byte ≢ 216 → fault ≡ NotSoi → BreaksStart bytes fault
 
--- the contents of a frame header that pass their checks, after SOI and miscellaneous segments
+-- SOI, miscellaneous segments, and a frame header whose contents pass their checks
 pub record HasFrame (bytes contents : List ℕ) (before : List Miscellaneous) (rest : List ℕ) : Type 0 where
   pub fill : ℕ
   pub whole : bytes ≡ marker StartOfImage ++ (miscellaneous_bytes before ++ (filled fill (segment StartOfFrame contents) ++ rest))
   pub lawful : AllByRecursion MayPrecedeScans before
   pub passed : first_unmet (frame_checks contents) ≡ None
 
--- and then the header of a scan of the first component
+-- then the header of a scan of the first component
 pub record HasScan (bytes contents : List ℕ) (before between : List Miscellaneous) (rest : List ℕ) : Type 0 where
   pub middle : List ℕ
   pub frame : HasFrame bytes contents before middle
@@ -206,8 +206,7 @@ pub record HasScan (bytes contents : List ℕ) (before between : List Miscellane
   pub whole : middle ≡ miscellaneous_bytes between ++ (filled fill (segment StartOfScan (scan_contents (slice_index contents 6))) ++ rest)
   pub lawful : AllByRecursion MayPrecedeScans between
 
--- The bytes begin with a complete legal opening: all that stands before the data of the first scan, with coding parameters that are
--- legal.
+-- The bytes begin with a complete legal opening: all that comes before the data of the first scan, with legal coding parameters.
 pub record BeginsWithOpening (bytes : List ℕ) : Type 0 where
   pub contents : List ℕ
   pub before : List Miscellaneous
@@ -228,7 +227,7 @@ pub record HasNextScan (id : ℕ) (bytes rest : List ℕ) : Type 0 where
   pub whole : bytes ≡ miscellaneous_bytes after ++ (filled fill (segment StartOfScan (scan_contents id)) ++ rest)
   pub lawful : AllByRecursion MayFollowScan after
 
--- what stands after the data at the front of bytes
+-- what holds of the bytes after the data at the front
 abbrev pub AfterData : List ℕ → (List ℕ → Type 0) → Type 0
 AfterData bytes P = (len : ℕ) × DataAtFront bytes len × P (drop len bytes)
 

@@ -1,6 +1,6 @@
--- Which bytes are a codestream of a frame: those of T.87 (Annex C) with NEAR 0 and one scan for each component.
--- SOI; the frame header, with miscellaneous segments before and after it; for each component a scan, its header and its data,
--- with miscellaneous segments after it; EOI. Any marker but SOI may have fill bytes before it.
+-- Which bytes are a codestream of a frame: those of T.87 (Annex C) with NEAR 0 and one scan for each component. In order: SOI; the frame
+-- header, with miscellaneous segments before and after it; for each component a scan, which is its header, its data, and miscellaneous
+-- segments after it; EOI. Any marker but SOI may have fill bytes before it.
 use Rattle.std.specs.Prelude.{◌≡◌, ◌≢◌, ℕ, suc, ◌+◌, ◌-◌, ◌^◌, ◌<◌, ◌≤◌, nat_lt, Bool, true, false, IsTrue, if◌then◌else◌, List, [], ◌∷◌, ◌++◌, length, map, flat_map, replicate, Result, Ok, Err}
 use Rattle.std.specs.List.{AllByRecursion}
 use Rattle.ls_frame.specs.declared.presets.PresetFault.{PresetFault}
@@ -20,7 +20,7 @@ use Rattle.ls_stream.specs.Components.{plane_of}
 
 -- ---- the bytes
 
--- fill bytes (T.81 B.1.1.2), and the marker that they stand before
+-- fill bytes (T.81 B.1.1.2) before a marker
 abbrev pub filled : ℕ → List ℕ → List ℕ
 filled count bytes = replicate count 255 ++ bytes
 
@@ -67,7 +67,7 @@ codestream_bytes stream =
     marker StartOfImage ++ miscellaneous_bytes stream.before ++ filled stream.fill (segment StartOfFrame (header_contents stream.header))
     ++ miscellaneous_bytes stream.between ++ scans_bytes stream.header.components stream.scans ++ filled stream.last_fill (marker EndOfImage)
 
--- ---- what may stand where
+-- ---- what may come where
 
 -- the markers whose segments are skipped: APPn and COM
 abbrev pub is_skipped : Marker → Bool
@@ -84,19 +84,19 @@ pub record IsSkipped (m : Marker) (contents : List ℕ) : Type 0 where
   pub marker_is : IsTrue (is_skipped m)
   pub short : 2 + length contents < 2 ^ 16
 
--- before the first scan either kind may stand
+-- before the first scan, either kind may come
 abbrev pub MayPrecedeScans : Miscellaneous → Type 0
 MayPrecedeScans (skipped fill m contents) = IsSkipped m contents
 MayPrecedeScans (presets fill p) = AreTwoByteFields p
 
--- after a scan preset parameters may not
+-- after a scan, preset parameters may not
 abbrev pub MayFollowScan : Miscellaneous → Type 0
 MayFollowScan (skipped fill m contents) = IsSkipped m contents
 MayFollowScan (presets fill p) = ⊥
 
--- ---- what they say
+-- ---- what they mean
 
--- the last preset parameters of these segments, where those before were these
+-- the last preset parameters of these segments, or `p` if there are none
 abbrev pub last_presets : Parameters → List Miscellaneous → Parameters
 last_presets p [] = p
 last_presets p (skipped fill m contents ∷ more) = last_presets p more
@@ -106,12 +106,12 @@ last_presets p (presets fill q ∷ more) = last_presets q more
 abbrev pub no_presets : Parameters
 no_presets = record { maxval = 0; t1 = 0; t2 = 0; t3 = 0; reset = 0 }
 
--- the default of MAXVAL: the greatest of so many bits
+-- the default of MAXVAL: the greatest value of this number of bits
 abbrev pub greatest_maxval : ℕ → ℕ
 greatest_maxval precision = 2 ^ precision - 1
 
--- The coding parameters of a precision and of the preset parameters that are written, where each 0 is the default
--- (T.87 C.2.4.1.1); or what keeps them from being legal, MAXVAL first.
+-- The coding parameters that result from a precision and the written preset parameters, where 0 stands for the default (T.87 C.2.4.1.1); or
+-- the first fault that keeps them from being legal, that of MAXVAL first.
 unfoldable pub parameters_of : ℕ → Parameters → Result Parameters PresetFault
 parameters_of precision written =
     if nat_lt (greatest_maxval precision) written.maxval then Err MaxvalRange
@@ -132,19 +132,19 @@ pub record IsHeaderOf (f : Picture) (header : Header) : Type 0 where
   pub count : length header.components ≡ components f.kind
   pub apart : AreApart (map (λ component. component.id) header.components)
 
--- data whose bits are those of a plane, and fewer than 16 more
+-- data whose bits are those of a plane, followed by fewer than 16 more
 pub record IsCoded (p : Parameters) (plane : Plane) (bytes : List ℕ) : Type 0 where
   pub is_data : IsData bytes
   pub more : List Bool
   pub few : length more < 16
   pub bits : unstuff bytes ≡ plane_bits p plane ++ more
 
--- the scans of the picture's components from one on
+-- the scans are those of the picture's components from this one on
 abbrev pub AreCoded : Parameters → Picture → ℕ → List Scan → Type 0
 AreCoded p f component [] = Unit {0}
 AreCoded p f component (scan ∷ scans) = IsCoded p (plane_of f component) scan.stuffed × AreCoded p f (suc component) scans
 
--- a codestream that says this picture, coded with these parameters
+-- a codestream of this picture, coded with these parameters
 pub record Says (stream : Codestream) (p : Parameters) (f : Picture) : Type 0 where
   pub before : AllByRecursion MayPrecedeScans stream.before
   pub header : IsHeaderOf f stream.header
@@ -155,7 +155,7 @@ pub record Says (stream : Codestream) (p : Parameters) (f : Picture) : Type 0 wh
   pub coded : AreCoded p f 0 stream.scans
   pub after : AllByRecursion (λ scan. AllByRecursion MayFollowScan scan.after) stream.scans
 
--- the most bytes of a codestream
+-- the most bytes that a codestream may have
 abbrev pub most_bytes : ℕ
 most_bytes = 2 ^ 32 - 1
 

@@ -1,6 +1,5 @@
--- The codestream that is written of a frame: of all that spell it the one with no fill bytes and no skipped segments, with the
--- components numbered from 1, and with preset parameters, after the frame header, only where they aren't the defaults of the
--- precision.
+-- The codestream that is written for a frame: of all its codestreams the one with no fill bytes and no skipped segments, with the
+-- components numbered from 1, and with preset parameters, after the frame header, only if they aren't the defaults of the precision.
 use Rattle.std.specs.Prelude.{ℕ, ◌+◌, ◌*◌, ◌/◌, ◌&&◌, ◌==◌, not, Bool, if◌then◌else◌, List, [], ◌∷◌, ◌++◌, map, flat_map}
 use Rattle.std.specs.List.{range_with_len}
 use Rattle.ls_frame.specs.Picture.{Picture, components}
@@ -55,7 +54,7 @@ codestream f p = codestream_bytes (layout f p)
 abbrev pub scan_of : Picture → Parameters → ℕ → List ℕ
 scan_of f p component = segment StartOfScan (scan_contents (component + 1)) ++ stuff (plane_bits p (plane_of f component))
 
--- those of the first components
+-- the scans of the first components
 unfoldable pub scans_up_to : Picture → Parameters → ℕ → List ℕ
 scans_up_to f p count = flat_map (scan_of f p) (range_with_len 0 count)
 
@@ -64,11 +63,11 @@ scans_up_to f p count = flat_map (scan_of f p) (range_with_len 0 count)
 abbrev pub presets_length : Parameters → ℕ
 presets_length p = if needs_presets p then 15 else 0
 
--- the bytes of SOI, the frame header, preset parameters where they are written, a scan header for each component, and EOI
+-- the bytes of SOI, the frame header, preset parameters if they are written, a scan header for each component, and EOI
 unfoldable pub headers_length : Picture → Parameters → ℕ
 headers_length f p = 2 + (10 + 3 * components f.kind) + presets_length p + 10 * components f.kind + 2
 
--- the data of a plane that takes LIMIT bits a sample, which fill at least seven bits of each byte but the last
+-- the bytes of data of a plane that takes LIMIT bits per sample: at least seven bits to each byte but the last
 abbrev pub scan_bound : Picture → Parameters → ℕ
 scan_bound f p = limit_of p.maxval * (f.width * f.height) / 7 + 1
 

@@ -1,9 +1,9 @@
--- Markers (T.87 Table C.1; T.81 Table B.1), as far as a reader of codestreams meets them.
+-- Markers (T.87 Table C.1; T.81 Table B.1), as a reader of codestreams tells them apart.
 use Rattle.std.specs.Prelude.{◌≡◌, ◌≢◌, ℕ, ◌&&◌, ◌==◌, nat_le, Bool, if◌then◌else◌, List, [], ◌∷◌}
 use Rattle.ls_stream.specs.declared.marker.Marker.{Marker}
 use Rattle.ls_stream.specs.declared.marker.Marker.TheVariants.{StartOfImage, EndOfImage, StartOfScan, StartOfFrame, PresetParameters, Application, Comment, Other}
 
--- the byte after FF that says which marker it is
+-- the byte after FF, which identifies the marker
 abbrev pub code_of : Marker → ℕ
 code_of StartOfImage = 216
 code_of EndOfImage = 217
@@ -14,7 +14,7 @@ code_of (Application code) = code
 code_of Comment = 254
 code_of (Other code) = code
 
--- APP0 to APP15: E0 to EF
+-- whether this is the code of one of APP0 to APP15: E0 to EF
 abbrev pub is_application : ℕ → Bool
 is_application code = nat_le 224 code && nat_le code 239
 
@@ -30,7 +30,7 @@ marker_of code =
     else (if code == 254 then Comment
     else Other code))))))
 
--- It is the marker of its code, and its code is neither 0 nor FF (T.81 B.1.1.2).
+-- The marker is that of its code, and the code is neither 0 nor FF (T.81 B.1.1.2).
 pub record IsMarker (m : Marker) : Type 0 where
   pub back : marker_of (code_of m) ≡ m
   pub some : code_of m ≢ 0

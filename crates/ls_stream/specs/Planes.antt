@@ -1,5 +1,5 @@
--- A plane, the spans that its rows are cut into, and the bits that they are coded in (T.87 Annex A). With NEAR 0.
--- A plane is a width and a list of samples, rows from the top; rows and columns count from 0.
+-- A plane, the spans that its rows are cut into, and the bits that code them (T.87 Annex A), with NEAR 0. A plane is a width and a list of
+-- samples, rows from the top; rows and columns count from 0.
 use Rattle.std.specs.Prelude.{◌≡◌, ◌≢◌, ◌<◌, ◌≤◌, ℕ, zero, suc, ◌+◌, ◌-◌, ◌*◌, ◌/◌, ◌==◌, nat_lt, nat_le, Bool, true, false, if◌then◌else◌, List, [], ◌∷◌, ◌++◌, length, slice_index}
 use Rattle.std.specs.List.{range_with_len}
 use Rattle.ls_frame.specs.Parameters.{Parameters}
@@ -14,7 +14,7 @@ pub record Plane : Type 0 where
   pub width : ℕ
   pub samples : List ℕ
 
--- a plane of this width and height, of samples of at most maxval
+-- a plane of this width and height, with samples of at most maxval
 pub record IsSamplePlane (maxval width height : ℕ) (plane : Plane) : Type 0 where
   pub width_is : plane.width ≡ width
   pub count : length plane.samples ≡ height * width
@@ -22,7 +22,7 @@ pub record IsSamplePlane (maxval width height : ℕ) (plane : Plane) : Type 0 wh
 
 -- ---- the neighbours of a sample (Figure A.1, A.2.1)
 
--- the sample of a row and a column
+-- the sample in a row and a column
 abbrev pub at : Plane → ℕ → ℕ → ℕ
 at plane i j = slice_index plane.samples (i * plane.width + j)
 
@@ -51,13 +51,13 @@ around plane i j = record { a = left plane i j; b = above plane i j; c = above_l
 
 -- ---- spans (A.3.2, A.7)
 
--- What a row is cut into from the left: a sample of regular mode; or, from a column of run mode on, a run of samples that
--- equal their Ra, as long as can be, with the sample that interrupts it where the row has one.
+-- What a row is cut into from the left: a sample in regular mode; or, from a column in run mode, the longest run of samples that equal its
+-- Ra, and the sample that interrupts it if the row has one.
 pub data Span : Type 0 where
   sample_span : (row column : ℕ) → Span
   run_span : (row column count : ℕ) → (interrupted : Bool) → Span
 
--- how many samples from a column on equal a value, of `most` that there are
+-- how many consecutive samples, from a column on, equal a value; at most `most` are looked at
 abbrev pub equal_from : Plane → ℕ → ℕ → ℕ → ℕ → ℕ
 equal_from plane i value zero j = 0
 equal_from plane i value (suc most) j = if at plane i j == value then suc (equal_from plane i value most (suc j)) else 0
@@ -65,13 +65,14 @@ equal_from plane i value (suc most) j = if at plane i j == value then suc (equal
 abbrev pub run_length : Plane → ℕ → ℕ → ℕ
 run_length plane i j = equal_from plane i (left plane i j) (plane.width - j) j
 
--- so many samples from a column on equal a value, of `most` that there are, and the next one, if there is one, doesn't
+-- from a column on, `count` consecutive samples equal a value; at most `most` are looked at, and the next of these, if there is one,
+-- doesn't
 pub record IsLongest (plane : Plane) (i value most j count : ℕ) : Type 0 where
   pub few : count ≤ most
   pub equal : (k : ℕ) → k < count → at plane i (j + k) ≡ value
   pub other : count < most → at plane i (j + count) ≢ value
 
--- the spans of a row from a column on, no more than `most` of them
+-- the spans of a row from a column on, at most `most` of them
 abbrev pub cut : Plane → ℕ → ℕ → ℕ → List Span
 cut plane i zero j = []
 cut plane i (suc most) j =
@@ -83,11 +84,11 @@ cut plane i (suc most) j =
 unfoldable pub row_spans : Plane → ℕ → List Span
 row_spans plane i = cut plane i plane.width 0
 
--- those from a column on, of a row that is coded so far
+-- the spans of a row from a column on
 unfoldable pub row_from : Plane → ℕ → ℕ → List Span
 row_from plane i j = cut plane i (plane.width - j) j
 
--- those of so many rows from a row on
+-- the spans of `count` rows from a row on
 abbrev pub rows_from : Plane → ℕ → ℕ → List Span
 rows_from plane zero i = []
 rows_from plane (suc count) i = row_spans plane i ++ rows_from plane count (suc i)
@@ -103,7 +104,7 @@ span_columns (run_span i j count false) = range_with_len j count
 
 -- ---- the bits of spans
 
--- a sample of regular mode, after these events
+-- a sample in regular mode, after these events
 abbrev pub sample_context : Parameters → Plane → ℕ → ℕ → Context
 sample_context p plane i j = context_of p (around plane i j)
 
@@ -120,7 +121,7 @@ sample_bits p plane i j events =
     golomb_bits p (regular_word p (sample_stats p plane i j events)
     (regular_error_of p (sample_context p plane i j) (sample_stats p plane i j events) (around plane i j) (at plane i j)))
 
--- the sample that interrupts a run, after it: by the counters before the run, and RUNindex after its bits
+-- the sample that interrupts a run, after it: by the counters before the run, and by RUNindex after the run's bits
 abbrev pub interrupting_sample_counts : Parameters → Plane → ℕ → ℕ → List Event → Counts
 interrupting_sample_counts p plane i j events = counts_after_events p (ri_type_of (around plane i j)) events
 
@@ -132,7 +133,7 @@ interrupting_sample_bits p plane i j index events =
     golomb_bits p (interruption_word p index (ri_type_of (around plane i j)) (interrupting_sample_counts p plane i j events)
     (interruption_error p (around plane i j) (at plane i j)))
 
--- the events of a span, and its bits, after these events
+-- the events of a span and its bits, after these events
 abbrev pub span_events : Parameters → Plane → Span → List Event → List Event
 span_events p plane (sample_span i j) events = sample_event p plane i j events ∷ []
 span_events p plane (run_span i j count true) events = run (run_of count true) ∷ interrupting_sample_event p plane i (j + count) ∷ []

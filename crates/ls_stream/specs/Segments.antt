@@ -9,25 +9,25 @@ use Rattle.ls_stream.specs.Markers.{marker}
 abbrev pub segment : Marker → List ℕ → List ℕ
 segment m contents = marker m ++ two_bytes (2 + length contents) ++ contents
 
--- the field of two bytes at a place: the number that it says
+-- the value of the two-byte field at a place, upper byte first
 unfoldable pub field_of : List ℕ → ℕ → ℕ
 field_of bytes place = 256 * slice_index bytes place + slice_index bytes (place + 1)
 
 -- ---- the frame header (SOF55; T.87 C.2.2)
 
--- a component: its identifier (Ci), and the number of a quantization table (Tqi), of which T.87 makes no use
+-- a component: its identifier (Ci), and the number of a quantization table (Tqi), which T.87 doesn't use
 pub record Component : Type 0 where
   pub id : ℕ
   pub table : ℕ
 
--- bits a sample (P), lines (Y), samples a line (X), and the components
+-- bits per sample (P), lines (Y), samples per line (X), and the components
 pub record Header : Type 0 where
   pub precision : ℕ
   pub height : ℕ
   pub width : ℕ
   pub components : List Component
 
--- a component with its sampling factors, both 1, in one byte
+-- the identifier of a component, its sampling factors, both 1, in one byte, and its quantization table
 abbrev pub component_bytes : Component → List ℕ
 component_bytes component = component.id ∷ 17 ∷ component.table ∷ []
 
@@ -40,7 +40,7 @@ header_contents header =
 unfoldable pub presets_contents : Parameters → List ℕ
 presets_contents p = 1 ∷ (two_bytes p.maxval ++ two_bytes p.t1 ++ two_bytes p.t2 ++ two_bytes p.t3 ++ two_bytes p.reset)
 
--- numbers that two bytes hold
+-- numbers that fit in two bytes
 pub record AreTwoByteFields (p : Parameters) : Type 0 where
   pub maxval : p.maxval < 2 ^ 16
   pub t1 : p.t1 < 2 ^ 16

@@ -1,19 +1,19 @@
-//! What an encoder and a decoder need beside a frame: two lines.
+//! Line buffers, which encoding and decoding need besides the frame. Decoding needs `Regions` too.
 ghost use Rattle.std.specs.Prelude.{◌≡◌, IfOk};
 
 use std::alloc::{AllocError, Global};
 use std::marker::Model;
 
-/// Buffers for two lines of a plane, the one that is coded or read and the one above it. One value serves any number of
-/// frames up to its width.
+/// Buffers for two lines of a plane: the one being coded or decoded, and the one above it. One value serves any number
+/// of frames up to its width.
 ///
-/// In contracts it is its width, in samples.
+/// In contracts a value stands for its width, in samples.
 #[derive(Drop)]
 pub struct Lines {
     width: u16,
-    /// The line above the one that is coded, with a place more on each side.
+    /// The line above the one being coded or decoded, with one place of padding on each side.
     pub(crate) above: Vec<u16>,
-    /// The line that is coded, likewise.
+    /// The line being coded or decoded, padded likewise.
     pub(crate) line: Vec<u16>,
 }
 
@@ -38,7 +38,7 @@ impl Lines {
         Ok(Lines { width, above, line })
     }
 
-    /// How many samples a line may have.
+    /// The most samples that a line may have.
     pub fn width(&self) -> u16
         ensures { result ≡ self.now }
     {

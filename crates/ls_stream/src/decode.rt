@@ -28,26 +28,26 @@ use ls_frame::{Frame, Kind, Place, Presets};
 use std::alloc::Global;
 use std::marker::Model;
 
-/// A frame that was decoded.
+/// A decoded frame.
 #[derive(Drop)]
 pub struct Decoded {
     pub frame: Frame,
-    /// How many bytes its codestream has.
+    /// The number of bytes of its codestream.
     pub used: usize,
 }
 
-/// The frame of the codestream at the front of bytes; what stands after it isn't looked at.
+/// Decodes the codestream at the front of bytes. What follows it is ignored.
 ///
-/// If any front of the bytes is a codestream of a frame (`specs/Grammar.antt`), this answers that frame and the front's
-/// length, or NoMemory. Any other fault comes only if no front is one; it is the first from the left
-/// (`specs/View/FirstFaults.antt`): of a marker or a segment; of a scan's data LeftoverBits if 16 bits or more follow
-/// those of a plane, BadCode at the first word, run or sample that no encoder writes for any plane, and if the bits run
-/// out before, Truncated if the input ends them, BadCode if a marker does. TooLarge stands for Truncated where there
-/// are more bytes than a codestream may have.
+/// If any front of the bytes is a codestream of a frame (`specs/Grammar.antt`), returns that frame and the front's
+/// length, or NoMemory. Any other fault means that no front is one; it is the first fault from the left
+/// (`specs/View/FirstFaults.antt`), of a marker, of a segment or of a scan's data. In a scan's data, LeftoverBits means
+/// that 16 bits or more follow those of a plane; BadCode, that a word, run or sample is one that no encoder writes for
+/// any plane, or that a marker comes before the plane's end; and Truncated, that the input ends before it. If there are
+/// more bytes than a codestream may have, TooLarge replaces Truncated.
 ///
 /// NoMemory comes only if an allocation fails, and only for bytes that begin with a complete legal opening: SOI, the
-/// frame header, the segments before the first scan and its header, with coding parameters that are legal. What is
-/// asked for is two lines, a table of 2 * MAXVAL + 1 bytes, and the samples.
+/// frame header, the segments before the first scan and its header, with legal coding parameters. It allocates two
+/// lines, a table of 2 * MAXVAL + 1 bytes, and the samples.
 pub fn decode_frame(alloc: Global, bytes: &[u8]) -> Result<Decoded, StreamFault>
     ensures ok { IfOk result (λ decoded. (decoded.used ≤ length bytes.now) × Spells (take decoded.used bytes.now) decoded.frame) }
     ensures fault { IfErr result (λ fault. (fault ≡ StreamFault.NoMemory)
@@ -79,16 +79,16 @@ pub fn decode_frame(alloc: Global, bytes: &[u8]) -> Result<Decoded, StreamFault>
     })
 }
 
-/// What stands before the data of a codestream's first scan: SOI, the frame header, the coding parameters and the
-/// header of the first component's scan, with the miscellaneous segments between them (T.87 Annex C). It says the form
+/// The part of a codestream before the data of its first scan: SOI, the frame header, the coding parameters and the
+/// header of the first component's scan, with the miscellaneous segments between them (T.87 Annex C). It gives the form
 /// of the frame.
 #[derive(Drop)]
 pub struct Opening<'a> {
     header: FrameHeader,
     presets: Presets,
-    /// The bytes that it was read off.
+    /// The bytes from which it was read, with all that follow it.
     bytes: &'a [u8],
-    /// What is left of the first of them, as many as a codestream may have.
+    /// The bytes after it, up to the most that a codestream may have in all.
     rest: &'a [u8],
 }
 
@@ -105,10 +105,10 @@ impl<'a> Model for Opening<'a> {
 impl<'a> Opening<'a> {
     ghost use Rattle.ls_stream.specs.View.Openings.{SaysSo, IsOfForm, IsOutlineFrom, picture_of};
 
-    /// The opening at the front of bytes. It looks at no sample, and allocates nothing.
+    /// Reads the opening at the front of bytes. It decodes no sample, and allocates nothing.
     ///
-    /// If any front of the bytes is a codestream of a frame, its form is the frame's. Where this fails no front is one,
-    /// and the fault is the first from the left, as `decode_frame` says it.
+    /// If any front of the bytes is a codestream of a frame, the opening has the form of that frame. If this fails, no
+    /// front is one, and the fault is the first from the left, as for `decode_frame`, and never NoMemory.
     pub fn read(bytes: &'a [u8]) -> Result<Opening<'a>, StreamFault>
         ensures bytes { IfOk result (λ opening. opening.bytes ≡ bytes.now) }
         ensures begins { IfOk result (λ opening. BeginsWithOpening (take most_bytes bytes.now)) }
@@ -131,7 +131,7 @@ impl<'a> Opening<'a> {
         }
     }
 
-    /// Bits a sample (P), 2 to 16.
+    /// Bits per sample (P), 2 to 16.
     pub fn precision(&self) -> u8
         ensures { result ≡ self.now.precision }
     {
@@ -161,14 +161,14 @@ impl<'a> Opening<'a> {
         self.header.height
     }
 
-    /// The parameters that it is coded with; their maxval is the frame's.
+    /// The parameters with which the frame is coded. Their maxval is the frame's.
     pub fn presets(&self) -> &Presets
         ensures { result.now ≡ self.now.parameters }
     {
         &self.presets
     }
 
-    /// How many samples the frame has, in all components together, 1 to 2^28.
+    /// The number of samples of the frame, in all components together, 1 to 2^28.
     pub fn sample_count(&self) -> usize
         ensures value { result ≡ sample_count self.now.kind self.now.width self.now.height }
         ensures few { result ≤ most_samples }
@@ -177,12 +177,13 @@ impl<'a> Opening<'a> {
         shape.width * shape.height * shape.components
     }
 
-    /// Decodes the frame into its samples, row by row from the top, pixel by pixel, component by component. Answers how
-    /// many bytes the codestream has. It allocates nothing.
+    /// Decodes the frame into `samples`: row by row from the top, pixel by pixel, component by component. Returns the
+    /// number of bytes of the codestream. It allocates nothing.
     ///
-    /// It requires as many places as the frame has samples, which hold numbers up to maxval and none over it (zeros,
-    /// for one), lines at least as wide as the frame, and the regions of the opening's parameters. On a fault, which is
-    /// as `decode_frame` says it and never NoMemory, nothing is said of the places.
+    /// It requires as many places as the frame has samples, of a type that holds numbers up to maxval, with no number
+    /// over maxval in them (zeros will do); lines at least as wide as the frame; and the regions of the opening's
+    /// parameters. A fault is as for `decode_frame`, but never NoMemory; the contents of the places are then
+    /// unspecified.
     pub fn decode<S: Place>(
         &self,
         lines: &mut Lines,
@@ -213,8 +214,8 @@ impl<'a> Opening<'a> {
         }
     }
 
-    /// Reads on to EOI by markers and headers, and decodes no data. Answers how many bytes the codestream has, or the
-    /// first fault of its markers and headers, which is never NoMemory. It allocates nothing.
+    /// Reads on to EOI by markers and headers, without decoding data. Returns the number of bytes of the codestream, or
+    /// the first fault of its markers and headers, which is never NoMemory. It allocates nothing.
     pub fn skip(&self) -> Result<usize, StreamFault>
         ensures ok { IfOk result (λ used. (o : Outline) × (left : List ℕ) × (outline_of self.now.bytes ≡ Ok (o, left))
             × (used + length left ≡ length self.now.bytes) × IsOutlineFrom self.now o) }
@@ -226,7 +227,8 @@ impl<'a> Opening<'a> {
         }
     }
 
-    /// The frame of this form with these samples. It looks at none.
+    /// Makes the frame of this form from its samples, which must be as many as the form has, and none over maxval. They
+    /// aren't checked.
     pub fn frame_of(&self, samples: Vec<u16>) -> Frame
         requires { IsFrame (picture_of self.now samples.items) }
         ensures { result ≡ picture_of self.now samples.items }
@@ -241,7 +243,8 @@ impl<'a> Opening<'a> {
     }
 }
 
-/// Reads the scans after an opening, which was read off the front of no more bytes than a codestream may have.
+/// Decodes the scans after an opening that was read from these bytes, which are no more than a codestream may have.
+/// Returns the number of bytes of the codestream.
 fn decode_opened<S: Place>(
     bytes: &[u8],
     opening: (FrameHeader, Presets, &[u8]),
@@ -275,7 +278,7 @@ fn decode_opened<S: Place>(
     }
 }
 
-/// Reads the scans of all components, of which the first one's header was read, into the samples; answers what is left
+/// Decodes the scans of all components into the samples. The first scan's header was read before. Returns the bytes
 /// after EOI.
 fn decode_scans<'a, S: Place>(
     presets: &Presets,
@@ -312,7 +315,7 @@ fn decode_scans<'a, S: Place>(
     find_end(after)
 }
 
-/// Reads over the scans of all components, of which the first one's header was read; answers what is left after EOI.
+/// Skips the scans of all components. The first scan's header was read before. Returns the bytes after EOI.
 fn skip_scans<'a>(header: &FrameHeader, bytes: &'a [u8]) -> Result<&'a [u8], StreamFault>
     requires ids { length (ids_in header.now) ≡ components header.now.kind }
     ensures { Gives (λ rest. rest.now) result (rest_of (scans_at (drop 1 (ids_in header.now)) bytes.now)) }
@@ -325,15 +328,15 @@ fn skip_scans<'a>(header: &FrameHeader, bytes: &'a [u8]) -> Result<&'a [u8], Str
     find_end(after_data(rest))
 }
 
-/// What is left after the data at the front of bytes.
+/// The bytes after the scan data at the front.
 fn after_data(bytes: &[u8]) -> &[u8]
     ensures { result.now ≡ after_data bytes.now }
 {
     &bytes[data_of(bytes).len..]
 }
 
-/// Reads the data at the front of bytes, which is of a component's scan, into the component's places among the samples;
-/// answers what is left after it.
+/// Decodes the data of a component's scan, at the front of bytes, into the component's places among the samples.
+/// Returns the bytes after it.
 fn decode_data<'a, S: Place>(
     presets: &Presets,
     regions: &Regions,
@@ -383,8 +386,8 @@ fn decode_data<'a, S: Place>(
     }
 }
 
-/// What is said of a fault of a component's scan, whose data ends so: where the input ends before the plane does it is
-/// truncated.
+/// The fault to report for a fault of a component's scan whose data ends so: Truncated if the input ends before the
+/// plane does.
 fn fault_in(component: u8, stop: Stop, fault: ScanFault) -> StreamFault
     ensures { result ≡ fault_in component stop fault }
 {
@@ -395,7 +398,7 @@ fn fault_in(component: u8, stop: Stop, fault: ScanFault) -> StreamFault
     }
 }
 
-/// The shape of the frame that a header says.
+/// The shape of a header's frame.
 fn shape_of(header: &FrameHeader) -> Shape
     ensures width { result.width ≡ header.now.width }
     ensures height { result.height ≡ header.now.height }

@@ -22,8 +22,8 @@ use std::alloc::{AllocError, Global};
 /// The codestream of a frame, coded with the default parameters of its maxval (T.87 C.2.4.1.1). It has fewer than 2^32
 /// bytes.
 ///
-/// Fails only if an allocation fails: it asks for `code_bound` bytes, which the vector comes back with as its capacity,
-/// and for two lines before it codes.
+/// Fails only if an allocation fails. Before it codes, it allocates two lines and `code_bound` bytes, which are the
+/// capacity of the returned vector.
 pub fn encode_frame(alloc: Global, frame: &Frame) -> Result<Vec<u8>, AllocError>
     ensures bytes { let f = frame.now in IfOk result (λ bytes. bytes.items ≡ codestream f (default_parameters f.maxval)) }
     ensures short { IfOk result (λ bytes. length bytes.items < 2 ^ 32) }
@@ -32,11 +32,11 @@ pub fn encode_frame(alloc: Global, frame: &Frame) -> Result<Vec<u8>, AllocError>
     encode_with(alloc, frame, &Presets::default_of(frame.maxval()))
 }
 
-/// The codestream of a frame, coded with these parameters, whose maxval has to be the frame's. It has fewer than 2^32
-/// bytes, and an LSE segment only where the parameters aren't the defaults of the greatest MAXVAL of the precision.
+/// The codestream of a frame, coded with these parameters, whose maxval must be the frame's. It has fewer than 2^32
+/// bytes, and an LSE segment only if the parameters aren't the defaults of the greatest MAXVAL of the precision.
 ///
-/// Fails only if an allocation fails: it asks for `code_bound` bytes, which the vector comes back with as its capacity,
-/// and for two lines before it codes.
+/// Fails only if an allocation fails. Before it codes, it allocates two lines and `code_bound` bytes, which are the
+/// capacity of the returned vector.
 pub fn encode_with(alloc: Global, frame: &Frame, presets: &Presets) -> Result<Vec<u8>, AllocError>
     requires maxval { presets.now.maxval ≡ frame.now.maxval }
     ensures bytes { IfOk result (λ bytes. bytes.items ≡ codestream frame.now presets.now) }
@@ -46,7 +46,7 @@ pub fn encode_with(alloc: Global, frame: &Frame, presets: &Presets) -> Result<Ve
     encode_view(alloc, &frame.view(), presets)
 }
 
-/// As `encode_with`, of a frame whose samples stand elsewhere.
+/// As `encode_with`, for a frame whose samples are in the caller's memory.
 pub fn encode_view(
     alloc: Global,
     frame: &FrameView,
@@ -63,8 +63,8 @@ pub fn encode_view(
     }
 }
 
-/// As `encode_view`, of a picture that may be no frame: `None` exactly if a sample is over maxval. Each row is looked at
-/// when it is coded, so that the samples come off memory once.
+/// As `encode_view`, for a picture that may not be a frame: `None` exactly if a sample is over maxval. Each row is
+/// checked when it is coded, so that the samples are fetched from memory once.
 pub fn encode_picture(
     alloc: Global,
     picture: &PictureView,
@@ -86,10 +86,9 @@ pub fn encode_picture(
     }
 }
 
-/// The codestream of a frame, written after the bytes that the vector has. The vector comes back with the capacity that
-/// it had.
+/// Appends the codestream of a frame to a vector and returns the vector, whose capacity stays the same.
 ///
-/// It requires parameters of the frame's maxval, lines at least as wide as the frame, and room in the vector for
+/// It requires parameters of the frame's maxval, lines at least as wide as the frame, and capacity in the vector for
 /// `code_bound` more bytes. It allocates nothing and cannot fail.
 pub fn encode_within(frame: &Frame, presets: &Presets, lines: &mut Lines, bytes: Vec<u8>) -> Vec<u8>
     requires maxval { presets.now.maxval ≡ frame.now.maxval }
@@ -104,10 +103,11 @@ pub fn encode_within(frame: &Frame, presets: &Presets, lines: &mut Lines, bytes:
     bytes
 }
 
-/// The codestream of a frame, at the front of a slice, and how many bytes it has. Those behind it are as they were.
+/// Writes the codestream of a frame to the front of a slice and returns its number of bytes. The bytes after it don't
+/// change.
 ///
-/// It requires parameters of the frame's maxval, lines at least as wide as the frame, and `view_bound` bytes in the
-/// slice. It allocates nothing and cannot fail.
+/// It requires parameters of the frame's maxval, lines at least as wide as the frame, and a slice of at least
+/// `view_bound` bytes. It allocates nothing and cannot fail.
 pub fn encode_into(
     frame: &FrameView,
     presets: &Presets,
@@ -127,8 +127,8 @@ pub fn encode_into(
     room.len()
 }
 
-/// Puts the codestream of a picture into a room, after the bytes that it has, if the picture is a frame. Where a sample
-/// is over maxval it answers false, and what was put is none.
+/// Appends the codestream of a picture to a `Room`, if the picture is a frame. If a sample is over maxval, returns
+/// false, and the appended bytes are of no use.
 fn put_codestream<R: Room>(
     picture: &PictureView,
     presets: &Presets,
@@ -153,8 +153,8 @@ fn put_codestream<R: Room>(
     frame
 }
 
-/// The most bytes that the codestream of a frame may have, fewer than 2^32: those of all headers and, for each
-/// component, LIMIT bits a sample, seven to a byte, and one byte more.
+/// An upper bound on the bytes of a frame's codestream, below 2^32: all headers and, for each component, LIMIT bits per
+/// sample, seven to a byte, and one byte more.
 ///
 /// It requires parameters of the frame's maxval.
 pub fn code_bound(frame: &Frame, presets: &Presets) -> u64
@@ -166,7 +166,7 @@ pub fn code_bound(frame: &Frame, presets: &Presets) -> u64
     view_bound(&frame.view(), presets)
 }
 
-/// As `code_bound`, of a frame whose samples stand elsewhere.
+/// As `code_bound`, for a frame whose samples are in the caller's memory.
 pub fn view_bound(frame: &FrameView, presets: &Presets) -> u64
     requires maxval { presets.now.maxval ≡ frame.now.maxval }
     ensures value { result ≡ bound frame.now presets.now }
@@ -176,7 +176,7 @@ pub fn view_bound(frame: &FrameView, presets: &Presets) -> u64
     picture_bound(frame.picture(), presets)
 }
 
-/// As `view_bound`, of a picture: the most bytes that its codestream may have if it is a frame.
+/// As `view_bound`, for a picture: the bound on the bytes of its codestream if it is a frame.
 pub fn picture_bound(picture: &PictureView, presets: &Presets) -> u64
     requires maxval { presets.now.maxval ≡ picture.now.maxval }
     ensures value { result ≡ bound picture.now presets.now }
@@ -188,8 +188,8 @@ pub fn picture_bound(picture: &PictureView, presets: &Presets) -> u64
     headers_length(picture, presets) + count * scan_bound(picture, presets)
 }
 
-/// The bytes of a codestream that aren't data: SOI, the frame header, preset parameters where they are written, a scan
-/// header for each component, EOI.
+/// The bytes of a codestream that aren't scan data: SOI, the frame header, preset parameters if they are written, a
+/// scan header for each component, EOI.
 #[tactic(auto, unfolding(crate::specs::Layout::headers_length))]
 fn headers_length(picture: &PictureView, presets: &Presets) -> u64
     ensures value { result ≡ headers_length picture.now presets.now }
@@ -199,7 +199,7 @@ fn headers_length(picture: &PictureView, presets: &Presets) -> u64
     2 + (10 + 3 * count) + presets_length(presets) + 10 * count + 2
 }
 
-/// The most bytes of a scan's data.
+/// An upper bound on the bytes of a scan's data.
 fn scan_bound(picture: &PictureView, presets: &Presets) -> u64
     requires maxval { presets.now.maxval ≡ picture.now.maxval }
     ensures value { result ≡ scan_bound picture.now presets.now }
@@ -209,7 +209,8 @@ fn scan_bound(picture: &PictureView, presets: &Presets) -> u64
     u64::from(presets.limit()) * samples / 7 + 1
 }
 
-/// A scan header and its data for each component, up to the first that has a sample over maxval.
+/// Appends a scan header and its data for each component. Stops and returns false at the first one that has a sample
+/// over maxval.
 fn put_scans<R: Room>(
     picture: &PictureView,
     presets: &Presets,

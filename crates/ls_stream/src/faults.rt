@@ -1,9 +1,9 @@
-//! Why bytes can't be decoded, and what is said of it.
+//! Why bytes can't be decoded, and the message for each reason.
 use ls_frame::PresetFault;
 use std::alloc::AllocError;
 use thiserror::Error;
 
-/// Why no frame can be decoded: the first fault of the bytes, from left to right, or that memory was refused.
+/// Why no frame can be decoded: the first fault of the bytes from left to right, or a failed allocation.
 #[derive(Clone, Copy, Debug, Drop, PartialEq, Eq, Error)]
 pub enum StreamFault {
     /// The bytes end before the codestream does.
@@ -12,43 +12,43 @@ pub enum StreamFault {
     /// The first two bytes aren't 0xFF and 0xD8: there is no SOI (T.81 B.2.1).
     #[error("no SOI")]
     NotSoi,
-    /// No marker where one is due; a marker in a place that is another's; a segment whose length doesn't fit its
-    /// contents, or a number in it that T.87 doesn't allow (Annex C; T.81 B.1.1).
+    /// No marker where one is due; a marker where another is due; a segment whose length doesn't fit its contents; or a
+    /// number in a segment that T.87 doesn't allow (Annex C; T.81 B.1.1).
     #[error("bad segment")]
     BadSegment,
-    /// What this decoder doesn't read, though T.87 or T.81 has it.
+    /// A feature of T.87 or T.81 that this decoder doesn't support.
     #[error("unsupported: {0}")]
     Unsupported(What),
-    /// Preset coding parameters that are out of their ranges (T.87 C.2.4.1.1).
+    /// Preset coding parameters out of their ranges (T.87 C.2.4.1.1).
     #[error("bad presets: {0}")]
     BadPresets(PresetFault),
-    /// More than 2^28 samples, or a byte needed after 4,294,967,295 of them.
+    /// The frame has more than 2^28 samples, or a byte is needed after the 4,294,967,295 that a codestream may have.
     #[error("too large")]
     TooLarge,
-    /// The data of the component of this number, from 0, isn't what an encoder writes for any plane (T.87 Annex A), or
+    /// The scan data of this component, counted from 0, isn't what an encoder writes for any plane (T.87 Annex A), or
     /// ends at a marker before its plane does.
     #[error("bad code in component {0}")]
     BadCode(u8),
-    /// After the plane of the component of this number, from 0, its data has 16 bits or more.
+    /// The scan data of this component, counted from 0, has 16 bits or more after those of its plane.
     #[error("leftover bits in component {0}")]
     LeftoverBits(u8),
-    /// An allocation failed, after the bytes were found to begin with a complete legal opening, up to the header of the
-    /// first scan.
+    /// An allocation failed. The bytes begin with a complete legal opening, up to and including the header of the first
+    /// scan.
     #[error("no memory")]
     NoMemory,
 }
 
-/// What of T.87 and T.81 isn't supported.
+/// A feature of T.87 or T.81 that isn't supported.
 #[derive(Clone, Copy, Debug, Drop, PartialEq, Eq, Error)]
 pub enum What {
-    /// A marker, by its code, that is none of SOI in front, SOF55, LSE, SOS, EOI, APPn and COM (T.87 Table C.1; T.81
-    /// Table B.1).
+    /// A marker with this code. Supported are SOI at the start, SOF55, LSE, SOS, EOI, APPn and COM (T.87 Table C.1;
+    /// T.81 Table B.1).
     #[error("marker {0:02x}")]
     Marker(u8),
-    /// So many components, neither 1 nor 3 (Nf; T.87 C.2.2).
+    /// This number of components, neither 1 nor 3 (Nf; T.87 C.2.2).
     #[error("{0} components")]
     Components(u8),
-    /// A height of 0, which a segment after the header would have to say (Y; T.87 C.2.2).
+    /// A height of 0, which leaves the height to a later segment (Y; T.87 C.2.2).
     #[error("height 0")]
     HeightZero,
     /// Sampling factors other than 1 (Hi, Vi; T.87 C.2.2).
@@ -57,7 +57,7 @@ pub enum What {
     /// A mapping table for a component's samples (Tmi; T.87 C.2.3).
     #[error("mapping table")]
     Mapping,
-    /// Coding with losses (NEAR; T.87 C.2.3).
+    /// Near-lossless coding: NEAR isn't 0 (T.87 C.2.3).
     #[error("near-lossless")]
     Near,
     /// Several components in one scan (Ns, ILV; T.87 C.2.3).
@@ -66,13 +66,13 @@ pub enum What {
     /// A point transform (Pt; T.87 C.2.3).
     #[error("point transform")]
     PointTransform,
-    /// An LSE segment of this ID, which isn't 1 (T.87 C.2.4.1).
+    /// An LSE segment with this ID, which isn't 1 (T.87 C.2.4.1).
     #[error("LSE {0}")]
     LseId(u8),
     /// An LSE segment after the header of the first scan.
     #[error("LSE after a scan")]
     LseLate,
-    /// A scan of another component than the next of the frame header (Cs; T.87 C.2.3).
+    /// A scan of a component other than the next one of the frame header (Cs; T.87 C.2.3).
     #[error("scan order")]
     ScanOrder,
 }

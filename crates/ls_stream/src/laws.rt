@@ -1,5 +1,5 @@
-//! Laws. Each is the contract of a function; but for the first two, they are over the definitions alone, and the
-//! functions have nothing to do.
+//! Laws, each the contract of a function. All but the first two are about the definitions alone, and their functions do
+//! nothing.
 ghost use Rattle.std.specs.Prelude.{◌≡◌, ◌-◌, ◌^◌, ◌<◌, ◌≤◌, ◌+◌, ◌++◌, ℕ, Bool, List, [], ◌∷◌, length, map, flat_map, IfOk, IfSome, IfNone, MatchResult};
 ghost use Rattle.std.specs.List.{range_with_len};
 ghost use Rattle.ls_frame.specs.Picture.{Picture, IsFrame};
@@ -23,7 +23,7 @@ use ls_frame::laws::parameters_are_legal_or_at_fault;
 use ls_frame::{Frame, Presets};
 use std::alloc::Global;
 
-/// Decoding what was encoded gives the frame again, and takes its whole codestream; or an allocation fails.
+/// Decoding an encoded frame gives the frame back, and its codestream's length; or an allocation fails.
 ///
 /// It requires parameters of the frame's maxval.
 pub fn decoding_gives_what_was_encoded(
@@ -42,15 +42,16 @@ pub fn decoding_gives_what_was_encoded(
     decode_frame(alloc, &bytes)
 }
 
-/// What decoding bytes in memory answers, and before it what decoding the codestream at their front answers.
+/// The results of decoding the codestream that `next_stream` takes from bytes in memory, and of decoding all these
+/// bytes.
 #[derive(Drop)]
 pub struct DecodedTwice {
     pub taken: Result<Decoded, StreamFault>,
     pub all: Result<Decoded, StreamFault>,
 }
 
-/// Decoding the codestream that `next_stream` takes off bytes gives what decoding all of them gives: the same frame of
-/// as many bytes, or the same fault; or an allocation fails. `None` if there are no bytes.
+/// Decoding the codestream that `next_stream` takes from bytes gives what decoding all of them gives: the same frame
+/// and the same length of its codestream, or the same fault; or an allocation fails. `None` if there are no bytes.
 pub fn what_is_taken_is_decoded_alike(
     alloc: Global,
     bytes: &[u8],
@@ -71,12 +72,12 @@ pub fn what_is_taken_is_decoded_alike(
     }
 }
 
-/// The picture of T.87's Annex H.3 has the scan that stands there.
+/// The picture of T.87's Annex H.3 has the scan that is given there.
 pub fn annex_h_has_its_scan()
     ensures { default_scan 255 4 annex_h_picture ≡ annex_h_scan }
 {}
 
-/// The spans that a row is cut into are the row: they have each of its columns once, from left to right.
+/// The spans of a row are the row: they have each of its columns once, from left to right.
 pub fn spans_are_their_row()
     ensures { (plane : Plane) (i : ℕ) → flat_map span_columns (row_spans plane i) ≡ range_with_len 0 plane.width }
 {}
@@ -86,7 +87,7 @@ pub fn runs_are_longest()
     ensures { (plane : Plane) (i j : ℕ) → IsLongest plane i (left plane i j) (plane.width - j) j (run_length plane i j) }
 {}
 
-/// These are the codes of markers (T.87 Table C.1; T.81 Table B.1), and these the markers of codes.
+/// Markers have these codes (T.87 Table C.1; T.81 Table B.1), and these codes have these markers.
 pub fn markers_have_these_codes()
     ensures codes { map code_of (Marker.StartOfImage ∷ Marker.EndOfImage ∷ Marker.StartOfScan ∷ Marker.StartOfFrame ∷ Marker.PresetParameters
         ∷ Marker.Application 224 ∷ Marker.Application 239 ∷ Marker.Comment ∷ Marker.Other 221 ∷ Marker.Other 192 ∷ [])
@@ -96,7 +97,7 @@ pub fn markers_have_these_codes()
         ∷ Marker.Application 224 ∷ Marker.Application 239 ∷ Marker.Comment ∷ Marker.Other 221 ∷ Marker.Other 192 ∷ [] }
 {}
 
-/// Small planes with the default parameters, and what they are coded in.
+/// Small planes, and their scans with the default parameters.
 pub fn small_planes_have_these_scans()
     ensures lone_zero { default_scan 255 1 (0 ∷ []) ≡ 128 ∷ [] }
     ensures lone_greatest { default_scan 255 1 (255 ∷ []) ≡ 64 ∷ [] }
@@ -111,13 +112,13 @@ pub fn small_planes_have_these_scans()
     ensures one_column { default_scan 255 1 (5 ∷ 5 ∷ 6 ∷ []) ≡ 22 ∷ 36 ∷ [] }
 {}
 
-/// Counters that are halved after each third error.
+/// A scan with RESET 3: counters are halved after each third error.
 pub fn an_early_reset_has_this_scan()
     ensures { scan (record { maxval = 255; t1 = 3; t2 = 7; t3 = 21; reset = 3 }) (record { width = 7; samples = 3 ∷ 3 ∷ 3 ∷ 3 ∷ 4 ∷ 6 ∷ 6 ∷ [] })
         ≡ 44 ∷ 164 ∷ 72 ∷ [] }
 {}
 
-/// Frames of one pixel, and their codestreams with the default parameters.
+/// Frames of one pixel, and their codestreams: with the default parameters, and the last with RESET 32.
 pub fn small_frames_have_these_codestreams()
     ensures gray { lone_codestream Gray 255 (0 ∷ []) ≡ lone_head ++ lone_scan 1 128 ++ last_marker }
     ensures two_values { lone_codestream Gray 1 (1 ∷ [])
@@ -140,23 +141,24 @@ pub fn codestreams_are_short()
     ensures small { (f : Picture) (p : Parameters) → IsFrame f → IsLegal p → bound f p < 2 ^ 32 }
 {}
 
-/// The codestream of a frame spells it.
+/// The codestream that is written for a frame is a codestream of it by the grammar.
 pub fn codestreams_spell_their_frames()
     ensures { (f : Picture) (p : Parameters) → IsFrame f → IsLegal p → p.maxval ≡ f.maxval → Spells (codestream f p) f }
 {
     parameters_are_legal_or_at_fault();
 }
 
-/// What is read of bytes at their front is a codestream of each frame that it says; a codestream is read so, whatever
-/// follows; and bytes that aren't read break the grammar with the fault that is answered.
+/// Outlines agree with the grammar: if an outline is read, the bytes begin with a codestream of each frame that it
+/// fits; a codestream of a frame has an outline, whatever follows it; and if none is read, the bytes break the grammar
+/// with the fault that is returned.
 pub fn outlines_follow_the_grammar()
     ensures spell { BoundedOutlinesSpell }
     ensures are_read { SpellingsHaveBoundedOutlines }
     ensures faults { BoundedFaultsBreak }
 {}
 
-/// Bytes have one first fault, so the fault that decoding answers is settled by the bytes, unless an allocation fails.
-/// The codestream at their front has the same one.
+/// Bytes have one first fault, so the fault that decoding returns depends on the bytes alone, unless an allocation
+/// fails. The next codestream at their front has the same first fault.
 pub fn bytes_have_one_first_fault()
     ensures one { OneFirstFault }
     ensures next { NextHasTheFirstFault }
@@ -164,8 +166,8 @@ pub fn bytes_have_one_first_fault()
     parameters_are_legal_or_at_fault();
 }
 
-/// How far a codestream goes by its markers alone is how far the grammar has it go, wherever that reads it, and one
-/// front of bytes is the next codestream.
+/// The extent of a codestream, found by its markers alone, is the one that the grammar gives it, wherever an outline is
+/// read; and only one front of bytes is the next codestream.
 pub fn extents_follow_the_grammar()
     ensures spelled { SpellingsHaveExtents }
     ensures outlined { OutlinesHaveExtents }
@@ -184,8 +186,8 @@ pub fn others_spell_frames_too()
     ensures identifier { Spells (soi ++ lone_header 7 5 ++ lone_scan 7 128 ++ last_marker) lone_zero }
 {}
 
-/// What no codestream of the grammar has: 16 bits or more after those of a plane; an LSE segment after a scan; two
-/// components with one identifier; a skipped segment that is neither APPn nor COM, as DRI (DD).
+/// Not codestreams by the grammar: with 16 bits or more after those of a plane; with an LSE segment after a scan; with
+/// two components of one identifier; with a skipped segment that is neither APPn nor COM, such as DRI (0xDD).
 pub fn these_say_no_frame()
     ensures more_bits { (p : Parameters) (plane : Plane) (bytes : List ℕ)
         → length (plane_bits p plane) + 16 ≤ length (unstuff bytes) → IsCoded p plane bytes → ⊥ }
@@ -195,7 +197,7 @@ pub fn these_say_no_frame()
         → Says (lone_grammar (skipped 0 (Marker.Other 221) contents ∷ []) 1 0 [] (lone_data (128 ∷ []) []) 0) p f → ⊥ }
 {}
 
-/// A plane's bits tell it apart: what begins with them begins with those of no other plane of its width and height,
+/// A plane's bits identify it: bits that begin with them begin with those of no other plane of its width and height,
 /// whatever follows.
 pub fn planes_are_told_apart()
     ensures { (p : Parameters) (plane other : Plane) (width height : ℕ) (bits rest others : List Bool) → IsLegal p → 1 ≤ width
@@ -203,14 +205,14 @@ pub fn planes_are_told_apart()
         → bits ≡ plane_bits p plane ++ rest → bits ≡ plane_bits p other ++ others → (plane ≡ other) × (rest ≡ others) }
 {}
 
-/// A codestream spells one frame and no other.
+/// A codestream is that of one frame and no other.
 pub fn one_frame_each()
     ensures { (bytes : List ℕ) (f g : Picture) → Spells bytes f → Spells bytes g → f ≡ g }
 {
     parameters_are_legal_or_at_fault();
 }
 
-/// No codestream begins another.
+/// No codestream is a proper front of another.
 pub fn no_codestream_begins_another()
     ensures { (one other rest : List ℕ) (f g : Picture) → Spells one f → Spells other g → other ≡ one ++ rest → rest ≡ [] }
 {}

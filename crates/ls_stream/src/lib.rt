@@ -1,9 +1,9 @@
-//! Codestreams of JPEG-LS (T.87 Annex C): markers, segments, and scans of one component, without loss (NEAR 0).
+//! Codestreams of JPEG-LS (T.87 Annex C): markers, segments, and lossless scans (NEAR 0) of one component each.
 //!
-//! What it hands on: encoding answers exactly the codestream of a frame (`specs/Layout.antt`); decoding answers exactly
-//! the frame that a front of the bytes is a codestream of, by the grammar (`specs/Grammar.antt`), or says that none is;
-//! off a reader one codestream at a time is taken, by its markers alone (`specs/View/Extents.antt`). The bits of a scan
-//! are those of its plane (`specs/Planes.antt`).
+//! Encoding returns exactly the codestream that `specs/Layout.antt` defines for a frame. Decoding returns exactly the
+//! frame of which a front of the bytes is a codestream by the grammar (`specs/Grammar.antt`), or a fault: there is no
+//! such front, or an allocation failed. From a reader, one codestream at a time is taken, by its markers alone
+//! (`specs/View/Extents.antt`). The bits of a scan are those of its plane (`specs/Planes.antt`).
 //!
 //! ```
 //! use ls_frame::Frame;
@@ -18,14 +18,15 @@
 //! }
 //! ```
 //!
-//! `encode_with` codes with parameters that were chosen. `next_stream` takes one codestream after the other off a
-//! reader. `encode_into` and `Opening` code in memory of the caller's, and allocate nothing.
+//! `encode_with` takes the coding parameters. `next_stream` takes one codestream after another from a reader.
+//! `encode_into` and `Opening` work in the caller's memory and allocate nothing.
 //!
-//! In reading order: `encode` (frames to codestreams), and in it `scan` (the rows of a component), `row` (a row, from
-//! left to right), `coder` (one event, as bits); `decode`, its mirror image, and in it `markers` (what stands around
-//! the data of scans), `scan`, `row`, `decoder` (one event, out of bits); `faults` (why bytes can't be decoded); `next`
-//! (one codestream at a time off a reader), and in it `awaited` (what its next byte is). What encoding and decoding
-//! share: `marker`, `segments`, `shape` (where a frame's samples stand), `lines` (a line with the places around it),
+//! In reading order: `encode` (frames to codestreams), with `scan` (the rows of a component), `row` (a row from left to
+//! right) and `coder` (one event to bits); `decode`, its mirror image, with `markers` (what surrounds the data of
+//! scans), `scan`, `row` and `decoder` (one event from bits); `faults` (why bytes can't be decoded); `next` (one
+//! codestream at a time from a reader), with `awaited` (what its next byte is). Both directions share `marker`,
+//! `segments`, `shape` (the size of a picture), `lines` (padded lines of samples) and `buffers` (memory for two lines).
+//! `laws` has what follows from the definitions, and the round trip.
 //! `buffers` (what is needed beside a frame). `laws` has what follows from the definitions, and the round trip.
 #![tactic(auto)]
 

@@ -1,4 +1,4 @@
-//! Lines of a plane as a coder keeps them: each with one place more on the left and on the right, so that every sample
+//! Lines of a plane as a coder keeps them: padded by one place on the left and one on the right, so that every sample
 //! has its neighbours (T.87 A.2.1) in its own line and in the line above.
 ghost use Rattle.std.specs.Prelude.{◌≡◌, ◌+◌, ◌*◌, ◌<◌, ◌≤◌, ℕ, List, length, slice_index};
 ghost use Rattle.ls_frame.specs.View.Numbers.{numbers};
@@ -7,7 +7,7 @@ ghost use Rattle.ls_stream.specs.View.LineBuffers.{neighbours_in};
 use ls_coding::Neighbours;
 use ls_frame::Samples;
 
-/// The samples around the one of a column.
+/// The neighbours of the sample in a column (Ra, Rb, Rc and Rd), from two padded lines.
 pub fn neighbours_in(above: &[u16], line: &[u16], column: usize) -> Neighbours
     requires above { column + 2 < length above.now }
     requires line { column < length line.now }
@@ -16,7 +16,7 @@ pub fn neighbours_in(above: &[u16], line: &[u16], column: usize) -> Neighbours
     neighbours_of(line[column], above, column)
 }
 
-/// The same, by the sample to the left.
+/// As `neighbours_in`, given the sample to the left (Ra).
 #[inline(always)]
 pub fn neighbours_of(left: u16, above: &[u16], column: usize) -> Neighbours
     requires { column + 2 < length above.now }
@@ -30,8 +30,8 @@ pub fn neighbours_of(left: u16, above: &[u16], column: usize) -> Neighbours
     }
 }
 
-/// Makes the next line, below `above`: to the left what is above its first sample, then a row's samples of one of
-/// `count` components, and the last of them once more.
+/// Fills `line` for the row below `above`: on the left the sample above the row's first one, then the row's samples of
+/// one of `count` components, and on the right the last of them once more.
 pub fn fill_line(
     line: &mut [u16],
     above: &[u16],
@@ -54,7 +54,8 @@ pub fn fill_line(
     line[width + 1] = line[width];
 }
 
-/// Copies the samples of one of `count` components, which stand pixel by pixel, after the first place of a line.
+/// Copies the samples of one of `count` components, from a row that is pixel by pixel, into a line from its second
+/// place on.
 fn copy_component(line: &mut [u16], row: Samples, width: usize, count: usize, component: usize)
     requires line { length line.old ≡ width + 2 }
     requires row { length (numbers row) ≡ width * count }
@@ -67,7 +68,7 @@ fn copy_component(line: &mut [u16], row: Samples, width: usize, count: usize, co
     }
 }
 
-/// As `copy_component`, of samples of 8 bits.
+/// `copy_component` for samples of 8 bits.
 fn copy_bytes(line: &mut [u16], row: &[u8], width: usize, count: usize, component: usize)
     requires line { length line.old ≡ width + 2 }
     requires row { length row.now ≡ width * count }
@@ -79,7 +80,7 @@ fn copy_bytes(line: &mut [u16], row: &[u8], width: usize, count: usize, componen
     }
 }
 
-/// As `copy_component`, of samples of 16 bits.
+/// `copy_component` for samples of 16 bits.
 fn copy_words(line: &mut [u16], row: &[u16], width: usize, count: usize, component: usize)
     requires line { length line.old ≡ width + 2 }
     requires row { length row.now ≡ width * count }
@@ -95,7 +96,7 @@ fn copy_words(line: &mut [u16], row: &[u16], width: usize, count: usize, compone
     }
 }
 
-/// Writes 0 into each place.
+/// Sets each place to 0.
 pub fn clear(line: &mut [u16])
     ensures { (k : ℕ) → k < length line.new → slice_index line.new k ≡ 0 }
 {

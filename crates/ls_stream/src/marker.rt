@@ -2,7 +2,7 @@
 ghost use Rattle.std.specs.Prelude.{◌≡◌};
 ghost use Rattle.ls_stream.specs.Markers.{code_of, is_application, marker_of};
 
-/// The markers that a reader of codestreams meets. Each is FF and a code.
+/// A marker: the byte 0xFF and a code. Those that a reader of codestreams tells apart have names.
 #[derive(Clone, Copy, PartialEq, Eq)]
 pub enum Marker {
     /// SOI: code `0xD8`.
@@ -15,16 +15,16 @@ pub enum Marker {
     StartOfFrame,
     /// LSE: code `0xF8`.
     PresetParameters,
-    /// APP0 to APP15, by their codes `0xE0` to `0xEF`.
+    /// APP0 to APP15, with the code, `0xE0` to `0xEF`.
     Application(u8),
     /// COM: code `0xFE`.
     Comment,
-    /// Any other, by its code.
+    /// Any other marker, with its code.
     Other(u8),
 }
 
 impl Marker {
-    /// The byte after FF.
+    /// The code: the byte after 0xFF.
     pub fn code(self) -> u8
         ensures { result ≡ code_of self }
     {
@@ -40,7 +40,7 @@ impl Marker {
         }
     }
 
-    /// The marker of a code: of the byte after FF.
+    /// The marker with this code, the byte after 0xFF.
     pub fn of_code(code: u8) -> Marker
         ensures marker { result ≡ marker_of code }
         ensures code { code_of result ≡ code }
@@ -58,7 +58,7 @@ impl Marker {
     }
 }
 
-/// APP0 to APP15.
+/// Whether this is the code of one of APP0 to APP15.
 fn is_application(code: u8) -> bool
     ensures { result ≡ is_application code }
 {

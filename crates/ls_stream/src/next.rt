@@ -1,4 +1,4 @@
-//! Taking one codestream at a time off a reader, by its markers alone.
+//! Taking one codestream at a time from a reader, by its markers alone.
 mod awaited;
 
 ghost use Rattle.std.specs.Prelude.{◌≡◌, ◌≢◌, ◌↔◌, ◌<◌, ◌⊎◌, ◌++◌, ℕ, List, length, IfOk, IfErr, IfSome, IfNone, MatchResult, MatchOption};
@@ -21,7 +21,7 @@ use thiserror::Error;
 /// Why the next codestream can't be taken.
 #[derive(Clone, Copy, Debug, Drop, PartialEq, Eq, Error)]
 pub enum NextFault {
-    /// A byte is needed after 4,294,967,295 of them.
+    /// The codestream doesn't end within 4,294,967,295 bytes.
     #[error("too large")]
     TooLarge,
     /// A read failed.
@@ -32,30 +32,30 @@ pub enum NextFault {
     NoMemory,
 }
 
-/// Takes the bytes of the next codestream off a reader, and not a byte more; `None` exactly at the end of input.
+/// Takes the bytes of the next codestream from a reader, and not a byte more. `None` exactly at the end of input.
 ///
-/// They end with EOI; or with the byte that shows that the markers break: no SOI, no marker where one is due, a marker
-/// that isn't supported, or a length below 2; or with the input. What the segments say isn't looked at. So decoding
-/// these bytes gives what decoding all that was left would, unless an allocation fails: if any front of it is a
-/// codestream of a frame, they are that front, and else their first fault is its own.
+/// They end with EOI; or with the byte that shows a fault of the markers: no SOI, no marker where one is due, a marker
+/// that isn't supported, or a length below 2; or with the input. The contents of segments aren't examined. Decoding
+/// these bytes gives what decoding all remaining bytes would, unless an allocation fails: if any front of the remaining
+/// bytes is a codestream of a frame, these bytes are that front; otherwise both have the same first fault.
 ///
 /// If the bytes are known (as in memory), the clauses say which were read. `TooLarge` comes after exactly 4,294,967,295
 /// bytes that show neither an end nor a fault. `Io` comes only if a read failed, and `NoMemory` only if an allocation
-/// did, and never at the end of input; after these two nothing is said of the reader's place.
+/// failed, and never at the end of input; after these two the reader's place is unspecified.
 pub fn next_stream<R: Feed>(alloc: Global, reader: &mut R) -> Result<Option<Vec<u8>>, NextFault>
-    // The bytes are the next codestream's, and exactly they were read.
+    // The bytes are the next codestream, and exactly they were read.
     ensures stream { IfOk result (λ next. IfSome next (λ bytes. Gave (R.remaining reader.old) (R.remaining reader.new)
         (λ read. (bytes.items ≡ read) × IsNext read (known (R.remaining reader.new))))) }
     ensures end { IfOk result (λ next. IfNone next (WasAtEnd (R.remaining reader.old) (R.remaining reader.new))) }
-    // A front that is a codestream of a frame is the answer.
+    // If a front is a codestream of a frame, it is returned.
     ensures complete { Tells (R.remaining reader.old) → (front rest : List ℕ) (f : Picture)
         → known (R.remaining reader.old) ≡ front ++ rest → Spells front f
         → MatchResult result (λ next. MatchOption next ⊥ (λ bytes. bytes.items ≡ front))
         (λ fault. (fault ≡ NextFault.Io) ⊎ (fault ≡ NextFault.NoMemory)) }
-    // The outline of the answer, or its fault, is that of all that was left.
+    // The outline of the returned bytes, or its fault, is that of all remaining bytes.
     ensures outline { IfOk result (λ next. IfSome next (λ bytes. Tells (R.remaining reader.old)
         → outline_of (known (R.remaining reader.old)) ≡ with_left (known (R.remaining reader.new)) (outline_of bytes.items))) }
-    // Its first fault, that of a scan's data too, is that of all that was left.
+    // Their first fault, also one in a scan's data, is that of all remaining bytes.
     ensures fault { IfOk result (λ next. IfSome next (λ bytes. Tells (R.remaining reader.old) → AreBytes (known (R.remaining reader.old))
         → (fault : StreamFault) → IsFirstFault bytes.items fault ↔ IsFirstFault (known (R.remaining reader.old)) fault)) }
     ensures too_large { IfErr result (λ fault. fault ≡ NextFault.TooLarge →
@@ -66,7 +66,7 @@ pub fn next_stream<R: Feed>(alloc: Global, reader: &mut R) -> Result<Option<Vec<
     read_stream(alloc, reader)
 }
 
-/// The bytes of the next codestream, or nothing at the end of input.
+/// Takes the bytes of the next codestream, or nothing at the end of input.
 fn read_stream<R: Feed>(alloc: Global, reader: &mut R) -> Result<Option<Vec<u8>>, NextFault>
     ensures bytes { GivesNext (λ bytes. bytes.items) (R.remaining reader.old) (R.remaining reader.new) result }
     ensures memory { IfErr result (λ fault. fault ≡ NextFault.NoMemory → HadBytes (R.remaining reader.old)) }
@@ -89,11 +89,11 @@ fn read_stream<R: Feed>(alloc: Global, reader: &mut R) -> Result<Option<Vec<u8>>
     Err(NextFault::TooLarge)
 }
 
-/// How many bytes there is room for after the first.
+/// The bytes of capacity that are reserved after the first byte.
 const FIRST_ROOM: usize = 65_536;
 
-/// Takes bytes, `most` at most and none of 80 or more after an FF, and answers the last of them; `None` at the end of
-/// input.
+/// Takes from 1 to `most` bytes, in which each 0xFF but a last one is followed by a byte below 0x80. Returns the last
+/// of them; `None` at the end of input.
 fn next_bytes<R: Feed>(
     reader: &mut R,
     most: usize,
@@ -119,8 +119,8 @@ fn next_bytes<R: Feed>(
     }
 }
 
-/// Makes room after the first byte. All codestreams grow alike from there on, so memory that one has freed fits the
-/// next.
+/// Reserves capacity after the first byte. All codestreams grow alike from there on, so memory that one has freed fits
+/// the next.
 fn make_room(bytes: &mut Vec<u8>) -> Result<(), AllocError>
     ensures { bytes.new.items ≡ bytes.old.items }
 {

@@ -1,10 +1,10 @@
-//! Where a picture's samples stand: rows from the top, and in a row pixel by pixel.
+//! The shape of a picture. Its samples are in rows from the top, and within a row pixel by pixel.
 ghost use Rattle.std.specs.Prelude.{◌≡◌};
 ghost use Rattle.ls_stream.specs.View.Shapes.{IsShapeOf};
 
 use ls_frame::PictureView;
 
-/// How many pixels a row has, how many rows there are, and how many components.
+/// The number of pixels in a row, of rows, and of components.
 #[derive(Clone, Copy)]
 pub struct Shape {
     pub width: usize,

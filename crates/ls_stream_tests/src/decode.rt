@@ -13,10 +13,10 @@ use std::alloc::{AllocError, Global};
 use std::process::Abort;
 use std::test::Fail;
 
-/// The parts of the frame that bytes are decoded to, and how many of them are its codestream's; or the fault.
+/// The parts of a decoded frame and the number of bytes of its codestream, or the fault.
 type Answer<'a> = Result<(Parts<'a>, usize), StreamFault>;
 
-/// That this is what was decoded.
+/// Checks the result of decoding.
 fn check_answer(
     rt: &impl Abort,
     name: &str,
@@ -30,7 +30,7 @@ fn check_answer(
     check(rt, name, 0, &got, &want);
 }
 
-/// That bytes are decoded to this in places of the caller's.
+/// Checks what bytes are decoded to in the caller's memory.
 fn check_opened(
     rt: &impl Abort,
     alloc: Global,
@@ -50,10 +50,10 @@ fn check_opened(
     }
 }
 
-/// How many bytes the codestream of an opening has, or the fault, and the samples in places of the caller's.
+/// The number of bytes of an opening's codestream, or the fault; and the samples in the caller's memory.
 type Opened<S> = (Result<usize, StreamFault>, Vec<S>);
 
-/// That this was decoded of an opening.
+/// Checks what an opening's frame was decoded to.
 fn check_samples_of(
     rt: &impl Abort,
     name: &str,
@@ -71,7 +71,7 @@ fn check_samples_of(
     check(rt, name, 0, &got, &want);
 }
 
-/// What an opening's frame is decoded to in places of 16 bits.
+/// Decodes an opening's frame to samples of 16 bits.
 fn opened_to_words(alloc: Global, opening: &Opening<'_>) -> Result<Opened<u16>, AllocError> {
     let mut lines = Lines::new(alloc, opening.width())?;
     let regions = Regions::new(alloc, opening.presets())?;
@@ -80,7 +80,7 @@ fn opened_to_words(alloc: Global, opening: &Opening<'_>) -> Result<Opened<u16>, 
     Ok((used, samples))
 }
 
-/// That an opening's frame is decoded to this in places of 16 bits.
+/// Checks what an opening's frame is decoded to in samples of 16 bits.
 fn check_opened_to_words(
     rt: &impl Abort,
     alloc: Global,
@@ -93,7 +93,7 @@ fn check_opened_to_words(
     Ok(())
 }
 
-/// The same in places of 8 bits.
+/// Decodes an opening's frame to samples of 8 bits.
 fn opened_to_bytes(alloc: Global, opening: &Opening<'_>) -> Result<Opened<u8>, AllocError>
     requires { opening.now.parameters.maxval ≤ 255 }
 {
@@ -104,7 +104,7 @@ fn opened_to_bytes(alloc: Global, opening: &Opening<'_>) -> Result<Opened<u8>, A
     Ok((used, samples))
 }
 
-/// That an opening's frame is decoded to this in places of 8 bits, if its samples fit these.
+/// Checks what an opening's frame is decoded to in samples of 8 bits, if these hold its samples.
 fn check_opened_to_bytes(
     rt: &impl Abort,
     alloc: Global,
@@ -124,17 +124,17 @@ fn widened(alloc: Global, bytes: &[u8]) -> Result<Vec<u16>, AllocError> {
     bytes.iter().map(|byte| u16::from(*byte)).collect(alloc)
 }
 
-/// That bytes are decoded to this.
+/// Checks what bytes are decoded to.
 fn check_decoded(rt: &impl Abort, alloc: Global, name: &str, bytes: &[u8], want: Answer<'_>) {
     check_answer(rt, name, &decode_frame(alloc, bytes), want);
 }
 
-/// That bytes are refused with this fault.
+/// Checks that bytes aren't decoded, with this fault.
 fn check_fault(rt: &impl Abort, alloc: Global, name: &str, bytes: &[u8], want: StreamFault) {
     check_decoded(rt, alloc, name, bytes, Err(want));
 }
 
-/// That a codestream of a frame of these parts is decoded to it, and with a byte behind it too.
+/// Checks that the codestream of a frame of these parts is decoded to it, also with one more byte after it.
 fn check_codestream(
     rt: &impl Abort,
     alloc: Global,
@@ -150,7 +150,7 @@ fn check_codestream(
     Ok(())
 }
 
-/// That a plane is decoded from its scan, if its maxval is 255.
+/// Checks that a plane is decoded from its scan, if its maxval is 255.
 fn check_plane(rt: &impl Abort, alloc: Global, plane: &Plane) -> Result<(), AllocError> {
     let (name, maxval, width, samples, scan) = *plane;
     if maxval != 255 {
@@ -182,7 +182,7 @@ fn codestreams_are_decoded_to_their_frames_with_ample_memory(
     Ok(())
 }
 
-/// That the answer is that memory was refused, or what it is with ample memory.
+/// Checks that decoding fails with NoMemory, or returns what it does with ample memory.
 fn check_or_refused(rt: &impl Abort, alloc: Global, parts: &Parts<'_>, bytes: &[u8]) {
     let decoded = decode_frame(alloc, bytes);
     let want = match decoded {
@@ -199,7 +199,7 @@ fn codestreams_are_decoded_or_memory_is_refused(rt: HostRuntime) {
     }
 }
 
-/// That a codestream of a gray line with this segment before its scan is decoded to these samples.
+/// Checks that a codestream of a gray line with this segment before its scan is decoded to these samples.
 fn check_tuned(
     rt: &impl Abort,
     alloc: Global,
@@ -213,7 +213,7 @@ fn check_tuned(
     check_codestream(rt, alloc, "tuned", &parts, &bytes)
 }
 
-/// The default parameters but for RESET, which is 3.
+/// The default parameters except for RESET, which is 3.
 const EARLY_RESET: [u8; 15] = [
     0xff, 0xf8, 0x00, 0x0d, 0x01, 0x00, 0xff, 0x00, 0x03, 0x00, 0x07, 0x00, 0x15, 0x00, 0x03,
 ];
@@ -228,10 +228,11 @@ fn parameters_are_read_with_ample_memory(rt: HostRuntime) -> Result<(), AllocErr
     check_tuned(&rt, rt.alloc(), &EARLY_RESET, &scan, 7, &samples)
 }
 
-/// A change of a codestream: its place in the table, the first byte that goes, how many go, and what stands there.
+/// A change of a codestream: the codestream's place in the table, the place of the first byte to remove, the number of
+/// bytes to remove, and the bytes to insert there.
 type Change = (usize, usize, usize, &'static [u8]);
 
-/// The changed codestream.
+/// Makes the changed codestream.
 fn changed(alloc: Global, change: &Change) -> Result<Vec<u8>, AllocError> {
     let (codestream, place, gone, others) = *change;
     let bytes: &[u8] = match CODESTREAMS.get(codestream) {
@@ -244,7 +245,7 @@ fn changed(alloc: Global, change: &Change) -> Result<Vec<u8>, AllocError> {
     Ok(made)
 }
 
-/// That the changed codestream is decoded to this.
+/// Checks what the changed codestream is decoded to.
 fn check_changed(
     rt: &impl Abort,
     alloc: Global,
@@ -256,7 +257,7 @@ fn check_changed(
     Ok(())
 }
 
-/// A changed codestream of a gray frame of one pixel, its MAXVAL, its sample, and how many bytes of it are read.
+/// A changed codestream of a gray frame of one pixel, its MAXVAL, its sample, and the number of bytes that are read.
 const LONE: &[(Change, u16, u16, usize)] = &[
     // A comment.
     ((1, 15, 0, &[0xff, 0xfe, 0x00, 0x03, 0x41]), 255, 0, 33),
@@ -264,7 +265,7 @@ const LONE: &[(Change, u16, u16, usize)] = &[
     // Fill bytes.
     ((1, 2, 0, &[0xff, 0xff]), 255, 0, 30),
     ((1, 26, 0, &[0xff]), 255, 0, 29),
-    // Tq, which isn't looked at; another ID.
+    // Tq, which is ignored; another ID.
     ((1, 14, 1, &[0x05]), 255, 0, 28),
     (
         (
@@ -277,7 +278,7 @@ const LONE: &[(Change, u16, u16, usize)] = &[
         0,
         28,
     ),
-    // Parameters that are all to be the defaults; a MAXVAL that is; before others, and after them.
+    // Parameters that are all 0, for the defaults; only MAXVAL 0; all 0 before other parameters, and after them.
     (
         (
             1,
@@ -312,7 +313,7 @@ const LONE: &[(Change, u16, u16, usize)] = &[
         3,
         58,
     ),
-    // Further bits, at most 15; a stuffed one isn't counted.
+    // Up to 15 bits after those of the plane; a stuffed bit isn't counted.
     ((1, 26, 0, &[0x00]), 255, 0, 29),
     ((1, 25, 1, &[0x05, 0xff, 0x7f]), 255, 9, 30),
     ((1, 25, 1, &[0x05]), 255, 9, 28),
@@ -330,7 +331,7 @@ fn frames_are_decoded_from_codestreams_of_others_with_ample_memory(
     Ok(())
 }
 
-/// A comment and a segment of an application stand after the start of the image.
+/// A COM and an APPn segment follow SOI.
 #[test]
 fn segments_of_others_are_passed_over_with_ample_memory(rt: HostRuntime) -> Result<(), AllocError> {
     let (parts, _, _) = CODESTREAMS[0];
@@ -338,7 +339,7 @@ fn segments_of_others_are_passed_over_with_ample_memory(rt: HostRuntime) -> Resu
     check_changed(&rt, rt.alloc(), &(0, 2, 0, others), Ok((parts, 66)))
 }
 
-/// Changed codestreams that spell no frame: in their headers, and after the first of them.
+/// Codestreams that a change in their headers, or after the first of these, makes invalid; and their faults.
 const FAULTY: &[(Change, StreamFault)] = &[
     ((1, 0, 1, &[0x00]), StreamFault::NotSoi),
     ((1, 2, 1, &[0x00]), StreamFault::BadSegment),
@@ -416,7 +417,7 @@ fn changed_codestreams_have_these_faults_with_ample_memory(
     Ok(())
 }
 
-/// What the data and what follows it shows, a width and a height, these bytes, and the fault.
+/// What is wrong, a width and a height, the data and what follows it, and the fault.
 const MALFORMED_SCANS: &[(&str, u16, u16, &[u8], StreamFault)] = &[
     (
         "an escape word of a small value",
@@ -498,7 +499,7 @@ const MALFORMED_SCANS: &[(&str, u16, u16, &[u8], StreamFault)] = &[
     ),
 ];
 
-/// That a scan of this data and what follows it has this fault.
+/// Checks the fault of a scan of this data, with what follows it.
 fn check_scan(
     rt: &impl Abort,
     alloc: Global,
@@ -522,7 +523,7 @@ fn malformed_scans_have_these_faults_with_ample_memory(rt: HostRuntime) -> Resul
     Ok(())
 }
 
-/// That each beginning of a codestream is truncated.
+/// Checks that each proper front of a codestream is truncated.
 fn check_fronts(rt: &impl Abort, alloc: Global, bytes: &[u8]) {
     for len in 0..bytes.len() {
         check_fault(rt, alloc, "front", &bytes[..len], StreamFault::Truncated);
@@ -538,7 +539,7 @@ fn fronts_of_codestreams_are_truncated_with_ample_memory(rt: HostRuntime) {
 
 // ---- round trips
 
-/// That a frame is decoded from its codestream by these parameters, all of them 0 for the defaults.
+/// Checks that a frame is decoded from its codestream by these parameters, each 0 for its default.
 fn check_round_trip(
     rt: &impl Abort,
     alloc: Global,
@@ -552,7 +553,7 @@ fn check_round_trip(
     Ok(())
 }
 
-/// That a picture comes back, drawn so and coded by these parameters.
+/// Checks that a picture of this kind, coded by these parameters, comes back.
 fn check_picture(
     rt: &impl Abort,
     alloc: Global,
@@ -565,7 +566,7 @@ fn check_picture(
     check_round_trip(rt, alloc, "a picture", &frame, chosen)
 }
 
-/// That gray samples of maxval 255 come back.
+/// Checks that gray samples of maxval 255 come back.
 fn check_samples(
     rt: &impl Abort,
     alloc: Global,
@@ -600,7 +601,7 @@ const SMALL: &[(Kind, u16, u16)] = &[
     (Kind::Color, 9, 7),
 ];
 
-/// That small pictures of each size come back.
+/// Checks that small pictures of each size come back.
 fn check_small(
     rt: &impl Abort,
     alloc: Global,

@@ -15,7 +15,7 @@ use std::process::Abort;
 use std::test::Fail;
 use sums::{LARGE, LONGEST_RUNS, SMALL};
 
-/// That a frame has this codestream with the default parameters.
+/// Checks the codestream of a frame with the default parameters.
 fn check_coded(
     rt: &impl Abort,
     alloc: Global,
@@ -27,7 +27,7 @@ fn check_coded(
     Ok(())
 }
 
-/// That the codestream of a plane has its scan, if its maxval is 255.
+/// Checks that the codestream of a plane has its scan, if its maxval is 255.
 fn check_plane(rt: &impl Abort, alloc: Global, plane: &Plane) -> Result<(), AllocError> {
     let (name, maxval, width, samples, scan) = *plane;
     if maxval != 255 {
@@ -49,7 +49,7 @@ fn gray_frames_have_their_planes_scans_with_ample_memory(
     Ok(())
 }
 
-/// That a frame of these parts has this codestream, by default and with explicit defaults, and this bound.
+/// Checks the codestream of a frame of these parts, by default and with explicit defaults, and the bound on its length.
 fn check_codestream(
     rt: &impl Abort,
     alloc: Global,
@@ -84,8 +84,8 @@ fn frames_have_these_codestreams_and_bounds_with_ample_memory(
     Ok(())
 }
 
-/// That a picture of twelve samples, the one at this place 8 and the others 7, has a codestream by maxval 8, and none by
-/// maxval 7.
+/// Checks that a picture of twelve samples, 8 at this place and 7 elsewhere, has a codestream with maxval 8, and none
+/// with maxval 7.
 fn check_sample_over_maxval(
     rt: &impl Abort,
     alloc: Global,
@@ -120,7 +120,7 @@ fn pictures_with_a_sample_over_maxval_have_no_codestream_with_ample_memory(
     Ok(())
 }
 
-/// Once its room and its lines are there, encoding asks for no memory: this passes whichever allocation fails.
+/// Once its buffer and its lines are allocated, encoding allocates nothing: this passes whichever allocation fails.
 #[test]
 fn codestreams_go_after_bytes_without_memory(rt: HostRuntime) {
     for (parts, want, bound) in CODESTREAMS {
@@ -131,7 +131,7 @@ fn codestreams_go_after_bytes_without_memory(rt: HostRuntime) {
     }
 }
 
-/// Encodes after a byte 07, into just the room of the bound.
+/// Encodes after a byte 07, into a capacity of just the bound.
 fn encode_after_a_byte(
     rt: &impl Abort,
     alloc: Global,
@@ -147,7 +147,7 @@ fn encode_after_a_byte(
     Ok(())
 }
 
-/// The bytes, the capacity that they had before, and the width of the lines afterwards.
+/// Returns the bytes, the capacity that they had before, and the width of the lines afterwards.
 fn encoded_after_a_byte(
     rt: &impl Abort,
     alloc: Global,
@@ -165,7 +165,7 @@ fn encoded_after_a_byte(
     Ok((bytes, capacity, lines.width()))
 }
 
-/// Encodes into a slice of bytes 5A, as many as the bound and one more, and sees that those behind the codestream stay.
+/// Encodes into a slice of bytes 5A, one more than the bound, and checks that those after the codestream don't change.
 fn encode_into_a_slice(
     rt: &impl Abort,
     alloc: Global,
@@ -180,7 +180,7 @@ fn encode_into_a_slice(
     Ok(())
 }
 
-/// The slice, and how many of its bytes are the codestream's.
+/// Returns the slice, and the number of its bytes that are the codestream's.
 fn encoded_into_a_slice(
     rt: &impl Abort,
     alloc: Global,
@@ -197,7 +197,7 @@ fn encoded_into_a_slice(
     Ok((bytes, count))
 }
 
-/// How many of these bytes aren't 5A.
+/// The number of these bytes that aren't 5A.
 fn changed_of(bytes: &[u8]) -> u64 {
     let mut changed = 0;
     for byte in bytes {
@@ -206,13 +206,13 @@ fn changed_of(bytes: &[u8]) -> u64 {
     changed
 }
 
-/// That a byte 07 stands before these bytes.
+/// Checks that a byte 07 is before these bytes.
 fn check_after_a_byte(rt: &impl Abort, got: &[u8], want: &[u8]) {
     check_bytes(rt, "before", got.get(..1).unwrap_or(&[]), &[0x07]);
     check_bytes(rt, "after", got.get(1..).unwrap_or(&[]), want);
 }
 
-/// That these T1, T2, T3 and RESET make this segment before the scan of a frame, a lone zero.
+/// Checks that these T1, T2, T3 and RESET give this segment before the scan of a frame, a lone zero.
 fn check_tuning(
     rt: &impl Abort,
     alloc: Global,
@@ -236,7 +236,7 @@ fn parameters_are_written_where_they_are_not_the_default_with_ample_memory(
     Ok(())
 }
 
-/// The codestream of a frame by the default parameters of maxval 255 but for RESET, which is 3.
+/// The codestream of a frame, coded by the default parameters of maxval 255 except for RESET, which is 3.
 fn encode_with_early_reset(alloc: Global, frame: &Frame) -> Result<Vec<u8>, Fail> {
     let presets = Presets::explicit(frame.maxval(), 3, 7, 21, 3)?;
     Ok(encode_with(alloc, frame, &presets)?)
@@ -252,11 +252,11 @@ fn counters_are_halved_as_reset_says_with_ample_memory(rt: HostRuntime) -> Resul
     Ok(())
 }
 
-// ---- beside CharLS
+// ---- compared with CharLS
 
 const SIZES: &[(u16, u16)] = &[(1, 1), (1, 9), (13, 1), (23, 11)];
 
-/// Adds what a picture is coded as by parameters of its maxval, all of them 0 for the defaults.
+/// Adds the codestream of a picture, coded by parameters of its maxval, each 0 for its default.
 fn add_picture(
     rt: &impl Abort,
     alloc: Global,
@@ -271,7 +271,7 @@ fn add_picture(
     Ok(())
 }
 
-/// Adds what a picture in each small size is coded as.
+/// Adds the codestreams of a picture in each small size.
 fn add_sizes(
     rt: &impl Abort,
     alloc: Global,
@@ -303,7 +303,7 @@ fn small_sum(
     Ok(sum)
 }
 
-/// By each set of parameters.
+/// With each set of parameters.
 #[test]
 fn small_pictures_are_coded_as_charls_does_with_ample_memory(rt: HostRuntime) -> Result<(), Fail> {
     let mut chance = Chance { state: 1 };

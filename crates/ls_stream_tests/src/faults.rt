@@ -4,7 +4,7 @@ use ls_stream::{StreamFault, What};
 use std::alloc::Global;
 use std::process::Abort;
 
-/// That this is the fault's text.
+/// Checks the fault's message.
 fn check_text(rt: &impl Abort, alloc: Global, fault: StreamFault, text: &str) {
     let Ok(got) = format!(in alloc; "{fault}") else {
         return;

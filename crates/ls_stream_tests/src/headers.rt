@@ -1,4 +1,4 @@
-//! What the headers of a codestream say, and what stands after its scans: each fault, and none.
+//! The headers of a codestream and what follows its scans: each fault, and none.
 use crate::testing::check;
 use crate::testing::codestreams::CODESTREAMS;
 use ls_frame::PresetFault;
@@ -12,14 +12,14 @@ const LONE: [u8; 28] = [
     0xDA, 0x00, 0x08, 0x01, 0x01, 0x00, 0x00, 0x00, 0x00, 0x80, 0xFF, 0xD9,
 ];
 
-/// One whose samples have one bit, with preset parameters.
+/// A gray frame of one pixel with precision 2, MAXVAL 1 and preset parameters; its sample is 1.
 const WITH_PRESETS: [u8; 43] = [
     0xFF, 0xD8, 0xFF, 0xF7, 0x00, 0x0B, 0x02, 0x00, 0x01, 0x00, 0x01, 0x01, 0x01, 0x11, 0x00, 0xFF,
     0xF8, 0x00, 0x0D, 0x01, 0x00, 0x01, 0x00, 0x01, 0x00, 0x01, 0x00, 0x01, 0x00, 0x40, 0xFF, 0xDA,
     0x00, 0x08, 0x01, 0x01, 0x00, 0x00, 0x00, 0x00, 0x40, 0xFF, 0xD9,
 ];
 
-/// That bytes, which were changed or cut at a place, are decoded with this fault, or with none.
+/// Checks that bytes, changed or cut at a place, are decoded with this fault, or with none.
 fn check_fault(rt: &impl Abort, alloc: Global, at: usize, bytes: &[u8], want: Option<StreamFault>) {
     let got = match decode_frame(alloc, bytes) {
         Ok(_) => None,
@@ -28,7 +28,7 @@ fn check_fault(rt: &impl Abort, alloc: Global, at: usize, bytes: &[u8], want: Op
     check(rt, "a fault", at, &got, &want);
 }
 
-/// That bytes are decoded so after one of them is changed.
+/// Checks the fault, or none, of decoding bytes after one of them is changed.
 fn check_changed(
     rt: &impl Abort,
     alloc: Global,
@@ -43,7 +43,7 @@ fn check_changed(
     check_fault(rt, alloc, place, bytes, want);
 }
 
-/// That these bytes, after so many of the first ones of a codestream, are decoded so.
+/// Checks the fault, or none, of decoding these bytes after the first `count` of a codestream.
 fn check_after(
     rt: &impl Abort,
     alloc: Global,
@@ -58,7 +58,7 @@ fn check_after(
     Ok(())
 }
 
-/// A place in `LONE`, the byte that stands there, and the fault.
+/// A place in `LONE`, the new byte there, and the fault.
 const CHANGED_HEADERS: &[(usize, u8, StreamFault)] = &[
     (0, 0x00, StreamFault::NotSoi),
     (1, 0xD9, StreamFault::NotSoi),
@@ -93,7 +93,7 @@ const CHANGED_HEADERS: &[(usize, u8, StreamFault)] = &[
     (24, 0x01, StreamFault::Unsupported(What::PointTransform)),
 ];
 
-/// That the lone pixel is decoded so after a byte is changed.
+/// Checks the fault, or none, of decoding the lone pixel after a byte is changed.
 fn check_lone(rt: &impl Abort, alloc: Global, place: usize, byte: u8, want: Option<StreamFault>) {
     let mut bytes = LONE;
     check_changed(rt, alloc, &mut bytes, place, byte, want);
@@ -107,7 +107,7 @@ fn changed_headers_have_these_faults_with_ample_memory(rt: HostRuntime) {
     check_lone(&rt, rt.alloc(), 14, 0x05, None);
 }
 
-/// A place in `WITH_PRESETS`, the byte that stands there, and the fault, if there is one.
+/// A place in `WITH_PRESETS`, the new byte there, and the fault, if there is one.
 const CHANGED_PRESETS: &[(usize, u8, Option<PresetFault>)] = &[
     (21, 0x04, Some(PresetFault::MaxvalRange)),
     (23, 0x02, Some(PresetFault::T1Range)),
@@ -117,7 +117,7 @@ const CHANGED_PRESETS: &[(usize, u8, Option<PresetFault>)] = &[
     (21, 0x00, None),
 ];
 
-/// That the pixel with presets is decoded so after a byte is changed.
+/// Checks the fault, or none, of decoding the pixel with presets after a byte is changed.
 fn check_presets(
     rt: &impl Abort,
     alloc: Global,
@@ -159,7 +159,7 @@ const OTHER: [u8; 2] = [0xFF, 0xC0];
 
 const LSE: [u8; 2] = [0xFF, 0xF8];
 
-/// What stands after the only scan, and the fault.
+/// What follows the only scan, and the fault, if there is one.
 const AFTER_THE_ONLY: &[(&[u8], Option<StreamFault>)] = &[
     (&FILLED_EOI, None),
     (&COMMENT, Some(StreamFault::Truncated)),
@@ -168,7 +168,7 @@ const AFTER_THE_ONLY: &[(&[u8], Option<StreamFault>)] = &[
     (&SCAN, Some(StreamFault::BadSegment)),
 ];
 
-/// What stands after the first of three scans, where that of component 2 is due, and the fault.
+/// What follows the first of three scans, where that of component 2 is due, and the fault, if there is one.
 const AFTER_THE_FIRST: &[(&[u8], Option<StreamFault>)] = &[
     (&FILLED_EOI, Some(StreamFault::BadSegment)),
     (&COMMENT, Some(StreamFault::Truncated)),
@@ -192,10 +192,10 @@ fn what_follows_a_scan_has_these_faults_with_ample_memory(
     Ok(())
 }
 
-/// How many bits a sample and how many bytes a codestream has by its markers and headers, or their first fault.
+/// The bits per sample and the number of bytes of a codestream, by its markers and headers, or their first fault.
 type Skipped = Result<(u8, usize), StreamFault>;
 
-/// That a codestream that is changed or cut at a place is read over so.
+/// Checks the result of skipping through a codestream that is changed or cut at a place.
 fn check_skipped(rt: &impl Abort, at: usize, bytes: &[u8], want: Skipped) {
     let got = match Opening::read(bytes) {
         Ok(opening) => opening.skip().map(|used| (opening.precision(), used)),
@@ -204,7 +204,7 @@ fn check_skipped(rt: &impl Abort, at: usize, bytes: &[u8], want: Skipped) {
     check(rt, "markers and headers", at, &got, &want);
 }
 
-/// That a codestream is read over by its markers and headers, and no front of it is.
+/// Checks that a codestream is skipped through by its markers and headers, and that each proper front is truncated.
 fn check_fronts(rt: &impl Abort, codestream: &[u8], precision: u8) {
     let len = codestream.len();
     check_skipped(rt, len, codestream, Ok((precision, len)));
@@ -219,7 +219,7 @@ fn codestreams_are_read_over_by_markers_and_headers(rt: HostRuntime) {
     check_fronts(&rt, &WITH_PRESETS, 2);
 }
 
-/// A place in `LONE`, the byte that stands there, and what is said of markers and headers: the data isn't looked at.
+/// A place in `LONE`, the new byte there, and the result by markers and headers, which ignores the data.
 const CHANGED_AFTER_THE_HEADERS: &[(usize, u8, Skipped)] = &[
     (25, 0x00, Ok((8, 28))),
     (25, 0xC0, Ok((8, 28))),

@@ -8,13 +8,13 @@ use std::alloc::{AllocError, Global};
 use std::process::Abort;
 use std::test::Fail;
 
-/// What is taken of a reader: bytes, nothing at the end, or a fault.
+/// The result of taking a codestream from a reader: bytes, nothing at the end, or a fault.
 type Next = Result<Option<Vec<u8>>, NextFault>;
 
-/// What is to be taken.
+/// The expected result.
 type Wanted<'a> = Result<Option<&'a [u8]>, NextFault>;
 
-/// That this was taken.
+/// Checks what was taken.
 fn check_taken(rt: &impl Abort, name: &str, at: usize, next: &Next, want: Wanted<'_>) {
     let got = match next {
         Ok(Some(bytes)) => Ok(Some(bytes.as_slice())),
@@ -24,7 +24,7 @@ fn check_taken(rt: &impl Abort, name: &str, at: usize, next: &Next, want: Wanted
     check(rt, name, at, &got, &want);
 }
 
-/// That decoding ended with this fault, or with none.
+/// Checks that decoding ended with this fault, or with none.
 fn check_fault(
     rt: &impl Abort,
     at: usize,
@@ -38,14 +38,15 @@ fn check_fault(
     check(rt, "the fault of a codestream", at, &got, &want);
 }
 
-/// What is taken of bytes in memory, and how many are left.
+/// Takes a codestream from bytes in memory. Returns the result and the number of bytes that are left.
 fn take_of(alloc: Global, bytes: &[u8]) -> (Next, usize) {
     let mut rest = bytes;
     let next = next_stream(alloc, &mut rest);
     (next, rest.len())
 }
 
-/// That so many of these bytes are taken, whose decoding is that of all of them, and that the others are left.
+/// Checks that the first `count` of these bytes are taken and the others left, and that decoding the ones taken gives
+/// what decoding all does.
 fn check_first(
     rt: &impl Abort,
     alloc: Global,
@@ -62,7 +63,7 @@ fn check_first(
     check_decoded(rt, alloc, at, bytes, want);
 }
 
-/// That what is taken of bytes is decoded with this fault or none, and all of them too.
+/// Checks that what is taken of bytes, and all of them, are decoded with this fault or none.
 fn check_decoded(
     rt: &impl Abort,
     alloc: Global,
@@ -79,7 +80,7 @@ fn check_decoded(
     }
 }
 
-/// How many bytes a reader has left.
+/// Counts the bytes that a reader has left.
 fn count_left<R: Feed>(reader: &mut R) -> usize {
     let mut left: usize = 0;
     for _ in 0..u32::MAX {
@@ -91,11 +92,11 @@ fn count_left<R: Feed>(reader: &mut R) -> usize {
     left
 }
 
-/// What is taken off a reader one after the other, how many bytes it has left then, and how many of its reads failed by
-/// then.
+/// The results of taking codestreams from a reader one after the other, the number of bytes that are left then, and the
+/// number of its reads that failed by then.
 type Takes<'a> = (&'a [Wanted<'a>], usize, u64);
 
-/// That these are taken off a reader.
+/// Checks what is taken from a reader.
 fn check_takes<R: Feed>(
     rt: &impl Abort,
     alloc: Global,
@@ -112,7 +113,7 @@ fn check_takes<R: Feed>(
     check(rt, "bytes left, failures", at, &got, &(left, failures));
 }
 
-/// That these are taken off chunks.
+/// Checks what is taken from chunks.
 fn check_unbuffered(
     rt: &impl Abort,
     alloc: Global,
@@ -123,7 +124,7 @@ fn check_unbuffered(
     check_takes(rt, alloc, at, &mut Counted::new(chunks), takes);
 }
 
-/// That these are taken off a buffered reader of chunks.
+/// Checks what is taken from a buffered reader of chunks.
 fn check_buffered(
     rt: &impl Abort,
     alloc: Global,
@@ -136,8 +137,8 @@ fn check_buffered(
     Ok(())
 }
 
-/// That so many of these bytes are taken off a buffered reader that is given so many at once, and that it has the
-/// others left.
+/// Checks that `count` of these bytes are taken from a buffered reader that gets at most `most` at once, and that the
+/// others are left.
 fn check_chunks(
     rt: &impl Abort,
     alloc: Global,
@@ -152,7 +153,7 @@ fn check_chunks(
     check_buffered(rt, alloc, at, Pieces::new(bytes, most, None), &takes)
 }
 
-/// Bytes, how many of them the next codestream has, and the fault of decoding them.
+/// Bytes, the number of them in the next codestream, and the fault of decoding them.
 type Malformed<'a> = (&'a [u8], usize, StreamFault);
 
 const MALFORMED: &[Malformed<'static>] = &[
@@ -211,7 +212,7 @@ const MALFORMED: &[Malformed<'static>] = &[
         StreamFault::Truncated,
     ),
     (&[0xff, 0xd8, 0xff, 0xe0, 0x01], 5, StreamFault::Truncated),
-    // A scan with no frame: its data goes on past FF 7F, to EOI or to a marker that isn't supported.
+    // A scan with no frame header: its data goes on past FF 7F, to EOI or to a marker that isn't supported.
     (
         &[
             0xff, 0xd8, 0xff, 0xda, 0x00, 0x03, 0x41, 0x80, 0xff, 0x7f, 0x01, 0xff, 0xd9, 0xff,
@@ -267,7 +268,7 @@ fn malformed_bytes_are_taken_off_chunks_with_ample_memory(
     Ok(())
 }
 
-/// That the first of two equal codestreams is taken off chunks.
+/// Checks that the first of two equal codestreams is taken from chunks.
 fn check_doubled(
     rt: &impl Abort,
     alloc: Global,
@@ -288,7 +289,8 @@ fn codestreams_are_taken_off_chunks_with_ample_memory(rt: HostRuntime) -> Result
     Ok(())
 }
 
-/// That a codestream is taken whole, with a byte behind it too, and without EOI as far as it goes.
+/// Checks that a codestream is taken completely, also with one more byte after it, and up to the end of input if EOI is
+/// missing.
 fn check_whole(
     rt: &impl Abort,
     alloc: Global,
@@ -322,10 +324,10 @@ fn a_fill_byte_before_eoi_is_taken_with_ample_memory(rt: HostRuntime) -> Result<
     Ok(())
 }
 
-/// What is taken of two codestreams that stand behind one another: each, and then the end.
+/// The results for two codestreams one after the other: each, and then the end.
 const BOTH: Takes<'static> = (&[Ok(Some(BLACK)), Ok(Some(WHITE)), Ok(None)], 0, 0);
 
-/// Takes two codestreams off chunks of so many bytes, and off a buffered reader of them.
+/// Takes two codestreams from chunks of at most `most` bytes, and from a buffered reader of these.
 fn check_joined(
     rt: &impl Abort,
     alloc: Global,
@@ -348,8 +350,8 @@ fn joined_codestreams_are_taken_one_by_one_with_ample_memory(
     Ok(())
 }
 
-/// That the read of this number is the one that fails, of a reader and of a buffered one, and that the bytes from its
-/// place on are left.
+/// Checks that the read of this number fails, for a reader and for a buffered one, and that the bytes from its place on
+/// are left.
 fn check_failing(rt: &impl Abort, alloc: Global, failing: usize) -> Result<(), AllocError> {
     let takes = (FAILED, BLACK.len().saturating_sub(failing), 1);
     let chunks = Pieces::new(BLACK, 1, Some(failing));
@@ -370,7 +372,7 @@ fn a_failed_read_is_named_and_counted_once_with_ample_memory(
     Ok(())
 }
 
-/// That the answer is that memory was refused, or what it is with ample memory.
+/// Checks that the result is NoMemory, or what it is with ample memory.
 fn check_or_refused(rt: &impl Abort, alloc: Global, at: usize, codestream: &[u8]) {
     let (next, _) = take_of(alloc, codestream);
     let want = match next {
@@ -387,7 +389,7 @@ fn codestreams_are_taken_or_memory_is_refused(rt: HostRuntime) {
     }
 }
 
-/// Nothing is taken at the end, which needs no memory.
+/// Nothing is taken at the end, and nothing is allocated.
 #[test]
 fn the_end_is_named(rt: HostRuntime) {
     let (next, _) = take_of(rt.alloc(), &[]);
@@ -396,14 +398,14 @@ fn the_end_is_named(rt: HostRuntime) {
     check_unbuffered(&rt, rt.alloc(), 0, chunks, &(FAILED, 0, 1));
 }
 
-/// Faults, and what is said of them.
+/// Faults and their messages.
 const TEXTS: &[(NextFault, &str)] = &[
     (NextFault::TooLarge, "too large"),
     (NextFault::Io, "read failed"),
     (NextFault::NoMemory, "no memory"),
 ];
 
-/// That this is the fault's text.
+/// Checks the fault's message.
 fn check_text(rt: &impl Abort, alloc: Global, fault: NextFault, want: &str) -> Result<(), Fail> {
     let got = format!(in alloc; "{fault}")?;
     check_bytes(rt, want, got.as_bytes(), want.as_bytes());

@@ -1,4 +1,4 @@
-//! What the tests share: frames, pictures that look like chance, and the checks.
+//! What the tests share: frames, pictures of pseudo-random samples, and checks.
 pub mod codestreams;
 
 use ls_frame::{Frame, Kind, Tuning};
@@ -8,17 +8,17 @@ use std::fmt::Debug;
 use std::process::Abort;
 use std::test::Fail;
 
-/// That a value is the wanted one.
+/// Checks that a value is the expected one.
 pub fn check<T: PartialEq + Debug>(rt: &impl Abort, name: &str, at: usize, got: &T, want: &T) {
     assert_eq!(rt; got, want, "{name}, at {at}");
 }
 
-/// That these are the bytes.
+/// Checks bytes.
 pub fn check_bytes(rt: &impl Abort, name: &str, got: &[u8], want: &[u8]) {
     check(rt, name, 0, &got, &want);
 }
 
-/// That this is the number.
+/// Checks a number.
 pub fn check_number(rt: &impl Abort, name: &str, got: u64, want: u64) {
     check(rt, name, 0, &got, &want);
 }
@@ -63,21 +63,21 @@ pub fn frame_of_parts(
     frame_of(rt, alloc, kind, width, height, maxval, samples)
 }
 
-/// The codestream of a frame by these T1, T2, T3 and RESET, each 0 for its default.
+/// The codestream of a frame, coded by these T1, T2, T3 and RESET, each 0 for its default.
 pub fn encode_tuned(alloc: Global, frame: &Frame, chosen: [u16; 4]) -> Result<Vec<u8>, Fail> {
     let [t1, t2, t3, reset] = chosen;
     let presets = Tuning { t1, t2, t3, reset }.presets(frame.maxval())?;
     Ok(encode_with(alloc, frame, &presets)?)
 }
 
-/// The longest line there is, of zeros and this last sample.
+/// A line of the greatest length, of zeros and this last sample.
 pub fn longest_line(alloc: Global, last: u16) -> Result<Vec<u16>, AllocError> {
     let mut samples = vec![in alloc; 0u16; 65535]?;
     samples[65534] = last;
     Ok(samples)
 }
 
-/// Numbers that look like chance, the same in each run (splitmix64).
+/// Pseudo-random numbers, the same in each run (splitmix64).
 #[derive(Drop)]
 pub struct Chance {
     pub state: u64,
@@ -98,16 +98,16 @@ impl Chance {
     }
 }
 
-/// What a picture shows.
+/// The content of a picture.
 #[derive(Clone, Copy, Debug)]
 pub enum Picture {
     /// Any samples.
     Noise,
-    /// Runs of a value, most of them some samples long.
+    /// Runs of a value, most of them several samples long.
     Runs,
-    /// Values that rise by little.
+    /// Values that rise slowly.
     Ramp,
-    /// The least and the greatest value alone.
+    /// Only the least and the greatest value.
     Extremes,
 }
 
@@ -118,7 +118,7 @@ pub const PICTURES: &[Picture] = &[
     Picture::Extremes,
 ];
 
-/// So many samples up to `maxval`.
+/// This number of samples of a picture, each at most `maxval`.
 pub fn samples_of(
     alloc: Global,
     chance: &mut Chance,
@@ -145,7 +145,7 @@ pub fn samples_of(
 /// Kind, width, height, maxval.
 pub type Shape = (Kind, u16, u16, u16);
 
-/// A frame of this shape that shows this.
+/// A frame of this shape with this content.
 pub fn drawn_frame(
     rt: &impl Abort,
     alloc: Global,
@@ -159,7 +159,7 @@ pub fn drawn_frame(
     frame_of(rt, alloc, kind, width, height, maxval, &samples)
 }
 
-/// How many bytes there were, and their FNV-1a (64 bits).
+/// The number of bytes, and their FNV-1a (64 bits).
 #[derive(Clone, Copy, Debug, PartialEq, Eq)]
 pub struct Sum {
     pub bytes: u64,
@@ -167,7 +167,7 @@ pub struct Sum {
 }
 
 impl Sum {
-    /// Of no bytes.
+    /// The sum of no bytes.
     pub fn new() -> Sum {
         Sum {
             bytes: 0,
@@ -175,7 +175,7 @@ impl Sum {
         }
     }
 
-    /// Of these bytes more.
+    /// Adds these bytes.
     pub fn add(&mut self, more: &[u8]) {
         self.bytes = self.bytes.wrapping_add(more.len() as u64);
         for byte in more {
@@ -184,7 +184,7 @@ impl Sum {
     }
 }
 
-/// That this is the sum.
+/// Checks a sum.
 pub fn check_sum(rt: &impl Abort, name: &str, got: Sum, want: (u64, u64)) {
     check(rt, name, 0, &(got.bytes, got.fnv), &want);
 }

@@ -1,19 +1,20 @@
-//! Readers and writers whose calls can fail. They take no memory.
+//! Readers and writers whose calls can fail. They don't allocate.
 ghost use Rattle.std.specs.Prelude.{◌≤◌};
 ghost use Rattle.ls_testing.specs.declared.devices.TheConstants.{ROOM};
 
 use std::io;
 use std::io::{Read, Write};
 
-/// If memory may be refused, running out of it is an answer too.
+/// Whether allocations may fail in a test. If so (`Refusable`), a failure for lack of memory is accepted as a result,
+/// too.
 #[derive(Clone, Copy, Debug, PartialEq, Eq)]
 pub enum Memory {
     Ample,
     Refusable,
 }
 
-/// A reader over memory that gives at most `most` bytes a call. Its call number `failing`, from 0, fails
-/// and gives nothing.
+/// A reader over memory that returns at most `most` bytes per call. Its call number `failing`, counted from 0, fails
+/// and returns nothing.
 #[derive(Drop)]
 pub struct Pieces<'a> {
     rest: &'a [u8],
@@ -45,20 +46,20 @@ impl<'a> Read for Pieces<'a> {
     }
 }
 
-/// What goes wrong with a `Sink`.
+/// What goes wrong in a `Sink`.
 #[derive(Clone, Copy, Debug, PartialEq, Eq)]
 pub enum Mishap {
     Nothing,
-    /// The call of `write` of this number, from 0, fails.
+    /// The call of `write` with this number, counted from 0, fails.
     Fails(usize),
-    /// The call of `write` of this number, from 0, takes nothing.
+    /// The call of `write` with this number, counted from 0, succeeds and accepts nothing.
     TakesNothing(usize),
 }
 
-/// The most bytes that a `Sink` holds.
+/// The maximum number of bytes in a `Sink`.
 const ROOM: usize = 4096;
 
-/// A writer into an array that takes at most `most` bytes a call.
+/// A writer into an array that accepts at most `most` bytes per call, and none once it is full.
 #[derive(Drop)]
 pub struct Sink {
     room: [u8; ROOM],
@@ -80,7 +81,7 @@ impl Sink {
         }
     }
 
-    /// The bytes that went out.
+    /// The bytes written so far.
     pub fn written(&self) -> &[u8] {
         &self.room[..self.filled]
     }

@@ -1,17 +1,18 @@
-//! Films, and what is written of them.
+//! Films, with their lists and codestreams.
 
-/// Three gray images joined: that of T.87's Annex H.3, 4 by 4 up to 255, then 1 by 1 up to 1 and 1 by 1 up to 65535.
+/// Three gray images in sequence: that of T.87's Annex H.3, 4 by 4 with maxval 255, and two of 1 by 1, with maxval 1
+/// and 65535.
 pub const FILM: &[u8] = b"P5\n4 4\n255\n\
 \x00\x00\x5a\x4a\x44\x32\x2b\xcd\x40\x91\x91\x91\x64\x91\x91\x91\
 P5\n1 1\n1\n\x01\
 P5\n1 1\n65535\n\xff\xff";
 
-/// What `jlsrec list` says of them.
+/// The output of `jlsrec list` for `FILM`.
 pub const FILM_LINES: &[u8] = b"0 gray 4 4 255 8 3 7 21 64 32\n\
 1 gray 1 1 1 2 1 1 1 64 20\n\
 2 gray 1 1 65535 16 18 67 276 64 64\n";
 
-/// Their codestreams: the first is that of Annex H.3; the second has to tell its parameters.
+/// The codestreams of `FILM`: the first is that of Annex H.3; the second has an LSE segment with its coding parameters.
 pub const FILM_CODESTREAMS: &[u8] = b"\xff\xd8\
 \xff\xf7\x00\x0b\x08\x00\x04\x00\x04\x01\x01\x11\x00\
 \xff\xda\x00\x08\x01\x01\x00\x00\x00\x00\
@@ -25,28 +26,28 @@ pub const FILM_CODESTREAMS: &[u8] = b"\xff\xd8\
 \xff\xf7\x00\x0b\x10\x00\x01\x00\x01\x01\x01\x11\x00\
 \xff\xda\x00\x08\x01\x01\x00\x00\x00\x00\x40\x00\xff\xd9";
 
-/// The codestream of T.87's Annex H.3, 4 by 4 up to 255.
+/// The codestream of T.87's Annex H.3, 4 by 4 with maxval 255.
 pub const ANNEX_H: &[u8] = b"\xff\xd8\
 \xff\xf7\x00\x0b\x08\x00\x04\x00\x04\x01\x01\x11\x00\
 \xff\xda\x00\x08\x01\x01\x00\x00\x00\x00\
 \xc0\x00\x00\x6c\x80\x20\x8e\x01\xc0\x00\x00\x57\x40\x00\x00\x6e\xe6\x00\x00\x01\xbc\x18\x00\
 \x00\x05\xd8\x00\x00\x91\x60\xff\xd9";
 
-/// An image of one black sample up to 255.
+/// A gray image of one black sample, with maxval 255.
 pub const BLACK: &[u8] = b"P5\n1 1\n255\n\x00";
 
-/// The line of the frame 0, of one gray sample up to 255.
+/// The line of `jlsrec list` for a frame 0 of one gray sample with maxval 255.
 pub const FIRST_LINE: &[u8] = b"0 gray 1 1 255 8 3 7 21 64 32\n";
 
-/// The codestream of that frame: 28 bytes.
+/// The codestream of the image `BLACK`: 28 bytes.
 pub const FIRST_CODESTREAM: &[u8] = b"\xff\xd8\
 \xff\xf7\x00\x0b\x08\x00\x01\x00\x01\x01\x01\x11\x00\
 \xff\xda\x00\x08\x01\x01\x00\x00\x00\x00\x80\xff\xd9";
 
-/// The image `BLACK`, and after it the same with a white sample: 12 bytes each.
+/// The image `BLACK`, followed by the same with a white sample: 12 bytes each.
 pub const TWO_IMAGES: &[u8] = b"P5\n1 1\n255\n\x00P5\n1 1\n255\n\xff";
 
-/// Their codestreams: 28 bytes each.
+/// The codestreams of `TWO_IMAGES`: 28 bytes each.
 pub const TWO_CODESTREAMS: &[u8] = b"\xff\xd8\
 \xff\xf7\x00\x0b\x08\x00\x01\x00\x01\x01\x01\x11\x00\
 \xff\xda\x00\x08\x01\x01\x00\x00\x00\x00\x80\xff\xd9\
@@ -54,7 +55,7 @@ pub const TWO_CODESTREAMS: &[u8] = b"\xff\xd8\
 \xff\xf7\x00\x0b\x08\x00\x01\x00\x01\x01\x01\x11\x00\
 \xff\xda\x00\x08\x01\x01\x00\x00\x00\x00\x40\xff\xd9";
 
-/// A header of 65,536 bytes that hasn't ended.
+/// The first 65,536 bytes of a header that isn't complete by then: the magic and blanks.
 pub fn endless_header() -> [u8; 65_536] {
     let mut header = [b' '; 65_536];
     header[0] = b'P';

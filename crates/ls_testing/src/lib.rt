@@ -1,7 +1,7 @@
-//! What the tests of several crates share: films with what is written of them, and readers and writers whose calls can
-//! fail.
+//! Shared by the tests of several crates: films and the texts and codestreams made from them, and readers and writers
+//! whose calls can fail.
 //!
-//! The product doesn't use it, and nothing is promised of it.
+//! The product doesn't use it, and it promises nothing.
 #![tactic(auto)]
 
 mod devices;

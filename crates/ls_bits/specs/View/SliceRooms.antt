@@ -1,9 +1,9 @@
--- What putting bytes into a room in a slice changes.
+-- What putting bytes into a `SliceRoom` changes.
 use Rattle.std.specs.Prelude.{◌≡◌, ℕ, ◌+◌, ◌-◌, ◌≤◌, List, drop, refl}
 use Rattle.std.proofs.Common.{ap, sym, subst, ◌∙◌, arith}
 use Rattle.std.proofs.lemmas.List.{drop-drop}
 
--- it is the same slice, and its places past what has been put are as they were
+-- it is the same slice, with no fewer bytes put, and its places after those are unchanged
 pub record IsGrownSlice (old_name new_name old_len new_len : ℕ) (old new : List ℕ) : Type 0 where
   pub lent : new_name ≡ old_name
   pub longer : old_len ≤ new_len

@@ -1,4 +1,4 @@
--- What the calls that code require of the state, for each kind of event.
+-- What the coding calls require of the state, for each kind of event.
 use Rattle.std.specs.Prelude.{◌≡◌, ℕ, ◌<◌, ◌≤◌, true, false}
 use Rattle.ls_coding.specs.declared.neighbours.Neighbours.{Neighbours}
 use Rattle.ls_coding.specs.declared.mirrored.Mirrored.{Mirrored}
@@ -14,7 +14,7 @@ pub record MayCodeRegular (state : Coding) (neighbours : Neighbours) (sample : �
   pub regular : is_run neighbours ≡ false
   pub uninterrupted : state.interrupted ≡ false
 
--- a sample of regular mode of which `mirror` was asked before
+-- a sample of regular mode for which `mirror` was computed beforehand
 pub record MayCodeMirrored (state : Coding) (mirrored : Mirrored) : Type 0 where
   pub context : mirrored.context < 365
   pub prediction : mirrored.prediction ≤ state.parameters.maxval

@@ -1,4 +1,4 @@
--- The regions of all gradients in a table.
+-- A table of the regions of all gradients.
 use Rattle.std.specs.Prelude.{◌≡◌, ℕ, ◌+◌, ◌*◌, ◌<◌, ℤ, pos, ◌-ℤ◌, List, length, slice_index_or}
 use Rattle.ls_frame.specs.Parameters.{Parameters, IsLegal}
 use Rattle.ls_coding.specs.Contexts.{region}

@@ -1,4 +1,4 @@
--- A gradient's region by its size alone.
+-- The magnitude of a gradient's region, by the gradient's magnitude alone.
 use Rattle.std.specs.Prelude.{ℕ, nat_lt, nat_le, if◌then◌else◌}
 use Rattle.ls_frame.specs.Parameters.{Parameters}
 

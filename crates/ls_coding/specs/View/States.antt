@@ -1,4 +1,4 @@
--- What a coder's state is seen as, and what it is after events (T.87 A.2.1).
+-- The model of a `State`, and its value after events (T.87 A.2.1).
 use Rattle.std.specs.Prelude.{◌≡◌, ℕ, ◌-◌, Bool, true, false, if◌then◌else◌, ℤ, pos, List, [], ◌∷◌, ◌++◌, map, slice_set, slice_index_or}
 use Rattle.std.specs.List.{range_with_len}
 use Rattle.ls_frame.specs.Parameters.{Parameters}
@@ -14,14 +14,14 @@ pub record Coding : Type 0 where
   pub parameters : Parameters
   -- the counters of the regular contexts, by their numbers
   pub contexts : List Stats
-  -- those of the samples that interrupt a run: if Ra and Rb differ (365 in T.87), and if they are equal (366)
+  -- those of the samples that interrupt a run: where Ra and Rb differ (365 in T.87), and where they are equal (366)
   pub ri_type_0 : Counts
   pub ri_type_1 : Counts
   pub run_index : ℕ
-  -- whether the sample that interrupts a run is to come next
+  -- whether the sample that interrupts a run comes next
   pub interrupted : Bool
 
--- how many regular contexts there are
+-- the number of regular contexts
 abbrev pub context_count : ℕ
 context_count = 365
 
@@ -51,7 +51,7 @@ regular_error_in state neighbours sample = regular_error_of state.parameters (co
 unfoldable pub regular_word_in : Coding → Neighbours → ℕ → Word
 regular_word_in state neighbours sample = regular_word state.parameters (stats_in state (context_in state neighbours).number) (regular_error_in state neighbours sample)
 
--- the state with it coded
+-- the state after it
 abbrev pub regular_after : Coding → ℕ → ℤ → Coding
 regular_after state number e = record {
   parameters = state.parameters;
@@ -62,7 +62,7 @@ regular_after state number e = record {
   interrupted = state.interrupted;
 }
 
--- a sample of regular mode that comes after these events, its word, and the state after it
+-- a sample of regular mode that follows these events, its word, and the state after it
 pub record IsRegularEvent (p : Parameters) (events : List Event) (neighbours : Neighbours) (sample : ℕ) (word : Word) (after : Coding) : Type 0 where
   pub word_is : word ≡ regular_word p (stats_after_events p (context_of p neighbours).number events)
       (regular_error_of p (context_of p neighbours) (stats_after_events p (context_of p neighbours).number events) neighbours sample)
@@ -99,7 +99,7 @@ interruption_after state ri_type e = record {
   interrupted = false;
 }
 
--- the sample that interrupts a run after these events, its word, and the state after it
+-- the sample that interrupts a run and follows these events, its word, and the state after it
 pub record IsInterruptionEvent (p : Parameters) (events : List Event) (neighbours : Neighbours) (sample : ℕ) (word : Word) (after : Coding) : Type 0 where
   pub word_is : word ≡ interruption_word p (run_index_after_events events) (ri_type_of neighbours) (counts_after_events p (ri_type_of neighbours) events) (interruption_error p neighbours sample)
   pub after_is : after ≡ state_of p (events ++ interruption (ri_type_of neighbours) (interruption_error p neighbours sample) ∷ [])

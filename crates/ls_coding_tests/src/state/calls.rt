@@ -1,4 +1,4 @@
-//! Calls that meet what `State` requires, and what they are to answer.
+//! Calls that meet what `State` requires, and their expected answers.
 ghost use Rattle.std.specs.Prelude.{◌≡◌, ◌≤◌, true, false};
 ghost use Rattle.ls_frame.specs.Parameters.{qbpp_of};
 ghost use Rattle.ls_bits.specs.Golomb.{most_value};
@@ -32,7 +32,7 @@ pub fn fresh() -> State {
     State::new(&Presets::default_of(255))
 }
 
-// ---- what is to hold
+// ---- checks
 
 pub fn check(rt: &impl Abort, holds: bool)
     ensures { holds ≡ true }
@@ -40,7 +40,7 @@ pub fn check(rt: &impl Abort, holds: bool)
     assert!(rt; holds);
 }
 
-/// That a value is the wanted one.
+/// Checks that a value is the expected one.
 pub fn check_equal<T: PartialEq + Debug>(rt: &impl Abort, got: &T, want: &T) {
     assert_eq!(rt; got, want);
 }
@@ -98,7 +98,7 @@ pub fn code_regular(rt: &impl Abort, state: &mut State, around: Around, sample: 
     state.code_regular(&neighbours, sample)
 }
 
-/// By a plan that has this k and this limit.
+/// Decodes a sample by a plan, which must have this k and this limit.
 pub fn accept_regular(
     rt: &impl Abort,
     state: &mut State,
@@ -116,14 +116,14 @@ pub fn accept_regular(
     state.accept_regular(plan, value)
 }
 
-/// How many zeros a word may have with this k, by the default parameters of a maxval.
+/// The bound on a word's zeros for this k, by the default parameters of a maxval.
 pub fn sure_zeros(rt: &impl Abort, maxval: u16, k: u32) -> u32 {
     check(rt, maxval > 0);
     check(rt, k < 18);
     SureZeros::new(&Presets::default_of(maxval)).of(k)
 }
 
-/// Of a value that surely has a sample.
+/// Decodes a sample from a value that is sure to have one.
 pub fn accept_sure(rt: &impl Abort, state: &mut State, around: Around, value: u32) -> u16 {
     let neighbours = neighbours_of(around);
     check_samples(rt, state, &neighbours);
@@ -161,7 +161,7 @@ pub fn accept_break(
     state.accept_break(rest, left)
 }
 
-/// Of a run of so many bits 1, with this number after its bit 0.
+/// Decodes a run of `ones` bits 1, with this number after its bit 0.
 pub fn accept_whole_run(
     rt: &impl Abort,
     state: &mut State,
@@ -185,7 +185,7 @@ pub fn code_interruption(rt: &impl Abort, state: &mut State, around: Around, sam
     state.code_interruption(&neighbours, sample)
 }
 
-/// By a plan that has this k and this limit.
+/// Decodes a sample by a plan, which must have this k and this limit.
 pub fn accept_interruption(
     rt: &impl Abort,
     state: &mut State,

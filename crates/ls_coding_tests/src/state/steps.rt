@@ -7,16 +7,16 @@ use std::process::Abort;
 enum Step {
     /// A sample of regular mode, and its word.
     Regular(Around, u16, Numbers),
-    /// A run of so many samples of so many that are left in the line, and how many bits 1 its word has.
+    /// A run: its samples, the samples left in the line, and the number of bits 1 of its word.
     Run(u32, u32, u32),
     /// A sample that interrupts a run, and its word.
     Interruption(Around, u16, Numbers),
 }
 
-/// How often the events come.
+/// The number of times that the events are coded.
 const ROUNDS: u32 = 5;
 
-/// Events of each kind, with their words in the last round, which another program worked out by the steps of T.87.
+/// Events of each kind, with their words in the last round, which another program computed by the steps of T.87.
 ///
 /// Contexts are met more often than RESET, with both signs of an error, and RUNindex rises and falls.
 const STEPS: &[Step] = &[
@@ -52,7 +52,7 @@ const STEPS: &[Step] = &[
     Step::Regular((10, 9, 9, 10), 9, (0, 32, 0)),
 ];
 
-/// A state that codes and one that takes what it coded.
+/// A state that encodes, and one that decodes what the first encoded.
 #[derive(Drop)]
 struct Pair {
     coder: State,
@@ -67,7 +67,7 @@ impl Pair {
         }
     }
 
-    /// An event, by both: whether its word is the one that stands with it.
+    /// Passes an event through both, and returns whether its word is the expected one.
     fn take(&mut self, rt: &impl Abort, step: &Step) -> bool {
         match step {
             Step::Regular(around, sample, want) => self.regular(rt, *around, *sample)
@@ -90,7 +90,8 @@ impl Pair {
         word
     }
 
-    /// A run of `count` of the `left` samples of a line, whose end is the line's if it has them all: its bits 1.
+    /// Passes a run of `count` of the `left` samples of a line through both, which ends with the line if it has them
+    /// all, and returns the number of its bits 1.
     fn run(&mut self, rt: &impl Abort, count: u32, left: u32) -> u32 {
         let word = code_run(rt, &mut self.coder, count, count == left);
         check_number(rt, accept_run(rt, &mut self.reader, word, left), count);
@@ -110,7 +111,7 @@ impl Pair {
     }
 }
 
-/// The samples of a run, where `left` are left in the line.
+/// The number of samples of a decoded run, with `left` samples left in the line.
 fn accept_run(rt: &impl Abort, state: &mut State, word: RunWord, left: u32) -> u32 {
     let mut after = left;
     for _ in 0..word.ones {

@@ -1,5 +1,5 @@
--- Two frames are `==` exactly if their pictures are equal. The proof stands here since the language takes the law that
--- an `impl` of `PartialEq` owes from specs/ alone.
+-- Two frames are `==` exactly if their pictures are equal. The proof is here since the language accepts the laws of an
+-- `impl` of `PartialEq` only from specs/.
 use Rattle.std.specs.Prelude.{◌≡◌, true, refl, Decides}
 use Rattle.std.specs.Cmp.{IsPartialEquivalence, first_so, second_so, decided, partial_equiv_from_equiv}
 use Rattle.std.proofs.Common.{subst}

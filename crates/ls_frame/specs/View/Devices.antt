@@ -5,15 +5,15 @@ use Rattle.ls_frame.specs.declared.device.Failed.{Failed}
 use Rattle.ls_frame.specs.declared.device.FeedFault.{FeedFault}
 use Rattle.ls_frame.specs.declared.device.FeedFault.TheVariants.{Io, NoMemory}
 
--- the count of failed calls after one more: it stays at the greatest `u64`
+-- the count of failed calls after one more, at most the greatest `u64`
 abbrev pub risen : ℕ → ℕ
 risen count = min (count + 1) (2 ^ 64 - 1)
 
--- the count after a call: risen if the call failed, else as it was
+-- the count after a call: one more if the call failed, else the same
 abbrev pub count_after : Bool → ℕ → ℕ
 count_after failed count = if failed then risen count else count
 
--- whether it was a read that failed
+-- whether a read failed, and not an allocation
 abbrev pub is_read_fault : FeedFault → Bool
 is_read_fault Io = true
 is_read_fault NoMemory = false
@@ -28,14 +28,14 @@ last_after (Ok x) last = last
 last_after (Err failure) last = Some failure
 
 module _ {X : Type 0} where
-  -- what a `Counted` wraps
+  -- the value that a `Counted` wraps
   abbrev pub wrapped : Counted X → X
   wrapped c = c.inner
 
-  -- how many of its calls have failed
+  -- its count of failed calls
   abbrev pub failed_calls : Counted X → ℕ
   failed_calls c = c.failed
 
-  -- the last failure that it met
+  -- the last failure, if any
   abbrev pub last_failed : Counted X → Option Failed
   last_failed c = c.last

@@ -1,4 +1,4 @@
--- Samples in memory, as the numbers that they are.
+-- The values of samples in memory.
 use Rattle.std.specs.Prelude.{ℕ, List}
 use Rattle.ls_frame.specs.declared.samples.Samples.{Samples}
 use Rattle.ls_frame.specs.declared.samples.Samples.TheVariants.{Bytes, Words}

@@ -1,4 +1,4 @@
--- Reading an image off a list of bytes, part by part. The grammar is in `Netpbm`, and tied to this by laws.
+-- Reading an image from a list of bytes, part by part. The grammar is in `Netpbm`; `Laws` relates it to this.
 use Rattle.std.specs.Prelude.{◌≡◌, ℕ, zero, suc, ◌+◌, ◌-◌, ◌*◌, min, ◌&&◌, ◌==◌, Bool, true, false, not, nat_lt, nat_le, IsTrue, IsSome, if◌then◌else◌, List, [], ◌∷◌, ◌++◌, Option, None, Some, Result, Ok, Err, MatchResult, MatchOption}
 use Rattle.std.specs.List.{list_all}
 use Rattle.ls_frame.specs.declared.frame.Kind.{Kind}
@@ -18,11 +18,11 @@ abbrev pub ◌>>=◌ : {A B : Type 0} → Result A NetpbmFault → (A → Result
 (Ok x) >>= f = f x
 (Err e) >>= f = Err e
 
--- a value, how many more bytes the header may have, and the bytes that are left
+-- a value, the number of bytes that the header may still have, and the bytes that are left
 abbrev pub Step : Type 0 → Type 0
 Step X = Result (X × ℕ × List ℕ) NetpbmFault
 
--- the fault if a test fails
+-- nothing if a test passes, else the fault
 abbrev pub wanted : Bool → NetpbmFault → Result (Unit {0}) NetpbmFault
 wanted true fault = Ok tt
 wanted false fault = Err fault
@@ -34,11 +34,11 @@ byte_at zero bytes = Err HeaderTooLong
 byte_at (suc allowed) [] = Err Truncated
 byte_at (suc allowed) (c ∷ bytes) = Ok (c, allowed, bytes)
 
--- a number with one more digit; from 65536 on they are one, too large
+-- a number with one more digit; 65536 stands for all numbers over 65535
 abbrev pub with_digit : ℕ → ℕ → ℕ
 with_digit n digit = min (10 * n + (digit - 48)) (greatest + 1)
 
--- digits after those that made n, and the white space character after them
+-- the other digits of a number whose digits so far have the value n, and the white space character after them
 unfoldable pub digits_at : ℕ → ℕ → List ℕ → Step ℕ
 digits_at n zero bytes = Err HeaderTooLong
 digits_at n (suc allowed) [] = Err Truncated
@@ -46,7 +46,7 @@ digits_at n (suc allowed) (c ∷ bytes) =
     if is_digit c then digits_at (with_digit n c) allowed bytes
     else (if is_white c then Ok (n, allowed, bytes) else Err BadHeader)
 
--- the rest of a gap, in a comment if one is open, and the digit after it
+-- the rest of a gap, which begins within a comment or not, and the digit after it
 unfoldable pub gap_at : Bool → ℕ → List ℕ → Step ℕ
 gap_at in_comment zero bytes = Err HeaderTooLong
 gap_at in_comment (suc allowed) [] = Err Truncated
@@ -70,7 +70,7 @@ in_range_at fault allowed bytes = do
   n ← in_range fault number.0
   Ok (n, number.1, number.2)
 
--- the magic's kind, by its second byte
+-- the kind that the second byte of the magic stands for
 abbrev pub kind_of : ℕ → Result Kind NetpbmFault
 kind_of letter = if letter == 53 then Ok Gray else (if letter == 54 then Ok Color else Err BadMagic)
 
@@ -118,7 +118,7 @@ within maxval sample = if nat_le sample maxval then Ok sample else Err SampleToo
 abbrev pub with_front : List ℕ → Take (List ℕ) → Take (List ℕ)
 with_front front read = read >>= λ found. Ok (front ++ found.0, found.1)
 
--- the whole samples that bytes say, and the byte of a sample begun
+-- the complete samples in the bytes; below, the byte of an incomplete one after them
 unfoldable pub samples_of : Bool → List ℕ → List ℕ
 samples_of false bytes = bytes
 samples_of true [] = []
@@ -131,7 +131,7 @@ begun_of true [] = []
 begun_of true (high ∷ []) = high ∷ []
 begun_of true (high ∷ low ∷ bytes) = begun_of true bytes
 
--- the bytes that so many samples take
+-- the number of bytes of this many samples
 abbrev pub byte_count : Bool → ℕ → ℕ
 byte_count false samples = samples
 byte_count true samples = 2 * samples
@@ -163,22 +163,22 @@ image_at (first ∷ bytes) = do
   found ← raster_at h.0 h.2
   Ok (Some found)
 
--- ---- what a reader of the code gives
+-- ---- what the code's readers return
 
--- If the bytes are known, a call gives what reading gives: the value, how many more are allowed and the bytes that are left, or the
--- fault. A fault of the device says nothing of the bytes.
+-- If the bytes are known, a call has the result of the step: the value, the number of bytes that the header may still have
+-- and the bytes that are left, or the fault. A failed read says nothing about the bytes.
 abbrev pub GivesStep : {X : Type 0} → Option (List ℕ) → Option (List ℕ) → ℕ → Result X NetpbmFault → Step X → Type 0
 GivesStep old new allowed result step = IsSome old → MatchResult result
     (λ x. IsSome new × (step ≡ Ok (x, allowed, known new)))
     (λ fault. IsTrue (not (blames_device fault)) → step ≡ Err fault)
 
--- The same of samples. A fault of memory says nothing of the bytes either.
+-- The same for samples. A failed allocation says nothing about the bytes either.
 abbrev pub GivesTake : {X Y : Type 0} → (X → Y) → Option (List ℕ) → Option (List ℕ) → Result X NetpbmFault → Take Y → Type 0
 GivesTake view old new result take = IsSome old → MatchResult result
     (λ x. IsSome new × (take ≡ Ok (view x, known new)))
     (λ fault. IsTrue (blames_bytes fault) → take ≡ Err fault)
 
--- The same of the next image: `Ok(None)` is the end, and no byte was read.
+-- The same for the next image. `Ok(None)` is the end of input, where no byte is read.
 abbrev pub GivesImage : Option (List ℕ) → Option (List ℕ) → Result (Option Picture) NetpbmFault → Type 0
 GivesImage old new result = IsSome old → MatchResult result
     (λ next. IsSome new × MatchOption next

@@ -1,4 +1,4 @@
-//! The header of an image, byte by byte.
+//! Reading the header of an image, byte by byte.
 ghost use Rattle.std.specs.Prelude.{◌≡◌, ◌+◌, ◌<◌, ◌≤◌, ◌&&◌, true, false, MatchOption, OnOk, IfErr, IfOk, MatchResult, nat_lt, nat_le, Ok, Err, None, Some, if◌then◌else◌};
 ghost use Rattle.ls_frame.specs.View.Devices.{count_after};
 ghost use Rattle.ls_frame.specs.Picture.{sample_count, most_samples};
@@ -11,10 +11,10 @@ use super::NetpbmFault;
 use crate::device::Feed;
 use crate::frame::{Kind, MOST_SAMPLES, sample_count};
 
-/// The most bytes of a header.
+/// The maximum length of a header, in bytes.
 pub(super) const HEADER_BYTES: u32 = 65_536;
 
-/// What a header says: a size and a maxval within their ranges.
+/// The contents of a header: a kind, and a size and a maxval within their ranges.
 #[derive(Clone, Copy)]
 pub(super) struct Header {
     pub kind: Kind,
@@ -23,10 +23,10 @@ pub(super) struct Header {
     pub maxval: u16,
 }
 
-/// What numbers over 65535 are read as.
+/// The value that all numbers over 65535 are read as.
 const TOO_LARGE: u32 = 65536;
 
-/// Blank, TAB, CR or LF.
+/// Whether a byte is a blank, TAB, CR or LF.
 fn is_white(byte: u8) -> bool
     ensures { result ≡ is_white byte }
 {
@@ -45,7 +45,8 @@ fn is_digit(byte: u8) -> bool
     b'0' <= byte && byte <= b'9'
 }
 
-/// The next byte of the header, of which so many more are allowed.
+/// Reads the next byte of the header, which may have `allowed` more bytes. Fails with `HeaderTooLong` if that is 0,
+/// with `Truncated` at the end of input, and with `Io` if the read fails.
 fn next_byte<R: Feed>(reader: &mut R, allowed: &mut u32) -> Result<u8, NetpbmFault>
     ensures bytes { GivesStep (R.remaining reader.old) (R.remaining reader.new) allowed.new result
         (byte_at allowed.old (known (R.remaining reader.old))) }
@@ -66,7 +67,8 @@ fn next_byte<R: Feed>(reader: &mut R, allowed: &mut u32) -> Result<u8, NetpbmFau
     }
 }
 
-/// The digits after those that made `number`, and the white space character after them.
+/// Reads the other digits of a number whose digits so far have the value `number`, at most `TOO_LARGE`, and the white
+/// space character after them. Returns the whole number's value, or `TOO_LARGE` if it is over 65535.
 #[tactic(auto, using(crate::proofs::StepLemmas::digit_lemmas))]
 fn read_digits<R: Feed>(
     reader: &mut R,
@@ -90,7 +92,8 @@ fn read_digits<R: Feed>(
     }
 }
 
-/// `number` with one more digit, at most `TOO_LARGE`.
+/// Appends a decimal digit to `number`, and limits the result to `TOO_LARGE`, as `number` must be already. `digit` is
+/// its character.
 fn with_digit(number: u32, digit: u8) -> u32
     requires small { number ≤ 65536 }
     requires digit { 48 ≤ digit }
@@ -100,7 +103,7 @@ fn with_digit(number: u32, digit: u8) -> u32
     (10 * number + u32::from(digit - b'0')).min(TOO_LARGE)
 }
 
-/// The first digit after the rest of a gap.
+/// Reads the rest of a gap (white space and comments), and returns the digit after it, which is read too.
 #[tactic(auto, using(crate::proofs::StepLemmas::gap_lemmas))]
 fn read_gap<R: Feed>(reader: &mut R, allowed: &mut u32) -> Result<u8, NetpbmFault>
     ensures bytes { GivesStep (R.remaining reader.old) (R.remaining reader.new) allowed.new result
@@ -123,7 +126,8 @@ fn read_gap<R: Feed>(reader: &mut R, allowed: &mut u32) -> Result<u8, NetpbmFaul
     }
 }
 
-/// The number after the rest of a gap, and the white space character after it.
+/// Reads the rest of a gap, a number and the white space character after it. Returns the number, or `TOO_LARGE` if it
+/// is over 65535.
 fn read_number<R: Feed>(reader: &mut R, allowed: &mut u32) -> Result<u32, NetpbmFault>
     ensures bytes { GivesStep (R.remaining reader.old) (R.remaining reader.new) allowed.new result
         (number_at allowed.old (known (R.remaining reader.old))) }
@@ -133,8 +137,8 @@ fn read_number<R: Feed>(reader: &mut R, allowed: &mut u32) -> Result<u32, Netpbm
     read_digits(reader, allowed, u32::from(digit - b'0'))
 }
 
-/// The number after the rest of a gap, and the white space character after it; `fault` if it
-/// isn't 1 to 65535.
+/// Reads the rest of a gap, a number and the white space character after it. Returns the number, or fails with `fault`
+/// if it isn't 1 to 65535; `fault` must not be `Io`.
 fn read_in_range<R: Feed>(
     reader: &mut R,
     allowed: &mut u32,
@@ -152,7 +156,7 @@ fn read_in_range<R: Feed>(
     }
 }
 
-/// The kind that the magic says, whose first byte was read.
+/// Reads the second byte of the magic, whose first byte is `first`, and returns the kind that the magic stands for.
 fn read_magic<R: Feed>(reader: &mut R, allowed: &mut u32, first: u8) -> Result<Kind, NetpbmFault>
     ensures bytes { GivesStep (R.remaining reader.old) (R.remaining reader.new) allowed.new result
         (magic_at first allowed.old (known (R.remaining reader.old))) }
@@ -168,7 +172,7 @@ fn read_magic<R: Feed>(reader: &mut R, allowed: &mut u32, first: u8) -> Result<K
     }
 }
 
-/// The white space character that a gap begins with.
+/// Reads the white space character that a gap begins with.
 fn read_white<R: Feed>(reader: &mut R, allowed: &mut u32) -> Result<(), NetpbmFault>
     ensures bytes { GivesStep (R.remaining reader.old) (R.remaining reader.new) allowed.new result
         (white_at allowed.old (known (R.remaining reader.old))) }
@@ -181,7 +185,7 @@ fn read_white<R: Feed>(reader: &mut R, allowed: &mut u32) -> Result<(), NetpbmFa
     }
 }
 
-/// The header after its first byte.
+/// Reads the header after its first byte, which is `first`. It may have `allowed` more bytes.
 #[tactic(auto, unfolding(crate::specs::View::Reading::heading_at))]
 pub(super) fn read_header<R: Feed>(
     reader: &mut R,

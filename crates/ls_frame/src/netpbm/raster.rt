@@ -1,4 +1,4 @@
-//! The raster of an image, in chunks.
+//! Reading the raster of an image, in chunks.
 ghost use Rattle.std.specs.Prelude.{◌≡◌, ◌+◌, ◌*◌, ◌/◌, ◌<◌, ◌≤◌, ◌++◌, [], true, false, OnOk, IfOk, IfErr, IsSome, IsTrue, MatchResult, ◌^◌, length, take, vec_len, vec_capacity};
 ghost use Rattle.ls_frame.specs.View.Devices.{count_after};
 ghost use Rattle.ls_frame.specs.Picture.{sample_count};
@@ -14,10 +14,10 @@ use crate::frame::sample_count;
 use byteorder::{BigEndian, ByteOrder};
 use std::alloc::Global;
 
-/// How many bytes of a raster are asked for at once: an even number.
+/// The maximum number of bytes of a raster that are read at once: an even number.
 const CHUNK: usize = 65_536;
 
-/// Whether no sample is over `maxval`. It looks at all of them, since a loop that ends early is no vector code.
+/// Whether no sample is over `maxval`. It compares all of them, since a loop that can end early isn't vectorized.
 fn are_within(samples: &[u16], maxval: u16) -> bool
     ensures { result ≡ are_within maxval samples.now }
 {
@@ -28,7 +28,7 @@ fn are_within(samples: &[u16], maxval: u16) -> bool
     within
 }
 
-/// Appends the samples that take one byte each, into room that is there.
+/// Appends samples of one byte each. Requires that `samples` has capacity for them.
 fn append_narrow(samples: &mut Vec<u16>, bytes: &[u8])
     requires { vec_len samples.old + length bytes.now ≤ vec_capacity samples.old }
     ensures items { samples.new.items ≡ samples.old.items ++ samples_of false bytes.now }
@@ -39,7 +39,8 @@ fn append_narrow(samples: &mut Vec<u16>, bytes: &[u8])
     }
 }
 
-/// Appends the samples that take two bytes each, the most significant first, into room that is there.
+/// Appends samples of two bytes each, the most significant first; an odd last byte is left out. Requires that
+/// `samples` has capacity for them.
 fn append_wide(samples: &mut Vec<u16>, bytes: &[u8])
     requires { vec_len samples.old + length bytes.now / 2 ≤ vec_capacity samples.old }
     ensures items { samples.new.items ≡ samples.old.items ++ samples_of true bytes.now }
@@ -50,7 +51,8 @@ fn append_wide(samples: &mut Vec<u16>, bytes: &[u8])
     }
 }
 
-/// Appends the whole samples that `bytes` say, into room that is there, unless one is over `maxval`.
+/// Appends the complete samples in `bytes`, of two bytes each if `wide`, else of one. Requires that `samples` has
+/// capacity for them. Fails with `SampleTooLarge` if one of them is over `maxval`; they are all appended then, too.
 fn take_samples(
     samples: &mut Vec<u16>,
     wide: bool,
@@ -78,8 +80,9 @@ fn take_samples(
     Ok(())
 }
 
-/// Reads after the `held` bytes at the front of `chunk`, up to `end` at most, and says where its bytes
-/// end then.
+/// Reads bytes into `chunk` after its first `held` bytes, up to index `end` at most, and returns the index after the
+/// last byte read. Requires that `held` is below `end` and `end` within `chunk`. Fails with `Truncated` at the end of
+/// input, and with `Io` if the read fails.
 fn feed_after<R: Feed>(
     reader: &mut R,
     chunk: &mut [u8],
@@ -104,8 +107,8 @@ fn feed_after<R: Feed>(
     }
 }
 
-/// Brings the byte of a sample begun, if the `filled` bytes end in one, to the front of `chunk`, and says how
-/// many there are.
+/// If samples have two bytes each (`wide`) and the first `filled` bytes of `chunk` end in half of one, copies that byte
+/// to the front of `chunk` and returns 1, else returns 0. `filled` must be 1 to the length of `chunk`.
 fn keep_begun(chunk: &mut [u8], wide: bool, filled: usize) -> usize
     requires some { 0 < filled }
     requires within { filled ≤ length chunk.old }
@@ -123,7 +126,7 @@ fn keep_begun(chunk: &mut [u8], wide: bool, filled: usize) -> usize
     1
 }
 
-/// How many bytes so many samples take.
+/// The number of bytes of this many samples, at most 2^28.
 fn byte_count(wide: bool, samples: usize) -> usize
     requires { samples ≤ 2 ^ 28 }
     ensures { result ≡ byte_count wide samples }
@@ -131,8 +134,11 @@ fn byte_count(wide: bool, samples: usize) -> usize
     if wide { 2 * samples } else { samples }
 }
 
-/// Reads `count` samples into `samples`, which is empty and has room for them, by way of `chunk`, which holds
-/// a sample's bytes at least.
+/// Reads `count` samples, at most 2^28, into `samples`, which must be empty and have capacity for them. `chunk` is the
+/// buffer that bytes are read into; if there are samples, it must have space for the bytes of at least one.
+///
+/// Each chunk's samples are checked before more bytes are read. On a fault the samples read by then have been
+/// appended, those of a chunk with one over `maxval` too.
 fn read_samples<R: Feed>(
     reader: &mut R,
     chunk: &mut [u8],
@@ -162,7 +168,8 @@ fn read_samples<R: Feed>(
     Ok(())
 }
 
-/// The raster of an image with this header. Its memory is asked for before its first byte is.
+/// Reads the raster of an image with this header, which has at most 2^28 samples. Memory is allocated before the first
+/// byte is read: after `NoMemory` no byte of the raster has been read.
 pub(super) fn read_raster<R: Feed>(
     alloc: Global,
     reader: &mut R,
@@ -185,7 +192,7 @@ pub(super) fn read_raster<R: Feed>(
     Ok(samples)
 }
 
-/// Whether samples take two bytes each.
+/// Whether samples up to `maxval` have two bytes each, else one.
 pub(super) fn is_wide(maxval: u16) -> bool
     ensures { result ≡ is_wide maxval }
 {

@@ -13,12 +13,12 @@ use crate::frame::{Frame, Kind};
 use crate::output::{WriteFault, lay, write_bytes};
 use itoa::Buffer;
 
-/// How many bytes go out at once at most: an even number, and enough for a header.
+/// The maximum number of bytes written at once: an even number, and enough for a header.
 const CHUNK: usize = 8192;
 
 /// Writes the canonical text of a frame: magic, LF, width, blank, height, LF, maxval, LF, raster.
 ///
-/// It allocates nothing. On a fault exactly the first `written` bytes of the text went out.
+/// It allocates nothing. On a fault exactly the first `written` bytes of the text have been written, and not all.
 pub fn write_frame<W: Outlet>(writer: &mut W, frame: &Frame) -> Result<(), WriteFault>
     ensures ok { OnOk result (Appends (W.contents writer.old) (W.contents writer.new) (canonical frame.now)) }
     ensures fault { IfErr result
@@ -34,7 +34,8 @@ pub fn write_frame<W: Outlet>(writer: &mut W, frame: &Frame) -> Result<(), Write
     Ok(())
 }
 
-/// Writes a chunk of a text of which `before` bytes went out, and says how many that makes. So does a fault.
+/// Writes the next chunk of a text, of which `before` bytes have been written. Returns the number of bytes of the text
+/// written after that; a fault holds it too.
 fn write_chunk<W: Outlet>(writer: &mut W, chunk: &[u8], before: usize) -> Result<usize, WriteFault>
     requires { before + length chunk.now < 2 ^ 64 }
     ensures ok { OnOk result (Appends (W.contents writer.old) (W.contents writer.new) chunk.now) }
@@ -53,7 +54,8 @@ fn write_chunk<W: Outlet>(writer: &mut W, chunk: &[u8], before: usize) -> Result
     }
 }
 
-/// Writes samples by way of `chunk`, after `before` bytes. A fault counts those too.
+/// Writes samples, of two bytes each if `wide`, else of one, in which case each must be below 256. `chunk` is the
+/// buffer. `before` bytes have been written already, and a fault counts them too.
 fn write_samples<W: Outlet>(
     writer: &mut W,
     chunk: &mut [u8; CHUNK],
@@ -83,7 +85,7 @@ fn write_samples<W: Outlet>(
     Ok(())
 }
 
-/// Lays the header of a frame at the front of `chunk`, and says where it ends.
+/// Puts the header of a frame at the front of `chunk`, and returns its length in bytes, at most 21.
 #[tactic(auto, unfolding(crate::specs::Canonical::canonical_heading))]
 fn put_heading(chunk: &mut [u8; CHUNK], frame: &Frame) -> usize
     ensures laid { take result chunk.new ≡ canonical_heading frame.now }
@@ -109,7 +111,8 @@ fn magic(kind: Kind) -> &'static [u8]
     }
 }
 
-/// Lays the bytes of samples at the front of `chunk`, and says where they end.
+/// Puts the bytes of samples at the front of `chunk`, which must have space for them, and returns their number.
+/// Samples have two bytes each if `wide`, else one, in which case each must be below 256.
 fn put_samples(chunk: &mut [u8], wide: bool, samples: &[u16]) -> usize
     requires room { byte_count wide (length samples.now) ≤ length chunk.old }
     requires each { wide ≡ false → AllByRecursion (λ sample. sample < 256) samples.now }
@@ -125,7 +128,7 @@ fn put_samples(chunk: &mut [u8], wide: bool, samples: &[u16]) -> usize
     }
 }
 
-/// Lays samples that take one byte each at the front of `chunk`.
+/// Puts samples as one byte each at the front of `chunk`, which must have space for them. Each must be below 256.
 fn put_narrow(chunk: &mut [u8], samples: &[u16])
     requires room { length samples.now ≤ length chunk.old }
     requires each { AllByRecursion (λ sample. sample < 256) samples.now }
@@ -136,7 +139,7 @@ fn put_narrow(chunk: &mut [u8], samples: &[u16])
     }
 }
 
-/// Lays samples that take two bytes each, the most significant first, at the front of `chunk`.
+/// Puts samples as two bytes each, the most significant first, at the front of `chunk`, which must have space for them.
 fn put_wide(chunk: &mut [u8], samples: &[u16])
     requires { 2 * length samples.now ≤ length chunk.old }
     ensures { take (2 * length samples.now) chunk.new ≡ raster_bytes true samples.now }

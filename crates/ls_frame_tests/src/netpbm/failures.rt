@@ -22,7 +22,7 @@ fn a_failed_read_is_not_the_end(rt: HostRuntime) {
     check_chunks(&rt, rt.alloc(), Memory::Ample, &case, chunks);
 }
 
-/// An image with a bad sample, and the call after the bytes of that sample.
+/// An image with a sample over maxval, and the number of the call after that sample's bytes.
 const BAD_SAMPLES: [(&[u8], usize); 2] = [
     (b"P5 2 1 7\n\x08\x00", 10),
     (b"P5 2 1 256\n\x01\x01\x00\x00", 13),

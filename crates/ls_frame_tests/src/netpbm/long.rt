@@ -6,7 +6,8 @@ const NARROW: &[u8] = b"P5 300 300 255\n";
 
 const WIDE: &[u8] = b"P5 300 300 65535\n";
 
-/// An image of 300 by 300 samples, each 7 more than the one before, and from 0 on again past maxval.
+/// The bytes of an image of 300 by 300 samples, each 7 more than the one before, modulo 65536 if `is_wide`, else
+/// modulo 256.
 fn long_image(alloc: Global, is_wide: bool) -> Result<Vec<u8>, AllocError> {
     let mut bytes = Vec::with_capacity(alloc, 200_000)?;
     bytes.extend_from_slice(if is_wide { WIDE } else { NARROW })?;
@@ -19,7 +20,7 @@ fn long_image(alloc: Global, is_wide: bool) -> Result<Vec<u8>, AllocError> {
     Ok(bytes)
 }
 
-/// That the image was read, or memory was refused where it may be.
+/// Checks that the image was read, or that reading failed for lack of memory, where that is accepted.
 fn check_long_image(rt: &impl Abort, memory: Memory, image: &Image, want: &Parts<'_>) {
     if !lacks_memory(memory, image) {
         let is_read = seen(image) == Ok(Some(*want));
@@ -27,7 +28,7 @@ fn check_long_image(rt: &impl Abort, memory: Memory, image: &Image, want: &Parts
     }
 }
 
-/// That the image is read, whole and in chunks.
+/// Checks reading the image, in memory and in chunks.
 fn check_long_reads(rt: &impl Abort, alloc: Global, memory: Memory, bytes: &[u8], is_wide: bool) {
     let maxval = if is_wide { 65535 } else { 255 };
     let samples = long_samples::<90_000>(maxval);

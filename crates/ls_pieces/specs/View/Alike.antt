@@ -1,5 +1,5 @@
--- Two orders are `==` exactly if their pictures and parameters are equal. The proof stands here since the language takes the
--- law that an `impl` of `PartialEq` owes from specs/ alone.
+-- Two orders are `==` exactly if their pictures and parameters are equal. The proof is here because the language takes the law that an `impl` of
+-- `PartialEq` owes only from specs/.
 use Rattle.std.specs.Prelude.{◌≡◌, true, refl, Decides}
 use Rattle.std.specs.Cmp.{IsPartialEquivalence, first_so, second_so, decided, partial_equiv_from_equiv}
 use Rattle.std.proofs.Common.{subst}

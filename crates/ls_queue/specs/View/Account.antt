@@ -1,4 +1,4 @@
--- The account of a running queue: what is true between any two steps of its channel, whichever threads hold the seats. First the words, then the
+-- The account of a running queue: what is true between any two steps of its channel, whichever threads hold the seats. First the terms, then the
 -- rule, then the kinds of step in the order of a queue's life, and last what follows from the rule.
 use Rattle.std.specs.Prelude.{◌≡◌, ℕ, suc, ◌+◌, ◌-◌, ◌<◌, ◌≤◌, ◌==◌, ◌&&◌, Bool, true, false, ◌⊎◌, if◌then◌else◌, List, [], ◌∷◌, ◌++◌, length, map, filter, Some, slice_get, slice_index_or}
 use Rattle.std.specs.List.{sum_by}
@@ -25,7 +25,7 @@ module _ {X : Type 0} where
   abbrev pub jobs_of : ℕ → List (Job X) → List (Job X)
   jobs_of s jobs = filter (λ (j : Job X). j.source == s) jobs
 
-  -- among messages: the jobs, and how many end marks
+  -- the jobs among messages, and the number of end marks
   abbrev pub jobs_in : List (Message X) → List (Job X)
   jobs_in [] = []
   jobs_in (message.Job j ∷ ms) = j ∷ jobs_in ms
@@ -36,14 +36,14 @@ module _ {X : Type 0} where
   marks_in (message.Job j ∷ ms) = marks_in ms
   marks_in (message.Mark c ∷ ms) = suc (marks_in ms)
 
-  -- the first list is the second one, with some left out
+  -- the first list is a subsequence of the second: the second with some left out
   abbrev pub IsWithin : List (Job X) → List (Job X) → Type 0
   IsWithin [] ys = Unit {0}
   IsWithin (x ∷ xs) [] = ⊥
   IsWithin (x ∷ xs) (y ∷ ys) = ((x ≡ y) × IsWithin xs ys) ⊎ IsWithin (x ∷ xs) ys
 
-  -- The weights of all jobs that a view put, and of all that it took, by any way to weigh jobs; and how many end marks it took. Where
-  -- weights add up however jobs are weighed, each job stands on both sides equally often.
+  -- The total weight of the jobs that a view put, and of those that it took, for any function that weighs jobs; and the number of end marks it
+  -- took. If two totals are equal for every such function, each job occurs equally often on both sides.
   abbrev pub weight_put : (Job X → ℕ) → View X → ℕ
   weight_put h v = sum_by (λ (u : Puts X). sum_by h (numbered u.source 0 u.items)) v.puts
 
@@ -53,17 +53,17 @@ module _ {X : Type 0} where
   abbrev pub marks_taken : View X → ℕ
   marks_taken v = sum_by (λ (u : Takes X). if u.marked then 1 else 0) v.takes
 
--- What happened so far. The rule says that there is such a past; no thread knows it whole.
+-- All that has happened so far. The rule says that such a past exists; no thread knows all of it.
 pub record Past (X : Type 0) : Type 0 where
-  -- all jobs that were ever sent, and behind them the counts of all marks, in order
+  -- all jobs ever sent, and the counts of all marks, which were sent after them; each in order
   pub jobs : List (Job X)
   pub marks : List (List ℕ)
-  -- the messages that were received, in order
+  -- the messages received so far, in order
   pub received : List (Message X)
-  -- the passes are numbered: the closer's, and the one in which the items of a source are kept
+  -- passes are numbered: the number of the closer's pass, and for each source that of the pass with its items
   pub closer : ℕ
   pub keeper : ℕ → ℕ
-  -- how many seats were made
+  -- the numbers of seats made
   pub sources : ℕ
   pub workers : ℕ
 
@@ -81,7 +81,7 @@ module _ {X : Type 0} where
   abbrev pub FitsTakes : Past X → Takes X → Type 0
   FitsTakes past u = IsWithin u.jobs (jobs_in past.received)
 
-  -- what a view says is so
+  -- what a view says is true of the past
   pub record Fits (past : Past X) (pass : ℕ) (v : View X) : Type 0 where
     pub idle : v.shares ≡ 0 → IsEmpty v
     pub puts : AllByRecursion (FitsPuts past pass) v.puts
@@ -90,14 +90,14 @@ module _ {X : Type 0} where
     pub closer : v.closes ≡ true → (pass ≡ past.closer) × (v.sources ≡ past.sources) × (v.workers ≡ past.workers) × (v.marks ≡ length past.marks)
     pub ended : 0 < length past.marks → v.closes ≡ false → v.puts ≡ []
 
-  -- a mark has the count of each source's jobs
+  -- a mark has the number of jobs of each source
   abbrev pub Counts : ℕ → List (Job X) → List ℕ → Type 0
   Counts sources jobs counts = (s : ℕ) → s < sources → slice_index_or counts s 0 ≡ length (jobs_of s jobs)
 
-  -- The rule.
+  -- The rule: it ties what the channel holds to the views of all passes.
   pub record Kept (items : List (Message X)) (views : List (View X)) : Type 0 where
     pub past : Past X
-    -- what was received, and then what the channel holds, is all jobs and then all marks
+    -- what was received, followed by what the channel holds, is all jobs followed by all marks
     pub whole : past.received ++ items ≡ map message.Job past.jobs ++ map message.Mark past.marks
     pub shares : sum_by (λ (v : View X). v.shares) views ≡ 64
     -- what the source seats put, each source's items numbered from 0, is all jobs
@@ -113,8 +113,8 @@ module _ {X : Type 0} where
   abbrev pub first_view : View X
   first_view = record { shares = 64; puts = []; takes = []; closes = true; sources = 0; workers = 0; marks = 0 }
 
-  -- A pass is made: a source seat's or a worker seat's, to which the closer gives one of its shares. Seats know what follows until
-  -- they are joined to the closer.
+  -- A pass is made: a source seat's or a worker seat's, to which the closer gives one of its shares. These are the views of the two seats until
+  -- they are joined to the closer's pass, and the closer's view while it makes seats.
   abbrev pub source_view : ℕ → List X → View X
   source_view s xs = record { shares = 1; puts = record { source = s; items = xs } ∷ []; takes = []; closes = false; sources = 0; workers = 0; marks = 0 }
 
@@ -146,13 +146,13 @@ module _ {X : Type 0} where
   with_job [] j = []
   with_job (u ∷ us) j = record u { jobs = u.jobs ++ j ∷ [] } ∷ us
 
-  -- A mark is sent: the closer, which by then has the items of the sources that have ended, has sent one mark more. Its counts are how
-  -- many items each source put.
+  -- A mark is sent: the closer, which by then has the items of the sources that have ended, has sent one mark more. The mark's counts are the
+  -- numbers of items that the sources put.
   abbrev pub ending_view : ℕ → List (Puts X) → ℕ → ℕ → ℕ → View X
   ending_view shares puts sources workers marks =
       record { shares = shares; puts = puts; takes = []; closes = true; sources = sources; workers = workers; marks = marks }
 
-  -- source s is among those of a view, and its count is how many items it put
+  -- source s is among the sources of a view, and its count is the number of items it put
   abbrev pub IsCounted : List ℕ → List (Puts X) → ℕ → Type 0
   IsCounted counts [] s = ⊥
   IsCounted counts (u ∷ us) s = ((u.source ≡ s) × (slice_index_or counts s 0 ≡ length u.items)) ⊎ IsCounted counts us s
@@ -163,7 +163,7 @@ module _ {X : Type 0} where
   abbrev pub after_mark : View X → View X
   after_mark v = with_marks v (v.marks + 1)
 
-  -- A mark is received: the worker seat has taken a mark. What a receive answers decides which of the two it was.
+  -- A mark is received: the worker seat has taken a mark. The message received decides whether this step or that of a job was made.
   abbrev pub with_mark : List (Takes X) → List (Takes X)
   with_mark [] = []
   with_mark (u ∷ us) = record u { marked = true } ∷ us
@@ -174,9 +174,9 @@ module _ {X : Type 0} where
 
   -- A send finds no room, or a receive finds nothing: no view changes.
 
-  -- The last pass that is left is read. Its holder knows this: the channel is empty, and in the order in which all jobs were sent each
-  -- source's are its items, numbered from 0, and there are no others; these the worker seats took, however they are weighed, each in
-  -- that order.
+  -- The last remaining pass is read. Its holder then knows: the channel is empty; in the order in which all jobs were sent, the jobs of each
+  -- source are its items, numbered from 0, and there are no others; the worker seats took these jobs (for every weight the totals are equal),
+  -- each seat in that order.
   pub record IsSettled (v : View X) (items : List (Message X)) : Type 0 where
     pub empty : items ≡ []
     pub order : List (Job X)
@@ -185,14 +185,14 @@ module _ {X : Type 0} where
     pub each : AllByRecursion (λ (u : Puts X). jobs_of u.source order ≡ numbered u.source 0 u.items) v.puts
     pub no_others : AllByRecursion (λ (j : Job X). j.source < v.sources) order
 
-  -- Two passes are joined: one takes over the shares and the parts of the other, which stay apart; the other is spent.
+  -- Two passes are joined: one takes over the shares of the other and its puts and takes, each as a list entry of its own; the other is spent.
   abbrev pub joined : View X → View X → View X
   joined v w = record v { shares = v.shares + w.shares; puts = v.puts ++ w.puts; takes = v.takes ++ w.takes }
 
   abbrev pub spent_view : View X
   spent_view = record { shares = 0; puts = []; takes = []; closes = false; sources = 0; workers = 0; marks = 0 }
 
-  -- the closer's with the passes of worker seats that took these
+  -- the closer's view after the passes of worker seats that took these are joined to it
   abbrev pub with_takes : View X → List (Takes X) → View X
   with_takes v us = record v { shares = v.shares + length us; takes = v.takes ++ us }
 
@@ -206,26 +206,26 @@ AreRising [] = Unit {0}
 AreRising (n ∷ ns) = IsBelowAll n ns × AreRising ns
 
 module _ {X : Type 0} where
-  -- the weight of a job if it is that of source s with number n, else 0; and 1 for it
+  -- the weight of a job if it is number n of source s, else 0; and the same with 1 as its weight
   abbrev pub weight_at : ℕ → ℕ → (Job X → ℕ) → Job X → ℕ
   weight_at s n h j = if j.source == s && j.number == n then h j else 0
 
   abbrev pub is_job : ℕ → ℕ → Job X → ℕ
   is_job s n j = weight_at s n (λ _. 1) j
 
-  -- how often that job was taken, by whichever seats, and how often it is in the channel
+  -- how often number n of source s was taken, by any seats, and how often it is in the channel
   abbrev pub times_taken : ℕ → ℕ → List (View X) → ℕ
   times_taken s n views = sum_by (weight_taken (is_job s n)) views
 
   abbrev pub times_held : ℕ → ℕ → List (Message X) → ℕ
   times_held s n items = sum_by (is_job s n) (jobs_in items)
 
-  -- each item that a seat put is one job, which was taken once or stands in the channel once
+  -- each item that a seat put is one job, which was taken once or is in the channel once
   abbrev pub EachOnce : List (Message X) → List (View X) → Type 0
   EachOnce items views = (pass : ℕ) (v : View X) → get_elem? views pass ≡ some v
       → AllByRecursion (λ (u : Puts X). (n : ℕ) → n < length u.items → times_taken u.source n views + times_held u.source n items ≡ 1) v.puts
 
-  -- the job of source s with number n, taken or in the channel, has the item that the seat of s put as its n-th, from 0
+  -- the job with number n of source s, taken or in the channel, has the item with index n, from 0, that the seat of s put
   abbrev pub EachItem : List (Message X) → List (View X) → Type 0
   EachItem items views = (pass : ℕ) (v : View X) → get_elem? views pass ≡ some v
       → AllByRecursion (λ (u : Puts X). (n : ℕ) (x : X) → slice_get u.items n ≡ Some x → (h : Job X → ℕ)
@@ -235,8 +235,8 @@ module _ {X : Type 0} where
   abbrev pub NoOthers : List (Message X) → List (View X) → Type 0
   NoOthers items views = (h : Job X → ℕ) → sum_by (weight_taken h) views + sum_by h (jobs_in items) ≡ sum_by (weight_put h) views
 
-  -- the numbers of one source rise along the channel and along what each worker seat took; and each number that was taken is below all
-  -- numbers of that source in the channel
+  -- the numbers of one source rise along the channel and along what each worker seat took; and each number taken is below all numbers of that
+  -- source in the channel
   pub record NumbersRise (s : ℕ) (items : List (Message X)) (views : List (View X)) : Type 0 where
     pub channel : AreRising (numbers_of s (jobs_in items))
     pub workers : (pass : ℕ) (v : View X) → get_elem? views pass ≡ some v → AllByRecursion (λ (t : Takes X). AreRising (numbers_of s t.jobs)) v.takes
@@ -246,8 +246,8 @@ module _ {X : Type 0} where
   abbrev pub EachRises : List (Message X) → List (View X) → Type 0
   EachRises items views = (pass : ℕ) (v : View X) → get_elem? views pass ≡ some v → AllByRecursion (λ (u : Puts X). NumbersRise u.source items views) v.puts
 
-  -- The end marks, those that were taken and those in the channel, are together those that were sent. In the channel all jobs stand in
-  -- front of the marks, and there is none once a mark was taken. Each mark carries how many items each source put.
+  -- The end marks taken and those in the channel are together those that were sent. In the channel all jobs come before the marks, and there are
+  -- no jobs once a mark was taken. Each mark carries the number of items that each source put.
   pub record MarksAreLast (items : List (Message X)) (views : List (View X)) : Type 0 where
     pub gone : List (List ℕ)
     pub jobs : List (Job X)
@@ -259,12 +259,12 @@ module _ {X : Type 0} where
         → AllByRecursion (λ (u : Puts X). AllByRecursion (λ c. slice_index_or c u.source 0 ≡ length u.items) (gone ++ marks)) v.puts
     pub done : 0 < length gone → jobs ≡ []
 
-  -- where some worker seat took a mark, each item that was put was taken, once
+  -- once some worker seat has taken a mark, each item that was put was taken, once
   abbrev pub AllIsTaken : List (View X) → Type 0
   AllIsTaken views = 0 < sum_by marks_taken views → (pass : ℕ) (v : View X) → get_elem? views pass ≡ some v
       → AllByRecursion (λ (u : Puts X). (n : ℕ) → n < length u.items → times_taken u.source n views ≡ 1) v.puts
 
-  -- a pass that holds all shares, and as many worker seats' parts as end marks were sent, each with its mark, is the last one
+  -- a pass with all 64 shares, joined with at least as many worker seats as end marks were sent, each with its mark: it is the last one
   pub record HoldsAll (v : View X) : Type 0 where
     pub closes : v.closes ≡ true
     pub shares : 64 ≤ v.shares

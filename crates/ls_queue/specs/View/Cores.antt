@@ -3,7 +3,7 @@ use Rattle.std.specs.Prelude.{◌≡◌, ℕ, ◌+◌, ◌≤◌, List, [], ◌�
 use Rattle.ls_queue.specs.Faults.{most_sources, most_capacity}
 use Rattle.ls_queue.specs.Queue.{Queue, count_of, numbers_of}
 
--- numbers that rise by one, the last of which is one below the end
+-- numbers that rise by one, the last of which is one below `end`
 abbrev pub AreLastBefore : ℕ → List ℕ → Type 0
 AreLastBefore end [] = Unit {0}
 AreLastBefore end (n ∷ ns) = (n + length (n ∷ ns) ≡ end) × AreLastBefore end ns

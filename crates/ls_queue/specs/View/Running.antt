@@ -1,4 +1,4 @@
--- The seats and ends of a running queue, as its callers speak of them: whose they are, and what was put and taken by them.
+-- The seats and ends of a running queue, for its callers: which queue they belong to, and what was put and taken by them.
 use Rattle.std.specs.Prelude.{◌≡◌, ℕ, suc, Some, slice_get, slice_index_or, ◌-◌, ◌+◌, ◌≤◌, ◌==◌, ◌||◌, ◌&&◌, ◌<◌, Bool, true, false, List, [], ◌∷◌, ◌++◌, length}
 use Rattle.std.specs.List.{sum_by, AllByRecursion}
 use Rattle.crossbeam_channel.specs.Claims.{view, IsSeatAt}
@@ -39,7 +39,7 @@ module _ {X : Type 0} where
   abbrev pub jobs_taken : WorkerSeat X → List (Job X)
   jobs_taken seat = jobs_in_first (view seat.pass).takes
 
-  -- whether it was answered Done
+  -- whether `take` has returned Done to it
   abbrev pub is_done : WorkerSeat X → Bool
   is_done seat = seat.done
 
@@ -47,18 +47,18 @@ module _ {X : Type 0} where
   abbrev pub items_ended : Ended X → List X
   items_ended ended = items_in (view ended.pass).puts
 
-  -- how many sources and how many workers a queue was opened for
+  -- the numbers of sources and of workers that a queue was opened for
   abbrev pub sources_of : Queue X → ℕ
   sources_of queue = queue.channel.sources
 
   abbrev pub workers_of : Queue X → ℕ
   workers_of queue = queue.channel.workers
 
-  -- how many jobs and end marks its channel holds at most
+  -- the most jobs and end marks that its channel holds
   abbrev pub places_of : Queue X → ℕ
   places_of queue = ruled_capacity (sends_on queue.channel.entrance)
 
-  -- these are seats, ends and the closer of the queue with this channel
+  -- seats, ends and the closer that belong to the queue with this channel
   pub record IsSourceAt (channel : Channel X) (seat : SourceSeat X) : Type 0 where
     pub pass : IsSeatAt (sends_on channel.entrance) seat.pass
     pub known : view seat.pass ≡ source_view seat.source (items_put seat)
@@ -88,26 +88,26 @@ module _ {X : Type 0} where
     pub pass : IsSeatAt (sends_on queue.channel.entrance) closer.pass
     pub known : view closer.pass ≡ closer_view (64 - queue.channel.sources - queue.channel.workers) queue.channel.sources queue.channel.workers
 
-  -- a seat for each source from number n on, by which nothing was put
+  -- a new seat for each source from number n on: it has put nothing
   abbrev pub AreNewSources : Channel X → ℕ → List (SourceSeat X) → Type 0
   AreNewSources channel n [] = Unit {0}
   AreNewSources channel n (seat ∷ seats) =
       (IsSourceAt channel seat × (seat.source ≡ n) × (items_put seat ≡ [])) × AreNewSources channel (suc n) seats
 
-  -- worker seats by which nothing was taken
+  -- new worker seats: they have taken nothing
   abbrev pub AreNewWorkers : Channel X → List (WorkerSeat X) → Type 0
   AreNewWorkers channel [] = Unit {0}
   AreNewWorkers channel (seat ∷ seats) =
       (IsWorkerAt channel seat × (jobs_taken seat ≡ []) × (is_done seat ≡ false)) × AreNewWorkers channel seats
 
-  -- what `open` makes: a seat for each source, in order from source 0, and a seat for each worker; nothing was put or taken by them
+  -- what `open` makes: a seat for each source, in order from source 0, and a seat for each worker, all new
   abbrev pub AreAllSources : Queue X → List (SourceSeat X) → Type 0
   AreAllSources queue seats = AreNewSources queue.channel 0 seats × (length seats ≡ sources_of queue)
 
   abbrev pub AreAllWorkers : Queue X → List (WorkerSeat X) → Type 0
   AreAllWorkers queue seats = AreNewWorkers queue.channel seats × (length seats ≡ workers_of queue)
 
-  -- worker seats and ends of that queue, however many
+  -- any number of worker seats, or of ends, of that queue
   abbrev pub AreWorkerSeats : Queue X → List (WorkerSeat X) → Type 0
   AreWorkerSeats queue seats = AllByRecursion (IsWorkerAt queue.channel) seats
 
@@ -125,7 +125,7 @@ module _ {X : Type 0} where
   abbrev pub IsLowestMissing : ℕ → List (Ended X) → ℕ → Type 0
   IsLowestMissing sources ended source = (source < sources) × (has_end source ended ≡ false) × EachHasEnd source ended
 
-  -- a refused finish names the lowest source without an end, and gives both back
+  -- if `finish` fails, it names the lowest source without an end, and returns the closer and the ends
   abbrev pub IsMissing : ℕ → Closer X → List (Ended X) → FinishFault X → Type 0
   IsMissing sources closer ended (fault.MissingSource source closer' ended') = IsLowestMissing sources ended source × (closer' ≡ closer) × (ended'.items ≡ ended)
 
@@ -160,9 +160,8 @@ module _ {X : Type 0} where
   all_done [] = true
   all_done (seat ∷ seats) = is_done seat && all_done seats
 
-  -- There is one order of all jobs, in which those of each source are its items, numbered from 0, and there are no others;
-  -- the jobs of the seats are these, however they are weighed, each seat's in that order; and the count of a source is how
-  -- many items it put.
+  -- There is one order of all jobs, in which those of each source are its items, numbered from 0, and there are no others; the seats took these
+  -- jobs (for every weight the totals are equal), each seat in that order; and the count of a source is the number of items it put.
   pub record Balances (queue : Queue X) (finished : Finished X) (seats : List (WorkerSeat X)) (counts : List ℕ) : Type 0 where
     pub order : List (Job X)
     pub each : AllByRecursion (λ (u : Puts X). jobs_of u.source order ≡ numbered u.source 0 u.items) (puts_of finished)
@@ -171,25 +170,25 @@ module _ {X : Type 0} where
     pub within : AllByRecursion (λ (u : TakesPart X). IsWithin u.jobs order) (takes_of seats)
     pub counted : (s : ℕ) → s < sources_of queue → IsCounted counts (puts_of finished) s
 
-  -- Of each source the seats took the jobs with the numbers below its count, each once, and with the item that was put under it; and they
-  -- took no others. This follows where a queue balances.
+  -- Of each source the seats took the jobs with the numbers below its count, each once and with the item that was put under that number; and they
+  -- took no others. This follows from `Balances`.
   pub record TookAll (sources : ℕ) (puts : List (Puts X)) (seats : List (WorkerSeat X)) (counts : List ℕ) : Type 0 where
     pub once : (s n : ℕ) → s < sources → n < slice_index_or counts s 0 → sum_by (λ (u : TakesPart X). sum_by (is_job s n) u.jobs) (takes_of seats) ≡ 1
     pub item : AllByRecursion (λ (u : Puts X). (n : ℕ) (x : X) → slice_get u.items n ≡ Some x → (h : Job X → ℕ)
         → sum_by (λ (t : TakesPart X). sum_by (weight_at u.source n h) t.jobs) (takes_of seats) ≡ h (job u.source n x)) puts
     pub no_others : AllByRecursion (λ (u : TakesPart X). AllByRecursion (λ (j : Job X). (j.source < sources) × (j.number < slice_index_or counts j.source 0)) u.jobs) (takes_of seats)
 
-  -- why a queue isn't settled: too few seats come before a seat that isn't done
+  -- why a queue isn't settled; too few seats are reported before a seat that isn't done
   abbrev pub IsCause : Queue X → List (WorkerSeat X) → SettleCause → Type 0
   IsCause queue seats cause.MissingSeat = length seats < workers_of queue
   IsCause queue seats cause.NotEmpty = (workers_of queue ≤ length seats) × (all_done seats ≡ false)
 
-  -- all comes back, with its cause
+  -- everything that was passed is returned, with the cause
   abbrev pub IsUnsettled : Queue X → Finished X → List (WorkerSeat X) → SettleFault X → Type 0
   IsUnsettled queue finished seats fault =
       IsCause queue seats fault.cause × (fault.queue ≡ queue) × (fault.finished ≡ finished) × (fault.seats.items ≡ seats)
 
-  -- a take answers a job and the seat's list grows by it; or it answers Done, and the list stays
+  -- a take returns a job and the seat's list grows by it; or it returns Done, and the list stays
   abbrev pub Takes : Queue X → WorkerSeat X → Taken X → WorkerSeat X → Type 0
   Takes queue before (taken.Job j) after =
       (is_done before ≡ false) × (is_done after ≡ false) × (jobs_taken after ≡ jobs_taken before ++ j ∷ []) × (j.source < sources_of queue)

@@ -1,14 +1,14 @@
--- How often one who waits for a message looks before it sleeps.
+-- How often a waiting thread polls for a message before it sleeps.
 use Rattle.std.specs.Prelude.{ℕ, ◌*◌, ◌/◌, min, max}
 
--- the fewest and the most looks
+-- the fewest and the most polls
 abbrev pub fewest_looks : ℕ
 fewest_looks = 50
 
 abbrev pub most_looks : ℕ
 most_looks = 1600
 
--- twice as often after looking has served, and half as often after it hasn't
+-- twice as many, up to the most, after polling has helped; half as many, down to the fewest, after it hasn't
 abbrev pub looks_after_service : ℕ → ℕ
 looks_after_service looks = min (looks * 2) most_looks
 

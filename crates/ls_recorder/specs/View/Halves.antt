@@ -1,4 +1,4 @@
--- The two halves of a lane: what the reading half read, booked and put; what the writing half took of the bookings, and wrote.
+-- The two halves of a lane: what the reading half read, booked and put; what the writing half took of the bookings, and what it wrote.
 use Rattle.std.specs.Prelude.{◌≡◌, ◌≢◌, ◌⊎◌, ℕ, ◌+◌, ◌-◌, ◌<◌, ◌≤◌, Bool, true, false, List, [], ◌∷◌, length, map, Option, Some, Result, Ok, Err, MatchResult, vec_capacity}
 use Rattle.std.specs.Io.KnownBytes.{Appends}
 use Rattle.ls_frame.specs.declared.tuning.Tuning.{Tuning}
@@ -32,7 +32,7 @@ use Rattle.ls_recorder.specs.View.Lanes.{AreOrdersOf, StopsReading, IsWriting, S
 
 -- ---- the beginning
 
--- what a lane is started with: a seat that has put nothing, a box of its source, and a window
+-- what a lane starts with: a seat that has put nothing, an inbox of its source, and a window
 pub record MayStart {R W : Type 0} (queue : Queue Ordered) (start : Start R W) : Type 0 where
   pub seat : IsSourceSeat queue start.seat
   pub new : items_put start.seat ≡ []
@@ -40,8 +40,8 @@ pub record MayStart {R W : Type 0} (queue : Queue Ordered) (start : Start R W) :
   pub some : 1 ≤ start.window
   pub few : start.window ≤ most_window
 
--- what the halves of a lane need: the seats of a queue of one source and one worker, of which nothing was put and taken, a collector
--- with nothing booked, and room for what `finish` and `settle` are given
+-- What the halves of a lane need: the seats of a queue of one source and one worker, by which nothing was put or taken, a collector with nothing
+-- booked, and capacity for the arguments of `finish` and `settle`.
 pub record ArePartsOf (bookings : Queue Ordered) (source window : ℕ) (parts : Parts) : Type 0 where
   pub one_source : sources_of bookings ≡ 1
   pub one_worker : workers_of bookings ≡ 1
@@ -67,21 +67,21 @@ pub record MayRead {R : Type 0} (queue bookings : Queue Ordered) (reading : Read
   pub ended : (reading.ended.items ≡ []) × (1 ≤ vec_capacity reading.ended)
 
 module _ (tuning : Tuning) (items : List Ordered) (read : Option (List ℕ)) where
-  -- what was read so far, all of which was put
+  -- n frames were read so far, and all were put
   pub record HasRead (now : Option (List ℕ)) (n : ℕ) : Type 0 where
     pub frames : List Picture
     pub count : length frames ≡ n
     pub gave : GaveFrames IsImageOf read now frames
     pub put : AreOrdersOf tuning frames items
 
-  -- so many frames were read and put, and then the reader was at its end
+  -- n frames were read and put, and then the reader was at its end
   pub record HasReadAll (read' : Option (List ℕ)) (n : ℕ) : Type 0 where
     pub before : Option (List ℕ)
     pub run : HasRead before n
     pub few : n ≤ most_frames
     pub end : WasAtEnd before read'
 
-  -- some frames were read and put, and the next one couldn't be; or memory was refused
+  -- n frames were read and put, and the next one can't be read; or an allocation failed
   pub record HasReadSome (read' : Option (List ℕ)) (fault : LaneFault) : Type 0 where
     pub n : ℕ
     pub before : Option (List ℕ)
@@ -89,12 +89,12 @@ module _ (tuning : Tuning) (items : List Ordered) (read : Option (List ℕ)) whe
     pub few : n ≤ most_frames
     pub why : StopsReading tuning before read' n fault ⊎ (fault ≡ NoMemory)
 
--- nothing was read or written
+-- nothing was read, put or written
 abbrev pub WasNotStarted : {R W : Type 0} → List Ordered → R → R → W → W → LaneFault → Type 0
 WasNotStarted items reader reader' writer writer' fault = (fault ≡ NotStarted) × (items ≡ []) × (reader' ≡ reader) × (writer' ≡ writer)
 
 module _ {R : Type 0} (remaining : R → Option (List ℕ)) (failed_reads : R → ℕ) where
-  -- what came of the reading half: what was put was booked, and the bookings are finished
+  -- How the reading half ended: what was put is what was booked, and the bookings are finished.
   pub record IsReadingEnd (queue bookings : Queue Ordered) (tuning : Tuning) (seat : SourceSeat Ordered) (reader : R) (end : ReadingEnd R) : Type 0 where
     pub seat_is : IsSourceSeat queue end.seat
     pub source : end.seat.source ≡ seat.source
@@ -110,25 +110,25 @@ module _ {R : Type 0} (remaining : R → Option (List ℕ)) (failed_reads : R �
 
 -- ---- the writing half
 
--- the orders that a seat took of the bookings
+-- the orders that a seat took from the bookings
 abbrev pub orders_taken : WorkerSeat Ordered → List Ordered
 orders_taken seat = map (λ (j : Job Ordered). j.item) (jobs_taken seat)
 
--- all orders that were taken were booked in the collector
+-- all orders that were taken are booked in the collector
 pub record HasTaken (bookings : Queue Ordered) (window : ℕ) (seat : WorkerSeat Ordered) (c : Collection) : Type 0 where
   pub seat_is : IsWorkerSeat bookings seat
   pub counted : booked c ≡ length (jobs_taken seat)
   pub few : booked c ≤ most_frames
   pub window_is : c.window ≡ window
 
--- more orders were taken and booked; whatever was written, they wait
+-- more orders were taken and booked; what was written stays the same, and they wait
 pub record Books (seat : WorkerSeat Ordered) (c : Collection) (seat' : WorkerSeat Ordered) (c' : Collection) : Type 0 where
   pub waits : (start now : Option (List ℕ)) (bytes : ℕ) → IsWriting (orders_taken seat) start now c bytes → IsWriting (orders_taken seat') start now c' bytes
   pub first : c'.first ≡ c.first
   pub more : length c.slots ≤ length c'.slots
 
 module _ (items : List Ordered) (start now : Option (List ℕ)) where
-  -- a piece came whose number is that of the order that would be booked after so many more
+  -- a coded frame came whose number is that of the next order to be booked plus `ahead`
   pub record IsAhead (ahead : ℕ) : Type 0 where
     pub collection : Collection
     pub bytes : ℕ
@@ -144,17 +144,17 @@ module _ (items : List Ordered) (start now : Option (List ℕ)) where
   HaltsWriting (halt.Fault fault) = StopsWriting items start now fault × (fault ≢ Misfit WasNotBooked)
   HaltsWriting (halt.NotBooked ahead) = IsAhead ahead
 
--- or it stops so, whatever was taken and wherever writing began
+-- it stops in this way, whatever orders were taken and whatever the writer held at the start
 abbrev pub HaltsSo : Option (List ℕ) → Collection → ℕ → Option (List ℕ) → Halt → Type 0
 HaltsSo now c bytes now' h = (items : List Ordered) (start : Option (List ℕ)) → IsWriting items start now c bytes → HaltsWriting items start now' h
 
--- a collector refuses a piece so
+-- the collector refuses a coded frame for this reason
 abbrev pub RefusesPiece : Collection → Job Ordered → Halt → Type 0
 RefusesPiece c piece (halt.Fault (Misfit misfit)) = (misfit_of c piece ≡ Some misfit) × (misfit ≢ WasNotBooked)
 RefusesPiece c piece (halt.Fault fault) = ⊥
 RefusesPiece c piece (halt.NotBooked ahead) = (misfit_of c piece ≡ Some WasNotBooked) × (piece.number ≡ booked c + ahead)
 
--- whether it stops for the writer's device
+-- whether it stops because the writer's device failed
 abbrev pub halts_for_writer : Halt → Bool
 halts_for_writer (halt.Fault fault) = blames_writer fault
 halts_for_writer (halt.NotBooked ahead) = false
@@ -172,7 +172,7 @@ module _ {W : Type 0} where
     pub returns : writing.returns.returned ≡ 0
 
 module _ {W : Type 0} (contents : W → Option (List ℕ)) (failed_writes : W → ℕ) where
-  -- what came of the writing half: the bookings are done, and what was taken of them was written, or it says why not
+  -- How the writing half ended: the bookings are done, and the codestreams of the orders taken from them were written, or the fault says what was.
   pub record IsWritingEnd (bookings : Queue Ordered) (writer : W) (end : WritingEnd W) : Type 0 where
     pub seat : IsWorkerSeat bookings end.seat
     pub done : is_done end.seat ≡ true

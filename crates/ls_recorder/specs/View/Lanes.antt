@@ -1,4 +1,4 @@
--- What a lane did: of its reader's known bytes before and after, of its writer's, and of what its seat put.
+-- What a lane did: the known bytes of its reader and of its writer, before and after, and the orders that its seat put.
 use Rattle.std.specs.Prelude.{◌≡◌, ◌≢◌, ◌⊎◌, ℕ, ◌<◌, ◌≤◌, Bool, true, false, IsTrue, List, [], ◌∷◌, ◌++◌, length, map, take, Option, Some, Result, Ok, Err}
 use Rattle.std.specs.Io.KnownBytes.{Appends}
 use Rattle.std.specs.List.{AllByRecursion}
@@ -30,7 +30,7 @@ use Rattle.ls_recorder.specs.declared.lane.LaneFault.TheVariants.{Input, Output,
 abbrev pub with_tuning : Tuning → List Picture → List Ordered
 with_tuning tuning frames = map (λ (f : Picture). (f, tuned tuning f.maxval)) frames
 
--- these are frames, whatever is known of the reader, and the tuning gives parameters for each
+-- these are frames within the recorder's limits, even if nothing is known of the reader, and the tuning gives parameters for each
 abbrev pub AreTuned : Tuning → List Picture → Type 0
 AreTuned tuning frames = AllByRecursion (λ (f : Picture). IsFrame f × (explicit_parameters (tuned tuning f.maxval) ≡ Ok (tuned tuning f.maxval))) frames
 
@@ -38,7 +38,7 @@ AreTuned tuning frames = AllByRecursion (λ (f : Picture). IsFrame f × (explici
 abbrev pub AreOrdersOf : Tuning → List Picture → List Ordered → Type 0
 AreOrdersOf tuning frames items = (items ≡ with_tuning tuning frames) × AreTuned tuning frames
 
--- their codestreams
+-- the codestreams of these frames, joined
 abbrev pub tuned_file : Tuning → List Picture → List ℕ
 tuned_file tuning frames = file (with_tuning tuning frames)
 
@@ -62,11 +62,11 @@ module _ (items : List Ordered) (start now : Option (List ℕ)) where
     pub part : bytes < length (file items)
     pub wrote : Appends start now (take bytes (file items))
 
--- the orders of a collector that weren't handed out
+-- the orders in a collector: booked and not handed out
 abbrev pub orders_in : Collection → List Ordered
 orders_in c = map (λ (slot : Slot). slot.order) c.slots
 
--- So far the codestreams of the first items were written, so many bytes; the others wait in the collector.
+-- So far the codestreams of the first items were written, of `bytes` bytes; the others wait in the collector.
 pub record IsWriting (items : List Ordered) (start now : Option (List ℕ)) (c : Collection) (bytes : ℕ) : Type 0 where
   pub done : List Ordered
   pub items_are : items ≡ done ++ orders_in c
@@ -74,7 +74,7 @@ pub record IsWriting (items : List Ordered) (start now : Option (List ℕ)) (c :
   pub bytes_are : bytes ≡ length (file done)
 
 module _ (items : List Ordered) (start now : Option (List ℕ)) where
-  -- the collector of those that wait refused a piece so
+  -- the collector with the items that wait refused a coded frame for this misfit
   pub record IsMisfit (misfit : Cause) : Type 0 where
     pub collection : Collection
     pub bytes : ℕ
@@ -82,7 +82,7 @@ module _ (items : List Ordered) (start now : Option (List ℕ)) where
     pub writing : IsWriting items start now collection bytes
     pub refused : misfit_of collection piece ≡ Some misfit
 
-  -- what an end that isn't the reader's says
+  -- what a fault of the writing half says
   abbrev pub StopsWriting : LaneFault → Type 0
   StopsWriting (Input m fault) = ⊥
   StopsWriting (Output bytes) = WrotePart items start now bytes
@@ -93,13 +93,13 @@ module _ (items : List Ordered) (start now : Option (List ℕ)) where
   StopsWriting TooMany = most_frames < length items
   StopsWriting (BadTuning m fault) = ⊥
 
--- whatever was put and wherever writing began, it goes on
+-- after a step of writing the same is true, whatever orders were put and whatever the writer held at the start
 abbrev pub GoesOn : Option (List ℕ) → Collection → ℕ → Option (List ℕ) → Collection → ℕ → Type 0
 GoesOn now c bytes now' c' bytes' = (items : List Ordered) (start : Option (List ℕ)) → IsWriting items start now c bytes → IsWriting items start now' c' bytes'
 
 -- ---- the next frame
 
--- what a fault at the frame of number n says of the reader's bytes
+-- what a fault at frame number n says of the reader's bytes
 abbrev pub StopsReading : Tuning → Option (List ℕ) → Option (List ℕ) → ℕ → LaneFault → Type 0
 StopsReading tuning read read' n (Input m fault) =
     (m ≡ n) × (fault ≢ netpbm.NoMemory) × (IsTrue (blames_bytes fault) → Tells read → IsBroken (known read) fault)
@@ -115,7 +115,7 @@ StopsReading tuning read read' n (BadTuning m fault) =
 -- ---- a lane
 
 module _ (tuning : Tuning) (items : List Ordered) (read read' written written' : Option (List ℕ)) where
-  -- The reader is at its end, it gave a film of n frames, all of which were put, and their codestreams were written.
+  -- The reader is at its end. It gave a film of n frames; all were put, and their codestreams were written.
   pub record Records (n : ℕ) : Type 0 where
     pub run : Completes IsImageOf (tuned_file tuning) read read' written written' n
     pub put : AreOrdersOf tuning run.frames items
@@ -133,7 +133,7 @@ module _ (tuning : Tuning) (items : List Ordered) (read read' written written' :
     pub put : AreOrdersOf tuning run.frames items
     pub known : fault ≢ netpbm.NoMemory
 
-  -- One frame too many: those before it were put, and their codestreams were written.
+  -- There is one frame too many: those before it were put, and their codestreams were written.
   pub record RecordsMost : Type 0 where
     pub run : StopsAtMost IsImageOf (tuned_file tuning) read read' written written'
     pub put : AreOrdersOf tuning run.frames items
@@ -162,8 +162,8 @@ module _ (tuning : Tuning) (items : List Ordered) (read read' written written' :
 
 -- ---- devices
 
--- how many reads failed: one, if it is what the end blames; none, if it is another end of the reading; else none, or one before the
--- lane stopped for another cause
+-- How many reads failed: one, if the fault blames the reader's device; none, if it is another fault of reading; else none, or one before the lane
+-- stopped for a fault of writing.
 abbrev pub ReadsSo : LaneFault → ℕ → ℕ → Type 0
 ReadsSo (Input m fault) old new = new ≡ count_after (blames_device fault) old
 ReadsSo (Output bytes) old new = (new ≡ old) ⊎ (new ≡ risen old)
@@ -174,7 +174,7 @@ ReadsSo NotStarted old new = new ≡ old
 ReadsSo TooMany old new = new ≡ old
 ReadsSo (BadTuning m fault) old new = new ≡ old
 
--- whether a lane's end blames its reader's device, and whether it blames its writer's
+-- whether a lane's fault blames its reader's device; whether it blames its writer's
 abbrev pub blames_reader : LaneFault → Bool
 blames_reader (Input m fault) = blames_device fault
 blames_reader (Output bytes) = false

@@ -1,4 +1,4 @@
--- What a recording did: each lane for its film, the workers, and the account.
+-- What a recording did: the lane of each film, the workers, and the account.
 use Rattle.std.specs.Prelude.{◌≡◌, ◌⊎◌, ℕ, suc, ◌≤◌, true, List, [], ◌∷◌, length, Option, Err, IfOk, MatchResult, slice_index_or, vec_capacity}
 use Rattle.std.specs.List.{AllByRecursion}
 use Rattle.std.specs.declared.sync.atomic.AtomicBool.{AtomicBool}
@@ -24,10 +24,10 @@ use Rattle.ls_recorder.specs.View.Boxes.{AreFrom}
 use Rattle.ls_pieces.specs.Orders.{Ordered}
 use Rattle.ls_recorder.specs.View.Lanes.{Records, StopsLane, ReadsSo, failed_writer}
 
--- ---- films and their tracks. A film is what reads it, what takes its recording, and a tuning.
+-- ---- films and their tracks. A film is a reader, a writer for its recording, and a tuning.
 
 module _ {R W : Type 0} (remaining : R → Option (List ℕ)) (failed_reads : R → ℕ) (contents : W → Option (List ℕ)) (failed_writes : W → ℕ) where
-  -- a lane wasn't started, or it did for its film what a lane does, with these items put
+  -- the lane of a film wasn't started; or it put these items, and its result says what it recorded
   abbrev pub DidLane : R × W × Tuning → List Ordered → Track R W → Type 0
   DidLane film items track =
       ((track.result ≡ Err NotStarted) × (items ≡ []) × (track.reader ≡ film.0) × (track.writer ≡ film.1))
@@ -35,7 +35,7 @@ module _ {R W : Type 0} (remaining : R → Option (List ℕ)) (failed_reads : R 
       (Records film.2 items (remaining film.0) (remaining track.reader) (contents film.1) (contents track.writer))
       (StopsLane film.2 items (remaining film.0) (remaining track.reader) (contents film.1) (contents track.writer))
 
-  -- what a track says of its film, of how many items of it were put, and of its devices
+  -- what a track says of its film, of the number of its items that were put, and of its devices
   pub record IsTrack (film : R × W × Tuning) (count : ℕ) (track : Track R W) : Type 0 where
     pub items : List Ordered
     pub put : count ≡ length items
@@ -43,21 +43,21 @@ module _ {R W : Type 0} (remaining : R → Option (List ℕ)) (failed_reads : R 
     pub reads : MatchResult track.result (λ frames. failed_reads track.reader ≡ failed_reads film.0) (λ fault. ReadsSo fault (failed_reads film.0) (failed_reads track.reader))
     pub writes : failed_writes track.writer ≡ count_after (failed_writer track.result) (failed_writes film.1)
 
-  -- a track for each film, in their order from source s on, and the count of its items
+  -- a track for each film, in order from source s on, with the number of its items that were put
   abbrev pub AreTracks : List ℕ → ℕ → List (R × W × Tuning) → List (Track R W) → Type 0
   AreTracks counts s [] [] = Unit {0}
   AreTracks counts s [] (t ∷ ts) = ⊥
   AreTracks counts s (f ∷ fs) [] = ⊥
   AreTracks counts s (f ∷ fs) (t ∷ ts) = IsTrack f (slice_index_or counts s 0) t × AreTracks counts (suc s) fs ts
 
-  -- how the lane of source s ended: its track, and how many items it put
+  -- how the lane of source s ended: its track, and the number of items that it put
   pub record IsLaneEnd (queue : Queue Ordered) (s : ℕ) (tuning : Tuning) (reader : R) (writer : W) (end : LaneEnd R W) : Type 0 where
     pub ended : IsEnded queue end.ended
     pub source : end.ended.source ≡ s
     pub track : IsTrack (reader, writer, tuning) end.ended.count (record { reader = end.reader; writer = end.writer; result = end.result })
     pub count : IfOk end.result (λ n. end.ended.count ≡ n)
 
-  -- the lane of a film was started, or it has ended
+  -- the lane of a film was started with that film, or it has ended
   abbrev pub IsStarted : Queue Ordered → ℕ → R × W × Tuning → Lane R W → Type 0
   IsStarted queue s film (lane.Running h) = (h.promise.queue.value ≡ queue) × (h.promise.source ≡ s) × (h.promise.tuning ≡ film.2)
       × (h.promise.reader.value ≡ film.0) × (h.promise.writer.value ≡ film.1)
@@ -70,7 +70,7 @@ module _ {R W : Type 0} (remaining : R → Option (List ℕ)) (failed_reads : R 
   AreStarted queue s (f ∷ fs) [] = ⊥
   AreStarted queue s (f ∷ fs) (l ∷ ls) = IsStarted queue s f l × AreStarted queue (suc s) fs ls
 
-  -- an end and a track of each film's lane, in order from source s on
+  -- the end of the source and the track of each film's lane, in order from source s on
   abbrev pub AreDone : Queue Ordered → ℕ → List (R × W × Tuning) → List (Ended Ordered) → List (Track R W) → Type 0
   AreDone queue s [] [] [] = Unit {0}
   AreDone queue s [] [] (t ∷ ts) = ⊥
@@ -80,7 +80,7 @@ module _ {R W : Type 0} (remaining : R → Option (List ℕ)) (failed_reads : R 
   AreDone queue s (f ∷ fs) (e ∷ es) (t ∷ ts) =
       IsLaneEnd queue s f.2 f.0 f.1 (record { ended = e; reader = t.reader; writer = t.writer; result = t.result }) × AreDone queue (suc s) fs es ts
 
-  -- what came of the threads: each lane ran for its film, all sources ended, and the workers were answered Done
+  -- How the threads ended: each film has its lane's track, all sources ended, and each worker's last take returned Done.
   pub record HasRun (queue : Queue Ordered) (films : List (R × W × Tuning)) (ran : Ran R W) : Type 0 where
     pub ended : List (Ended Ordered)
     pub lanes : AreDone queue 0 films ended ran.tracks.items
@@ -91,12 +91,12 @@ module _ {R W : Type 0} (remaining : R → Option (List ℕ)) (failed_reads : R 
     pub workers : length ran.seats.items ≡ workers_of queue
 
 module _ {R W : Type 0} where
-  -- the counts are those of the tracks that were recorded whole, from source s on
+  -- the counts of the films that were recorded completely are their numbers of frames, from source s on
   abbrev pub AreCounted : List ℕ → ℕ → List (Track R W) → Type 0
   AreCounted counts s [] = Unit {0}
   AreCounted counts s (t ∷ ts) = IfOk t.result (λ n. slice_index_or counts s 0 ≡ n) × AreCounted counts (suc s) ts
 
-  -- there is room for so many sources and workers, and nothing in it
+  -- all vectors are empty, with capacity for these numbers of sources and workers
   pub record IsRoom (sources workers : ℕ) (room : Room R W) : Type 0 where
     pub working : (room.working.items ≡ []) × (workers ≤ vec_capacity room.working)
     pub lanes : (room.lanes.items ≡ []) × (sources ≤ vec_capacity room.lanes)
@@ -106,7 +106,7 @@ module _ {R W : Type 0} where
 
 -- ---- workers
 
--- a worker took jobs until it was answered Done
+-- a worker took jobs until a take returned Done
 pub record IsWorked (queue : Queue Ordered) (worked : Worked) : Type 0 where
   pub seat : IsWorkerSeat queue worked.seat
   pub done : is_done worked.seat ≡ true
@@ -117,11 +117,11 @@ AreWorking queue handles = AllByRecursion (λ (h : PromisedHandle Worked WorkerO
 
 -- ---- what threads are started with
 
--- outboxes that lead to the boxes of so many sources
+-- each outbox has a door for each source
 abbrev pub LeadToAll : ℕ → List Outbox → Type 0
 LeadToAll sources outboxes = AllByRecursion (λ (outbox : Outbox). sources ≤ length outbox.doors.items) outboxes
 
--- all seats, and boxes for them
+-- all seats of the queue, its closer, and a box for each source and each worker
 pub record AreParts (queue : Queue Ordered) (parts : Parts) : Type 0 where
   pub sources : AreAllSources queue parts.sources.items
   pub workers : AreWorkerSeats queue parts.workers.items
@@ -132,7 +132,7 @@ pub record AreParts (queue : Queue Ordered) (parts : Parts) : Type 0 where
   pub outboxes : LeadToAll (sources_of queue) parts.outboxes.items
   pub outboxes_are : length parts.outboxes.items ≡ workers_of queue
 
--- the films, and all that was made for their lanes and for the workers
+-- the films, and all that was prepared for their lanes and for the workers
 pub record MayRun {R W : Type 0} (queue : Queue Ordered) (refused : List AtomicBool) (window : ℕ) (films : List (R × W × Tuning)) (parts : Parts) (room : Room R W) : Type 0 where
   pub films_are : length films ≡ sources_of queue
   pub sources : sources_of queue ≤ 16

@@ -1,4 +1,4 @@
-//! The ends of boxes.
+//! The receiving and the sending ends of boxes.
 ghost use Rattle.std.specs.Prelude.{◌≡◌, ◌<◌, length, map, IfOk, IfErr};
 ghost use Rattle.crossbeam_channel.specs.Claims.{IsSeatAt};
 ghost use Rattle.crossbeam_channel.specs.Ends.{sends_on, receives_on};
@@ -10,10 +10,10 @@ use ls_queue::{Patience, receive};
 use std::alloc::AllocError;
 use std::sync::Wait;
 
-/// What a worker answers to a job: its piece, or that it couldn't be coded.
+/// A worker's result for a job: the coded frame, or that it couldn't be coded.
 pub type Answer = Result<Coded, Uncoded>;
 
-/// A pass of a box says nothing, and so does each pass that is made of it.
+/// The split of a box's pass in two. Passes of boxes say nothing, and so do those split off them.
 pub struct Another;
 
 impl Split<()> for Another {
@@ -22,7 +22,7 @@ impl Split<()> for Another {
     ghost right = { λ v. v };
 }
 
-/// Where the answers of one source come out.
+/// The receiving end of a box: the results of one source.
 #[derive(Drop)]
 pub struct Inbox {
     pub(crate) source: u8,
@@ -32,7 +32,7 @@ pub struct Inbox {
     ghost own: { IsSeatAt (receives_on exit) pass },
 }
 
-/// Where answers of one source go in.
+/// A sender to the inbox of one source.
 #[derive(Drop)]
 pub struct Door {
     pub entrance: RuledSender<Answer, (), Free>,
@@ -40,17 +40,17 @@ pub struct Door {
     ghost own: { IsSeatAt (sends_on entrance) pass },
 }
 
-/// Where the answers of one worker go in, whatever their source.
+/// The senders of one worker: it sends its results here, whatever their source.
 #[derive(Drop)]
 pub struct Outbox {
-    /// A door for each source, in order from source 0.
+    /// A sender for each source, in order from source 0.
     pub(crate) doors: Vec<Door>,
 }
 
 impl Inbox {
-    /// Takes an answer out. Waits for one; `None` is answered if nobody is left to send any. It stays the same box.
+    /// Receives a result, and waits for one; `None` if nobody is left to send any. It stays the same box.
     ///
-    /// Nothing is proved of which answer comes out, and when.
+    /// Nothing is promised of which result comes, and when.
     pub fn recv<R: Wait>(&mut self, rt: &R) -> Option<Answer>
         ensures source { self.new.source ≡ self.old.source }
         ensures same { receives_on self.new.exit ≡ receives_on self.old.exit }
@@ -65,7 +65,7 @@ impl Inbox {
 }
 
 impl Door {
-    /// Another door to the same box.
+    /// Makes another sender to the same inbox.
     pub fn another(&mut self) -> Result<Door, AllocError>
         ensures same { sends_on self.new.entrance ≡ sends_on self.old.entrance }
         ensures another { IfOk result (λ door. sends_on door.entrance ≡ sends_on self.old.entrance) }
@@ -77,16 +77,16 @@ impl Door {
 }
 
 impl Outbox {
-    /// How many sources the boxes were made for.
+    /// The number of sources that the boxes were made for.
     pub fn sources(&self) -> usize
         ensures { result ≡ length self.now.doors.items }
     {
         self.doors.len()
     }
 
-    /// Puts an answer into the box of a source, which has to be one of those that the boxes were made for. Waits while
-    /// there is no room. The answer comes back if the lane that takes from the box is gone. All doors lead where they
-    /// led.
+    /// Sends a result to the inbox of a source, which has to be one that the boxes were made for. Waits while the inbox
+    /// is full. Returns the result if the lane that receives from the inbox is gone. Each sender still leads to its
+    /// inbox.
     pub fn send<R: Wait>(&mut self, rt: &R, source: u8, answer: Answer) -> Result<(), Answer>
         requires { source < length self.old.doors.items }
         ensures refused { IfErr result (λ back. back ≡ answer) }

@@ -1,4 +1,4 @@
-//! The places of a lane's window: each frame takes one before it is read, and gives it back when its codestream is
+//! The places of a lane's window: each frame takes one before it is read, and gives it back once its codestream is
 //! written.
 ghost use Rattle.std.specs.Prelude.{◌≡◌, ◌<◌, ◌+◌, ◌-◌, ◌^◌, IfOk};
 ghost use Rattle.crossbeam_channel.specs.Claims.{IsSeatAt};
@@ -11,10 +11,10 @@ use ls_queue::{Patience, receive};
 use std::alloc::{AllocError, Global};
 use std::sync::Wait;
 
-/// The places that are free, where the frames are read.
+/// The free places, as the reading half takes them.
 #[derive(Drop)]
 pub struct Places {
-    /// How many are free, but for those that were handed back and weren't looked for yet.
+    /// The number of free places, without those that were handed back and not yet counted.
     free: usize,
     exit: RuledReceiver<usize, (), Free>,
     pass: Pass<usize, ()>,
@@ -22,22 +22,24 @@ pub struct Places {
     ghost own: { IsSeatAt (receives_on exit) pass },
 }
 
-/// Where places are given back. They are handed back some at a time, since who reads may have to be woken for each.
+/// The end by which the writing half gives places back. It hands them back several at a time, since each time the
+/// reading half may have to be woken.
 #[derive(Drop)]
 pub struct Returns {
     entrance: RuledSender<usize, (), Free>,
     pass: Pass<usize, ()>,
-    /// How many were given back.
+    /// The number of places given back.
     pub returned: u64,
-    /// How many of these weren't handed back yet.
+    /// The number of these that aren't handed back yet.
     kept: usize,
-    /// How many are handed back at the latest: half of the window.
+    /// The number at which they are handed back at the latest: half of the window, rounded down.
     most: usize,
     ghost own: { IsSeatAt (sends_on entrance) pass },
 }
 
 impl Places {
-    /// So many free places, and where they are given back. Fails only if an allocation fails.
+    /// Makes `window` free places, and the end that gives them back. Requires at least one. Fails only if an allocation
+    /// fails.
     pub fn new(alloc: Global, window: usize) -> Result<(Places, Returns), AllocError>
         requires { 0 < window }
         ensures none { IfOk result (λ made. made.1.returned ≡ 0) }
@@ -60,8 +62,8 @@ impl Places {
         Ok((places, returns))
     }
 
-    /// Takes a place, and waits for one; whether there is one. There is none any more once nobody is left to give any
-    /// back, even if some are free.
+    /// Takes a place, and waits for one. Whether it took one: once nobody is left to give places back, it takes none,
+    /// even if some are free.
     pub fn take<R: Wait>(&mut self, rt: &R) -> bool {
         if !self.count_returned(rt) {
             return false;
@@ -84,7 +86,7 @@ impl Places {
         }
     }
 
-    /// Counts the places that were handed back; whether more may be.
+    /// Counts the places that were handed back. Whether more may come.
     fn count_returned<R: Wait>(&mut self, rt: &R) -> bool {
         for _ in rt.forever() {
             match self.exit.try_recv_as::<Free, R>(rt, &mut self.pass) {
@@ -98,7 +100,8 @@ impl Places {
 }
 
 impl Returns {
-    /// Gives a place back, and hands back what was given if that is half of the window.
+    /// Gives a place back, and hands back all that are given once they are half of the window. Requires that fewer than
+    /// 2^64 - 1 were given back.
     pub fn give<R: Wait>(&mut self, rt: &R)
         requires { self.old.returned < 2 ^ 64 - 1 }
         ensures { self.new.returned ≡ self.old.returned + 1 }
@@ -110,7 +113,7 @@ impl Returns {
         }
     }
 
-    /// Hands back the places that were given. Who gives them calls it before it waits.
+    /// Hands back the places that were given and not yet handed back. The writing half calls it before it waits.
     pub fn hand_back<R: Wait>(&mut self, rt: &R)
         ensures { self.new.returned ≡ self.old.returned }
     {

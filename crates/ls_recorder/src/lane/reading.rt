@@ -22,8 +22,8 @@ use ls_queue::{Closer, Ended, Finished, Queue, SourceSeat};
 use std::alloc::Global;
 use std::sync::{Arc, Wait};
 
-/// What the reading half begins with: its seats at the queue and at the bookings, what ends the bookings, the free
-/// places, room for one end, and the reader.
+/// The input of the reading half: its seats at the queue and at the bookings, the closer of the bookings, the free
+/// places, an empty vector with capacity for one end, and the reader.
 #[derive(Drop)]
 pub struct Reading<F> {
     pub seat: SourceSeat<Order>,
@@ -34,8 +34,8 @@ pub struct Reading<F> {
     pub reader: F,
 }
 
-/// What the reading half answers: its seat at the queue, the bookings as they were finished, the reader, and how many
-/// frames there were, or why it stopped.
+/// The result of the reading half: its seat at the queue, the finished bookings, the reader, and the number of frames
+/// in the film, or why reading stopped.
 #[derive(Drop)]
 pub struct ReadingEnd<F> {
     pub seat: SourceSeat<Order>,
@@ -44,7 +44,8 @@ pub struct ReadingEnd<F> {
     pub result: Result<u64, LaneFault>,
 }
 
-/// Reads the film, if the writing half was started, and finishes the bookings.
+/// Reads the film, if the writing half was started, and finishes the bookings. If it wasn't, reads nothing, and the
+/// result is `NotStarted`.
 pub fn read_booked<F: Feed, R: Wait, G: Gate>(
     setting: &Setting<'_, R, G>,
     reading: Reading<F>,
@@ -79,10 +80,10 @@ pub fn read_booked<F: Feed, R: Wait, G: Gate>(
     }
 }
 
-/// Reads the film, each frame once there is a place for it in the window; `booked` and `seat` get the same orders.
+/// Reads the film, each frame once a place in the window is free. The same orders are put by `booked` and by `seat`.
 ///
-/// Ok: so many frames, and the reader is at its end. A fault is that of the next frame; or NoMemory, if an allocation
-/// failed or if nobody is left to give places back.
+/// Returns the number of frames, with the reader at its end. A fault is that of the next frame; or `NoMemory`, if an
+/// allocation failed or if nobody is left to give places back.
 fn read_film<F: Feed, R: Wait, G: Gate>(
     setting: &Setting<'_, R, G>,
     seat: &mut SourceSeat<Order>,
@@ -124,7 +125,7 @@ fn read_film<F: Feed, R: Wait, G: Gate>(
     unreachable!()
 }
 
-/// How many bytes of samples an image of the frame has.
+/// The number of bytes that the samples take in an image of the frame.
 fn sample_bytes(frame: &Frame) -> u64 {
     let count = frame.samples().len() as u64;
     if frame.maxval() < 256 {
@@ -134,8 +135,8 @@ fn sample_bytes(frame: &Frame) -> u64 {
     }
 }
 
-/// Reads the frame of this number, and orders it with the parameters that the tuning gives for it; `None` exactly at
-/// the end.
+/// Reads the frame of this number, and makes its order with the parameters that the tuning gives for it; `None` exactly
+/// at the end of the film.
 fn next_order<F: Feed>(
     alloc: Global,
     reader: &mut F,
@@ -169,7 +170,8 @@ fn next_order<F: Feed>(
     }
 }
 
-/// Books an order for the writing half, and puts it into the queue.
+/// Books an order for the writing half, and puts it into the queue. Fails with `NoMemory` only if the order can't be
+/// copied; then nothing was booked or put.
 fn put<R: Wait>(
     rt: &R,
     queue: &Queue<Order>,
@@ -198,7 +200,7 @@ fn put<R: Wait>(
     Ok(())
 }
 
-/// Puts an order into the queue that the writing half has been told of: an answer may come at once.
+/// Puts an order into the queue after it was booked: its coded frame may come at once.
 fn put_booked<R: Wait>(
     rt: &R,
     queue: &Queue<Order>,

@@ -1,5 +1,4 @@
-//! The writing half of a lane: it takes the orders that were booked, receives their pieces, and writes each when its
-//! turn comes.
+//! The writing half of a lane: it takes the booked orders, receives their coded frames, and writes these in order.
 ghost use Rattle.std.specs.Prelude.{◌≡◌, ◌<◌, ◌≤◌, ◌+◌, ◌*◌, ◌^◌, ◌++◌, ◌⊎◌, [], ℕ, None, List, Option, true, false, length, take, IfOk, IfErr, OnOk};
 ghost use Rattle.std.specs.Io.KnownBytes.{Appends};
 ghost use Rattle.ls_frame.specs.View.Devices.{count_after};
@@ -21,8 +20,8 @@ use ls_pieces::{Coded, Collector, Misfit, Order};
 use ls_queue::{Queue, Taken, WorkerSeat};
 use std::sync::Wait;
 
-/// What the writing half begins with: its seat at the bookings, its source's box, a collector with nothing booked,
-/// where places are given back, and the writer.
+/// The input of the writing half: its seat at the bookings, the inbox of its source, a collector with nothing booked,
+/// the end that gives places back, and the writer.
 #[derive(Drop)]
 pub struct Writing<W> {
     pub seat: WorkerSeat<Order>,
@@ -32,7 +31,8 @@ pub struct Writing<W> {
     pub writer: W,
 }
 
-/// What the writing half answers: its seat, which was answered Done, the writer, and why it stopped, if it did.
+/// The result of the writing half: its seat, whose last take returned Done, the writer, and why writing stopped, if it
+/// did.
 #[derive(Drop)]
 pub struct WritingEnd<W> {
     pub seat: WorkerSeat<Order>,
@@ -40,16 +40,16 @@ pub struct WritingEnd<W> {
     pub result: Result<(), LaneFault>,
 }
 
-/// Why the writing stops.
+/// The reason why writing stops.
 #[derive(Drop)]
 pub enum Halt {
     Fault(LaneFault),
-    /// A piece came of which no order is booked: so many more could be booked before it would be.
+    /// A coded frame came whose order isn't booked: its number is that of the next order plus this.
     NotBooked(u64),
 }
 
-/// Writes the codestreams of the orders that are booked, in order, until the bookings are done. After a fault it takes
-/// the bookings that are left, and writes nothing of them.
+/// Writes the codestreams of the booked orders, in order, until the bookings are done. After a fault it takes the
+/// remaining orders, and writes nothing of them.
 pub fn write_film<W: Outlet, R: Wait, G: Gate>(
     setting: &Setting<'_, R, G>,
     start: Writing<W>,
@@ -81,7 +81,7 @@ pub fn write_film<W: Outlet, R: Wait, G: Gate>(
     }
 }
 
-/// Takes the orders that are left after the writing stopped, and says for which fault it did.
+/// Takes the remaining orders after writing stopped, and returns the fault for which it did.
 fn take_the_rest<R: Wait, G: Gate>(
     setting: &Setting<'_, R, G>,
     seat: &mut WorkerSeat<Order>,
@@ -104,7 +104,7 @@ fn take_the_rest<R: Wait, G: Gate>(
         }
         Halt::NotBooked(ahead) => {
             if drain(rt, bookings, seat, ahead) {
-                // Its order was booked after all, further ahead than there is room for.
+                // Its order was booked after all, but further ahead than the collector has room.
                 LaneFault::NoMemory
             } else {
                 LaneFault::Misfit(Misfit::NotBooked)
@@ -113,7 +113,7 @@ fn take_the_rest<R: Wait, G: Gate>(
     }
 }
 
-/// Writes until the bookings are done, or until it has to stop. Then the box and the places are given up, and nobody
+/// Writes until the bookings are done, or until it has to stop. Then it drops the inbox and the places, so that nobody
 /// waits for them.
 fn write_booked<W: Outlet, R: Wait, G: Gate>(
     setting: &Setting<'_, R, G>,
@@ -148,7 +148,7 @@ fn write_booked<W: Outlet, R: Wait, G: Gate>(
     )
 }
 
-/// The same, over a box, a collector and places that are lent.
+/// As `write_booked`, with the inbox, the collector and the places borrowed.
 fn write_each<W: Outlet, R: Wait, G: Gate>(
     setting: &Setting<'_, R, G>,
     seat: &mut WorkerSeat<Order>,
@@ -182,7 +182,7 @@ fn write_each<W: Outlet, R: Wait, G: Gate>(
     unreachable!()
 }
 
-/// Whether some order waits for its piece; if none does, the next one is booked, unless the bookings are done.
+/// Whether an order waits for its coded frame. If none does, books the next order; false if the bookings are done.
 fn some_waits<R: Wait, G: Gate>(
     setting: &Setting<'_, R, G>,
     seat: &mut WorkerSeat<Order>,
@@ -203,8 +203,8 @@ fn some_waits<R: Wait, G: Gate>(
     book_next(setting, seat, collector)
 }
 
-/// Takes the next order, if the bookings aren't done, and books it in the collector, which has room for it; whether
-/// there was one.
+/// Takes the next order and books it in the collector, which has to have room for it. Whether there was one; false if
+/// the bookings are done.
 fn book_next<R: Wait, G: Gate>(
     setting: &Setting<'_, R, G>,
     seat: &mut WorkerSeat<Order>,
@@ -232,9 +232,9 @@ fn book_next<R: Wait, G: Gate>(
     Ok(true)
 }
 
-/// Books orders up to the one of this number, if there are so many and the collector has room for them.
+/// Books orders up to the one of this number, as far as they exist and the collector has room for them.
 ///
-/// The order of a piece is booked before it can be coded, so this doesn't wait.
+/// An order is booked before it can be coded, so for a coded frame of this film this doesn't wait.
 fn book_until<R: Wait, G: Gate>(
     setting: &Setting<'_, R, G>,
     seat: &mut WorkerSeat<Order>,
@@ -258,7 +258,8 @@ fn book_until<R: Wait, G: Gate>(
     unreachable!()
 }
 
-/// Receives the next piece that a worker answers.
+/// Receives the next coded frame from a worker. Fails with `NoMemory` if a worker couldn't code one, and with `Lost` if
+/// no worker is left.
 fn receive<R: Wait>(rt: &R, inbox: &mut Inbox) -> Result<Coded, Halt>
     ensures halts { IfErr result (λ halt. (halt ≡ Halt.Fault LaneFault.NoMemory) ⊎ (halt ≡ Halt.Fault LaneFault.Lost)) }
 {
@@ -269,7 +270,7 @@ fn receive<R: Wait>(rt: &R, inbox: &mut Inbox) -> Result<Coded, Halt>
     }
 }
 
-/// Gives a piece to the collector.
+/// Passes a coded frame to the collector. If it doesn't fit, the collector is unchanged.
 fn accept(collector: &mut Collector, piece: Coded) -> Result<(), Halt>
     ensures accepted { OnOk result ((misfit_of collector.old piece ≡ None) × (collector.new ≡ after_accept collector.old piece)) }
     ensures halts { IfErr result (λ halt. (collector.new ≡ collector.old) × RefusesPiece collector.old piece halt) }
@@ -282,8 +283,8 @@ fn accept(collector: &mut Collector, piece: Coded) -> Result<(), Halt>
     }
 }
 
-/// Writes the pieces that are there, in order, up to the first that isn't, after `written` bytes; and says how many
-/// there are then. Each gives its place back.
+/// Writes the coded frames that were accepted, in order, up to the first that is missing, after `written` bytes.
+/// Returns the number of bytes written by then. Each frame gives its place back.
 fn write_ready<W: Outlet, R: Wait, G: Gate>(
     setting: &Setting<'_, R, G>,
     collector: &mut Collector,
@@ -308,7 +309,7 @@ fn write_ready<W: Outlet, R: Wait, G: Gate>(
             number: piece.number(),
             bytes: piece.bytes().len() as u64,
         });
-        // Its memory goes before another frame may take its place.
+        // Its memory is freed before another frame may take its place.
         drop(piece);
         returns.give(setting.rt);
     }
@@ -316,7 +317,7 @@ fn write_ready<W: Outlet, R: Wait, G: Gate>(
     Ok(written)
 }
 
-/// Writes a piece after `written` bytes, and says how many there are then.
+/// Writes a coded frame after `written` bytes. Returns the number of bytes written by then.
 fn write_piece<W: Outlet>(writer: &mut W, piece: &Coded, written: u64) -> Result<u64, Halt>
     requires { written + 2 ^ 32 ≤ 2 ^ 64 }
     ensures all { IfOk result (λ now. (now ≡ written + length (coded piece.now.item)) × (now < written + 2 ^ 32)
@@ -332,7 +333,7 @@ fn write_piece<W: Outlet>(writer: &mut W, piece: &Coded, written: u64) -> Result
     }
 }
 
-/// Takes the orders that are left, until the bookings are done; whether there were more than so many.
+/// Takes the remaining orders, until the bookings are done. Whether there were more than `most`.
 fn drain<R: Wait>(rt: &R, bookings: &Queue<Order>, seat: &mut WorkerSeat<Order>, most: u64) -> bool
     requires seat { IsWorkerSeat bookings.now seat.old }
     ensures seat { IsWorkerSeat bookings.now seat.new }

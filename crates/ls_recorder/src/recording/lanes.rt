@@ -1,5 +1,5 @@
-//! A thread for each film's lane: its start and its end. A lane for which none can be made gives its film back as it
-//! was.
+//! A thread for the lane of each film: starting and joining it. A lane for which none can be made returns its film
+//! unchanged.
 ghost use Rattle.std.specs.Prelude.{◌≡◌, ℕ, List, ◌<◌, ◌≤◌, [], length, vec_capacity};
 ghost use Rattle.ls_queue.specs.View.Running.{AreAllSources, sources_of};
 ghost use Rattle.ls_pieces.specs.Collecting.{most_window};
@@ -21,7 +21,7 @@ use std::sync::Wait;
 use std::sync::atomic::{AtomicBool, Ordering};
 use std::thread::{Promise, PromisedHandle, Scope, Threads};
 
-/// What a lane's thread will answer.
+/// The promise of a lane's thread: what its result is about.
 #[derive(Drop)]
 pub struct LaneOf<R: Feed + Drop, W: Outlet + Drop> {
     pub queue: Snapshot<Queue<Order>>,
@@ -37,7 +37,7 @@ impl<R: Feed + Drop, W: Outlet + Drop> Promise<LaneEnd<R, W>> for LaneOf<R, W> {
     ghost kept_by = { λ p end. IsLaneEnd R.remaining R.failed_reads W.contents W.failed_writes p.queue.value p.source p.tuning p.reader.value p.writer.value end };
 }
 
-/// A lane that was started, or that couldn't be.
+/// A lane that runs in its thread, or the result of one for which no thread could be made.
 #[derive(Drop)]
 pub enum Lane<R: Feed + Drop, W: Outlet + Drop> {
     Running(PromisedHandle<LaneEnd<R, W>, LaneOf<R, W>>),
@@ -88,7 +88,7 @@ pub fn start_lanes<
     }
 }
 
-/// Starts a lane in a thread of its own; if none can be made, its film comes back as it was.
+/// Starts a lane in a thread of its own. If none can be made, the result is `Refused`, with its film unchanged.
 fn start_lane<
     's,
     E,
@@ -130,7 +130,7 @@ fn start_lane<
     }
 }
 
-/// A lane, unless its thread was refused.
+/// Runs a lane, unless no thread could be made for it: then ends its source, with `NotStarted`.
 fn begin_lane<Rt: Threads + Wait + Sync, R: Feed + Drop, W: Outlet + Send + Drop, G: Gate>(
     rt: &Rt,
     alloc: Global,
@@ -161,7 +161,7 @@ fn begin_lane<Rt: Threads + Wait + Sync, R: Feed + Drop, W: Outlet + Send + Drop
     }
 }
 
-/// Joins the lanes: their ends, and their tracks.
+/// Joins the lanes: collects the ends of their sources, and their tracks.
 pub fn join_lanes<Rt: Threads, R: Feed + Drop, W: Outlet + Drop>(
     rt: &Rt,
     queue: &Queue<Order>,
@@ -193,7 +193,7 @@ pub fn join_lanes<Rt: Threads, R: Feed + Drop, W: Outlet + Drop>(
     }
 }
 
-/// Joins a lane.
+/// Joins a lane. Returns its result.
 fn join_lane<Rt: Threads, R: Feed + Drop, W: Outlet + Drop>(
     rt: &Rt,
     queue: &Queue<Order>,

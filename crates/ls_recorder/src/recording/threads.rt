@@ -1,4 +1,5 @@
-//! The threads of a recording: one for each worker, and then one for each lane. They are started and joined in a scope.
+//! The threads of a recording: first one for each worker, then one for each lane. They are started and joined in a
+//! scope.
 ghost use Rattle.std.specs.Prelude.{◌≡◌, List, ◌≤◌, [], length, vec_capacity, IfOk, IfErr};
 ghost use Rattle.ls_queue.specs.View.Running.{AreAllSources, EachHasEnd, IsFinished, IsCloser, puts_of, parts_of, sources_of, AreEnds};
 ghost use Rattle.ls_recorder.specs.View.Recordings.{HasRun, MayRun, IsRoom};
@@ -18,19 +19,19 @@ use std::sync::atomic::AtomicBool;
 use std::thread;
 use std::thread::{PromisedHandle, Scope, Threads};
 
-/// What all threads of a recording share.
+/// The values that all threads of a recording share.
 #[derive(Drop)]
 pub struct Shared<'s, Rt, G> {
     pub rt: &'s Rt,
     pub alloc: Global,
     pub queue: &'s Queue<Order>,
     pub gate: &'s G,
-    /// A flag for each source: no thread could be made for its lane.
+    /// A flag for each source: whether no thread could be made for its lane.
     pub refused: &'s [AtomicBool],
     pub window: usize,
 }
 
-/// The seats and boxes of a queue.
+/// The seats of a queue, its closer, and the boxes.
 #[derive(Drop)]
 pub struct Parts {
     pub sources: Vec<SourceSeat<Order>>,
@@ -40,7 +41,7 @@ pub struct Parts {
     pub outboxes: Vec<Outbox>,
 }
 
-/// Room for what comes of the threads.
+/// Empty vectors, with capacity for the handles and the results of the threads.
 #[derive(Drop)]
 pub struct Room<R: Feed + Drop, W: Outlet + Drop> {
     pub working: Vec<PromisedHandle<Worked, WorkerOf>>,
@@ -50,7 +51,7 @@ pub struct Room<R: Feed + Drop, W: Outlet + Drop> {
     pub seats: Vec<WorkerSeat<Order>>,
 }
 
-/// What came of the threads.
+/// The results of the threads.
 #[derive(Drop)]
 pub struct Ran<R, W> {
     pub tracks: Vec<Track<R, W>>,
@@ -58,7 +59,8 @@ pub struct Ran<R, W> {
     pub seats: Vec<WorkerSeat<Order>>,
 }
 
-/// Room for what comes of so many lanes and workers.
+/// Allocates for the handles and the results of `sources` lanes and `workers` workers. Fails only if an allocation
+/// fails.
 pub fn room_for<R: Feed + Drop, W: Outlet + Drop>(
     alloc: Global,
     sources: usize,
@@ -75,7 +77,7 @@ pub fn room_for<R: Feed + Drop, W: Outlet + Drop>(
     })
 }
 
-/// A flag for each source.
+/// A flag for each source, not set. Fails only if an allocation fails.
 pub fn flags_for(alloc: Global, sources: usize) -> Result<Vec<AtomicBool>, AllocError>
     ensures { IfOk result (λ flags. length flags.items ≡ sources) }
 {
@@ -86,7 +88,7 @@ pub fn flags_for(alloc: Global, sources: usize) -> Result<Vec<AtomicBool>, Alloc
     Ok(flags)
 }
 
-/// As `run_threads`, in a scope of its own.
+/// Calls `run_threads` in a scope of its own.
 pub fn run_in_scope<
     Rt: Threads + Wait + Sync,
     R: Feed + Send + Drop,
@@ -112,7 +114,8 @@ pub fn run_in_scope<
     )
 }
 
-/// Runs the workers and the lanes to their ends; gives the films back if a worker can't be started.
+/// Runs the workers and the lanes to their ends. If no thread can be made for a worker, no lane is started, and the
+/// films are returned.
 fn run_threads<
     's,
     E,
@@ -163,7 +166,7 @@ fn run_threads<
     })
 }
 
-/// Ends all sources, before anything was put.
+/// Ends all sources before anything was put.
 fn end_all<Rt: Wait>(
     rt: &Rt,
     queue: &Queue<Order>,
@@ -182,7 +185,7 @@ fn end_all<Rt: Wait>(
     }
 }
 
-/// Ends the queue, of which every source has ended.
+/// Finishes the queue, all of whose sources have ended.
 fn finish_queue<Rt: Wait>(
     rt: &Rt,
     queue: &Queue<Order>,

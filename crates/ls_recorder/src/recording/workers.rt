@@ -1,4 +1,4 @@
-//! A thread for each worker: its start and its end.
+//! A thread for each worker: starting and joining it.
 ghost use Rattle.std.specs.Prelude.{◌≡◌, ◌+◌, ◌≤◌, [], true, length, vec_len, vec_capacity};
 ghost use Rattle.ls_queue.specs.View.Running.{sources_of, IsWorkerSeat, AreWorkerSeats, all_done};
 ghost use Rattle.ls_recorder.specs.View.Recordings.{IsWorked, AreWorking, LeadToAll};
@@ -13,7 +13,7 @@ use std::snapshot::Snapshot;
 use std::sync::Wait;
 use std::thread::{Promise, PromisedHandle, Scope, Threads};
 
-/// What a worker's thread will answer.
+/// The promise of a worker's thread: what its result is about.
 #[derive(Drop)]
 pub struct WorkerOf {
     pub queue: Snapshot<Queue<Order>>,
@@ -25,7 +25,7 @@ impl Promise<Worked> for WorkerOf {
     ghost kept_by = { λ p worked. IsWorked p.queue.value worked };
 }
 
-/// Starts a worker for each seat, as far as threads can be made; whether all were.
+/// Starts a worker for each seat, until no thread can be made. Whether all were started.
 pub fn start_workers<'s, E, Rt: Threads + Wait + Sync, G: Gate>(
     scope: &Scope<'s, E>,
     shared: &Shared<'s, Rt, G>,
@@ -65,7 +65,7 @@ pub fn start_workers<'s, E, Rt: Threads + Wait + Sync, G: Gate>(
     true
 }
 
-/// Joins the workers: their seats.
+/// Joins the workers: collects their seats.
 pub fn join_workers<Rt: Threads>(
     rt: &Rt,
     queue: &Queue<Order>,

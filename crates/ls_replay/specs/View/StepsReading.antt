@@ -11,16 +11,16 @@ use Rattle.ls_replay.specs.declared.steps_file.Line.{Line}
 use Rattle.ls_replay.specs.declared.steps_file.Line.TheVariants as line
 use Rattle.ls_replay.specs.StepsFile.{is_blank, is_end}
 
--- a text ends a line with each LF; after the last there is one line more, perhaps without a byte
+-- each LF of a text ends a line; after the last LF there is one more line, perhaps empty
 abbrev pub lines_of : List ℕ → List (List ℕ)
 lines_of text = slice_split is_end text
 
--- the lines of the text that follows, if one does
+-- the lines of the remaining text, if there is one
 abbrev pub lines_after : Option (Bor (List ℕ)) → List (List ℕ)
 lines_after None = []
 lines_after (Some text) = lines_of text.now
 
--- a bound on how many there are
+-- a bound on the number of these lines
 abbrev pub left_in : Option (Bor (List ℕ)) → ℕ
 left_in None = 0
 left_in (Some text) = length text.now + 1
@@ -37,7 +37,7 @@ after_word text = drop (prefix_len (λ c. not (is_blank c)) (without_blanks text
 abbrev pub is_none : List ℕ → Bool
 is_none word = length word == 0
 
--- the number that a word writes, if it is one of at most `most`
+-- the number that a word writes, if it is at most `most`
 abbrev pub number_of : ℕ → List ℕ → Option ℕ
 number_of most word = (if not (is_none word) && list_all is_digit word && nat_le (decimal_value word) most then Some (decimal_value word) else None)
 
@@ -72,16 +72,16 @@ after_line n line.Blank rest = rest
 after_line n (line.Step step) rest = with_front (step ∷ []) rest
 after_line n line.Other rest = Err n
 
--- the steps of lines of which the first has the number n; or the number of the first line that has words, but is no step
+-- the steps of lines that are numbered from n on; or the number of the first line that has words but is no step
 abbrev pub steps_from : ℕ → List (List ℕ) → Result (List Step) ℕ
 steps_from n [] = Ok []
 steps_from n (text ∷ lines) = after_line n (line_of text) (steps_from (n + 1) lines)
 
--- the steps of a text, or the number of its first line, from 1, that is none
+-- the steps of a text; or the number, from 1, of its first line that has words but is no step
 abbrev pub steps_of : List ℕ → Result (List Step) ℕ
 steps_of text = steps_from 1 (lines_of text)
 
--- a fault says that number
+-- a fault other than NoMemory has that number
 abbrev pub IsReadFault : List ℕ → StepsFault → Type 0
 IsReadFault text (NotAStep n) = steps_of text ≡ Err n
 IsReadFault text NoMemory = Unit {0}

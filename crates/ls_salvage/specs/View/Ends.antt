@@ -1,15 +1,15 @@
--- Where reading ends, and by whose device.
+-- When reading gives up, and whose device failed.
 use Rattle.std.specs.Prelude.{ℕ, ◌^◌, Bool, true, false, Result, Ok, Err}
 use Rattle.ls_salvage.specs.declared.faults.ReadFault.{ReadFault}
 use Rattle.ls_salvage.specs.declared.faults.ReadFault.TheVariants as read
 use Rattle.ls_salvage.specs.declared.faults.SalvageFault.{SalvageFault}
 use Rattle.ls_salvage.specs.declared.faults.SalvageFault.TheVariants.{Io, Output, NoMemory, NoEnd, TooMuch}
 
--- the most bytes of a gap after its first, and of the parts before the last one
+-- after this many bytes the search for a start gives up; after parts of this many bytes a salvage does
 abbrev pub most_place : ℕ
 most_place = 2 ^ 62
 
--- a fault of reading, after so many frames, to a salvage
+-- the fault of a salvage for a fault of reading, after this many frames
 abbrev pub salvage_fault : ℕ → ReadFault → SalvageFault
 salvage_fault frames read.Io = Io frames
 salvage_fault frames read.NoMemory = NoMemory
@@ -27,7 +27,7 @@ abbrev pub failed_read : {X : Type 0} → Result X ReadFault → Bool
 failed_read (Ok x) = false
 failed_read (Err fault) = is_io fault
 
--- whether a salvage failed by its reader's device, and by its writer's
+-- whether a salvage stopped because its reader's device failed; because its writer's did
 abbrev pub blames_reader : SalvageFault → Bool
 blames_reader (Io frames) = true
 blames_reader (Output bytes) = false

@@ -1,4 +1,4 @@
--- The next part of a recording, as the code answers it.
+-- The next part of a recording, as the code returns it.
 use Rattle.std.specs.Prelude.{◌≡◌, ◌≢◌, ℕ, ◌<◌, ◌≤◌, ◌^◌, Bool, true, false, List, [], ◌∷◌, length, drop, Option}
 use Rattle.ls_frame.specs.Picture.{IsFrame}
 use Rattle.ls_frame.specs.View.Known.{Tells, Gave, known}
@@ -15,7 +15,7 @@ use Rattle.ls_salvage.specs.View.Ends.{most_place}
 use Rattle.ls_salvage.specs.Salvage.{Part, frame, gap}
 use Rattle.ls_salvage.specs.View.Salvaged.{FailsBy, AreParts}
 
--- whether memory was refused, which is no fault of the bytes
+-- whether an allocation failed, which is no fault of the bytes
 abbrev pub is_refusal : StreamFault → Bool
 is_refusal stream.Truncated = false
 is_refusal stream.NotSoi = false
@@ -27,17 +27,17 @@ is_refusal (stream.BadCode component) = false
 is_refusal (stream.LeftoverBits component) = false
 is_refusal stream.NoMemory = true
 
--- What was found with the next codestream: its frame, of so many bytes, which were read; or a fault, and the bytes that were read.
+-- What was found where a codestream should begin: a frame, whose codestream of `count` bytes was read; or a fault, and the bytes that were read.
 abbrev pub IsFound : Option (List ℕ) → Option (List ℕ) → Found → Type 0
 IsFound read read' (found.Frame f count) = IsFrame f × (0 < count) × (count < 2 ^ 63) × Gave read read' (λ bytes. (length bytes ≡ count) × Spells bytes f)
 IsFound read read' (found.Fault fault bytes) =
     (fault ≢ stream.NoMemory) × (Tells read → FailsBy fault (known read)) × Gave read read' (λ front. (front ≡ bytes.items) × (0 < length front))
 
--- So many of these bytes were passed over, and the others are left.
+-- `count` of these bytes were passed over, up to the next start after the first, and the others are left.
 abbrev pub HasPassed : List ℕ → ℕ → Option (List ℕ) → Type 0
 HasPassed bytes count read' = Tells read' × (count ≡ to_next bytes) × (known read' ≡ drop count bytes)
 
--- the part that it is
+-- the part as the definitions see it
 abbrev pub part_of : NextPart → Part
 part_of (next.Frame f count) = frame count f
 part_of (next.Gap count fault) = gap count fault
@@ -46,15 +46,15 @@ part_of (next.Gap count fault) = gap count fault
 abbrev pub GavePart : Option (List ℕ) → Option (List ℕ) → Part → Type 0
 GavePart read read' part = Tells read → Tells read' × AreParts (known read) (part ∷ []) (known read')
 
--- A frame within the recorder's limits; or a gap whose fault is of the bytes.
+-- A frame within the recorder's limits; or a gap whose fault is one of the bytes.
 abbrev pub IsLawful : Part → Type 0
 IsLawful (frame count f) = IsFrame f
 IsLawful (gap count fault) = fault ≢ stream.NoMemory
 
--- No codestream begins the bytes, and they are as many as a codestream may have.
+-- No codestream begins the bytes, and there are at least as many as a codestream may have.
 abbrev pub HasNoEnd : List ℕ → Type 0
 HasNoEnd bytes = BeginsWithNone bytes × (most_bytes ≤ length bytes)
 
--- No codestream begins the bytes, and they are as many as are passed over at most.
+-- No codestream begins the bytes, and there are at least 2^62.
 abbrev pub HasLongGap : List ℕ → Type 0
 HasLongGap bytes = BeginsWithNone bytes × (most_place ≤ length bytes)

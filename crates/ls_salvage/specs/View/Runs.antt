@@ -1,4 +1,4 @@
--- What a salvage does to its reader, its writer and what is told of gaps, and why it stops. What is written of frames is a parameter.
+-- What a salvage does with its reader, its writer and the gaps that it reports, and why it stops. What is written of frames is a parameter.
 use Rattle.std.specs.Prelude.{◌≡◌, ◌⊎◌, ℕ, ◌+◌, ◌*◌, ◌<◌, ◌≤◌, ◌^◌, List, [], ◌∷◌, ◌++◌, length, take, Option}
 use Rattle.std.specs.Io.KnownBytes.{Appends}
 use Rattle.std.specs.List.{AllByRecursion}
@@ -19,14 +19,14 @@ use Rattle.ls_salvage.specs.View.Parts.{IsLawful, HasNoEnd, HasLongGap}
 use Rattle.ls_salvage.specs.View.Telling.{TellsMore}
 
 module _ (text : List Picture → List ℕ) (written written' : Option (List ℕ)) (told told' : Option (List Gap)) where
-  -- Of these parts the frames' text was written, and the gaps were told, and nothing else.
+  -- The text of the frames of these parts was written, their gaps were reported, and nothing else.
   pub record HasHandedOn (parts : List Part) : Type 0 where
     pub lawful : AllByRecursion IsLawful parts
     pub wrote : Appends written written' (text (frames_of parts))
     pub tells : TellsMore told told' (gaps_of parts)
 
   module _ (read read' : Option (List ℕ)) where
-    -- The reader is at its end, and of all parts of its bytes the text and the gaps were handed on.
+    -- The reader is at its end, and the text and the gaps of all parts of its bytes were handed on.
     pub record Completes (salvaged : Salvaged) : Type 0 where
       pub parts : List Part
       pub gave : Tells read → Tells read' × (known read' ≡ []) × IsSalvaged (known read) parts
@@ -34,7 +34,7 @@ module _ (text : List Picture → List ℕ) (written written' : Option (List ℕ
       pub frames : salvaged.frames ≡ length (frames_of parts)
       pub gaps : salvaged.gaps ≡ length (gaps_of parts)
 
-    -- So far the reader gave parts, whose text and gaps were handed on.
+    -- The parts that the reader gave so far; their text and gaps were handed on.
     pub record HasRun (progress : Progress) : Type 0 where
       pub parts : List Part
       pub gave : Tells read → Tells read' × AreParts (known read) parts (known read')
@@ -45,17 +45,17 @@ module _ (text : List Picture → List ℕ) (written written' : Option (List ℕ
       pub bytes : progress.written ≡ length (text (frames_of parts))
 
   module _ (read : Option (List ℕ)) where
-    -- The bytes begin with these parts, and of them and what follows P holds.
+    -- The bytes begin with these parts, and P holds of what follows.
     abbrev pub BeginWith : List Part → (List ℕ → Type 0) → Type 0
     BeginWith parts P = Tells read → (rest : List ℕ) × AreParts (known read) parts rest × P rest
 
-    -- It stopped after parts whose text and gaps were handed on; of them and what follows P holds.
+    -- It stopped after parts whose text and gaps were handed on, and P holds of the parts and of what follows.
     pub record StopsAfter (P : List Part → List ℕ → Type 0) : Type 0 where
       pub parts : List Part
       pub begins : BeginWith parts (P parts)
       pub handed_on : HasHandedOn parts
 
-    -- A write failed in the text of the last frame: exactly so many bytes of the text of all went out.
+    -- A write failed in the text of the last frame: exactly the first `bytes` bytes of the text were written.
     pub record StopsAtOutput (bytes : ℕ) : Type 0 where
       pub parts : List Part
       pub count : ℕ
@@ -75,11 +75,12 @@ Anything parts rest = Unit {0}
 abbrev pub BeginsWithOne : List ℕ → Type 0
 BeginsWithOne bytes = (front : List ℕ) × (rest : List ℕ) × (f : Picture) × (bytes ≡ front ++ rest) × Spells front f
 
--- What is next has no end: as many bytes follow as a codestream may have, that none begins.
+-- What follows has no end: no codestream begins it, and it has at least as many bytes as a codestream may have.
 abbrev pub IsEndless : List Part → List ℕ → Type 0
 IsEndless parts rest = HasNoEnd rest
 
--- As many frames as a film has, and one more; 2^62 bytes; or as many follow, that no codestream begins.
+-- There are as many frames as a film may have, and a codestream of another follows; or the parts have at least 2^62 bytes; or no codestream begins
+-- what follows, which has at least 2^62 bytes.
 abbrev pub IsTooMuch : List Part → List ℕ → Type 0
 IsTooMuch parts rest = ((length (frames_of parts) ≡ most_frames) × BeginsWithOne rest) ⊎ ((most_place ≤ bytes_of parts) ⊎ HasLongGap rest)
 
@@ -91,9 +92,9 @@ Stops text written written' told told' read NoMemory = StopsAfter text written w
 Stops text written written' told told' read NoEnd = StopsAfter text written written' told told' read IsEndless
 Stops text written written' told told' read TooMuch = StopsAfter text written written' told told' read IsTooMuch
 
--- ---- one part more
+-- ---- one more part
 
--- counts that leave room for one part more
+-- the counts leave room for one more part
 pub record IsSmall (progress : Progress) : Type 0 where
   pub frames : progress.frames ≤ most_frames
   pub gaps : progress.gaps ≤ progress.place
@@ -102,17 +103,17 @@ pub record IsSmall (progress : Progress) : Type 0 where
 abbrev pub no_progress : Progress
 no_progress = record { frames = 0; gaps = 0; place = 0; written = 0 }
 
--- after a frame of so many bytes, whose chunk of the text has so many
+-- after a frame of `count` bytes, with a chunk of `size` bytes
 abbrev pub after_frame : Progress → ℕ → ℕ → Progress
 after_frame before count size =
     record { frames = before.frames + 1; gaps = before.gaps; place = before.place + count; written = before.written + size }
 
--- after a gap of so many bytes
+-- after a gap of `count` bytes
 abbrev pub after_gap : Progress → ℕ → Progress
 after_gap before count = record { frames = before.frames; gaps = before.gaps + 1; place = before.place + count; written = before.written }
 
 module _ (text : List Picture → List ℕ) (written written' : Option (List ℕ)) (told told' : Option (List Gap)) (before : Progress) where
-  -- One part more was handed on: the chunk of a frame written, or a gap told.
+  -- One more part was handed on: the chunk of a frame was written, or a gap was reported.
   abbrev pub HandsOn : Part → Progress → Type 0
   HandsOn (frame count f) after =
       (chunk : List ℕ) × GrowsBy text before.frames f chunk × (length chunk < 2 ^ 32) × Appends written written' chunk × (told' ≡ told) × (before.frames < most_frames)
@@ -121,7 +122,7 @@ module _ (text : List Picture → List ℕ) (written written' : Option (List ℕ
       (written' ≡ written) × TellsMore told told' (record { frame = before.frames; place = before.place; count = count; fault = fault } ∷ [])
       × (after ≡ after_gap before count)
 
-  -- Why a part wasn't handed on: a part of its chunk alone was written; memory was refused; or it is a frame too much.
+  -- Why a part wasn't handed on: only a front of its chunk was written; an allocation failed; or it is a frame too many.
   abbrev pub StopsHandingOn : Part → SalvageFault → Type 0
   StopsHandingOn part (Io frames) = ⊥
   StopsHandingOn (frame count f) (Output bytes) =

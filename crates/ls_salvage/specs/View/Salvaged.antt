@@ -1,4 +1,4 @@
--- Which bytes are the parts of a salvage: what a fault is of them is said as the reader of codestreams says it.
+-- Which bytes are the parts of a salvage. The first fault of bytes is defined in ls_stream (`IsFirstFault`).
 use Rattle.std.specs.Prelude.{◌≡◌, ℕ, ◌<◌, ◌≤◌, List, [], ◌∷◌, length, take, drop}
 use Rattle.ls_bits.specs.Bits.{AreBytes}
 use Rattle.ls_stream.specs.declared.faults.StreamFault.{StreamFault}
@@ -24,7 +24,7 @@ AreParts bytes (gap count fault ∷ parts) rest = (count ≡ to_next bytes) × F
 abbrev pub IsSalvaged : List ℕ → List Part → Type 0
 IsSalvaged bytes parts = AreParts bytes parts []
 
--- the gap as it stands in the bytes
+-- the gap is at its place in these bytes
 pub record IsGapOf (bytes : List ℕ) (one : Gap) : Type 0 where
   pub within : one.place < length bytes
   pub breaks : FailsBy one.fault (drop one.place bytes)

@@ -1,4 +1,4 @@
--- Looking for the next start, byte by byte: how much of one was just read.
+-- The search for the next start, byte by byte: how much of one was just read.
 use Rattle.std.specs.Prelude.{◌≡◌, ℕ, ◌+◌, true, List, [], ◌∷◌, ◌++◌, length}
 use Rattle.ls_salvage.specs.declared.starts.Matched.{Matched}
 use Rattle.ls_salvage.specs.declared.starts.Matched.TheVariants.{Nothing, SoiBegun, Soi, SoiAndFf}
@@ -13,25 +13,25 @@ held SoiBegun = ff ∷ []
 held Soi = marker StartOfImage
 held SoiAndFf = marker StartOfImage ++ ff ∷ []
 
--- With this byte so many of the bytes held, or all and this one, are passed over, and the rest of them are held.
+-- With this byte, the first of the bytes held are passed over, or all of them and this one; the rest is held.
 pub record GoesOn (matched : Matched) (byte : ℕ) (next : Matched) : Type 0 where
   pub passed : List ℕ
   pub split : held matched ++ byte ∷ [] ≡ passed ++ held next
   pub far : (bytes : List ℕ) → to_start (held matched ++ byte ∷ bytes) ≡ length passed + to_start (held next ++ bytes)
 
--- With this byte a start was read, of four bytes.
+-- With this byte a start of four bytes is complete.
 pub record FoundStart (matched : Matched) (byte : ℕ) : Type 0 where
   pub four : held matched ++ byte ∷ [] ≡ marker StartOfImage ++ (ff ∷ byte ∷ [])
   pub start : (bytes : List ℕ) → is_start (marker StartOfImage ++ (ff ∷ byte ∷ bytes)) ≡ true
 
--- Of the bytes so many were read: those passed over, and then those held. New ones are left.
+-- `count` of the old bytes were read: those passed over, and then those held. The new bytes are left.
 pub record IsPassing (matched : Matched) (count : ℕ) (old new : List ℕ) : Type 0 where
   pub passed : List ℕ
   pub split : old ≡ passed ++ (held matched ++ new)
   pub count_is : count ≡ length passed + length (held matched)
   pub far : to_start old ≡ length passed + to_start (held matched ++ new)
 
--- The reader's bytes up to the first start, or all, were read, and so many they are.
+-- The `count` bytes up to the first start were read, or all bytes if there is none.
 pub record HasSkipped (count : ℕ) (old new : List ℕ) : Type 0 where
   pub passed : List ℕ
   pub split : old ≡ passed ++ new

@@ -1,4 +1,4 @@
--- The bits of spans from a coder's state on, and the state after them.
+-- The bits of spans, coded from a given state on, and the state after them.
 use Rattle.std.specs.Prelude.{ℕ, ◌+◌, Bool, true, false, List, [], ◌∷◌, ◌++◌}
 use Rattle.ls_coding.specs.Interruptions.{ri_type_of, interruption_error}
 use Rattle.ls_coding.specs.Runs.{run_of, run_bits}
@@ -6,7 +6,7 @@ use Rattle.ls_coding.specs.Events.{golomb_bits}
 use Rattle.ls_coding.specs.View.States.{Coding, context_in, regular_error_in, regular_word_in, regular_after, run_after, interruption_word_in, interruption_after}
 use Rattle.ls_stream.specs.Planes.{Plane, at, around, Span, sample_span, run_span}
 
--- a sample of regular mode, and the sample that interrupts a run, of a row and a column
+-- in a row and a column: a sample in regular mode, and the sample that interrupts a run
 abbrev pub sample_bits_in : Plane → ℕ → ℕ → Coding → List Bool
 sample_bits_in plane i j state = golomb_bits state.parameters (regular_word_in state (around plane i j) (at plane i j))
 
@@ -35,12 +35,12 @@ unfoldable pub bits_from : Plane → List Span → Coding → List Bool
 bits_from plane [] state = []
 bits_from plane (span ∷ more) state = span_bits_in plane span state ++ bits_from plane more (span_after plane span state)
 
--- the bits so far, and those of the spans to come
+-- the bits so far, followed by those of the spans to come
 abbrev pub all_from : Plane → List Bool → Coding → List Span → List Bool
 all_from plane bits state more = bits ++ bits_from plane more state
 
--- a scan that is being written: the state of its coding, the room that its bytes go into, the bytes in front of it, how many more
--- there were places for, and its bits so far
+-- a scan that is being written: the `Room` for its bytes, the state of its coding, the bytes before the scan, the capacity for more, and
+-- the scan's bits so far
 pub record Written (R : Type 0) : Type 0 where
   pub room : R
   pub state : Coding

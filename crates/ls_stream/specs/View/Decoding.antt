@@ -1,4 +1,4 @@
--- How the planes that bits may be of grow fewer while the bits are read: until one plane is left, or none.
+-- How the planes that given bits may begin with grow fewer while the bits are read, until one plane is left, or none.
 use Rattle.std.specs.Prelude.{◌≡◌, ◌⊎◌, ◌↔◌, ℕ, ◌+◌, ◌-◌, ◌*◌, ◌<◌, ◌≤◌, Bool, true, false, List, [], ◌++◌, length, slice_index, slice_index_or, pos}
 use Rattle.ls_frame.specs.Parameters.{Parameters}
 use Rattle.ls_coding.specs.View.SignedContexts.{half_context}
@@ -24,7 +24,7 @@ use Rattle.ls_stream.specs.View.BitFaults.{BreaksSpans}
 use Rattle.ls_stream.specs.View.Coded.{bits_from}
 use Rattle.ls_stream.specs.View.LineBuffers.{HoldsLine, ArePadded}
 
--- a plane of this width, of samples of at most maxval, that has a row i
+-- a plane of this width, with samples of at most maxval, that has a row i
 pub record HasSampleRow (maxval width : ℕ) (plane : Plane) (i : ℕ) : Type 0 where
   pub width_is : plane.width ≡ width
   pub whole : (i + 1) * plane.width ≤ length plane.samples
@@ -42,33 +42,34 @@ pub record Place : Type 0 where
 abbrev pub place : ℕ → List ℕ → Coding → List Bool → Place
 place column line state bits = record { column = column; line = line; state = state; bits = bits }
 
--- A plane's row i may be what is read: its samples before the column are in the buffer, with the line above it in the other; and
--- the bits that are left are those of its spans from the column on, of more spans, and the rest.
+-- Row i of a plane may be the row that is read: one buffer holds its samples before the column, the other the line above it; and the bits
+-- that are left are those of its spans from the column on, those of the spans in `more`, and the rest.
 pub record MayBeRead (plane : Plane) (i : ℕ) (above : List ℕ) (at_place : Place) (more : List Span) (rest : List Bool) : Type 0 where
   pub over : HoldsLine plane i above
   pub first : slice_index at_place.line 0 ≡ left plane i 0
   pub before : (c : ℕ) → c < at_place.column → slice_index at_place.line (c + 1) ≡ at plane i c
   pub bits_are : at_place.bits ≡ bits_from plane (row_from plane i at_place.column ++ more) at_place.state ++ rest
 
--- the same planes may be what is read at either place
+-- the same planes, with the same row, may be what is read at either place
 abbrev pub AreSamePlanes : ℕ → ℕ → List ℕ → Place → Place → Type 0
 AreSamePlanes maxval width above one other =
     (plane : Plane) (i : ℕ) → HasSampleRow maxval width plane i → (more : List Span) (rest : List Bool)
     → MayBeRead plane i above one more rest ↔ MayBeRead plane i above other more rest
 
--- no plane may
+-- no plane's row may be what is read
 abbrev pub IsNoPlane : ℕ → ℕ → List ℕ → Place → Type 0
 IsNoPlane maxval width above one =
     (plane : Plane) (i : ℕ) → HasSampleRow maxval width plane i → (more : List Span) (rest : List Bool)
     → MayBeRead plane i above one more rest → ⊥
 
--- a plane's row i stands in a buffer up to a column, with the line above it in the other
+-- a buffer holds row i of a plane up to a column, and the other the line above it
 pub record HoldsRowTo (plane : Plane) (i : ℕ) (above line : List ℕ) (column : ℕ) : Type 0 where
   pub over : HoldsLine plane i above
   pub first : slice_index line 0 ≡ left plane i 0
   pub before : (c : ℕ) → c < column → slice_index line (c + 1) ≡ at plane i c
 
--- From one place the row was read to another: bits that break later break all.
+-- The row was read from one place to another, and a fault of the bits that are left at the second is one of the bits that are left at the
+-- first.
 pub record BreaksLater (maxval width : ℕ) (above : List ℕ) (one other : Place) : Type 0 where
   pub on : one.column ≤ other.column
   pub kept : (k : ℕ) → k ≤ one.column → slice_index other.line k ≡ slice_index one.line k
@@ -76,7 +77,7 @@ pub record BreaksLater (maxval width : ℕ) (above : List ℕ) (one other : Plac
       → BreaksSpans plane (row_from plane i other.column ++ more) other.state other.bits fault
       → BreaksSpans plane (row_from plane i one.column ++ more) one.state one.bits fault
 
--- They break, in a plane whose row was read so far as a column.
+-- From this place on the bits break with this fault, in each plane whose row up to some column is in the buffer.
 pub record BreaksFrom (maxval width : ℕ) (above : List ℕ) (one : Place) (fault : CodeFault) : Type 0 where
   pub column : ℕ
   pub line : List ℕ
@@ -87,8 +88,9 @@ pub record BreaksFrom (maxval width : ℕ) (above : List ℕ) (one : Place) (fau
   pub breaks : (plane : Plane) (i : ℕ) → HasSampleRow maxval width plane i → HoldsRowTo plane i above line column → (more : List Span)
       → BreaksSpans plane (row_from plane i one.column ++ more) one.state one.bits fault
 
--- From one place the row was read to another: what was read is of the planes that it may be of, whatever follows, and bits that break
--- later break all. The buffer has samples, its first place is as it was, and no run is interrupted.
+-- The row was read from one place to another: the same planes may be what is read at either, whatever follows, and a fault of the bits that
+-- are left at the second is one of the bits that are left at the first. The buffer has samples, its first place is unchanged, and no run is
+-- interrupted.
 pub record ReadsOn (width : ℕ) (above : List ℕ) (one other : Place) : Type 0 where
   pub same : AreSamePlanes one.state.parameters.maxval width above one other
   pub later : BreaksLater one.state.parameters.maxval width above one other
@@ -97,40 +99,40 @@ pub record ReadsOn (width : ℕ) (above : List ℕ) (one other : Place) : Type 0
   pub uninterrupted : other.state.interrupted ≡ false
   pub parameters : other.state.parameters ≡ one.state.parameters
 
--- From there it can't be read on: what is left is of no plane, and breaks so.
+-- The row can't be read on from this place: the bits that are left are those of no plane, and break with this fault.
 pub record ReadsNoFurther (width : ℕ) (above : List ℕ) (one : Place) (fault : CodeFault) : Type 0 where
   pub none : IsNoPlane one.state.parameters.maxval width above one
   pub breaks : BreaksFrom one.state.parameters.maxval width above one fault
 
 -- ---- in a scan
 
--- so many rows of a plane stand among samples, in the places of one of `count` components
+-- the first `rows` rows of a plane are among the samples, in the places of one of `count` components
 abbrev pub HoldsRows : Plane → ℕ → ℕ → ℕ → List ℕ → Type 0
 HoldsRows plane rows count component samples =
     (i j : ℕ) → i < rows → j < plane.width → slice_index samples ((i * plane.width + j) * count + component) ≡ at plane i j
 
--- a plane may be what is read: so many rows of it stand among the samples, and the bits that are left are those of the others and the
--- rest
+-- a plane may be the one that is read: its rows before `row` are among the samples, and the bits that are left are those of the other rows
+-- and the rest
 pub record RowsMayBeRead (plane : Plane) (height row count component : ℕ) (samples : List ℕ) (state : Coding) (bits rest : List Bool) : Type 0 where
   pub rows : HoldsRows plane row count component samples
   pub bits_are : bits ≡ bits_from plane (rows_from plane (height - row) row) state ++ rest
 
 -- ---- the calls on the way
 
--- what is left of a column stands in each column from it up to `end`, and each other place is as it was, or has it too
+-- the sample to the left of a column is copied into each column from it up to `end`, and each other place is unchanged or has it too
 pub record AreRepeated (old : List ℕ) (column end : ℕ) (new : List ℕ) : Type 0 where
   pub whole : length new ≡ length old
   pub inside : (c : ℕ) → column ≤ c → c < end → slice_index new (c + 1) ≡ slice_index old column
   pub before : (k : ℕ) → k ≤ column → slice_index new k ≡ slice_index old k
   pub others : (k : ℕ) → (slice_index new k ≡ slice_index old k) ⊎ (slice_index new k ≡ slice_index old column)
 
--- what the line above says of a column's sample: half of its context, and how much Rb is over Rc, or under it
+-- what the line above decides of a column's sample: half of its context, and how much Rb is over Rc, or under it
 pub record IsAbove (p : Parameters) (above : List ℕ) (j : ℕ) (from : FromAbove) : Type 0 where
   pub half_is : from.half ≡ half_context p (slice_index above (j + 1)) (slice_index above j) (slice_index above (j + 2))
   pub rise_is : from.rise ≡ slice_index above (j + 1) - slice_index above j
   pub fall_is : from.fall ≡ slice_index above j - slice_index above (j + 1)
 
--- what a block of it has in a place
+-- the entry of a block at a place
 abbrev pub from_above : Above → ℕ → FromAbove
 from_above block place = record {
   half = slice_index_or block.halves place (pos 0);
@@ -138,21 +140,21 @@ from_above block place = record {
   fall = slice_index block.falls place;
 }
 
--- the block is of the samples from a column up to another
+-- the block is that of the samples from a column up to another
 abbrev pub AreAbove : Parameters → ℕ → ℕ → List ℕ → Above → Type 0
 AreAbove p start end above block = (j : ℕ) → start ≤ j → j < end → IsAbove p above j (from_above block (j - start))
 
--- a run of so many samples, with so many left in the line: one that ends with the line has all of them, one that is interrupted fewer
+-- a run of `count` samples, with `left` in the line: it has all of them if it ends with the line, and fewer if a sample interrupts it
 pub record EndsInLine (left count : ℕ) (interrupted : Bool) : Type 0 where
   pub full : interrupted ≡ false → count ≡ left
   pub short : interrupted ≡ true → count < left
 
--- what the fault of a scan says of its bits
+-- what the fault of a scan means for its bits
 abbrev pub ScanBreaks : Parameters → ℕ → ℕ → List Bool → ScanFault → Type 0
 ScanBreaks p width height bits (Code fault) = BreakInPlane p width height bits fault
 ScanBreaks p width height bits LeftoverBits = HaveLeftoverBits p width height bits
 
--- what is said of it, of a component's scan, by what ends its data
+-- the fault to report for a fault of a component's scan, by what ends its data
 abbrev pub end_fault : ℕ → Stop → StreamFault
 end_fault component Marker = stream.BadCode component
 end_fault component End = stream.Truncated
@@ -173,23 +175,23 @@ pub record Unread : Type 0 where
 
 -- ---- in a frame
 
--- the scan of a component
+-- the data of a component's scan
 abbrev pub scan_in : List (List ℕ) → ℕ → List ℕ
 scan_in scans component = slice_index_or scans component []
 
--- the scans' data are those of all components that stand among these samples, and of no others
+-- the scans' data are those of all components among these samples, and those of no other plane
 pub record AreScansOf (p : Parameters) (width height count : ℕ) (samples : List ℕ) (scans : List (List ℕ)) : Type 0 where
   pub all : length scans ≡ count
   pub coded : (i : ℕ) → i < count → IsCoded p (component_plane width count i samples) (scan_in scans i)
   pub only : (i : ℕ) (plane : Plane) → i < count → IsSamplePlane p.maxval width height plane → IsCoded p plane (scan_in scans i)
       → plane ≡ component_plane width count i samples
 
--- they are those of no planes
+-- no planes have these scans
 abbrev pub NoScans : Parameters → ℕ → ℕ → ℕ → List (List ℕ) → Type 0
 NoScans p width height count scans =
     (planes : ℕ → Plane) → ((i : ℕ) → i < count → IsSamplePlane p.maxval width height (planes i))
     → ((i : ℕ) → i < count → IsCoded p (planes i) (scan_in scans i)) → ⊥
 
--- the picture that a frame header says, with this maxval and these samples
+-- the picture of a frame header, with this maxval and these samples
 abbrev pub picture : FrameHeader → ℕ → List ℕ → Picture
 picture header maxval samples = record { kind = header.kind; width = header.width; height = header.height; maxval = maxval; samples = samples }

@@ -1,5 +1,5 @@
--- How far the codestream at the front of bytes goes by its markers alone, for a reader that takes one codestream at a time: what
--- the segments say, and which of them may stand where, isn't looked at. It is made of the parts that the outline is made of.
+-- How far the codestream at the front of bytes goes by its markers alone, for a reader that takes one codestream at a time. The contents of
+-- segments, and which segments may come where, aren't examined. It is built from the same parts as the outline.
 use Rattle.std.specs.Prelude.{◌≡◌, ◌≢◌, ◌⊎◌, ◌↔◌, ℕ, zero, suc, ◌<◌, ◌≤◌, Bool, true, false, List, [], ◌++◌, length, take, Result, Ok, Err, IfOk, IfErr, MatchResult}
 use Rattle.ls_frame.specs.Picture.{Picture}
 use Rattle.ls_bits.specs.Bits.{AreBytes}
@@ -20,16 +20,16 @@ use Rattle.ls_stream.specs.View.Outlines.{after_data, Outline, outline_at, Decod
 
 -- ---- markers, segments and data up to EOI
 
--- what is left after EOI, or the first fault that the markers show
+-- the bytes after EOI, or the first fault of the markers
 abbrev pub Left : Type 0
 Left = Result (List ℕ) StreamFault
 
--- a segment after its marker, and what follows it
+-- a segment after its marker, and then `next`
 abbrev pub after_segment : (List ℕ → Left) → List ℕ → Left
 after_segment next bytes = contents_at bytes >>= λ contents. next contents.1
 
--- What stands after a marker: nothing after EOI, the header of a scan and its data after SOS, a segment after SOF55, LSE, APPn
--- and COM. Another marker isn't supported.
+-- What comes after a marker: nothing after EOI, the header of a scan and its data after SOS, a segment after SOF55, LSE, APPn and COM.
+-- Other markers aren't supported.
 unfoldable pub after_any : (List ℕ → Left) → Marker → List ℕ → Left
 after_any again StartOfImage bytes = Err (Unsupported (what.Marker (code_of StartOfImage)))
 after_any again EndOfImage bytes = Ok bytes
@@ -40,7 +40,7 @@ after_any again (Application code) bytes = after_segment again bytes
 after_any again Comment bytes = after_segment again bytes
 after_any again (Other code) bytes = Err (Unsupported (what.Marker code))
 
--- Segments and scans in any order, no more than `most`, up to EOI. The length of the bytes is always enough.
+-- Segments and scans in any order, at most `most` of them, up to EOI. The number of bytes is always enough.
 unfoldable pub segments_within : ℕ → List ℕ → Left
 segments_within zero bytes = Err Truncated
 segments_within (suc most) bytes = marker_at bytes >>= λ next. after_any (segments_within most) next.0 next.1
@@ -48,14 +48,14 @@ segments_within (suc most) bytes = marker_at bytes >>= λ next. after_any (segme
 unfoldable pub segments_at : List ℕ → Left
 segments_at bytes = segments_within (length bytes) bytes
 
--- SOI, and then those
+-- SOI, and then segments and scans up to EOI
 unfoldable pub extent_at : List ℕ → Left
 extent_at bytes = start_at bytes >>= segments_at
 
 -- ---- the next codestream
 
--- The bytes of the next codestream, and those after it: as few as show by their markers where it ends or what breaks it, or all
--- that there are.
+-- The bytes of the next codestream, and those after it: the fewest that show by their markers where it ends or what breaks it, or all bytes
+-- if they show neither.
 pub record IsNext (bytes rest : List ℕ) : Type 0 where
   pub some : 0 < length bytes
   pub short : length bytes ≤ most_bytes
@@ -63,22 +63,22 @@ pub record IsNext (bytes rest : List ℕ) : Type 0 where
   pub least : (count : ℕ) → count < length bytes → extent_at (take count bytes) ≡ Err Truncated
   -- they do, or the input ends with them
   pub enough : (extent_at bytes ≢ Err Truncated) ⊎ (rest ≡ [])
-  -- where they are read to EOI, it is their end
+  -- if they are read to EOI, it is their end
   pub to_end : (left : List ℕ) → extent_at bytes ≡ Ok left → left ≡ []
 
--- what was read of a front of bytes, as of all of them: with what is left after the front
+-- what was read of a front of bytes, with the bytes after the front left too
 abbrev pub with_left : {X : Type 0} → List ℕ → Take X → Take X
 with_left rest (Ok found) = Ok (found.0, found.1 ++ rest)
 with_left rest (Err fault) = Err fault
 
 -- ---- faults
 
--- Decoding bytes stops with this fault; TooLarge stands for Truncated where there are more bytes than a codestream may have.
+-- Decoding bytes stops with this fault. TooLarge stands for Truncated if there are more bytes than a codestream may have.
 abbrev pub StopsWith : List ℕ → StreamFault → Type 0
 StopsWith bytes fault = (cause : StreamFault) × (fault ≡ fault_of bytes cause) × DecodingStops (take most_bytes bytes) cause
 
--- What decoding bytes answers: the frame of the codestream at their front, with how many bytes that has; their first fault; or, after
--- a complete legal opening, that memory was refused.
+-- What decoding bytes returns: the frame of the codestream at their front, and the length of that; or their first fault; or NoMemory, only
+-- if they begin with a complete legal opening.
 pub record IsDecoding (bytes : List ℕ) (result : Result Decoded StreamFault) : Type 0 where
   pub ok : IfOk result (λ decoded. (decoded.used ≤ length bytes) × Spells (take decoded.used bytes) decoded.frame)
   pub first : IfErr result (λ fault. (fault ≡ stream_fault.NoMemory) ⊎ IsFirstFault bytes fault)
@@ -86,7 +86,7 @@ pub record IsDecoding (bytes : List ℕ) (result : Result Decoded StreamFault) :
       → MatchResult result (λ decoded. (decoded.frame ≡ f) × (decoded.used ≡ length front)) (λ fault. fault ≡ stream_fault.NoMemory)
   pub memory : IfErr result (λ fault. fault ≡ stream_fault.NoMemory → BeginsWithOpening (take most_bytes bytes))
 
--- It decoded the next codestream of these bytes.
+-- The result is that of decoding the next codestream of these bytes.
 pub record IsDecodingOfNext (bytes : List ℕ) (result : Result Decoded StreamFault) : Type 0 where
   pub codestream : List ℕ
   pub rest : List ℕ
@@ -94,7 +94,7 @@ pub record IsDecodingOfNext (bytes : List ℕ) (result : Result Decoded StreamFa
   pub is_next : IsNext codestream rest
   pub decoding : IsDecoding codestream result
 
--- What decoding answered twice is the same frame of as many bytes, or the same fault; or memory was refused once.
+-- Two results of decoding are alike: the same frame and the same length of its codestream, or the same fault; or at least one is NoMemory.
 abbrev pub AreAlike : Result Decoded StreamFault → Result Decoded StreamFault → Type 0
 AreAlike (Ok one) (Ok other) = (one.frame ≡ other.frame) × (one.used ≡ other.used)
 AreAlike (Ok one) (Err fault) = fault ≡ stream_fault.NoMemory
@@ -117,7 +117,8 @@ failed_feed (Err fault) = is_io fault
 abbrev pub SpellingsHaveExtents : Type 0
 SpellingsHaveExtents = (front rest : List ℕ) (f : Picture) → Spells front f → extent_at (front ++ rest) ≡ Ok rest
 
--- Where an outline is read, its extent is, and as much is left; where the bytes are too few for the one, they are for the other.
+-- If an outline is read, its extent is too, and leaves the same bytes; if the bytes are too few for the outline, they are too few for the
+-- extent.
 abbrev pub OutlinesHaveExtents : Type 0
 OutlinesHaveExtents = (bytes rest : List ℕ) (o : Outline) → outline_at bytes ≡ Ok (o, rest) → extent_at bytes ≡ Ok rest
 
@@ -128,7 +129,7 @@ TooFewForBoth = (bytes : List ℕ) → outline_at bytes ≡ Err Truncated → ex
 abbrev pub OneIsNext : Type 0
 OneIsNext = (bytes rest other left : List ℕ) → IsNext bytes rest → IsNext other left → bytes ++ rest ≡ other ++ left → bytes ≡ other
 
--- The next codestream has the first fault that all bytes from it on have, and they the one that it has.
+-- The next codestream has the same first fault as all bytes from it on.
 abbrev pub NextHasTheFirstFault : Type 0
 NextHasTheFirstFault = (bytes rest : List ℕ) → AreBytes (bytes ++ rest) → IsNext bytes rest → (fault : StreamFault) → IsFirstFault bytes fault ↔ IsFirstFault (bytes ++ rest) fault
 

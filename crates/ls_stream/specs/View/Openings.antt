@@ -1,4 +1,4 @@
--- What stands before the data of a codestream's first scan, once it was read.
+-- An opening that was read: the part of a codestream before the data of its first scan.
 use Rattle.std.specs.Prelude.{◌≡◌, ℕ, ◌<◌, ◌≤◌, List, take, slice_index, Ok}
 use Rattle.ls_frame.specs.declared.frame.Kind.{Kind}
 use Rattle.ls_frame.specs.Picture.{Picture, components, sample_count, most_samples}
@@ -11,7 +11,8 @@ use Rattle.ls_stream.specs.Faults.{BeginsWithOpening}
 use Rattle.ls_stream.specs.View.Outlines.{Outline}
 use Rattle.ls_stream.specs.View.Reading.{opening_at}
 
--- what an opening is seen as: the bytes that it stands in front of, the bits a sample, the form of its frame, and the coding parameters
+-- the value of an opening in contracts: the bytes at whose front it is, the bits per sample, the form of its frame, and the coding
+-- parameters
 pub record Opened : Type 0 where
   pub bytes : List ℕ
   pub precision : ℕ
@@ -20,8 +21,8 @@ pub record Opened : Type 0 where
   pub height : ℕ
   pub parameters : Parameters
 
--- the bytes begin with a complete legal opening, and this is what it says: the bits a sample (P), components, lines (Y) and samples a
--- line (X) of its frame header, and its coding parameters
+-- the bytes begin with a complete legal opening that has these values: bits per sample (P), components, lines (Y) and samples per line (X)
+-- in its frame header, and the coding parameters
 pub record SaysSo (opened : Opened) : Type 0 where
   pub begins : BeginsWithOpening (take most_bytes opened.bytes)
   pub precision : opened.precision ≡ slice_index begins.contents 0
@@ -30,7 +31,7 @@ pub record SaysSo (opened : Opened) : Type 0 where
   pub width : opened.width ≡ field_of begins.contents 3
   pub parameters : opened.parameters ≡ begins.parameters
 
--- it was read off the first bytes, as many as a codestream may have, and left these
+-- it was read from the first bytes, no more than a codestream may have, and left these
 pub record IsOpening (bytes : List ℕ) (header : FrameHeader) (p : Parameters) (rest : List ℕ) : Type 0 where
   pub are : AreBytes bytes
   pub read : opening_at (take most_bytes bytes) ≡ Ok (header, p, rest)
@@ -38,14 +39,14 @@ pub record IsOpening (bytes : List ℕ) (header : FrameHeader) (p : Parameters) 
   pub height : 0 < header.height
   pub few : sample_count header.kind header.width header.height ≤ most_samples
 
--- a frame of the form that an opening says
+-- a frame of the form of an opening
 pub record IsOfForm (opened : Opened) (f : Picture) : Type 0 where
   pub kind : f.kind ≡ opened.kind
   pub width : f.width ≡ opened.width
   pub height : f.height ≡ opened.height
   pub maxval : f.maxval ≡ opened.parameters.maxval
 
--- the picture of that form with these samples
+-- the picture of the form of an opening, with these samples
 abbrev pub picture_of : Opened → List ℕ → Picture
 picture_of opened samples = record {
   kind = opened.kind;
@@ -55,7 +56,7 @@ picture_of opened samples = record {
   samples = samples;
 }
 
--- an outline whose headers say what an opening says
+-- an outline whose headers agree with an opening
 pub record IsOutlineFrom (opened : Opened) (o : Outline) : Type 0 where
   pub precision : o.header.precision ≡ opened.precision
   pub kind : o.header.kind ≡ opened.kind

@@ -1,5 +1,5 @@
--- What a codestream has besides the planes: its frame header, its coding parameters and the data of its scans. How it is read off
--- bytes, which of it says a frame, and what becomes of bytes past the most that a codestream has.
+-- The outline of a codestream: its frame header, its coding parameters and the data of its scans, without the planes. How it is read from
+-- bytes, which frame it fits, and what happens if there are more bytes than a codestream may have.
 use Rattle.std.specs.Prelude.{◌≡◌, ◌⊎◌, ℕ, suc, ◌+◌, ◌≤◌, ◌==◌, nat_lt, if◌then◌else◌, List, [], ◌∷◌, ◌++◌, length, take, drop, Result, Ok, Err}
 use Rattle.ls_frame.specs.Picture.{Picture, IsFrame, components}
 use Rattle.ls_frame.specs.Parameters.{Parameters}
@@ -16,7 +16,7 @@ use Rattle.ls_stream.specs.View.Reading.{◌>>=◌, Take, opening_at, next_scan_
 
 -- ---- the data of a scan
 
--- how many bytes the data at the front has: up to an FF at the end, or one that a byte of 80 or more follows (T.87 C.1)
+-- the number of bytes of the data at the front: up to an FF at the end, or one that is followed by a byte of 80 or more (T.87 C.1)
 unfoldable pub data_length : List ℕ → ℕ
 data_length [] = 0
 data_length (byte ∷ []) = if byte == 255 then 0 else 1
@@ -41,7 +41,7 @@ pub record Outline : Type 0 where
 abbrev pub ids_in : FrameHeader → List ℕ
 ids_in header = take (components header.kind) header.ids
 
--- The data of the scan whose header was read, and of those of the components with these identifiers after it; then EOI.
+-- The data of the scan whose header was read, and the data of the scans of the components with these identifiers; then EOI.
 unfoldable pub scans_at : List ℕ → List ℕ → Take (List (List ℕ))
 scans_at [] bytes = end_at (after_data bytes) >>= λ rest. Ok (data_at bytes ∷ [], rest)
 scans_at (id ∷ later) bytes = do
@@ -49,7 +49,7 @@ scans_at (id ∷ later) bytes = do
   scans ← scans_at later rest
   Ok (data_at bytes ∷ scans.0, scans.1)
 
--- what is left
+-- the bytes that are left
 abbrev pub rest_of : {X : Type 0} → Take X → Result (List ℕ) StreamFault
 rest_of (Ok found) = Ok found.1
 rest_of (Err fault) = Err fault
@@ -63,7 +63,7 @@ outline_at bytes = do
 
 -- ---- where decoding stops
 
--- After the header of a component's scan: its data breaks, or what stands where the next scan's header, or EOI, is due.
+-- After the header of a component's scan: its data breaks, or the header of the next scan, or EOI, can't be read after it.
 abbrev pub ScansStop : Parameters → ℕ → ℕ → ℕ → List ℕ → List ℕ → StreamFault → Type 0
 ScansStop p width height component [] bytes fault =
     BreaksData p width height component (data_at bytes) (stop_at (after_data bytes)) fault
@@ -73,7 +73,7 @@ ScansStop p width height component (id ∷ later) bytes fault =
     ⊎ (IsPlaneData p width height (data_at bytes) × ((next_scan_at id (after_data bytes) ≡ Err fault)
     ⊎ ((rest : List ℕ) × (next_scan_at id (after_data bytes) ≡ Ok rest) × ScansStop p width height (component + 1) later rest fault)))
 
--- Before the data of the first scan, or from there on.
+-- Decoding stops before the data of the first scan, or from there on.
 pub data DecodingStops (bytes : List ℕ) (fault : StreamFault) : Type 0 where
   at_opening : opening_at bytes ≡ Err fault → DecodingStops bytes fault
   at_scans : (header : FrameHeader) (p : Parameters) (rest : List ℕ) → opening_at bytes ≡ Ok (header, p, rest)
@@ -81,21 +81,21 @@ pub data DecodingStops (bytes : List ℕ) (fault : StreamFault) : Type 0 where
 
 -- ---- the most bytes of a codestream
 
--- where a byte is needed after those
+-- the fault if a byte is needed after the most bytes
 abbrev pub past_most : StreamFault → StreamFault
 past_most Truncated = TooLarge
 past_most fault = fault
 
--- a fault of the first bytes, which are all or as many as a codestream may have
+-- the fault of all bytes, given that of the first ones, no more than a codestream may have
 abbrev pub fault_of : List ℕ → StreamFault → StreamFault
 fault_of bytes fault = if nat_lt most_bytes (length bytes) then past_most fault else fault
 
--- The first fault of any bytes: that of the first of them, as many as a codestream may have; TooLarge stands for Truncated if there
--- are more.
+-- The first fault of any bytes: that of the first of them, no more than a codestream may have; TooLarge stands for Truncated if there are
+-- more.
 abbrev pub IsFirstFault : List ℕ → StreamFault → Type 0
 IsFirstFault bytes fault = (cause : StreamFault) × (fault ≡ fault_of bytes cause) × FirstFault (take most_bytes bytes) cause
 
--- what was read of the first bytes, and of what is left of all of them
+-- what was read of the first bytes, with what is left of all bytes
 abbrev pub of_all : {X : Type 0} → List ℕ → Take X → Take X
 of_all bytes (Ok found) = Ok (found.0, found.1 ++ drop most_bytes bytes)
 of_all bytes (Err fault) = Err (fault_of bytes fault)
@@ -106,12 +106,12 @@ outline_of bytes = of_all bytes (outline_at (take most_bytes bytes))
 
 -- ---- frames
 
--- the data of the picture's components from one on
+-- these are the data of the picture's components from this one on
 abbrev pub AreDataOf : Parameters → Picture → ℕ → List (List ℕ) → Type 0
 AreDataOf p f component [] = Unit {0}
 AreDataOf p f component (stuffed ∷ scans) = IsCoded p (plane_of f component) stuffed × AreDataOf p f (suc component) scans
 
--- an outline that says this frame
+-- an outline that fits this frame
 pub record IsOutlineOf (f : Picture) (o : Outline) : Type 0 where
   pub kind : o.header.kind ≡ f.kind
   pub height : o.header.height ≡ f.height
@@ -122,17 +122,17 @@ pub record IsOutlineOf (f : Picture) (o : Outline) : Type 0 where
 
 -- ---- laws
 
--- What is read is a codestream of each frame that it says, if it is no longer than a codestream may be.
+-- If an outline is read, the front is a codestream of each frame that it fits, if it is no longer than a codestream may be.
 abbrev pub OutlinesSpell : Type 0
 OutlinesSpell = (bytes rest : List ℕ) (o : Outline) → AreBytes bytes → outline_at bytes ≡ Ok (o, rest)
     → (front : List ℕ) × (bytes ≡ front ++ rest) × ((f : Picture) → IsFrame f → IsOutlineOf f o → length front ≤ most_bytes → Spells front f)
 
--- The same of any bytes.
+-- The same for any bytes.
 abbrev pub BoundedOutlinesSpell : Type 0
 BoundedOutlinesSpell = (bytes rest : List ℕ) (o : Outline) → AreBytes bytes → outline_of bytes ≡ Ok (o, rest)
     → (front : List ℕ) × (bytes ≡ front ++ rest) × ((f : Picture) → IsFrame f → IsOutlineOf f o → Spells front f)
 
--- A codestream of a frame is read, whatever follows it, and what is read says the frame.
+-- A codestream of a frame has an outline, whatever follows it, and the outline fits the frame.
 abbrev pub SpellingsHaveOutlines : Type 0
 SpellingsHaveOutlines = (front rest : List ℕ) (f : Picture) → Spells front f
     → (o : Outline) × (outline_at (front ++ rest) ≡ Ok (o, rest)) × IsOutlineOf f o
@@ -141,20 +141,20 @@ abbrev pub SpellingsHaveBoundedOutlines : Type 0
 SpellingsHaveBoundedOutlines = (front rest : List ℕ) (f : Picture) → Spells front f
     → (o : Outline) × (outline_of (front ++ rest) ≡ Ok (o, rest)) × IsOutlineOf f o
 
--- Bytes that aren't read break the grammar so.
+-- Bytes without an outline break the grammar, with the fault of reading it.
 abbrev pub OutlineFaultsBreak : Type 0
 OutlineFaultsBreak = (bytes : List ℕ) (fault : StreamFault) → AreBytes bytes → outline_at bytes ≡ Err fault → Breaks bytes fault
 
--- The same of any bytes: the first of them break, as many as a codestream may have.
+-- The same for any bytes: the first of them break, no more than a codestream may have.
 abbrev pub BoundedFaultsBreak : Type 0
 BoundedFaultsBreak = (bytes : List ℕ) (fault : StreamFault) → AreBytes bytes → outline_of bytes ≡ Err fault
     → (cause : StreamFault) × (fault ≡ fault_of bytes cause) × Breaks (take most_bytes bytes) cause
 
--- Where decoding stops, there is the first fault of the bytes.
+-- The fault with which decoding stops is the first fault of the bytes.
 abbrev pub StopsAreFirstFaults : Type 0
 StopsAreFirstFaults = (bytes : List ℕ) (fault : StreamFault) → AreBytes bytes → DecodingStops bytes fault → FirstFault bytes fault
 
--- The first fault of the bytes is where decoding stops.
+-- Decoding stops with the first fault of the bytes.
 abbrev pub FirstFaultsAreStops : Type 0
 FirstFaultsAreStops = (bytes : List ℕ) (fault : StreamFault) → AreBytes bytes → FirstFault bytes fault → DecodingStops bytes fault
 

@@ -1,4 +1,4 @@
--- The places that a reader comes to in a codestream, byte by byte: what is read on from each.
+-- The states of a reader that takes a codestream byte by byte: what is read on from each.
 use Rattle.std.specs.Prelude.{◌≡◌, ◌≢◌, ◌⊎◌, ℕ, suc, ◌≤◌, nat_lt, List, [], ◌∷◌, ◌++◌, length, take, drop, Option, None, Some, Result, Ok, Err, MatchOption, MatchResult, ⊤}
 use Rattle.ls_frame.specs.View.Known.{Tells, known}
 use Rattle.ls_stream.specs.declared.faults.StreamFault.{StreamFault}
@@ -21,7 +21,7 @@ abbrev pub following : Follows → List ℕ → Left
 following follows.Marker bytes = segments_at bytes
 following follows.Data bytes = segments_at (after_data bytes)
 
--- what is read of the bytes from a place on
+-- reading the bytes from a place on
 unfoldable pub read_on : Awaited → List ℕ → Left
 read_on awaited.Start bytes = extent_at bytes
 read_on awaited.StartCode bytes = extent_at (255 ∷ bytes)
@@ -37,12 +37,12 @@ read_on awaited.DataCode bytes = segments_at (after_data (255 ∷ bytes))
 pub record GoesOn (place : Awaited) (byte : ℕ) (next : Awaited) : Type 0 where
   pub on : (bytes : List ℕ) → read_on place (byte ∷ bytes) ≡ read_on next bytes
 
--- with this byte all is read, or it shows a fault
+-- with this byte the codestream ends, or it shows a fault
 pub record Ends (place : Awaited) (byte : ℕ) : Type 0 where
   pub ends : ((bytes : List ℕ) → read_on place (byte ∷ bytes) ≡ Ok bytes)
       ⊎ ((fault : StreamFault) × (fault ≢ Truncated) × ((bytes : List ℕ) → read_on place (byte ∷ bytes) ≡ Err fault))
 
--- what is due after a marker's segment, if it has one
+-- what is due after a marker's segment; `None` if the marker has no segment, or isn't supported
 abbrev pub follows_of : Marker → Option Follows
 follows_of StartOfImage = None
 follows_of EndOfImage = None
@@ -65,7 +65,7 @@ pub record IsPlaceAfter (place : Awaited) (bytes : List ℕ) : Type 0 where
 
 -- ---- what a function of the code gives
 
--- so many bytes were read that none may follow, and they are undecided
+-- the most bytes that a codestream may have were read, and they show neither an end nor a fault
 pub record IsTooLong (old new : List ℕ) : Type 0 where
   pub read : List ℕ
   pub whole : old ≡ read ++ new
@@ -77,7 +77,7 @@ unless_too_large next_fault.TooLarge P = P
 unless_too_large next_fault.Io P = ⊤
 unless_too_large next_fault.NoMemory P = ⊤
 
--- If the bytes are known: those of the next codestream, nothing at the end, or too many of them.
+-- If the bytes are known: those of the next codestream, nothing at the end, or the most bytes with neither an end nor a fault.
 abbrev pub GivesNext : {X : Type 0} → (X → List ℕ) → Option (List ℕ) → Option (List ℕ) → Result (Option X) NextFault → Type 0
 GivesNext view old new result = Tells old → MatchResult result
     (λ next. Tells new × MatchOption next

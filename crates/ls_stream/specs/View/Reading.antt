@@ -1,5 +1,5 @@
--- Reading markers and segments off a list of bytes, part by part: what is read and the bytes after it, or the first fault from
--- the left. What the bytes mean is in `Grammar`, and tied to this by laws.
+-- Reading markers and segments from a list of bytes, part by part: what is read and the bytes after it, or the first fault from the left.
+-- What the bytes mean is defined in `Grammar`; laws connect the two.
 use Rattle.std.specs.Prelude.{◌≡◌, ℕ, zero, suc, ◌+◌, ◌-◌, ◌*◌, ◌&&◌, ◌==◌, Bool, true, false, not, nat_le, if◌then◌else◌, List, [], ◌∷◌, length, take, drop, slice_index, Option, None, Some, Result, Ok, Err}
 use Rattle.std.specs.List.{list_any}
 use Rattle.ls_frame.specs.declared.frame.Kind.{Kind}
@@ -40,7 +40,7 @@ abbrev pub byte_at : List ℕ → Take ℕ
 byte_at [] = Err Truncated
 byte_at (byte ∷ bytes) = Ok (byte, bytes)
 
--- SOI, and what is left
+-- SOI, and the bytes that are left
 unfoldable pub start_at : List ℕ → Result (List ℕ) StreamFault
 start_at bytes = do
   first ← byte_at bytes
@@ -49,14 +49,14 @@ start_at bytes = do
   d8 ← wanted (second.0 == 216) NotSoi
   Ok second.1
 
--- the code of a marker after its FF, and after any more of them
+-- the code of a marker after its FF, and after any more FFs
 unfoldable pub code_at : List ℕ → Take ℕ
 code_at [] = Err Truncated
 code_at (byte ∷ bytes) =
     if byte == 255 then code_at bytes
     else (if byte == 0 then Err BadSegment else Ok (byte, bytes))
 
--- a marker, and fill bytes before it
+-- a marker, after any fill bytes
 unfoldable pub marker_at : List ℕ → Take Marker
 marker_at bytes = do
   first ← byte_at bytes
@@ -66,7 +66,7 @@ marker_at bytes = do
 
 -- ---- segments
 
--- the contents of a segment, by the length that stands before them and counts its own two bytes
+-- the contents of a segment, by the length before them, which counts its own two bytes too
 unfoldable pub contents_at : List ℕ → Take (List ℕ)
 contents_at bytes = do
   some ← wanted (nat_le 2 (length bytes)) Truncated
@@ -79,14 +79,14 @@ contents_at bytes = do
 abbrev pub kind_of_count : ℕ → Result Kind StreamFault
 kind_of_count count = if count == 1 then Ok Gray else (if count == 3 then Ok Color else Err (Unsupported (what.Components count)))
 
--- the identifier of the component that stands at a place, where it is none of those before
+-- the identifier of the component at a place, which must differ from those before
 unfoldable pub id_of : List ℕ → List ℕ → ℕ → Result ℕ StreamFault
 id_of before contents place = do
   another ← wanted (not (list_any (λ id. id == slice_index contents place) before)) BadSegment
   sampled ← wanted (slice_index contents (place + 1) == 17) (Unsupported what.Sampling)
   Ok (slice_index contents place)
 
--- the identifiers of the components, three numbers; those that no component has are 0
+-- the identifiers of the components, three numbers; unused ones are 0
 unfoldable pub ids_of : Kind → List ℕ → Result (List ℕ) StreamFault
 ids_of Gray contents = do
   first ← id_of [] contents 6
@@ -139,8 +139,8 @@ scan_header_of id contents = do
 
 -- ---- miscellaneous segments
 
--- What is read of a part, where a marker is due: no marker if it is a miscellaneous segment, else the marker; the preset
--- parameters that were written last; the bytes that are left.
+-- What is read where a marker is due: no marker if it is a miscellaneous segment, else the marker; the last preset parameters that were
+-- written; the bytes that are left.
 abbrev pub Part : Type 0
 Part = Result (Option Marker × Parameters × List ℕ) StreamFault
 
@@ -148,12 +148,12 @@ Part = Result (Option Marker × Parameters × List ℕ) StreamFault
 abbrev pub skipped_at : Parameters → List ℕ → Part
 skipped_at written bytes = contents_at bytes >>= λ contents. Ok (None, written, contents.1)
 
--- preset parameters, which may not come late: after the header of the first scan
+-- preset parameters, which may not come late, after the header of the first scan
 abbrev pub presets_at : Bool → List ℕ → Part
 presets_at true bytes = Err (Unsupported what.LseLate)
 presets_at false bytes = contents_at bytes >>= λ contents. preset_fields_of contents.0 >>= λ written. Ok (None, written, contents.1)
 
--- what stands after a marker
+-- what comes after a marker
 unfoldable pub after_marker : Bool → Parameters → Marker → List ℕ → Part
 after_marker late written StartOfImage bytes = Err (Unsupported (what.Marker (code_of StartOfImage)))
 after_marker late written EndOfImage bytes = Ok (Some EndOfImage, written, bytes)
@@ -169,16 +169,16 @@ part_at late written bytes = do
   next ← marker_at bytes
   after_marker late written next.0 next.1
 
--- a marker that isn't of a miscellaneous segment, the preset parameters that were written last, the bytes that are left
+-- a marker that isn't of a miscellaneous segment, the last preset parameters that were written, and the bytes that are left
 abbrev pub Ahead : Type 0
 Ahead = Result (Marker × Parameters × List ℕ) StreamFault
 
--- the marker if there is one, or what is read after the segment
+-- the marker if there is one, else what is read after the segment
 abbrev pub unless_marker : (Parameters → List ℕ → Ahead) → Option Marker → Parameters → List ℕ → Ahead
 unless_marker again (Some next) written bytes = Ok (next, written, bytes)
 unless_marker again None written bytes = again written bytes
 
--- Miscellaneous segments, no more than `most`, up to another marker. The length of the bytes is always enough.
+-- Miscellaneous segments, at most `most`, up to another marker. The number of bytes is always enough.
 unfoldable pub ahead_within : ℕ → Bool → Parameters → List ℕ → Ahead
 ahead_within zero late written bytes = Err Truncated
 ahead_within (suc most) late written bytes =
@@ -219,7 +219,7 @@ is_end_of_image (Application code) = false
 is_end_of_image Comment = false
 is_end_of_image (Other code) = false
 
--- the frame header, and the preset parameters that were written before it
+-- the frame header, and the last preset parameters that were written before it
 unfoldable pub frame_header_at : List ℕ → Result (FrameHeader × Parameters × List ℕ) StreamFault
 frame_header_at bytes = do
   next ← ahead_at false no_presets bytes
@@ -228,7 +228,7 @@ frame_header_at bytes = do
   header ← frame_header_of contents.0
   Ok (header, next.1, contents.1)
 
--- the header of a scan of the component with this identifier, and the preset parameters that were written last
+-- the header of a scan of the component with this identifier, and the last preset parameters that were written
 unfoldable pub scan_header_at : Bool → Parameters → ℕ → List ℕ → Take Parameters
 scan_header_at late written id bytes = do
   next ← ahead_at late written bytes
@@ -237,11 +237,11 @@ scan_header_at late written id bytes = do
   header ← scan_header_of id contents.0
   Ok (next.1, contents.1)
 
--- the header of another scan than the first, of the component with this identifier, and what is left
+-- the header of a scan other than the first, of the component with this identifier; and the bytes that are left
 unfoldable pub next_scan_at : ℕ → List ℕ → Result (List ℕ) StreamFault
 next_scan_at id bytes = scan_header_at true no_presets id bytes >>= λ scan. Ok scan.1
 
--- EOI, after the last scan, and what is left
+-- EOI, after the last scan, and the bytes that are left
 unfoldable pub end_at : List ℕ → Result (List ℕ) StreamFault
 end_at bytes = do
   next ← ahead_at true no_presets bytes
@@ -268,7 +268,7 @@ HasOpening bytes = (opening : FrameHeader × Parameters × List ℕ) × (opening
 
 -- ---- what a function of the code gives
 
--- What was returned, seen by view, is what reading gives.
+-- What was returned, seen through `view`, is what reading gives.
 abbrev pub Gives : {X Y : Type 0} → (X → Y) → Result X StreamFault → Result Y StreamFault → Type 0
 Gives view (Ok x) read = read ≡ Ok (view x)
 Gives view (Err fault) read = read ≡ Err fault

@@ -1,4 +1,4 @@
--- The shape of a picture, as the code has it.
+-- The shape of a picture, as a value of the code.
 use Rattle.std.specs.Prelude.{◌≡◌}
 use Rattle.ls_frame.specs.Picture.{Picture, IsFormed, components}
 use Rattle.ls_stream.specs.declared.shape.Shape.{Shape}

@@ -1,4 +1,4 @@
-//! A scan that is being read: its bits, as the events of its rows (T.87 Annex A).
+//! Decoding the events of a scan's rows from its bits (T.87 Annex A).
 ghost use Rattle.std.specs.Prelude.{◌≡◌, ◌<◌, ◌≤◌, ◌++◌, [], ℕ, Bool, List, true, false, length, min, IfOk, IfErr, IfSome, IfNone};
 ghost use Rattle.ls_frame.specs.Parameters.{qbpp_of, limit_of};
 ghost use Rattle.ls_bits.specs.View.Plain.{bits_in, bits_at, IsAt};
@@ -18,17 +18,17 @@ use ls_coding::{Neighbours, Regions, State, SureZeros, whole_context};
 use ls_frame::Presets;
 use std::marker::Model;
 
-/// The state of a scan's coding, and the source of its bits.
+/// The decoder of one scan: the state of its coding, and the source of its bits.
 #[derive(Drop)]
 pub struct Decoder<'a, 'b> {
     presets: Presets,
-    /// The bits of an error (qbpp).
+    /// Bits per mapped error (qbpp).
     qbpp: u32,
     /// The regions of all gradients.
     regions: &'a Regions,
-    /// Which words of regular mode are surely those of samples.
+    /// For each Golomb parameter, which words of regular mode surely stand for samples.
     sure: &'a SureZeros,
-    /// They stand elsewhere, so that the rest of the decoder can be in registers.
+    /// References, so that the rest of the decoder can be in registers.
     state: &'a mut State,
     source: &'a mut BitSource<'b>,
 }
@@ -47,7 +47,7 @@ impl<'a, 'b> Model for Decoder<'a, 'b> {
         × (d.sure.now ≡ d.presets) };
 }
 
-/// A run that was read: how many samples it has, and whether a sample interrupts it before the line's end.
+/// A decoded run: its number of samples, and whether a sample interrupts it before the line's end.
 #[derive(Clone, Copy)]
 pub struct FoundRun {
     pub count: u32,
@@ -55,7 +55,8 @@ pub struct FoundRun {
 }
 
 impl<'a, 'b> Decoder<'a, 'b> {
-    /// The start of a scan, of these bits, with the state of a scan's start.
+    /// Starts a scan of the bits of `source`, with `state`, which must be that of a scan's start. `regions` and `sure`
+    /// must be those of the parameters.
     pub fn new(
         presets: &Presets,
         regions: &'a Regions,
@@ -88,7 +89,7 @@ impl<'a, 'b> Decoder<'a, 'b> {
         &self.presets
     }
 
-    /// How many bits are left; 2^64 - 1 if they are more.
+    /// The number of bits that are left, or 2^64 - 1 if there are more.
     pub fn left(&self) -> u64
         ensures { result ≡ min (length self.now.bits) u64.MAX }
     {
@@ -104,7 +105,7 @@ impl<'a, 'b> Decoder<'a, 'b> {
         self.source.place()
     }
 
-    /// Goes on at a place that was reached by `decode_sample`.
+    /// Continues at a place that `decode_sample` reached.
     #[inline(always)]
     pub fn go_to(&mut self, at: BitPlace)
         requires { IsAt self.old.source at }
@@ -114,7 +115,7 @@ impl<'a, 'b> Decoder<'a, 'b> {
         self.source.go_to(at);
     }
 
-    /// The context of a sample, of which `half` is the part that the line above decides.
+    /// The context of a sample. `half` is the part of it that the line above decides.
     pub fn context_of(&self, half: i16, neighbours: &Neighbours) -> i16
         requires half { half ≡ half_context self.now.state.parameters neighbours.now.b neighbours.now.c neighbours.now.d }
         requires samples { AreSamples self.now.state.parameters.maxval neighbours.now }
@@ -124,9 +125,9 @@ impl<'a, 'b> Decoder<'a, 'b> {
         whole_context(self.regions, half, neighbours.a, neighbours.c)
     }
 
-    /// Reads a sample of regular mode, whose context and median are known, from a place on, and goes to the place after
-    /// it; where the decoder itself stands says nothing then. The bits from there on begin with the word of no other
-    /// sample; of none if this fails.
+    /// Decodes a sample in regular mode, whose context and median are given, at the place `at`, and moves `at` past it.
+    /// The decoder's own place has no meaning then. The bits from the old `at` on begin with the word of no other
+    /// sample; if this fails, with that of none.
     #[inline(always)]
     pub fn decode_sample(
         &mut self,
@@ -167,8 +168,8 @@ impl<'a, 'b> Decoder<'a, 'b> {
         self.state.accept_regular(plan, value)
     }
 
-    /// Reads a run, with `left` samples left in the line (A.7.1). The bits that are left begin with those of no other
-    /// run that ends in the line; of none if this fails.
+    /// Decodes a run, with `left` samples left in the line (A.7.1). The bits before the call begin with those of no
+    /// other run that ends in the line; if this fails, with those of none.
     pub fn decode_run(&mut self, left: u32) -> Result<FoundRun, CodeFault>
         requires some { 0 < left }
         requires uninterrupted { self.old.state.interrupted ≡ false }
@@ -189,13 +190,13 @@ impl<'a, 'b> Decoder<'a, 'b> {
                 interrupted: true,
             });
         }
-        // Taken apart and put together, so that a short run needn't go through memory as this one does.
+        // Unwrapped and wrapped again, so that a short run needn't go through memory as this one does.
         let run = self.decode_any_run(left)?;
         Ok(run)
     }
 
-    /// Reads a run that a sample interrupts if it is short: its bits are seen at once, and stand for fewer samples than
-    /// `left`. How many samples it has. Else nothing is read.
+    /// Decodes a run that a sample interrupts, if it is short: all its bits are in sight at once, and it has fewer
+    /// samples than `left`. Returns its number of samples. Otherwise reads nothing.
     #[inline(always)]
     fn decode_short_run(&mut self, left: u32) -> Option<u32>
         requires uninterrupted { self.old.state.interrupted ≡ false }
@@ -211,7 +212,7 @@ impl<'a, 'b> Decoder<'a, 'b> {
         Some(count)
     }
 
-    /// `decode_run` of any run, bit by bit.
+    /// `decode_run` for any run, bit by bit.
     #[cold]
     #[inline(never)]
     fn decode_any_run(&mut self, left: u32) -> Result<FoundRun, CodeFault>
@@ -246,8 +247,8 @@ impl<'a, 'b> Decoder<'a, 'b> {
         })
     }
 
-    /// Reads the sample that interrupts a run (A.7.2). The bits that are left begin with the word of no other sample
-    /// that may; of none if this fails.
+    /// Decodes the sample that interrupts a run (A.7.2). The bits before the call begin with the word of no other
+    /// sample that may interrupt it; if this fails, with that of none.
     pub fn decode_interruption(&mut self, neighbours: &Neighbours) -> Result<u16, CodeFault>
         requires samples { AreSamples self.old.state.parameters.maxval neighbours.now }
         requires interrupted { self.old.state.interrupted ≡ true }

@@ -1,6 +1,6 @@
-//! What stands around the data of scans, at the front of bytes: headers and EOI, with the miscellaneous segments before
-//! them (T.87 Annex C; T.81 B.2). Each function answers what it read and the bytes that are left, or the first fault
-//! from the left. They allocate nothing.
+//! Reading what surrounds the data of scans: headers and EOI, with the miscellaneous segments before them (T.87 Annex
+//! C; T.81 B.2). Each function reads at the front of bytes, and returns what it read and the bytes that are left, or
+//! the first fault from the left. None of them allocates.
 ghost use Rattle.std.specs.Prelude.{◌≡◌, ◌<◌, ◌≤◌, length, take, IfOk};
 ghost use Rattle.ls_frame.specs.Picture.{sample_count, most_samples};
 ghost use Rattle.ls_stream.specs.Grammar.{parameters_of, most_bytes};
@@ -16,7 +16,7 @@ use crate::segments::read::{
 use crate::segments::{MOST_BYTES, greatest_maxval};
 use ls_frame::{PresetFault, Presets, Tuning};
 
-/// Each parameter by default, as where a codestream has no preset parameters.
+/// Each parameter by default, as in a codestream with no preset parameters.
 const NO_PRESETS: PresetFields = PresetFields {
     maxval: 0,
     tuning: Tuning {
@@ -27,7 +27,7 @@ const NO_PRESETS: PresetFields = PresetFields {
     },
 };
 
-/// The first bytes, as many as a codestream may have.
+/// The first bytes, no more than a codestream may have.
 #[tactic(auto, using(crate::proofs::MostLemmas::first_all))]
 pub fn first_bytes(bytes: &[u8]) -> &[u8]
     ensures { result.now ≡ take most_bytes bytes.now }
@@ -39,8 +39,8 @@ pub fn first_bytes(bytes: &[u8]) -> &[u8]
     }
 }
 
-/// A fault of the first bytes, as many as a codestream may have: where there are more, a byte that is needed after them
-/// is one too many.
+/// The fault of all bytes, given that of `first_bytes`: if there are more, a byte that is needed after these is one too
+/// many, and Truncated becomes TooLarge.
 #[tactic(auto, using(crate::proofs::MostLemmas::past_other))]
 pub fn fault_of(bytes: &[u8], fault: StreamFault) -> StreamFault
     ensures { result ≡ fault_of bytes.now fault }
@@ -54,8 +54,8 @@ pub fn fault_of(bytes: &[u8], fault: StreamFault) -> StreamFault
     }
 }
 
-/// All before the data of the first scan: SOI, the frame header, the coding parameters, and the header of the first
-/// component's scan, with the miscellaneous segments between them.
+/// Reads all before the data of the first scan: SOI, the frame header, the coding parameters, and the header of the
+/// first component's scan, with the miscellaneous segments between them.
 #[tactic(auto, unfolding(crate::specs::View::Reading::opening_at))]
 pub fn read_opening(bytes: &[u8]) -> Result<(FrameHeader, Presets, &[u8]), StreamFault>
     ensures value { Gives (λ x. (x.0, x.1, x.2.now)) result (opening_at bytes.now) }
@@ -72,8 +72,8 @@ pub fn read_opening(bytes: &[u8]) -> Result<(FrameHeader, Presets, &[u8]), Strea
     }
 }
 
-/// The header of the next scan, which must be of the component with this identifier, after miscellaneous segments of
-/// which none is LSE.
+/// Reads the header of the next scan, which must be of the component with this identifier, and the miscellaneous
+/// segments before it, none of which may be LSE.
 #[tactic(auto, unfolding(crate::specs::View::Reading::next_scan_at))]
 pub fn find_next_scan(id: u8, bytes: &[u8]) -> Result<&[u8], StreamFault>
     ensures { Gives (λ rest. rest.now) result (next_scan_at id bytes.now) }
@@ -82,7 +82,7 @@ pub fn find_next_scan(id: u8, bytes: &[u8]) -> Result<&[u8], StreamFault>
     Ok(rest)
 }
 
-/// EOI, after the last scan, and miscellaneous segments before it of which none is LSE.
+/// Reads EOI after the last scan, and the miscellaneous segments before it, none of which may be LSE.
 #[tactic(auto, unfolding(crate::specs::View::Reading::end_at))]
 pub fn find_end(bytes: &[u8]) -> Result<&[u8], StreamFault>
     ensures { Gives (λ rest. rest.now) result (end_at bytes.now) }
@@ -94,7 +94,7 @@ pub fn find_end(bytes: &[u8]) -> Result<&[u8], StreamFault>
     Ok(rest)
 }
 
-/// SOI.
+/// Reads SOI.
 #[tactic(auto, unfolding(crate::specs::View::Reading::start_at))]
 fn read_start(bytes: &[u8]) -> Result<&[u8], StreamFault>
     ensures { Gives (λ rest. rest.now) result (start_at bytes.now) }
@@ -110,7 +110,7 @@ fn read_start(bytes: &[u8]) -> Result<&[u8], StreamFault>
     Ok(rest)
 }
 
-/// The frame header, and the preset parameters that were written last before it.
+/// Reads the frame header. Also returns the last preset parameters that were written before it.
 #[tactic(auto, unfolding(crate::specs::View::Reading::frame_header_at))]
 fn find_frame_header(bytes: &[u8]) -> Result<(FrameHeader, PresetFields, &[u8]), StreamFault>
     ensures value { Gives (λ x. (x.0, fields_of x.1, x.2.now)) result (frame_header_at bytes.now) }
@@ -129,8 +129,8 @@ fn find_frame_header(bytes: &[u8]) -> Result<(FrameHeader, PresetFields, &[u8]),
     Ok((header, written, rest))
 }
 
-/// The header of a scan of the component with this identifier, and the preset parameters that were written last before
-/// it.
+/// Reads the header of a scan of the component with this identifier. Also returns the last preset parameters that were
+/// written before it.
 #[tactic(auto, unfolding(crate::specs::View::Reading::scan_header_at))]
 fn find_scan_header(
     late: bool,
@@ -149,7 +149,8 @@ fn find_scan_header(
     Ok((written, rest))
 }
 
-/// The coding parameters of a precision and of the preset parameters that were written last (T.87 C.2.4.1.1).
+/// The coding parameters that result from a precision and the last preset parameters that were written (T.87
+/// C.2.4.1.1).
 #[tactic(auto, unfolding(crate::specs::Grammar::parameters_of))]
 fn presets_of(precision: u8, written: PresetFields) -> Result<Presets, PresetFault>
     requires some_bits { 2 ≤ precision }
@@ -167,8 +168,8 @@ fn presets_of(precision: u8, written: PresetFields) -> Result<Presets, PresetFau
     }
 }
 
-/// The next marker that isn't of a miscellaneous segment, and the preset parameters that were written last before it:
-/// `written` where no segment before it has any. They may not come `late`: after the header of the first scan.
+/// Reads up to the next marker that isn't of a miscellaneous segment. Also returns the last preset parameters that were
+/// written before it, or `written` if there are none. If `late`, after the header of the first scan, there may be none.
 #[tactic(auto, using(crate::proofs::AheadLemmas::ahead_lemmas))]
 fn find_marker(
     late: bool,
@@ -189,7 +190,7 @@ fn find_marker(
     }
 }
 
-/// A miscellaneous segment, or another marker that may stand before or after one.
+/// Reads a miscellaneous segment, or the marker SOF55, SOS or EOI.
 #[tactic(auto, unfolding(crate::specs::View::Reading::part_at))]
 fn read_part(
     late: bool,
@@ -203,7 +204,7 @@ fn read_part(
     read_after_marker(late, written, marker, rest)
 }
 
-/// The rest of a miscellaneous segment after its marker; nothing after another marker.
+/// Reads the rest of a miscellaneous segment after its marker, or nothing after SOF55, SOS or EOI.
 #[tactic(auto, unfolding(crate::specs::View::Reading::after_marker))]
 fn read_after_marker(
     late: bool,
@@ -226,7 +227,7 @@ fn read_after_marker(
     }
 }
 
-/// A segment that is skipped, after its marker.
+/// Skips a segment, after its marker.
 fn skip_segment(
     written: PresetFields,
     bytes: &[u8],
@@ -238,7 +239,7 @@ fn skip_segment(
     Ok((None, written, rest))
 }
 
-/// Preset parameters, after their marker.
+/// Reads preset parameters, after their marker.
 fn read_written(
     late: bool,
     bytes: &[u8],

@@ -1,4 +1,4 @@
-//! A row of a plane, from left to right, out of its bits (T.87 Annex A).
+//! A row of a plane, decoded from left to right (T.87 Annex A).
 ghost use Rattle.std.specs.Prelude.{◌≡◌, ◌+◌, ◌-◌, ◌<◌, ◌≤◌, ℕ, true, false, length, slice_index, IfOk, IfErr};
 ghost use Rattle.ls_bits.specs.View.Plain.{bits_at, IsAt};
 ghost use Rattle.ls_coding.specs.Contexts.{is_run};
@@ -11,24 +11,25 @@ use ls_bits::{BitPlace, CodeFault};
 use ls_coding::{half_context, median_by};
 use ls_frame::Presets;
 
-/// For how many samples the line above is looked at ahead. Those after a long run would be looked at in vain.
+/// The number of samples for which the line above is evaluated ahead. For those inside a run that is in vain.
 const BLOCK: usize = 64;
 
-/// For how many after a run that passed over the end of its block, since where one run is others are.
+/// That number after a run that passed the end of its block, since another run is likely to follow.
 const SHORT_BLOCK: usize = 16;
 
-/// What the line above says of the samples of a block, each part by itself, so that they are found side by side.
+/// What the line above decides of the samples of a block, in one array per field, so that several can be computed at
+/// once.
 #[derive(Drop)]
 pub struct Above {
-    /// The halves of their contexts.
+    /// The half of each context that the line above decides.
     pub halves: [i16; BLOCK],
-    /// How much Rb is over Rc, or 0.
+    /// Rb - Rc, or 0 if that is negative.
     pub rises: [u16; BLOCK],
-    /// How much Rc is over Rb, or 0.
+    /// Rc - Rb, or 0 if that is negative.
     pub falls: [u16; BLOCK],
 }
 
-/// The same of one sample.
+/// The entry of `Above` for one sample.
 #[derive(Clone, Copy)]
 pub struct FromAbove {
     pub half: i16,
@@ -36,8 +37,8 @@ pub struct FromAbove {
     pub fall: u16,
 }
 
-/// How far a row is read: up to which column, the sample to the left of it, and the place of the next bit. These are in
-/// registers from sample to sample.
+/// How far a row is decoded: the next column, the sample to the left of it, and the place of the next bit. These stay
+/// in registers from sample to sample.
 #[derive(Clone, Copy)]
 struct Reached {
     column: usize,
@@ -45,7 +46,7 @@ struct Reached {
     bits: BitPlace,
 }
 
-/// Reads a row into its line, whose first place is filled; `above` is the line above it.
+/// Decodes a row into its line, whose padding on the left is filled before. `above` is the line above it.
 pub fn decode_row(
     decoder: &mut Decoder,
     above: &[u16],
@@ -75,7 +76,7 @@ pub fn decode_row(
     Ok(())
 }
 
-/// Finds what the line above says of the samples from column `start` up to `end`.
+/// Fills a block for the samples from column `start` up to `end`.
 fn look_above(presets: &Presets, above: &[u16], block: &mut Above, start: usize, end: usize)
     requires above { end + 2 ≤ length above.now }
     requires short { end ≤ start + 64 }
@@ -90,7 +91,7 @@ fn look_above(presets: &Presets, above: &[u16], block: &mut Above, start: usize,
     }
 }
 
-/// What a block has in a place.
+/// The entry of a block at a place.
 fn from_above(block: &Above, place: usize) -> FromAbove
     requires { place < 64 }
     ensures { result ≡ from_above block.now place }
@@ -102,7 +103,7 @@ fn from_above(block: &Above, place: usize) -> FromAbove
     }
 }
 
-/// Reads the spans that begin at the columns from `start` up to `end`, which a block is of, and answers the column after
+/// Decodes the spans that begin in the columns from `start` up to `end`, whose block this is. Returns the column after
 /// them.
 fn decode_block(
     decoder: &mut Decoder,
@@ -138,8 +139,9 @@ fn decode_block(
     Ok(reached.column)
 }
 
-/// Reads the span that begins where the row is read up to, and says how far it is read then; `from` is what the line
-/// above says of the column. Where the decoder itself stands before and after says nothing.
+/// Decodes the span at the column that was reached. Returns how far the row is decoded then. `from` is the block's
+/// entry for the column. Bits are read at the place in `reached`; the decoder's own place has no meaning before and
+/// after.
 #[inline(always)]
 fn decode_span(
     decoder: &mut Decoder,
@@ -188,8 +190,8 @@ fn decode_span(
     })
 }
 
-/// Reads a run that begins at a column, with the sample that interrupts it if there is one, and answers the column
-/// after them.
+/// Decodes a run that begins at a column, and the sample that interrupts it if there is one. Returns the column after
+/// them.
 fn decode_run_span(
     decoder: &mut Decoder,
     above: &[u16],
@@ -218,8 +220,8 @@ fn decode_run_span(
     Ok(end + 1)
 }
 
-/// Writes what is left of a column into each column from it up to `end`: sixteen at once, and so past `end` too, if the
-/// line goes on so far.
+/// Copies the sample to the left of a column into each column from it up to `end`: sixteen at once, and so past `end`
+/// too, if the line is long enough.
 fn repeat_left(line: &mut [u16], column: usize, end: usize)
     requires order { column ≤ end }
     requires inside { end < length line.old }
@@ -239,7 +241,7 @@ fn repeat_left(line: &mut [u16], column: usize, end: usize)
     }
 }
 
-/// Writes a sample into sixteen places.
+/// Writes a sample into sixteen places from `start` on.
 fn put_sixteen(line: &mut [u16], start: usize, value: u16)
     requires { start + 16 ≤ length line.old }
     ensures whole { length line.new ≡ length line.old }

@@ -1,4 +1,4 @@
-//! The scan of one component: the rows of its plane, out of its data (T.87 Annex A).
+//! The scan of one component: the rows of its plane, decoded from its data (T.87 Annex A).
 ghost use Rattle.std.specs.Prelude.{◌≡◌, ◌≢◌, ◌↔◌, ◌+◌, ◌*◌, ◌^◌, ◌<◌, ◌≤◌, ◌++◌, ℕ, false, Bool, List, length, slice_index, vec_len, [], IfOk, IfErr};
 ghost use Rattle.ls_bits.specs.Stuffing.{unstuff};
 ghost use Rattle.ls_bits.specs.Data.{IsData};
@@ -21,13 +21,13 @@ use ls_frame::{Place, Presets};
 /// Why a scan's data isn't that of a plane.
 #[derive(Clone, Copy)]
 pub enum ScanFault {
-    /// The bits break off, or go on as those of no plane do.
+    /// The bits end too early, or go on as those of no plane do.
     Code(CodeFault),
-    /// After the plane's bits there are 16 or more.
+    /// 16 bits or more follow those of the plane.
     LeftoverBits,
 }
 
-/// Reads the plane of a component out of a scan's data, into its places among the samples.
+/// Decodes the plane of a component from a scan's data, into the component's places among the samples.
 pub fn decode_scan<S: Place>(
     presets: &Presets,
     regions: &Regions,
@@ -80,7 +80,8 @@ pub fn decode_scan<S: Place>(
     Ok(())
 }
 
-/// Reads a component's plane, at a scan's start; `above` and `line` are buffers for what a row is read by.
+/// Decodes a component's plane from a scan's start. `above` and `line` are buffers, at least two places longer than a
+/// row.
 fn decode_plane<S: Place>(
     decoder: &mut Decoder,
     above: &mut Vec<u16>,
@@ -125,7 +126,7 @@ fn decode_plane<S: Place>(
     )
 }
 
-/// Reads the rows of one component; `above` and `line` are buffers for what a row is read by.
+/// Decodes the rows of one component, with `above` and `line` as line buffers.
 fn decode_rows<S: Place>(
     decoder: &mut Decoder,
     above: &mut [u16],
@@ -168,8 +169,7 @@ fn decode_rows<S: Place>(
     Ok(())
 }
 
-/// Puts the samples of a row, which stand in a line after its first place, where they belong among those of all
-/// components.
+/// Stores a row, which is in a line from its second place on, into its places among the samples of all components.
 fn store_row<S: Place>(samples: &mut [S], line: &[u16], row: usize, shape: Shape, component: usize)
     requires line { length line.now ≡ shape.width + 2 }
     requires fits { (k : ℕ) → slice_index line.now k ≤ S.most }
@@ -193,7 +193,8 @@ fn store_row<S: Place>(samples: &mut [S], line: &[u16], row: usize, shape: Shape
     }
 }
 
-/// Puts so many samples, which stand in a line after its first place, into the places from `start` on, several at once.
+/// Stores `count` samples, which are in a line from its second place on, into the places from `start` on, several at
+/// once.
 fn put_side_by_side<S: Place>(samples: &mut [S], line: &[u16], start: usize, count: usize)
     requires line { count < length line.now }
     requires fits { (k : ℕ) → slice_index line.now k ≤ S.most }

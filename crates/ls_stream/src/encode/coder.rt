@@ -1,4 +1,4 @@
-//! A scan that is being written: the events of its rows, as bits (T.87 Annex A).
+//! Coding the events of a scan's rows as bits (T.87 Annex A).
 ghost use Rattle.std.specs.Prelude.{◌≡◌, ◌+◌, ◌-◌, ◌*◌, ◌<◌, ◌≤◌, ◌++◌, [], ℕ, true, false, length, replicate};
 ghost use Rattle.ls_frame.specs.Parameters.{qbpp_of, limit_of};
 ghost use Rattle.ls_bits.specs.Stuffing.{stuff};
@@ -18,13 +18,13 @@ use ls_coding::{Mirrored, Neighbours, RunWord, State, Tail, Word};
 use ls_frame::Presets;
 use std::marker::Model;
 
-/// The state of a scan's coding, and the sink of its bits.
+/// The encoder of one scan: the state of its coding, and the sink of its bits.
 #[derive(Drop)]
 pub struct Coder<'a, R: Room> {
     presets: Presets,
-    /// The bits of an error (qbpp).
+    /// Bits per mapped error (qbpp).
     qbpp: u32,
-    /// It stands elsewhere, so that the rest of the coder can be in registers.
+    /// A reference, so that the rest of the coder can be in registers.
     state: &'a mut State,
     sink: RoomSink<R>,
 }
@@ -42,8 +42,8 @@ impl<'a, R: Room> Model for Coder<'a, R> {
 }
 
 impl<'a, R: Room> Coder<'a, R> {
-    /// The start of a scan, with the state of a scan's start, after the bytes that a room has, into the places that it
-    /// has.
+    /// Starts a scan with `state`, which must be that of a scan's start. The scan's bytes are appended to those of
+    /// `bytes`, within its capacity.
     pub fn new(presets: &Presets, state: &'a mut State, bytes: R) -> Coder<'a, R>
         requires state { state.old ≡ state_of presets.now [] }
         ensures parameters { result.state.parameters ≡ presets.now }
@@ -68,7 +68,7 @@ impl<'a, R: Room> Coder<'a, R> {
         &self.presets
     }
 
-    /// Codes a sample of regular mode, of which `mirror` was asked.
+    /// Codes a sample in regular mode, as `mirror` returned it.
     pub fn code_sample(&mut self, mirrored: Mirrored)
         requires may { MayCodeMirrored self.old.state mirrored }
         requires room { Fits (length self.old.bits + limit_of self.old.state.parameters.maxval) self.old.capacity_left }
@@ -126,7 +126,8 @@ impl<'a, R: Room> Coder<'a, R> {
         put_word(&mut self.sink, self.qbpp, word);
     }
 
-    /// The room: the bytes that it had, and after them the bits of the scan, stuffed.
+    /// Ends the scan. Returns the `Room`: the bytes that it had before the scan, and after them the scan's bits,
+    /// stuffed.
     pub fn finish(self) -> R
         ensures bytes { R.items result ≡ self.entry.front ++ stuff self.entry.bits }
         ensures capacity { R.capacity result ≡ length self.entry.front + self.entry.capacity_left }
@@ -136,7 +137,7 @@ impl<'a, R: Room> Coder<'a, R> {
     }
 }
 
-/// A code word, after the bits that are there.
+/// Appends a code word.
 fn put_word<R: Room>(sink: &mut RoomSink<R>, qbpp: u32, word: Word)
     requires golomb { IsGolomb word.k word.glimit qbpp }
     requires value { word.value ≤ most_value qbpp }
@@ -149,7 +150,7 @@ fn put_word<R: Room>(sink: &mut RoomSink<R>, qbpp: u32, word: Word)
     sink.put_golomb(word.k, word.glimit, qbpp, word.value);
 }
 
-/// The bits of a run, after those that are there.
+/// Appends the bits of a run.
 fn put_run<R: Room>(sink: &mut RoomSink<R>, word: RunWord)
     requires tail { TailFits word.tail }
     requires room { Fits (length sink.old.bits + length (word_bits word)) sink.old.capacity_left }
@@ -162,7 +163,7 @@ fn put_run<R: Room>(sink: &mut RoomSink<R>, word: RunWord)
     put_tail(sink, word.tail);
 }
 
-/// So many bits 1.
+/// Appends this number of bits 1.
 fn put_ones<R: Room>(sink: &mut RoomSink<R>, count: u32)
     requires { Fits (length sink.old.bits + count) sink.old.capacity_left }
     ensures bits { sink.new.bits ≡ sink.old.bits ++ replicate count true }
@@ -175,7 +176,7 @@ fn put_ones<R: Room>(sink: &mut RoomSink<R>, count: u32)
     }
 }
 
-/// How a run ends.
+/// Appends the end of a run.
 fn put_tail<R: Room>(sink: &mut RoomSink<R>, tail: Tail)
     requires tail { TailFits tail }
     requires room { Fits (length sink.old.bits + length (tail_bits tail)) sink.old.capacity_left }

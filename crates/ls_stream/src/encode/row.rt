@@ -15,13 +15,13 @@ use ls_bits::Room;
 use ls_coding::{Mirrored, mirror};
 use ls_frame::Presets;
 
-/// How many samples are looked at ahead. Those after a long run would be looked at in vain.
+/// The number of samples whose contexts and predictions are computed ahead. For those inside a run that is in vain.
 const BLOCK: usize = 64;
 
-/// How many are after a run that passed over the end of its block, since where one run is others are.
+/// That number after a run that passed the end of its block, since another run is likely to follow.
 const SHORT_BLOCK: usize = 16;
 
-/// What `mirror` answers of the samples of a block, each part by itself, so that they are found side by side.
+/// What `mirror` returns for the samples of a block, in one array per field, so that several can be computed at once.
 #[derive(Drop)]
 pub struct Block {
     pub contexts: [u16; BLOCK],
@@ -29,7 +29,7 @@ pub struct Block {
     pub samples: [u16; BLOCK],
 }
 
-/// Codes the row whose line, and the line above, are these, each with one place more on the left and on the right.
+/// Codes a row, given its line and the line above, each padded by one place on the left and on the right.
 pub fn code_row<R: Room>(coder: &mut Coder<R>, above: &[u16], line: &[u16], width: usize)
     requires lines { ArePadded coder.old.state.parameters.maxval width above.now line.now }
     requires narrow { width ≤ 65535 }
@@ -60,8 +60,8 @@ pub fn code_row<R: Room>(coder: &mut Coder<R>, above: &[u16], line: &[u16], widt
     }
 }
 
-/// Codes the spans that begin at the columns from `start` up to `end`, which a block is of, and answers the column
-/// after them.
+/// Codes the spans that begin in the columns from `start` up to `end`, whose block this is. Returns the column where
+/// the next span begins; if the last one reaches the line's end, the width or one more.
 fn code_block<R: Room>(
     coder: &mut Coder<R>,
     above: &[u16],
@@ -99,7 +99,8 @@ fn code_block<R: Room>(
     column
 }
 
-/// Codes a sample of regular mode, or a run with the sample that interrupts it, and answers the column after it.
+/// Codes a sample in regular mode, or a run and the sample that interrupts it. Returns the column after it; after a run
+/// up to the line's end one more than the width.
 fn code_span<R: Room>(
     coder: &mut Coder<R>,
     mirrored: Mirrored,
@@ -143,7 +144,7 @@ fn code_span<R: Room>(
     end + 1
 }
 
-/// Makes a block of the samples from column `start` up to `end`.
+/// Fills a block for the samples from column `start` up to `end`.
 fn look_ahead(
     presets: &Presets,
     above: &[u16],
@@ -168,7 +169,7 @@ fn look_ahead(
     }
 }
 
-/// What a block has in a place.
+/// The entry of a block at a place.
 fn mirrored_at(block: &Block, place: usize) -> Mirrored
     requires { place < 64 }
     ensures { result ≡ mirrored_at block.now place }
@@ -180,7 +181,8 @@ fn mirrored_at(block: &Block, place: usize) -> Mirrored
     }
 }
 
-/// The first column from `column` on whose sample isn't that to the left of `column`, or the width.
+/// The end of a run that begins at `column`: the first column from there on whose sample differs from the one to the
+/// left of `column`, or the width.
 fn run_end(line: &[u16], width: usize, column: usize) -> usize
     requires line { length line.now ≡ width + 2 }
     requires inside { column < width }
@@ -197,7 +199,7 @@ fn run_end(line: &[u16], width: usize, column: usize) -> usize
     end
 }
 
-/// Whether the eight samples from a place on have this value.
+/// Whether the eight samples from a place on all have this value.
 fn are_eight(line: &[u16], place: usize, value: u16) -> bool
     requires { place + 8 ≤ length line.now }
     ensures { IsTrue result → (k : ℕ) → k < 8 → slice_index line.now (place + k) ≡ value }

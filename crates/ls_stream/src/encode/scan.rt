@@ -20,8 +20,8 @@ use ls_bits::{Room, take_room};
 use ls_coding::State;
 use ls_frame::{PictureView, Presets, Samples};
 
-/// Codes the scan of a component, after the bytes that a room has, into places that it has. At a sample of the component
-/// that is over maxval it ends and answers false.
+/// Appends the data of a component's scan to a `Room` that has capacity left for it. Stops and returns false at a row
+/// of the component with a sample over maxval.
 pub fn put_scan<R: Room>(
     picture: &PictureView,
     presets: &Presets,
@@ -54,8 +54,8 @@ pub fn put_scan<R: Room>(
     within
 }
 
-/// Codes a component's plane, at a scan's start, up to a sample that is over maxval; `above` and `line` are room for
-/// what a row is coded by.
+/// Codes a component's plane from a scan's start. Stops and returns false at a row with a sample over maxval. `above`
+/// and `line` are buffers, at least two places longer than a row.
 fn code_plane<R: Room>(
     coder: &mut Coder<R>,
     picture: &PictureView,
@@ -92,8 +92,8 @@ fn code_plane<R: Room>(
     )
 }
 
-/// Codes the rows of one component; `above` and `line` are room for what a row is coded by. Before a row with a sample
-/// over maxval it ends and answers false. A row is looked at when it is in the cache.
+/// Codes the rows of one component, with `above` and `line` as line buffers. Stops and returns false before a row with
+/// a sample over maxval. A row is checked just before it is coded, when it is in the cache.
 fn code_rows<R: Room>(
     coder: &mut Coder<R>,
     above: &mut [u16],
@@ -143,7 +143,7 @@ fn code_rows<R: Room>(
     true
 }
 
-/// A row of samples, of `height` rows of `stride` samples each.
+/// One of `height` rows of samples, of `stride` samples each.
 fn row_of(samples: Samples<'_>, row: usize, height: usize, stride: usize) -> Samples<'_>
     requires samples { length (numbers samples) ≡ height * stride }
     requires row { row < height }

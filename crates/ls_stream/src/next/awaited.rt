@@ -1,33 +1,33 @@
-//! What the next byte of a codestream is, by the markers before it.
+//! The role of a codestream's next byte, given the markers before it.
 ghost use Rattle.std.specs.Prelude.{◌≡◌, ◌<◌, ◌≤◌, ◌⊎◌, IfSome, IfNone};
 ghost use Rattle.ls_stream.specs.View.Places.{GoesOn, Ends, follows_of, place_of};
 
 use crate::marker::Marker;
 
-/// What the next byte of a codestream is.
+/// The role of a codestream's next byte.
 #[derive(Clone, Copy)]
 pub enum Awaited {
-    /// The FF of SOI.
+    /// The 0xFF of SOI.
     Start,
     /// The code of SOI.
     StartCode,
-    /// The FF of a marker.
+    /// The 0xFF of a marker.
     Marker,
-    /// The code of a marker, or one more FF before it.
+    /// The code of a marker, or one more 0xFF before it.
     Code,
     /// The upper byte of a segment's length.
     Length(Follows),
     /// The lower byte of a segment's length, after this upper one.
     LengthLow(Follows, u8),
-    /// A byte of a segment's contents, with so many of them after it.
+    /// A byte of a segment's contents, with this number of them after it.
     Contents(Follows, u16),
-    /// A byte of a scan's data, or the FF of the marker after it.
+    /// A byte of a scan's data, or the 0xFF of the marker after it.
     Data,
-    /// The byte after an FF in or after a scan's data.
+    /// The byte after a 0xFF in or after a scan's data.
     DataCode,
 }
 
-/// What follows a segment.
+/// The part after a segment.
 #[derive(Clone, Copy)]
 pub enum Follows {
     Marker,
@@ -36,7 +36,8 @@ pub enum Follows {
 }
 
 impl Awaited {
-    /// How many bytes may be taken at once, of so many at most: of a scan's data all up to an FF, else one.
+    /// The number of bytes, from 1 to `most`, that may be taken at once: `most` in a scan's data, up to a 0xFF, else
+    /// one.
     pub fn most_at_once(self, most: usize) -> usize
         requires { 0 < most }
         ensures some { 0 < result }
@@ -49,8 +50,8 @@ impl Awaited {
         }
     }
 
-    /// What the byte after this one is; `None` where the codestream ends with this byte, or shows by it that its
-    /// markers break.
+    /// The role of the byte after this one. `None` if the codestream ends with this byte, or if the byte shows a fault
+    /// of the markers.
     #[tactic(auto, using(crate::proofs::PlaceLemmas::place_lemmas))]
     pub fn after(self, byte: u8) -> Option<Awaited>
         ensures goes_on { IfSome result (λ next. GoesOn self byte next) }
@@ -106,7 +107,7 @@ impl Awaited {
     }
 }
 
-/// What comes after the byte after an FF that makes a marker with it, or is one more fill byte.
+/// The role of the byte after a marker's code, or after one more 0xFF before it.
 #[tactic(auto, using(crate::proofs::PlaceLemmas::code_lemmas))]
 fn after_code(byte: u8) -> Option<Awaited>
     ensures goes_on { IfSome result (λ next. GoesOn Awaited.Code byte next) }
@@ -124,7 +125,7 @@ fn after_code(byte: u8) -> Option<Awaited>
     }
 }
 
-/// What comes after a segment's length: of 2, which is its own, no contents do.
+/// The role of the byte after a segment's length. A length of 2, which counts only itself, has no contents after it.
 #[tactic(auto, using(crate::proofs::PlaceLemmas::length_lemmas))]
 fn after_length(follows: Follows, high: u8, low: u8) -> Option<Awaited>
     ensures goes_on { IfSome result (λ next. GoesOn (Awaited.LengthLow follows high) low next) }
@@ -140,7 +141,7 @@ fn after_length(follows: Follows, high: u8, low: u8) -> Option<Awaited>
     Some(Awaited::Contents(follows, length - 3))
 }
 
-/// What follows the segment of a marker; `None` where it has none, or isn't supported.
+/// The part after a marker's segment. `None` if the marker has no segment, or isn't supported.
 fn follows_of(marker: Marker) -> Option<Follows>
     ensures { result ≡ follows_of marker }
 {

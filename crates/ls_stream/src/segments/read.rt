@@ -1,5 +1,5 @@
-//! Reading markers and the contents of marker segments (T.87 Annex C; T.81 B.1.1). Each function looks for faults in
-//! the order of the fields; a length that doesn't fit them comes as soon as it shows. They allocate nothing.
+//! Reading markers and the contents of marker segments (T.87 Annex C; T.81 B.1.1). Each function checks the fields in
+//! their order, and reports a length that doesn't fit them as soon as that shows. None of them allocates.
 ghost use Rattle.std.specs.Prelude.{◌≡◌, ◌+◌, ◌*◌, ◌<◌, ◌≤◌, length, IfOk};
 ghost use Rattle.ls_frame.specs.Picture.{components, sample_count, most_samples};
 ghost use Rattle.ls_stream.specs.Segments.{field_of};
@@ -12,28 +12,28 @@ use byteorder::{BigEndian, ByteOrder};
 use ls_frame::frame::MOST_SAMPLES;
 use ls_frame::{Kind, Tuning};
 
-/// What a frame header says of a frame of one or three components: a size within the limits of frames.
+/// A frame header of one or three components, with a size within the limits of frames.
 #[derive(Clone, Copy)]
 pub struct FrameHeader {
-    /// Bits a sample (P), 2 to 16.
+    /// Bits per sample (P), 2 to 16.
     pub precision: u8,
     /// Lines (Y).
     pub height: u16,
-    /// Samples a line (X).
+    /// Samples per line (X).
     pub width: u16,
     pub kind: Kind,
-    /// The identifiers of the components (Ci), all different. Those that no component has are 0.
+    /// The identifiers of the components (Ci), all different. Unused entries are 0.
     pub ids: [u8; 3],
 }
 
-/// Preset coding parameters as they are written: a 0 stands for a default.
+/// Preset coding parameters as they are written: 0 stands for the default.
 #[derive(Clone, Copy)]
 pub struct PresetFields {
     pub maxval: u16,
     pub tuning: Tuning,
 }
 
-/// A marker, and the fill bytes before it (T.81 B.1.1.2).
+/// Reads a marker and the fill bytes before it (T.81 B.1.1.2). Returns the marker and the bytes that are left.
 #[tactic(auto, unfolding(crate::specs::View::Reading::marker_at))]
 pub fn read_marker(bytes: &[u8]) -> Result<(Marker, &[u8]), StreamFault>
     ensures value { Gives (λ x. (x.0, x.1.now)) result (marker_at bytes.now) }
@@ -47,7 +47,7 @@ pub fn read_marker(bytes: &[u8]) -> Result<(Marker, &[u8]), StreamFault>
     Ok((Marker::of_code(code), rest))
 }
 
-/// The contents of a segment, by the length after its marker.
+/// Reads a segment from its length on, after its marker. Returns the contents and the bytes that are left.
 #[tactic(auto, unfolding(crate::specs::View::Reading::contents_at))]
 pub fn read_contents(bytes: &[u8]) -> Result<(&[u8], &[u8]), StreamFault>
     ensures value { Gives (λ x. (x.0.now, x.1.now)) result (contents_at bytes.now) }
@@ -66,7 +66,7 @@ pub fn read_contents(bytes: &[u8]) -> Result<(&[u8], &[u8]), StreamFault>
     Ok((&bytes[2..len], &bytes[len..]))
 }
 
-/// The contents of a frame header (SOF55; T.87 C.2.2), of which the quantization tables aren't looked at.
+/// Reads the contents of a frame header (SOF55; T.87 C.2.2). Quantization tables are ignored.
 #[tactic(auto, unfolding(crate::specs::View::Reading::frame_header_of))]
 pub fn read_frame_header(contents: &[u8]) -> Result<FrameHeader, StreamFault>
     ensures value { Gives (λ header. header) result (frame_header_of contents.now) }
@@ -108,7 +108,7 @@ pub fn read_frame_header(contents: &[u8]) -> Result<FrameHeader, StreamFault>
     })
 }
 
-/// The contents of preset parameters (LSE with ID 1; T.87 C.2.4.1.1).
+/// Reads the contents of an LSE segment with preset parameters (ID 1; T.87 C.2.4.1.1).
 #[tactic(auto, unfolding(crate::specs::View::Reading::preset_fields_of))]
 pub fn read_presets(contents: &[u8]) -> Result<PresetFields, StreamFault>
     ensures { Gives (λ fields. fields_of fields) result (preset_fields_of contents.now) }
@@ -133,8 +133,8 @@ pub fn read_presets(contents: &[u8]) -> Result<PresetFields, StreamFault>
     })
 }
 
-/// The contents of the header of a scan (SOS; T.87 C.2.3): of the component with this identifier alone, with no mapping
-/// table, NEAR 0, not interleaved, with no point transform.
+/// Checks the contents of a scan header (SOS; T.87 C.2.3): it must be of one component, with this identifier, with no
+/// mapping table, NEAR 0, not interleaved, and with no point transform.
 #[tactic(auto, unfolding(crate::specs::View::Reading::scan_header_of))]
 pub fn read_scan_header(contents: &[u8], id: u8) -> Result<(), StreamFault>
     ensures { Gives (λ done. tt) result (scan_header_of id contents.now) }
@@ -166,7 +166,7 @@ pub fn read_scan_header(contents: &[u8], id: u8) -> Result<(), StreamFault>
     Ok(())
 }
 
-/// A byte.
+/// Reads a byte. Returns it and the bytes that are left.
 #[tactic(auto, using(crate::proofs::MarkerLemmas::byte_lemmas))]
 pub fn read_byte(bytes: &[u8]) -> Result<(u8, &[u8]), StreamFault>
     ensures value { Gives (λ x. (x.0, x.1.now)) result (byte_at bytes.now) }
@@ -178,7 +178,7 @@ pub fn read_byte(bytes: &[u8]) -> Result<(u8, &[u8]), StreamFault>
     Ok((bytes[0], &bytes[1..]))
 }
 
-/// The field of two bytes at a place.
+/// The field of two bytes at a place, the upper byte first.
 pub fn field(bytes: &[u8], place: usize) -> u16
     requires { place + 1 < length bytes.now }
     ensures { result ≡ field_of bytes.now place }
@@ -186,7 +186,7 @@ pub fn field(bytes: &[u8], place: usize) -> u16
     BigEndian::read_u16(&bytes[place..])
 }
 
-/// The code of a marker after its FF.
+/// Reads the code of a marker after its 0xFF, and after any more of them. Returns it and the bytes that are left.
 #[tactic(auto, using(crate::proofs::MarkerLemmas::code_lemmas))]
 fn read_code(bytes: &[u8]) -> Result<(u8, &[u8]), StreamFault>
     ensures value { Gives (λ x. (x.0, x.1.now)) result (code_at bytes.now) }
@@ -205,7 +205,7 @@ fn read_code(bytes: &[u8]) -> Result<(u8, &[u8]), StreamFault>
     }
 }
 
-/// The kind of frame that has so many components (Nf).
+/// The kind of frame with this number of components (Nf).
 fn kind_of_count(count: u8) -> Result<Kind, StreamFault>
     ensures { Gives (λ kind. kind) result (kind_of_count count) }
 {
@@ -216,7 +216,7 @@ fn kind_of_count(count: u8) -> Result<Kind, StreamFault>
     }
 }
 
-/// The identifiers of the components.
+/// Reads the identifiers of the components. Unused entries are 0.
 #[tactic(auto, unfolding(crate::specs::View::Reading::ids_of))]
 fn read_ids(kind: Kind, contents: &[u8]) -> Result<[u8; 3], StreamFault>
     requires { 6 + 3 * components kind ≤ length contents.now }
@@ -236,7 +236,8 @@ fn read_ids(kind: Kind, contents: &[u8]) -> Result<[u8; 3], StreamFault>
     }
 }
 
-/// The identifier of the component whose fields start at a place, where no component before it has that too.
+/// Reads the identifier of the component whose fields start at a place. It must differ from those before it, and the
+/// sampling factors must be 1.
 #[tactic(auto, unfolding(crate::specs::View::Reading::id_of))]
 fn read_id(before: &[u8], contents: &[u8], place: usize) -> Result<u8, StreamFault>
     requires { place + 1 < length contents.now }

@@ -1,4 +1,5 @@
-//! Writing marker segments (T.87 Annex C; T.81 B.1), after the bytes that a room has, into places that it has.
+//! Writing marker segments (T.87 Annex C; T.81 B.1). Each function appends to a `Room`, which must have capacity left
+//! for what is appended.
 ghost use Rattle.std.specs.Prelude.{◌≡◌, ◌+◌, ◌-◌, ◌*◌, ◌<◌, ◌≤◌, ◌++◌, length, map, flat_map};
 ghost use Rattle.std.specs.List.{range_with_len};
 ghost use Rattle.ls_frame.specs.Picture.{components};
@@ -15,7 +16,7 @@ use byteorder::{BigEndian, ByteOrder};
 use ls_bits::Room;
 use ls_frame::{PictureView, Presets};
 
-/// A marker.
+/// Appends a marker.
 pub fn put_marker<R: Room>(bytes: &mut R, marker: Marker)
     requires room { length (R.items bytes.old) + 2 ≤ R.capacity bytes.old }
     ensures bytes { R.items bytes.new ≡ R.items bytes.old ++ marker_bytes marker }
@@ -27,7 +28,7 @@ pub fn put_marker<R: Room>(bytes: &mut R, marker: Marker)
     bytes.put_byte(marker.code());
 }
 
-/// The frame header: the bits of a sample (P), the lines, the samples of a line, and the components, numbered from 1
+/// Appends the frame header: bits per sample (P), lines (Y), samples per line (X), and the components, numbered from 1
 /// (SOF55; T.87 C.2.2).
 #[tactic(auto, unfolding(crate::specs::Segments::header_contents))]
 pub fn put_frame_header<R: Room>(bytes: &mut R, picture: &PictureView)
@@ -48,7 +49,7 @@ pub fn put_frame_header<R: Room>(bytes: &mut R, picture: &PictureView)
     put_components(bytes, count);
 }
 
-/// Preset parameters, only where they have to be written (`needs_presets`).
+/// Appends preset parameters, only if they have to be written (`needs_presets`).
 pub fn put_presets_if_needed<R: Room>(bytes: &mut R, presets: &Presets)
     requires room { length (R.items bytes.old) + presets_length presets.now ≤ R.capacity bytes.old }
     ensures bytes { R.items bytes.new ≡ R.items bytes.old ++ miscellaneous_bytes (written_presets presets.now) }
@@ -61,7 +62,7 @@ pub fn put_presets_if_needed<R: Room>(bytes: &mut R, presets: &Presets)
     }
 }
 
-/// How many bytes that takes.
+/// The number of bytes that `put_presets_if_needed` appends.
 pub fn presets_length(presets: &Presets) -> u64
     ensures value { result ≡ presets_length presets.now }
     ensures small { result ≤ 15 }
@@ -69,7 +70,7 @@ pub fn presets_length(presets: &Presets) -> u64
     if needs_presets(presets) { 15 } else { 0 }
 }
 
-/// The header of a scan of one component, of this identifier (SOS; T.87 C.2.3).
+/// Appends the header of a scan of one component, the one with this identifier (SOS; T.87 C.2.3).
 #[tactic(auto, unfolding(crate::specs::Segments::scan_contents))]
 pub fn put_scan_header<R: Room>(bytes: &mut R, id: u8)
     requires room { length (R.items bytes.old) + 10 ≤ R.capacity bytes.old }
@@ -86,7 +87,7 @@ pub fn put_scan_header<R: Room>(bytes: &mut R, id: u8)
     put_field(bytes, 0);
 }
 
-/// A field of two bytes.
+/// Appends a field of two bytes, the upper byte first.
 fn put_field<R: Room>(bytes: &mut R, field: u16)
     requires room { length (R.items bytes.old) + 2 ≤ R.capacity bytes.old }
     ensures bytes { R.items bytes.new ≡ R.items bytes.old ++ two_bytes field }
@@ -100,14 +101,15 @@ fn put_field<R: Room>(bytes: &mut R, field: u16)
     bytes.put_byte(two[1]);
 }
 
-/// P: the bits of a picture's samples.
+/// P: the bits per sample of a picture.
 fn precision(picture: &PictureView) -> u8
     ensures { result ≡ bpp_of picture.now.maxval }
 {
     Presets::default_of(picture.maxval()).bpp() as u8
 }
 
-/// Components, numbered from 1, with their sampling factors.
+/// Appends the fields of this number of components: identifiers from 1 on, sampling factors 1, and quantization table
+/// 0.
 fn put_components<R: Room>(bytes: &mut R, count: u8)
     requires few { count ≤ 3 }
     requires room { length (R.items bytes.old) + 3 * count ≤ R.capacity bytes.old }
@@ -123,7 +125,7 @@ fn put_components<R: Room>(bytes: &mut R, count: u8)
     }
 }
 
-/// Whether a codestream has to write its parameters: they aren't the defaults of the greatest MAXVAL of their
+/// Whether a codestream has to contain its parameters: they aren't the defaults of the greatest MAXVAL of their
 /// precision.
 fn needs_presets(presets: &Presets) -> bool
     ensures { result ≡ needs_presets presets.now }
@@ -131,7 +133,7 @@ fn needs_presets(presets: &Presets) -> bool
     *presets != Presets::default_of(greatest_maxval(presets.bpp()))
 }
 
-/// Preset parameters (LSE with ID 1; T.87 C.2.4.1.1).
+/// Appends preset parameters (LSE with ID 1; T.87 C.2.4.1.1).
 #[tactic(auto, unfolding(crate::specs::Segments::presets_contents))]
 fn put_presets<R: Room>(bytes: &mut R, presets: &Presets)
     requires room { length (R.items bytes.old) + 15 ≤ R.capacity bytes.old }
@@ -146,7 +148,7 @@ fn put_presets<R: Room>(bytes: &mut R, presets: &Presets)
     put_parameters(bytes, presets);
 }
 
-/// MAXVAL, the thresholds and RESET.
+/// Appends MAXVAL, the thresholds and RESET.
 fn put_parameters<R: Room>(bytes: &mut R, presets: &Presets)
     requires room { length (R.items bytes.old) + 10 ≤ R.capacity bytes.old }
     ensures bytes { let p = presets.now in R.items bytes.new ≡ R.items bytes.old

@@ -1,8 +1,8 @@
-//! The sums of what CharLS writes of the pictures that the tests draw; made by `interop/sums`.
+//! The checksums of what CharLS writes for the pictures that the tests draw; made by `interop/sums`.
 use crate::testing::Picture;
 
-/// MAXVAL, T1, T2, T3 and RESET, or four zeros for the defaults; the length and the FNV-1a of the codestreams of
-/// every kind of picture in every small size, joined.
+/// MAXVAL, T1, T2, T3 and RESET, or four zeros for the defaults; the length and the FNV-1a of the joined codestreams of
+/// every kind of picture in every small size.
 pub const SMALL: &[(u16, [u16; 4], u64, u64)] = &[
     (3, [2, 2, 2, 64], 951, 0xe5664b6725d5ad15),
     (3, [2, 2, 3, 3], 960, 0xa05a2a352a73fe3b),
@@ -69,8 +69,8 @@ pub const LARGE: &[(u8, u16, u16, u16, Picture, u64, u64)] = &[
     ),
 ];
 
-/// The last sample of a line of 65,535 samples, all others of which are 0: with 0 the longest run there is, with 7 the
-/// longest that is interrupted, so that RUNindex comes to its end; the length and the FNV-1a of the codestream.
+/// The last sample of a line of 65,535 samples whose others are 0: with 0 the longest run, with 7 the longest that is
+/// interrupted, so that RUNindex reaches its end; the length and the FNV-1a of the codestream.
 pub const LONGEST_RUNS: &[(u16, u64, u64)] = &[
     (0, 32, 0x8c4407164e0de18a),
     (7, 34, 0x00a21c43d106f800),

@@ -3,7 +3,7 @@ use super::Parts;
 use ls_frame::Kind;
 use std::alloc::{AllocError, Global};
 
-/// The bytes in front of a scan, of gray samples with the default parameters of maxval 255.
+/// The bytes before the scan's data, for gray samples with the default parameters of maxval 255.
 pub fn head(width: u16, height: u16) -> [u8; 25] {
     let [high, low] = height.to_be_bytes();
     let [wide, narrow] = width.to_be_bytes();
@@ -15,7 +15,7 @@ pub fn head(width: u16, height: u16) -> [u8; 25] {
 
 pub const END: [u8; 2] = [0xff, 0xd9];
 
-/// What a plane shows, its maxval, its width, its samples, and its scan with the default parameters.
+/// The name of a plane, its maxval, its width, its samples, and its scan with the default parameters.
 pub type Plane = (&'static str, u16, u16, &'static [u16], &'static [u8]);
 
 pub const PLANES: &[Plane] = &[
@@ -63,12 +63,13 @@ pub const PLANES: &[Plane] = &[
     ("one column", 255, 1, &[5, 5, 6], &[0x16, 0x24]),
 ];
 
-/// How many lines of this width these samples are. All planes here have fewer than 65536.
+/// The number of lines of this width that these samples make. All planes here have fewer than 65536.
 pub fn height_of(width: u16, samples: &[u16]) -> u16 {
     (samples.len() / usize::from(width).max(1) % 65536) as u16
 }
 
-/// The codestream of a gray frame of maxval 255 with this scan, and with this between the frame header and the scan.
+/// The codestream of a gray frame of maxval 255 with this scan, and with these bytes between the frame header and the
+/// scan.
 pub fn around_scan(
     alloc: Global,
     width: u16,
@@ -85,7 +86,7 @@ pub fn around_scan(
     Ok(bytes)
 }
 
-/// A frame, its codestream with the default parameters, and the bound of this.
+/// A frame, its codestream with the default parameters, and the bound on its length.
 pub type Codestream<'a> = (Parts<'a>, &'a [u8], u64);
 
 pub const CODESTREAMS: &[Codestream<'static>] = &[
@@ -147,7 +148,7 @@ pub const CODESTREAMS: &[Codestream<'static>] = &[
     ),
 ];
 
-/// T1, T2, T3 and RESET of a tuning, and the bytes between the frame header and the scan header that it makes of a lone
+/// T1, T2, T3 and RESET of a tuning, and the bytes that it puts between the frame header and the scan header of a lone
 /// zero of maxval 255.
 pub const TUNINGS: &[([u16; 4], &[u8])] = &[
     ([3, 7, 21, 64], &[]),
@@ -174,7 +175,7 @@ pub const BLACK: &[u8] = &[
     0xda, 0x00, 0x08, 0x01, 0x01, 0x00, 0x00, 0x00, 0x00, 0x80, 0xff, 0xd9,
 ];
 
-/// That of a white one.
+/// The codestream of a white pixel, likewise.
 pub const WHITE: &[u8] = &[
     0xff, 0xd8, 0xff, 0xf7, 0x00, 0x0b, 0x08, 0x00, 0x01, 0x00, 0x01, 0x01, 0x01, 0x11, 0x00, 0xff,
     0xda, 0x00, 0x08, 0x01, 0x01, 0x00, 0x00, 0x00, 0x00, 0x40, 0xff, 0xd9,

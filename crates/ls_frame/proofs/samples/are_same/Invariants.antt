@@ -1,4 +1,4 @@
--- What is compared yet, and the rest, decide together.
+-- The samples compared so far and the rest together decide the result.
 use Rattle.std.proofs.Common.{◌≡◌, ◌==◌, ◌&&◌, drop}
 use lib.Pointwise.{pointwise}
 use Rattle.ls_frame.proofs.samples.are_same.Given as goal

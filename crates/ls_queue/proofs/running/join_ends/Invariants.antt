@@ -7,7 +7,7 @@ use Rattle.ls_queue.specs.View.Account.{ending_view, IsCounted}
 use Rattle.ls_queue.specs.View.Running.{IsEndedAt, has_end, parts_of}
 use Rattle.ls_queue.proofs.running.join_ends.Given as goal
 
--- the passes so far are joined, and their sources are counted; the others are left
+-- the passes so far are joined and their sources counted; the others remain
 abbrev pub invariant-loop-ended : goal.invariant-loop-ended
 invariant-loop-ended g l = record {
   pass : IsSeatAt (sends_on l.channel.entrance) l.pass;

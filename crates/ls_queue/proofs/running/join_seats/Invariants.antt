@@ -6,7 +6,7 @@ use Rattle.ls_queue.specs.View.Account.{with_takes}
 use Rattle.ls_queue.specs.View.Running.{IsWorkerAt, takes_of}
 use Rattle.ls_queue.proofs.running.join_seats.Given as goal
 
--- the passes so far are joined; with those that are left it is all of them
+-- the passes so far are joined; with the remaining ones they are all
 abbrev pub invariant-loop-seats : goal.invariant-loop-seats
 invariant-loop-seats g l = record {
   pass : IsSeatAt (sends_on l.channel.entrance) l.pass;

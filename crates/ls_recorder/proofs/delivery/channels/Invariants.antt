@@ -2,7 +2,7 @@ use Rattle.std.proofs.Common.{◌≡◌, length}
 use Rattle.ls_recorder.specs.View.Boxes.{AreFrom, HaveRoom, LeadTo}
 use Rattle.ls_recorder.proofs.delivery.channels.Given as goal
 
--- a box for each source so far
+-- a box for each source so far, with a door to each
 abbrev pub invariant-loop-source : goal.invariant-loop-source
 invariant-loop-source l = record {
   many : length l.inboxes.items ≡ l.source;

@@ -4,7 +4,7 @@ use Rattle.ls_recorder.specs.declared.delivery.ends.Door.{Door}
 use Rattle.ls_recorder.specs.View.Boxes.{LeadAlike}
 use Rattle.ls_recorder.proofs.delivery.copies.Given as goal
 
--- the copies of the doors so far; the doors lead where they led
+-- the copies of the doors so far; the doors still lead to the same inboxes
 abbrev pub invariant-loop-place : goal.invariant-loop-place
 invariant-loop-place l = record {
   many : length l.copies.items ≡ l.place;

@@ -4,7 +4,7 @@ use Rattle.ls_recorder.specs.declared.delivery.ends.Outbox.{Outbox}
 use Rattle.ls_recorder.specs.View.Boxes.{LeadAlike}
 use Rattle.ls_recorder.proofs.delivery.outboxes.Given as goal
 
--- the outboxes of the workers so far; the doors lead where they led
+-- the outboxes made so far; the doors still lead to the same inboxes
 abbrev pub invariant-loop-worker : goal.invariant-loop-worker
 invariant-loop-worker l = record {
   many : length l.outboxes.items ≡ l._worker;

@@ -4,7 +4,7 @@ use Rattle.ls_queue.specs.View.Running.{jobs_taken}
 use Rattle.ls_recorder.proofs.working.work.Goals.{then-is_ok, else-is_ok}
 use Rattle.ls_recorder.proofs.working.work.Goals as goal
 
--- at most one counted more, of one taken more
+-- one more job was taken, and at most one more is counted
 one-more : (n k k' m m' top : ℕ) → m' ≡ m + 1 → k' ≡ min (k + 1) top → n + k ≤ m → n + k' ≤ m'
 one-more n k k' m m' top size is before = omega arith
 

@@ -2,7 +2,7 @@ use Rattle.std.proofs.Common.{◌+◌, ◌≤◌, length}
 use Rattle.ls_queue.specs.View.Running.{IsWorkerSeat, jobs_taken, sources_of}
 use Rattle.ls_recorder.proofs.working.work.Given as goal
 
--- each job so far was coded at most once, and answered at most once
+-- no more jobs are counted as coded, or as undelivered, than were taken
 abbrev pub invariant-loop : goal.invariant-loop
 invariant-loop g l = record {
   next : (goal.iterator-loop g).can_next l.iterator';

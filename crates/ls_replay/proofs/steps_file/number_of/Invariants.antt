@@ -3,7 +3,7 @@ use Rattle.std.specs.List.{list_all}
 use Rattle.ls_frame.specs.Netpbm.{is_digit, decimal_value}
 use Rattle.ls_replay.proofs.steps_file.number_of.Given as goal
 
--- the value so far and the digits that are left make up the word's, and all before are digits
+-- the value so far, continued by the remaining digits, is the word's; and all bytes before are digits
 abbrev pub invariant-loop-byte : goal.invariant-loop-byte
 invariant-loop-byte l = record {
   value : decimal_value l.word ≡ fold (λ m digit. 10 * m + (digit - 48)) l.value (drop l.byte-index l.word);

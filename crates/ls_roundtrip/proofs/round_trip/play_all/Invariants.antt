@@ -3,7 +3,7 @@ use Rattle.ls_roundtrip.specs.View.RoundTrips.{IsPlayed}
 use Rattle.ls_recorder.proofs.ListLemmas.{ZippedSoFar}
 use Rattle.ls_roundtrip.proofs.round_trip.play_all.Given as goal
 
--- the first tracks are played back, and the others are left
+-- the first tracks are played back, and the others remain
 abbrev pub invariant-tracks : goal.invariant-tracks
 invariant-tracks g l = record {
   tracks : ZippedSoFar IsPlayed l.fn.tracks.items l.tracks.items l.played_back.items;

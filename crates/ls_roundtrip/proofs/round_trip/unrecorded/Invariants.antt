@@ -3,7 +3,7 @@ use Rattle.ls_roundtrip.specs.View.RoundTrips.{IsUnrecorded}
 use Rattle.ls_recorder.proofs.ListLemmas.{ZippedSoFar}
 use Rattle.ls_roundtrip.proofs.round_trip.unrecorded.Given as goal
 
--- the first films are made ready, and the others are left
+-- the first films are prepared, and the others remain
 abbrev pub invariant-loop-alloc : goal.invariant-loop-alloc
 invariant-loop-alloc l = record {
   films : ZippedSoFar IsUnrecorded l.fn.films.items l.films.items l.made.items;

@@ -5,7 +5,7 @@ use Rattle.ls_salvage.specs.View.Skipping.{held}
 use Rattle.ls_salvage.proofs.SkipLemmas.{HasGivenPassed}
 use Rattle.ls_salvage.proofs.starts.skip_to_start.Given as goal
 
--- the bytes so far were passed over, but for those that are matched
+-- the bytes so far were passed over, except those that are matched
 abbrev pub invariant-steps : goal.invariant-steps
 invariant-steps g l = record {
   failures : g.R.Feed.failed_reads (inner_reader l.reader) ≡ g.R.Feed.failed_reads (inner_reader l.fn.reader);

@@ -8,7 +8,7 @@ use Rattle.ls_stream.proofs.AlikeLaws.{of_some, match_some, decoded_alike}
 use Rattle.ls_stream.proofs.FrameReadingLemmas.{are_bytes}
 use Rattle.ls_stream.proofs.laws.what_is_taken_is_decoded_alike.Goals as goal
 
--- what was taken, and what was left
+-- what was taken, and what is left
 gave : (c : goal.After-drop-codestream) → (c.args.bytes.now ≡ c.deref.result.now ++ c.next_stream.new.reader.now) × IsNext c.deref.result.now c.next_stream.new.reader.now
 gave c =
     let all : List ℕ = c.args.bytes.now in

@@ -3,7 +3,7 @@ use Rattle.ls_frame.specs.View.Known.{known}
 use Rattle.ls_frame.specs.View.Reading.{digits_at}
 use Rattle.ls_frame.proofs.netpbm.header.read_digits.Given as goal
 
--- what is left reads on from the number so far as everything did from the start
+-- reading the bytes left from the number so far gives the same as reading all from the start
 abbrev pub invariant-loop-byte : goal.invariant-loop-byte
 invariant-loop-byte g l =
     let remaining = g.R.Read.remaining in

@@ -3,7 +3,7 @@ use Rattle.ls_frame.specs.View.Known.{known}
 use Rattle.ls_frame.specs.View.Reading.{gap_at}
 use Rattle.ls_frame.proofs.netpbm.header.read_gap.Given as goal
 
--- what is left reads on, in a comment or not, as everything did from the start
+-- reading the bytes left, in a comment or not, gives the same as reading all from the start
 abbrev pub invariant-loop-byte : goal.invariant-loop-byte
 invariant-loop-byte g l =
     let remaining = g.R.Read.remaining in

@@ -3,7 +3,7 @@ use Rattle.ls_frame.specs.View.Known.{known}
 use Rattle.ls_frame.specs.View.Reading.{byte_count, are_within, with_front, samples_at}
 use Rattle.ls_frame.proofs.netpbm.raster.read_samples.Given as goal
 
--- the samples so far, and what is held and left to read after them, are what the whole is
+-- the samples so far, and those read from the bytes held and left, are the samples of the raster
 abbrev pub invariant-chunks : goal.invariant-chunks
 invariant-chunks g l =
     let remaining = g.R.Read.remaining in

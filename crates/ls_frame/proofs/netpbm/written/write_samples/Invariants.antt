@@ -3,7 +3,7 @@ use Rattle.std.specs.Io.KnownBytes.{Appends}
 use Rattle.ls_frame.specs.Canonical.{raster_bytes}
 use Rattle.ls_frame.proofs.netpbm.written.write_samples.Given as goal
 
--- the samples so far went out
+-- the samples so far were written
 abbrev pub invariant-chunks : goal.invariant-chunks
 invariant-chunks g l = record {
   within : l.done ≤ length l.samples;

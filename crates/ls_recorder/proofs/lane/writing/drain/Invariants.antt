@@ -4,7 +4,7 @@ use Rattle.ls_pieces.specs.Orders.{Ordered}
 use Rattle.ls_recorder.specs.View.Halves.{orders_taken}
 use Rattle.ls_recorder.proofs.lane.writing.drain.Given as goal
 
--- the orders so far
+-- the orders taken so far
 abbrev pub invariant-loop : goal.invariant-loop
 invariant-loop g l = record {
   seat : IsWorkerSeat l.bookings l.seat;

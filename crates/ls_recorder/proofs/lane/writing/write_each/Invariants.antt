@@ -4,7 +4,7 @@ use Rattle.ls_recorder.specs.View.Lanes.{IsWriting}
 use Rattle.ls_recorder.specs.View.Halves.{orders_taken, HasTaken}
 use Rattle.ls_recorder.proofs.lane.writing.write_each.Given as goal
 
--- the orders so far were taken and booked, and their codestreams were written as far as the collector doesn't hold them
+-- the orders so far were taken and booked, and the codestreams of those that the collector doesn't hold were written
 abbrev pub invariant-loop : goal.invariant-loop
 invariant-loop g l = record {
   taken : HasTaken l.setting.bookings.now l.setting.window l.seat l.collector;

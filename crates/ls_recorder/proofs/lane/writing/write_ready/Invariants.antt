@@ -3,7 +3,7 @@ use Rattle.ls_pieces.specs.Collecting.{booked}
 use Rattle.ls_recorder.specs.View.Lanes.{GoesOn}
 use Rattle.ls_recorder.proofs.lane.writing.write_ready.Given as goal
 
--- the pieces so far were written
+-- the coded frames so far were written
 abbrev pub invariant-loop-piece : goal.invariant-loop-piece
 invariant-loop-piece g l = record {
   goes_on : GoesOn (g.W.Write.contents l.fn.writer) l.fn.collector l.fn.written (g.W.Write.contents l.writer) l.collector l.written;

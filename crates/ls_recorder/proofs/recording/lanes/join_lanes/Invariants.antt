@@ -3,7 +3,7 @@ use Rattle.ls_frame.specs.declared.tuning.Tuning.{Tuning}
 use Rattle.ls_recorder.specs.View.Recordings.{AreStarted, AreDone}
 use Rattle.ls_recorder.proofs.recording.lanes.join_lanes.Given as goal
 
--- the lanes of the first films have ended, and those of the others are left
+-- the lanes of the first films have ended, and those of the others remain
 abbrev pub invariant-loop-lanes : goal.invariant-loop-lanes
 invariant-loop-lanes g l = record {
   films : (films : List (g.row.R.Denot × g.row.W.Denot × Tuning)) → AreStarted g.R.Read.remaining g.R.Feed.failed_reads g.W.Write.contents g.W.Outlet.failed_writes l.queue 0 films l.fn.lanes.items

@@ -5,7 +5,7 @@ use Rattle.ls_recorder.specs.View.Recordings.{AreStarted}
 use Rattle.ls_recorder.specs.View.Boxes.{AreFrom}
 use Rattle.ls_recorder.proofs.recording.lanes.start_lanes.Given as goal
 
--- the first films have their lanes; what is left of all is in order from the next source on
+-- the first films have their lanes; the films, seats and inboxes that remain are in order from the next source on
 abbrev pub invariant-loop-films : goal.invariant-loop-films
 invariant-loop-films g l = record {
   done : List (g.row.R.Denot × g.row.W.Denot × Tuning);

@@ -2,7 +2,7 @@ use Rattle.std.proofs.Common.{◌≡◌, ℕ, ◌+◌, ◌<◌, true, length, ve
 use Rattle.ls_queue.specs.View.Running.{AreNewSources, AreEnds, has_end, sources_of}
 use Rattle.ls_recorder.proofs.recording.threads.end_all.Given as goal
 
--- the first sources have ended; the seats of the others are left
+-- the first sources have ended; the seats of the others remain
 abbrev pub invariant-loop-seats : goal.invariant-loop-seats
 invariant-loop-seats g l = record {
   left : AreNewSources l.queue.channel (length l.ended.items) l.seats.items;

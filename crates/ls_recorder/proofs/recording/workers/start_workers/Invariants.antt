@@ -3,7 +3,7 @@ use Rattle.ls_queue.specs.View.Running.{AreWorkerSeats, sources_of}
 use Rattle.ls_recorder.specs.View.Recordings.{AreWorking, LeadToAll}
 use Rattle.ls_recorder.proofs.recording.workers.start_workers.Given as goal
 
--- the workers of the first seats are started; the seats of the others are left, each with an outbox
+-- the workers of the first seats are started; the seats of the others remain, each with an outbox
 abbrev pub invariant-loop-rt : goal.invariant-loop-rt
 invariant-loop-rt g l =
     AreWorkerSeats l.shared.queue.now l.seats.items

@@ -2,7 +2,7 @@ use Rattle.std.proofs.Common.{◌≡◌, ◌≤◌, length}
 use Rattle.ls_stream.specs.View.Reading.{code_at}
 use Rattle.ls_stream.proofs.segments.read.read_code.Given as goal
 
--- what is left reads on as all bytes do
+-- reading the bytes that are left gives what reading all bytes does
 abbrev pub invariant-loop-byte : goal.invariant-loop-byte
 invariant-loop-byte l = (length l.rest ≤ length l.fn.bytes) × (code_at l.fn.bytes ≡ code_at l.rest)
 

@@ -17,7 +17,7 @@ use Rattle.ls_stream.specs.View.Decoding.{Unread}
 use Rattle.ls_stream.proofs.DecoderLemmas.{IsCode, none_taken, only_taken, no_sample_taken, limit_is, regular_limit, sample_bits, sure_takes}
 use Rattle.ls_stream.proofs.decode.decoder.Decoder.decode_sample.Goals as goal
 
--- ---- a word that is surely a sample's
+-- ---- a word that surely stands for a sample
 
 sure_code : (c : goal.After-accept_sure) → IsCode c.plan_regular_at-plan.result (regular_word_in c.self.inside.state.now c.args.neighbours.now) c.k-k.result c.plan_regular_at-plan.result.glimit (qbpp_of c.self.inside.state.now.parameters.maxval) c.self.inside.state.now.parameters.maxval
 sure_code c = record {
@@ -61,7 +61,7 @@ returns-in-Some-clause-only c =
     (λ other rest h e. only_taken c.plan_regular_at-plan.result (regular_word_in s n) (λ one. one ≤ maxval) c.k-k.result c.plan_regular_at-plan.result.glimit (qbpp_of maxval) maxval other c.in-Some.value c.accept_sure.result
     (bits_at c.self.inside.source.now c.args.at.now) (bits_at c.self.inside.source.now c.in-Some.after) rest (sure_code c) (sure_taken c) (sure_sample c) h (regular_value_in s n other some most h) e)
 
--- ---- any other
+-- ---- any other word
 
 pub returns-in_err-value-clause-none : goal.returns-in_err-value-clause-none
 returns-in_err-value-clause-none c =
