@@ -19,7 +19,7 @@ use Rattle.ls_archive.specs.declared.checking.batches.SoFar.{SoFar}
 use Rattle.ls_archive.specs.View.Checking.{Line, IsLine, IsGood, IsDamage}
 use Rattle.ls_archive.specs.View.Checks.{GaveAtMost, IsFound, HasLooked, HasChecked, IsChecked, Stops, Anything}
 use Rattle.ls_archive.specs.View.Batches.{Place, line_of, IsTaken, AreTaken, ComesAfter, IsBatch, IsLookedAt, IsLooked, AreLooked, HasCheckedTo, LeadsOn, LeadsSomewhere, HasReadBeyond}
-use Rattle.ls_player.proofs.BatchLemmas.{lent-back}
+use Rattle.ls_film.proofs.AheadLemmas.{lent-back}
 use Rattle.ls_archive.proofs.CheckLemmas.{checked-more, checked-end, stops-after, stops-next-line, stops-reading}
 
 -- ---- lines that are taken

@@ -1,6 +1,7 @@
 pub mod BatchLemmas
 pub mod CheckLemmas
 pub mod ColumnLemmas
+pub mod ComparingLemmas
 pub mod EntryLemmas
 pub mod FollowLemmas
 pub mod FormLemmas
@@ -8,7 +9,6 @@ pub mod FrontLineLemmas
 pub mod IndexLemmas
 pub mod LineLemmas
 pub mod NextLineLemmas
-pub mod SideLemmas
 pub mod VerdictLaws
 pub mod VerdictLemmas
 pub mod VerifyLemmas

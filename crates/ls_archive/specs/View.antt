@@ -2,10 +2,10 @@
 pub mod Batches
 pub mod Checking
 pub mod Checks
+pub mod Comparing
 pub mod Entries
 pub mod Followed
 pub mod Following
 pub mod Indexing
 pub mod Places
-pub mod Comparing
 pub mod Verifying

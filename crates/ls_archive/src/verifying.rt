@@ -115,6 +115,7 @@ fn compare_all<S: Recorded<Frame>, F: Feed, R: Feed>(
     source: &mut S,
     recording: &mut R,
 ) -> Result<Verdict, VerifyFault>
+    requires { S.Images.may_run }
     ensures finds { (place : Option (List ℕ)) → S.Images.stands source.old place (R.remaining recording.old)
         → IfOk result (HasFound S.Images.stands (F.remaining film.old) (F.remaining film.new) place (R.remaining recording.new) source.new) }
     ensures stops { (place : Option (List ℕ)) → S.Images.stands source.old place (R.remaining recording.old)
@@ -143,6 +144,7 @@ fn compare<S: Recorded<Frame>, F: Feed, R: Feed>(
     recording: &mut R,
     number: u64,
 ) -> Result<Option<Verdict>, VerifyFault>
+    requires { S.Images.may_run }
     ensures compared { (place : Option (List ℕ)) → S.Images.stands source.old place (R.remaining recording.old)
         → IfOk result (HasCompared S.Images.stands (F.remaining film.old) (F.remaining film.new) place (R.remaining recording.new) source.new number) }
     ensures stops { (place : Option (List ℕ)) → S.Images.stands source.old place (R.remaining recording.old)
@@ -179,6 +181,7 @@ fn next_coded<S: Recorded<Frame>, R: Feed>(
     recording: &mut R,
     number: u64,
 ) -> Result<Option<Frame>, VerifyFault>
+    requires { S.Images.may_run }
     ensures next { (place : Option (List ℕ)) → S.Images.stands source.old place (R.remaining recording.old)
         → IfOk result (GivesCoded S.Images.stands place (R.remaining recording.new) source.new) }
     ensures stops { (place : Option (List ℕ)) → S.Images.stands source.old place (R.remaining recording.old)

@@ -15,6 +15,7 @@ use Rattle.ls_film.specs.Showing.{show}
 use Rattle.ls_stream.proofs.ExtentLaws.{next_is}
 use Rattle.ls_film.specs.Film.{most_frames, IsFilm}
 use Rattle.ls_film.specs.View.Codestreams.{BreaksBy}
+use Rattle.ls_film.specs.View.Engine.{Completes, HasRun}
 use Rattle.ls_film.specs.View.Playing.{Stops}
 use Rattle.ls_film.specs.View.Parts.{joined, ArePassed, GavePassed, ShowsNext, ShowsPart, EndsEarly, StopsPassing, LacksPart, StopsShowing, IsShortOf, IsNoneOfStreams, later, unpassed}
 use Rattle.ls_film.specs.declared.playing.PlayFault.{PlayFault}
@@ -226,3 +227,25 @@ early-shown read mid read' written written' first n last passed shows lacks end 
   shows = record { mid = mid; passed = passed; shows = shows };
   end = λ told. end (passed told).0;
 }
+
+-- ---- frames that were shown to the end, or as far as was asked
+
+pub shows-all : (read read' written written' : Option (List ℕ)) (n : ℕ) → Completes Spells show read read' written written' n → ShowsNext read read' written written' n
+shows-all read read' written written' n run = record {
+  frames = run.frames;
+  count = run.count;
+  lawful = run.lawful;
+  gave = λ told.
+      let gave = run.gave told in
+      (gave.0, known read, sym (ap (λ s. known read ++ s) gave.1 ∙ append-nil (known read)), gave.2);
+  wrote = run.wrote;
+}
+
+pub shows-run : (read read' written written' : Option (List ℕ)) (ended : Bool) (n : ℕ) → (IsTrue ended → Completes Spells show read read' written written' n)
+    → (ended ≡ false → (bytes : ℕ) × ((place : Option (List ℕ)) × (place ≡ read') × HasRun Spells show read place written written' n bytes)) → ShowsNext read read' written written' n
+shows-run read read' written written' true n all some = shows-all read read' written written' n (all refl)
+shows-run read read' written written' false n all some =
+    let ran = some refl in
+    let run = ran.1.2 in
+    subst (λ r. ShowsNext read r written written' n) ran.1.1
+    (record { frames = run.frames; count = run.count; lawful = run.lawful; gave = run.gave; wrote = run.wrote })

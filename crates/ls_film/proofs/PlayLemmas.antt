@@ -1,5 +1,5 @@
 -- What the engine's end over codestreams is to a recording.
-use Rattle.std.proofs.Common.{◌≡◌, ◌⊎◌, ℕ, Bool, true, false, inl, inr, List, ◌++◌, length, Option, refl, ap, ◌∙◌, append_assoc, arith}
+use Rattle.std.proofs.Common.{◌≡◌, ◌⊎◌, ℕ, Bool, true, false, inl, inr, List, ◌++◌, length, Option, refl, ap, subst, ◌∙◌, append_assoc, arith}
 use Rattle.std.specs.Prelude.{◌||◌}
 use Rattle.ls_frame.specs.View.Devices.{count_after}
 use Rattle.ls_frame.specs.View.Known.{Tells, HadBytes, known}
@@ -9,7 +9,7 @@ use Rattle.ls_stream.specs.Grammar.{Spells}
 use Rattle.ls_film.specs.Film.{IsFilm}
 use Rattle.ls_film.specs.View.Engine.{HasRun, StopsAtInput, StopsForMemory}
 use Rattle.ls_film.specs.View.Memory.{AnyBytes}
-use Rattle.ls_film.specs.View.Steps.{IsSomeImage, HasStopped}
+use Rattle.ls_film.specs.View.Steps.{IsSomeImage, HasStopped, blames_reader as engine_blames}
 use Rattle.ls_film.specs.declared.engine.Stopped.{Stopped}
 use Rattle.ls_film.specs.declared.engine.Stopped.TheVariants.{Input, Output, NoMemory, TooMany}
 use Rattle.ls_film.proofs.FilmLemmas.{IsBrokenAfter-next, BeginsWithFrames-gave}
@@ -17,7 +17,7 @@ use Rattle.ls_film.specs.declared.codestreams.Unread.{Unread}
 use Rattle.ls_film.specs.declared.playing.PlayFault.{PlayFault}
 use Rattle.ls_film.specs.declared.codestreams.Unread.TheVariants as unread
 use Rattle.ls_film.specs.Showing.{show}
-use Rattle.ls_film.specs.View.Codestreams.{BreaksBy, IsUnread}
+use Rattle.ls_film.specs.View.Codestreams.{BreaksBy, IsUnread, is_io}
 use Rattle.ls_film.specs.View.Playing.{Stops, HasReadAhead, blames_reader, play_fault}
 
 abbrev wants_memory : StreamFault → Bool
@@ -86,13 +86,42 @@ module _ (read read' written written' : Option (List ℕ)) where
   play-stops NoMemory why = (length why.frames, at_image why)
   play-stops TooMany why = why
 
--- ---- reads that failed ahead of their turn
+-- the same, where the engine's source ends where its reader is
+pub play-stops-at : (read place read' written written' : Option (List ℕ)) (stopped : Stopped Unread) → place ≡ read'
+    → HasStopped Spells (λ fault here after. IsUnread fault here) show read place written written' stopped → Stops read read' written written' (play_fault stopped)
+play-stops-at read place read' written written' stopped is why =
+    subst (λ p. Stops read p written written' (play_fault stopped)) is (play-stops read place written written' stopped why)
+
+-- ---- reads that failed
+
+or-true : (b : Bool) → b || true ≡ true
+or-true true = refl
+or-true false = refl
+
+-- the engine's end blames the reader where the recording's does
+pub blamed : (stopped : Stopped Unread) → engine_blames is_io stopped || false ≡ blames_reader (play_fault stopped)
+blamed (Input m (unread.Stream stream.Truncated)) = refl
+blamed (Input m (unread.Stream stream.NotSoi)) = refl
+blamed (Input m (unread.Stream stream.BadSegment)) = refl
+blamed (Input m (unread.Stream (stream.Unsupported what))) = refl
+blamed (Input m (unread.Stream (stream.BadPresets fault))) = refl
+blamed (Input m (unread.Stream stream.TooLarge)) = refl
+blamed (Input m (unread.Stream (stream.BadCode component))) = refl
+blamed (Input m (unread.Stream (stream.LeftoverBits component))) = refl
+blamed (Input m (unread.Stream stream.NoMemory)) = refl
+blamed (Input m unread.Io) = refl
+blamed (Output bytes) = refl
+blamed NoMemory = refl
+blamed TooMany = refl
+
+pub reads-plain : (old new : ℕ) (stopped : Stopped Unread) → new ≡ count_after (engine_blames is_io stopped || false) old → new ≡ count_after (blames_reader (play_fault stopped)) old
+reads-plain old new stopped is = is ∙ ap (λ b. count_after b old) (blamed stopped)
+
+pub reads-ahead : (owes : Bool) (old new : ℕ) (stopped : Stopped Unread) → new ≡ count_after (engine_blames is_io stopped || owes) old → HasReadAhead old new (play_fault stopped)
+reads-ahead true old new stopped is = inr (is ∙ ap (λ b. count_after b old) (or-true (engine_blames is_io stopped)))
+reads-ahead false old new stopped is = inl (reads-plain old new stopped is)
 
 -- no read of bytes in memory fails
 pub none-failed : (fault : PlayFault) → HasReadAhead 0 0 fault → 0 ≡ count_after (blames_reader fault) 0
 none-failed fault (inl none) = none
 none-failed fault (inr one) = absurd (omega (arith, one))
-
-pub or-false : (b : Bool) → b || false ≡ b
-or-false true = refl
-or-false false = refl

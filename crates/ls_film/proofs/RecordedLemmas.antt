@@ -1,6 +1,6 @@
 -- A recording in memory that is the codestreams of frames, and how playing it ends.
-use Rattle.std.proofs.Common.{Bool, true, false, ◌≡◌, ◌<◌, ◌≤◌, ℕ, List, [], ◌∷◌, ◌++◌, length, Option, Some, refl, sym, ap, subst, ◌∙◌, arith}
-use Rattle.std.proofs.lemmas.List.{length-append}
+use Rattle.std.proofs.Common.{Bool, true, false, ◌≡◌, ◌<◌, ◌≤◌, ℕ, List, [], ◌∷◌, ◌++◌, length, Option, Some, Ok, Err, refl, sym, ap, subst, ◌∙◌, arith}
+use Rattle.std.proofs.lemmas.List.{length-append, length-map}
 use Rattle.std.specs.List.{AllByRecursion}
 use Rattle.ls_frame.specs.Picture.{Picture, IsFrame}
 use Rattle.ls_frame.specs.Parameters.{Parameters, IsLegal, default_parameters}
@@ -15,7 +15,7 @@ use Rattle.ls_film.specs.declared.playing.PlayFault.{PlayFault}
 use Rattle.ls_film.specs.declared.playing.PlayFault.TheVariants.{Stream, Io, Output, NoMemory, TooMuch}
 use Rattle.ls_film.specs.Showing.{show}
 use Rattle.ls_film.specs.View.Codestreams.{BeginsWithNone}
-use Rattle.ls_film.specs.View.Playing.{Stops, IsOutOfMemory, IsCodable, frames_of, blames_reader}
+use Rattle.ls_film.specs.View.Playing.{Stops, Plays, IsOutOfMemory, IsCodable, frames_of, blames_reader}
 
 -- ---- a writer into memory
 
@@ -93,3 +93,42 @@ defaults_codable legal maxval (f ∷ frames) each = (
 pub defaults_frames : (frames : List Picture) → frames_of (with_defaults frames) ≡ frames
 defaults_frames [] = refl
 defaults_frames (f ∷ frames) = ap (λ rest. f ∷ rest) (defaults_frames frames)
+
+-- ---- how the playing of a recording in memory ends
+
+module _ (only : (one other rest : List ℕ) (f g : Picture) → Spells one f → Spells other g → other ≡ one ++ rest → rest ≡ [])
+    (same : (bytes : List ℕ) (f g : Picture) → Spells bytes f → Spells bytes g → f ≡ g)
+    (spell : (f : Picture) (p : Parameters) → IsFrame f → IsLegal p → p.maxval ≡ f.maxval → Spells (codestream f p) f)
+    (recording empty shown out : List ℕ) (left : Option (List ℕ)) (none : empty ≡ []) (is : out ≡ shown) where
+  film_of : (frames : List (Picture × Parameters)) → AllByRecursion IsCodable frames → recording ≡ file frames → IsFilm Spells recording (frames_of frames)
+  film_of frames codable are = rw are (recorded_film spell frames codable)
+
+  few_of : (frames : List (Picture × Parameters)) → length frames ≤ most_frames → length (frames_of frames) ≤ most_frames
+  few_of frames few = rw (length-map frames (λ one. one.0)) few
+
+  pub plays-all : (n : ℕ) → Completes Spells show (Some recording) left (Some empty) (Some shown) n → Plays recording out (Ok n)
+  plays-all n run = record {
+    completes = record {
+      frames = run.frames;
+      count = run.count;
+      few = run.few;
+      whole = (run.gave refl).2;
+      shown = is ∙ run.wrote ∙ ap (λ s. s ++ show run.frames) none;
+    };
+    stops = tt;
+    device = tt;
+    of_frames = λ frames few film. played only same recording empty shown left frames few film n out none is run;
+    recorded = λ frames few codable are.
+        rw (sym (length-map frames (λ one. one.0)))
+        (played only same recording empty shown left (frames_of frames) (few_of frames few) (film_of frames codable are) n out none is run);
+  }
+
+  pub plays-stopped : (fault : PlayFault) → 0 ≡ count_after (blames_reader fault) 0 → Stops (Some recording) left (Some empty) (Some shown) fault → Plays recording out (Err fault)
+  plays-stopped fault reads stops = record {
+    completes = tt;
+    stops = (left, stops-into (Some recording) left empty [] shown out fault none (sym is) stops);
+    device = never_blamed (blames_reader fault) reads;
+    of_frames = λ frames few film. stopped only same recording empty shown left frames few film fault reads stops;
+    recorded = λ frames few codable are.
+        stopped only same recording empty shown left (frames_of frames) (few_of frames few) (film_of frames codable are) fault reads stops;
+  }

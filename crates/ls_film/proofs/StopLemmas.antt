@@ -1,5 +1,5 @@
 -- What stops an engine that reads frames and writes a text of them; and what that is to a film of Netpbm images.
-use Rattle.std.proofs.Common.{◌≡◌, ℕ, ◌<◌, true, false, inl, inr, List, [], ◌∷◌, ◌++◌, Option, refl, ap, IsTrue}
+use Rattle.std.proofs.Common.{◌≡◌, ℕ, ◌<◌, true, false, inl, inr, List, [], ◌∷◌, ◌++◌, Option, refl, ap, subst, IsTrue}
 use Rattle.ls_frame.specs.declared.netpbm.NetpbmFault.{NetpbmFault}
 use Rattle.ls_frame.specs.declared.netpbm.NetpbmFault.TheVariants as netpbm
 use Rattle.ls_frame.specs.Picture.{Picture, IsFrame}
@@ -91,3 +91,9 @@ module _ (text : List Picture → List ℕ) (read read' written written' : Optio
   film-stops (Output bytes) why = why
   film-stops NoMemory why = at_chunk why
   film-stops TooMany why = why
+
+-- the same, where the engine's source ends where its reader is
+pub film-stops-at : (text : List Picture → List ℕ) (read place read' written written' : Option (List ℕ)) (stopped : Stopped NetpbmFault) → place ≡ read'
+    → HasStopped IsImageOf IsUnread text read place written written' stopped → Stops text read read' written written' (film_fault stopped)
+film-stops-at text read place read' written written' stopped is why =
+    subst (λ p. Stops text read p written written' (film_fault stopped)) is (film-stops text read place written written' stopped why)

@@ -2,17 +2,20 @@
 //! side by side.
 //!
 //! What it gives is what `OneByOne` gives of the same recording, whatever the threads do.
-ghost use Rattle.std.specs.Prelude.{◌≡◌, ◌<◌, ◌≤◌, ◌^◌, ◌||◌, [], length, Option, List, ℕ, IfOk, IfErr, IfNone, true, false, refl};
+ghost use Rattle.std.specs.Prelude.{◌≡◌, ◌<◌, ◌≤◌, ◌^◌, ◌↔◌, ◌||◌, [], length, Option, List, ℕ, IfOk, IfErr, IfNone, IsTrue, true, false, refl};
 ghost use Rattle.std.specs.List.{AllByRecursion};
+ghost use Rattle.std.specs.Thread.{IsSync};
 ghost use Rattle.ls_frame.specs.View.Devices.{count_after};
 ghost use Rattle.ls_stream.specs.Grammar.{Spells};
 ghost use Rattle.ls_film.specs.View.Codestreams.{IsUnread, is_io};
+ghost use Rattle.ls_film.specs.View.Sources.{IsShown, IsItself};
 ghost use Rattle.ls_film.specs.View.Steps.{failed_input};
 ghost use Rattle.ls_film.specs.View.Ahead.{IsMade, IsBatch, IsAhead, GivesAhead, codestreams_of, failed_after, IsFull};
 
 use crate::codestreams::{Recorded, Unread, made_of, take_codestream};
 use crate::engine::{Images, Made};
-use ls_frame::Feed;
+use crate::playing::Image;
+use ls_frame::{Feed, Frame};
 use ls_stream::StreamFault;
 use std::alloc::Global;
 use std::thread;
@@ -22,6 +25,7 @@ use std::thread::Threads;
 ///
 /// Once all codestreams that were taken are given, it takes twice as many as there are workers. Where no thread can be
 /// started, the calling one decodes them all.
+#[derive(Drop)]
 pub struct SideBySide<'rt, Rt, T> {
     rt: &'rt Rt,
     workers: usize,
@@ -79,7 +83,16 @@ impl<'rt, Rt, T> SideBySide<'rt, Rt, T> {
     }
 }
 
-impl<'rt, Rt: Threads + Sync, T: Made + Send + Drop> Images<T> for SideBySide<'rt, Rt, T> {
+impl<T> Ahead<T> {
+    /// Whether all that were taken are given, and nothing after them was read.
+    fn is_spent(&self) -> bool
+        ensures { IsTrue result ↔ ((self.now.jobs.items ≡ []) × (self.now.after ≡ After.More)) }
+    {
+        self.jobs.is_empty() && matches!(self.after, After::More)
+    }
+}
+
+impl<'rt, Rt: Threads + Sync> Images<Image> for SideBySide<'rt, Rt, Image> {
     type Fault = Unread;
 
     ghost image = { Spells };
@@ -88,30 +101,82 @@ impl<'rt, Rt: Threads + Sync, T: Made + Send + Drop> Images<T> for SideBySide<'r
 
     ghost of_device = { is_io };
 
-    ghost stands = { λ source place read. IsAhead T.made place read source.ahead };
+    ghost stands = { λ source place read. IsAhead IsShown place read source.ahead };
 
     ghost owes = { λ source. failed_after source.ahead.after };
 
-    fn next<R: Feed>(&mut self, alloc: Global, reader: &mut R) -> Result<Option<T>, Unread> {
-        let workers = self.workers.max(1).min(MOST_WORKERS);
-        refill::<T, Rt, R>(&mut self.ahead, self.rt, alloc, workers, reader);
-        give::<T>(&mut self.ahead)
+    ghost may_run = { IsSync Rt.row };
+
+    fn next<R: Feed>(&mut self, alloc: Global, reader: &mut R) -> Result<Option<Image>, Unread> {
+        next_ahead::<Image, Rt, R>(&mut self.ahead, self.rt, alloc, self.workers, reader)
     }
 }
 
-impl<'rt, Rt: Threads + Sync, T: Made + Send + Drop> Recorded<T> for SideBySide<'rt, Rt, T> {
-    ghost image_is = { refl };
+impl<'rt, Rt: Threads + Sync> Recorded<Image> for SideBySide<'rt, Rt, Image> {
+    ghost image_is = { λ bytes f is. is };
 
-    ghost unread_is = { refl };
+    ghost unread_is = { λ fault place place' is. is };
 
     ghost of_device_is = { refl };
+}
+
+impl<'rt, Rt: Threads + Sync> Images<Frame> for SideBySide<'rt, Rt, Frame> {
+    type Fault = Unread;
+
+    ghost image = { Spells };
+
+    ghost unread = { λ fault place place'. IsUnread fault place };
+
+    ghost of_device = { is_io };
+
+    ghost stands = { λ source place read. IsAhead IsItself place read source.ahead };
+
+    ghost owes = { λ source. failed_after source.ahead.after };
+
+    ghost may_run = { IsSync Rt.row };
+
+    fn next<R: Feed>(&mut self, alloc: Global, reader: &mut R) -> Result<Option<Frame>, Unread> {
+        next_ahead::<Frame, Rt, R>(&mut self.ahead, self.rt, alloc, self.workers, reader)
+    }
+}
+
+impl<'rt, Rt: Threads + Sync> Recorded<Frame> for SideBySide<'rt, Rt, Frame> {
+    ghost image_is = { λ bytes f is. is };
+
+    ghost unread_is = { λ fault place place' is. is };
+
+    ghost of_device_is = { refl };
+}
+
+/// Gives what was made of the next codestream's frame. If all that were taken are given, it first takes the next ones
+/// and has them decoded.
+fn next_ahead<T: Made + Send + Drop, Rt: Threads + Sync, R: Feed>(
+    ahead: &mut Ahead<T>,
+    rt: &Rt,
+    alloc: Global,
+    workers: usize,
+    reader: &mut R,
+) -> Result<Option<T>, Unread>
+    ensures gives { (place : Option (List ℕ)) → IsAhead T.made place (R.remaining reader.old) ahead.old
+        → GivesAhead T.made place (R.remaining reader.new) ahead.new result }
+    ensures failures { (failed : ℕ) → R.failed_reads reader.old ≡ count_after (failed_after ahead.old.after) failed
+        → R.failed_reads reader.new ≡ count_after (failed_input is_io result || failed_after ahead.new.after) failed }
+    ensures end { IfOk result (λ next. IfNone next (failed_after ahead.new.after ≡ false)) }
+{
+    if ahead.is_spent() {
+        let workers = workers.max(1).min(MOST_WORKERS);
+        let mut taken = take(alloc, reader, 2 * workers);
+        work_on::<T, Rt>(rt, alloc, workers, &mut taken);
+        *ahead = taken;
+    }
+    give::<T>(ahead)
 }
 
 /// Gives what was made of the frame of the first codestream; or what comes after all, if none is left.
 ///
 /// It requires that something was read after them if none is left.
 fn give<T: Made + Drop>(ahead: &mut Ahead<T>) -> Result<Option<T>, Unread>
-    requires { ahead.jobs.items ≡ [] → ahead.after ≡ After.More → ⊥ }
+    requires { ahead.now.jobs.items ≡ [] → ahead.now.after ≡ After.More → ⊥ }
     ensures gives { (place read : Option (List ℕ)) → IsAhead T.made place read ahead.old → GivesAhead T.made place read ahead.new result }
     ensures after { ahead.new.after ≡ ahead.old.after }
     ensures end { IfOk result (λ next. IfNone next (failed_after ahead.new.after ≡ false)) }
@@ -133,34 +198,6 @@ fn give<T: Made + Drop>(ahead: &mut Ahead<T>) -> Result<Option<T>, Unread>
         Ok(made) => Ok(Some(made)),
         Err(fault) => Err(Unread::Stream(fault)),
     }
-}
-
-/// Takes the next codestreams and works on them, if all that were taken are given and more may come.
-fn refill<T: Made + Send + Drop, Rt: Threads + Sync, R: Feed>(
-    ahead: &mut Ahead<T>,
-    rt: &Rt,
-    alloc: Global,
-    workers: usize,
-    reader: &mut R,
-)
-    requires some { 0 < workers }
-    requires few { workers ≤ 2 ^ 32 }
-    ensures ahead { (place : Option (List ℕ)) → IsAhead T.made place (R.remaining reader.old) ahead.old
-        → IsAhead T.made place (R.remaining reader.new) ahead.new }
-    ensures full { ahead.new.jobs.items ≡ [] → ahead.new.after ≡ After.More → ⊥ }
-    ensures reads { (failed : ℕ) → R.failed_reads reader.old ≡ count_after (failed_after ahead.old.after) failed
-        → R.failed_reads reader.new ≡ count_after (failed_after ahead.new.after) failed }
-{
-    if !ahead.jobs.is_empty() {
-        return;
-    }
-    let After::More = ahead.after else {
-        return;
-    };
-    let mut taken = take(alloc, reader, 2 * workers);
-    let threads = threads_for(&taken.jobs, workers);
-    work_on_all::<T, Rt>(rt, alloc, &mut taken.jobs, threads);
-    *ahead = taken;
 }
 
 /// Takes this number of codestreams off a reader, or all there are before the end or a fault.
@@ -201,6 +238,22 @@ fn take<T: Drop, R: Feed>(alloc: Global, reader: &mut R, most: usize) -> Ahead<T
         jobs,
         after: After::More,
     }
+}
+
+/// Works on all codestreams that were taken, by this number of workers at most.
+fn work_on<T: Made + Send + Drop, Rt: Threads + Sync>(
+    rt: &Rt,
+    alloc: Global,
+    workers: usize,
+    ahead: &mut Ahead<T>,
+)
+    requires { 0 < workers }
+    ensures made { AllByRecursion (IsMade T.made) ahead.new.jobs.items }
+    ensures same { codestreams_of ahead.new.jobs.items ≡ codestreams_of ahead.old.jobs.items }
+    ensures after { ahead.new.after ≡ ahead.old.after }
+{
+    let threads = threads_for(&ahead.jobs, workers);
+    work_on_all::<T, Rt>(rt, alloc, &mut ahead.jobs, threads);
 }
 
 /// Works on jobs by this number of threads at most.

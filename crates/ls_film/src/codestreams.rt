@@ -1,9 +1,10 @@
 //! The codestreams of a recording: the next is taken off a reader, and its frame decoded.
-ghost use Rattle.std.specs.Prelude.{◌≡◌, Bool, List, ℕ, Option, false, refl, IfOk, IfErr, IfSome, IfNone, MatchResult};
+ghost use Rattle.std.specs.Prelude.{◌≡◌, Bool, List, ℕ, Option, ⊤, false, refl, IfOk, IfErr, IfSome, IfNone, MatchResult};
 ghost use Rattle.ls_frame.specs.Picture.{Picture};
 ghost use Rattle.ls_frame.specs.View.Devices.{count_after};
 ghost use Rattle.ls_frame.specs.View.Known.{WasAtEnd};
 ghost use Rattle.ls_stream.specs.Grammar.{Spells};
+ghost use Rattle.ls_film.specs.declared.codestreams.Unread.{Unread};
 ghost use Rattle.ls_film.specs.View.Codestreams.{IsTaken, IsMadeOf, IsUnmade, is_io, unread_of, IsUnread};
 ghost use Rattle.ls_film.specs.View.Steps.{failed_input};
 
@@ -66,19 +67,17 @@ pub fn made_of<T: Made>(alloc: Global, bytes: &[u8]) -> Result<T, StreamFault>
     }
 }
 
-/// A source of a recording's frames.
+/// A source of a recording's frames: an image is a codestream.
 pub trait Recorded<T: Made>: Images<T, Fault = Unread> {
-    /// An image is a codestream.
-    ghost image_is: { Self.Images.image ≡ Spells };
+    ghost image_is: { (bytes : List ℕ) (f : Picture) → Self.Images.image bytes f → Spells bytes f };
 
-    /// A fault is said of the codestream at fault.
-    ghost unread_is: { Self.Images.unread ≡ (λ fault place place'. IsUnread fault place) };
+    ghost unread_is: { (fault : Unread) (place place' : Option (List ℕ)) → Self.Images.unread fault place place' → IsUnread fault place };
 
-    /// The device's fault is a failed read.
     ghost of_device_is: { Self.Images.of_device ≡ is_io };
 }
 
 /// Reads codestream by codestream: no byte is read before it is asked for.
+#[derive(Drop)]
 pub struct OneByOne;
 
 impl<T: Made> Images<T> for OneByOne {
@@ -94,6 +93,8 @@ impl<T: Made> Images<T> for OneByOne {
 
     ghost owes = { λ source. false };
 
+    ghost may_run = { ⊤ };
+
     fn next<R: Feed>(&mut self, alloc: Global, reader: &mut R) -> Result<Option<T>, Unread> {
         let bytes = match take_codestream(alloc, reader) {
             Ok(Some(bytes)) => bytes,
@@ -108,9 +109,9 @@ impl<T: Made> Images<T> for OneByOne {
 }
 
 impl<T: Made> Recorded<T> for OneByOne {
-    ghost image_is = { refl };
+    ghost image_is = { λ bytes f is. is };
 
-    ghost unread_is = { refl };
+    ghost unread_is = { λ fault place place' is. is };
 
     ghost of_device_is = { refl };
 }

@@ -6,7 +6,7 @@ ghost use Rattle.ls_frame.specs.Picture.{Picture};
 ghost use Rattle.ls_frame.specs.View.Devices.{count_after};
 ghost use Rattle.ls_film.specs.Film.{most_frames};
 ghost use Rattle.ls_film.specs.View.Engine.{Completes};
-ghost use Rattle.ls_film.specs.View.Sources.{GivesImage, StandsAfter};
+ghost use Rattle.ls_film.specs.View.Sources.{GivesImage, IsItself, StandsAfter};
 ghost use Rattle.ls_film.specs.View.Steps.{HasStopped, StopsChunk, failed_input, failed_reader, failed_writer};
 ghost use Rattle.ls_film.specs.View.Texts.{GrowsBy};
 
@@ -26,7 +26,7 @@ pub trait Made: Sized {
 
 /// The frame itself.
 impl Made for Frame {
-    ghost made = { λ f same. same ≡ f };
+    ghost made = { IsItself };
 
     fn make(_alloc: Global, frame: Frame) -> Result<Frame, AllocError> {
         Ok(frame)
@@ -55,8 +55,12 @@ pub trait Images<T: Made> {
     /// Whether a read has failed ahead of the images that it gave.
     ghost owes: { Self → Bool };
 
-    /// Gives what is made of the next image's frame; `None` exactly at the end. After a fault nothing may be asked.
+    /// What `next` requires: of a source with threads, that they may share what it was lent.
+    ghost may_run: { Type 0 };
+
+    /// Gives what is made of the next image's frame; `None` exactly at the end. After a fault it isn't called again.
     fn next<R: Feed>(&mut self, alloc: Global, reader: &mut R) -> Result<Option<T>, Self::Fault>
+        requires { may_run }
         ensures gives { (place : Option (List ℕ)) → stands self.old place (R.remaining reader.old)
             → GivesImage image T.made unread stands place (R.remaining reader.new) self.new result }
         ensures failures { (failed : ℕ) → R.failed_reads reader.old ≡ count_after (owes self.old) failed
@@ -126,6 +130,7 @@ pub fn write_text<T: Made + Drop, X: Text<T>, I: Images<T>, R: Feed, W: Outlet>(
     reader: &mut R,
     writer: &mut W,
 ) -> Result<u64, Stopped<I::Fault>>
+    requires { I.may_run }
     ensures completes { (place : Option (List ℕ)) → I.stands source.old place (R.remaining reader.old)
         → IfOk result (Completes I.image X.text place (R.remaining reader.new) (W.contents writer.old) (W.contents writer.new)) }
     ensures stops { (place : Option (List ℕ)) → I.stands source.old place (R.remaining reader.old)
@@ -157,7 +162,8 @@ pub fn write_at_most<T: Made + Drop, X: Text<T>, I: Images<T>, R: Feed, W: Outle
     writer: &mut W,
     most: u64,
 ) -> Result<Run, Stopped<I::Fault>>
-    requires { most ≤ most_frames }
+    requires may_run { I.may_run }
+    requires most { most ≤ most_frames }
     ensures run { (place : Option (List ℕ)) → I.stands source.old place (R.remaining reader.old)
         → IfOk result (λ run. run.ended ≡ false → (bytes : ℕ) × StandsAfter I.image X.text I.stands source.new place (R.remaining reader.new)
         (W.contents writer.old) (W.contents writer.new) run.frames bytes) }

@@ -1,5 +1,5 @@
 //! The engine over films of Netpbm images.
-ghost use Rattle.std.specs.Prelude.{◌≡◌, IfOk, IfErr, false};
+ghost use Rattle.std.specs.Prelude.{◌≡◌, ⊤, IfOk, IfErr, false};
 ghost use Rattle.ls_frame.specs.Faults.{blames_device};
 ghost use Rattle.ls_frame.specs.Netpbm.{IsImageOf};
 ghost use Rattle.ls_frame.specs.View.Devices.{count_after};
@@ -13,6 +13,7 @@ use ls_frame::{Counted, Feed, Frame, NetpbmFault, Outlet, next_frame};
 use std::alloc::Global;
 
 /// Reads Netpbm images one by one.
+#[derive(Drop)]
 struct NetpbmImages;
 
 impl Images<Frame> for NetpbmImages {
@@ -27,6 +28,8 @@ impl Images<Frame> for NetpbmImages {
     ghost stands = { λ source place read. place ≡ read };
 
     ghost owes = { λ source. false };
+
+    ghost may_run = { ⊤ };
 
     fn next<R: Feed>(&mut self, alloc: Global, reader: &mut R) -> Result<Option<Frame>, NetpbmFault> {
         match next_frame(alloc, reader) {

@@ -1,10 +1,10 @@
 //! Playing a recording: codestream after codestream is decoded, and its frame written as a Netpbm image.
 ghost use Rattle.std.specs.Prelude.{◌≡◌, ◌<◌, ◌+◌, ◌^◌, ℕ, List, length, IfOk, IfErr, MatchResult, refl};
-ghost use Rattle.ls_frame.specs.Canonical.{canonical};
 ghost use Rattle.ls_frame.specs.View.Devices.{count_after};
 ghost use Rattle.ls_stream.specs.Grammar.{Spells};
 ghost use Rattle.ls_film.specs.View.Engine.{Completes};
 ghost use Rattle.ls_film.specs.Showing.{show};
+ghost use Rattle.ls_film.specs.View.Sources.{IsShown};
 ghost use Rattle.ls_film.specs.View.Playing.{play_fault, Stops, StopsAhead, HasReadAhead, Plays, blames_reader, blames_writer};
 
 use crate::ahead::SideBySide;
@@ -198,7 +198,7 @@ impl Image {
 }
 
 impl Made for Image {
-    ghost made = { λ f image. image ≡ canonical f };
+    ghost made = { IsShown };
 
     fn make(alloc: Global, frame: Frame) -> Result<Image, AllocError> {
         canonical_texts_are_short();
@@ -213,8 +213,18 @@ impl Made for Image {
     }
 }
 
-/// The images of frames.
+/// The canonical Netpbm images of frames.
 pub struct ImageText;
+
+impl Text<Frame> for ImageText {
+    ghost text = { show };
+
+    fn chunk(alloc: Global, _number: u64, frame: Frame) -> Result<Vec<u8>, AllocError> {
+        Ok(Image::make(alloc, frame)?.into_bytes())
+    }
+
+    ghost empty = { refl };
+}
 
 impl Text<Image> for ImageText {
     ghost text = { show };

@@ -1,7 +1,6 @@
 use crate::testing::check;
-use ls_film::PlayFault;
+use ls_film::{PlayFault, play_by};
 use ls_frame::{Counted, Feed, Outlet};
-use ls_player::play_by;
 use ls_stream::StreamFault;
 use ls_testing::films::{TWO_CODESTREAMS, TWO_IMAGES};
 use ls_testing::{Mishap, Pieces, Sink};

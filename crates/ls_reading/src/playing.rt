@@ -2,9 +2,8 @@
 use crate::cause::conclude;
 use crate::recorded::Recorded;
 use ls_console::{Cause, Console, DONE, FAILED, Shown, explain, open_film};
-use ls_film::{MOST_FRAMES, Part, PartFault, play, play_part};
+use ls_film::{MOST_FRAMES, Part, PartFault, play, play_by, play_part};
 use ls_frame::{Buffered, Counted, Feed, Outlet};
-use ls_player::play_by;
 use ls_salvage::{Gap, Gaps, ImageText, SalvageFault, Salvaged, salvage};
 use std::alloc::{AllocError, Global};
 use std::io::Write;

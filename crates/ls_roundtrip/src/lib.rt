@@ -1,7 +1,7 @@
 //! The purpose of the recorder, in one function: films that are recorded side by side come back, however the threads
 //! that code and those that decode run (`record_and_play`, `specs/View/RoundTrips.antt`).
 //!
-//! No program calls it. Its contract combines those of `ls_recorder` and `ls_player`, for films in memory, where all
+//! No program calls it. Its contract combines those of `ls_recorder` and `ls_film`, for films in memory, where all
 //! bytes are known.
 //!
 //! ```

@@ -4,13 +4,12 @@ ghost use Rattle.std.specs.List.{AllZip};
 ghost use Rattle.ls_roundtrip.specs.View.RoundTrips.{IsUnrecorded, IsPlayed, ComeBack};
 ghost use Rattle.ls_recorder.specs.Sizes.{record_fault};
 
-use ls_film::PlayFault;
+use ls_film::{PlayFault, play_bytes_by};
 use ls_frame::laws::{
     default_parameters_are_legal, images_have_one_frame, no_image_begins_another,
     parameters_are_legal_or_at_fault,
 };
 use ls_frame::{Counted, Tuning};
-use ls_player::play_bytes_by;
 use ls_recorder::{Gate, LaneFault, RecordFault, Sizes, Track, record};
 use std::alloc::{AllocError, Global};
 use std::sync::Wait;
@@ -41,9 +40,7 @@ pub struct PlayedBack {
 ///
 /// Fails with `NoMemory` only if an allocation fails; else with the first of `Sources`, `Workers`, `Capacity` and
 /// `Window` that applies; else with `NotStarted` only if no thread can be made for a worker. Then nothing is returned.
-/// If no thread can be made for a player, the calling thread plays.
-///
-/// Requires at least one player, and at most 2^32.
+/// If no thread can be made for a player, the calling thread plays; no players count as one.
 pub fn record_and_play<Rt: Threads + Wait + Sync, G: Gate>(
     rt: &Rt,
     alloc: Global,
@@ -52,8 +49,6 @@ pub fn record_and_play<Rt: Threads + Wait + Sync, G: Gate>(
     players: usize,
     gate: &G,
 ) -> Result<Vec<PlayedBack>, RecordFault>
-    requires some { 0 < players }
-    requires few { players ≤ 2 ^ 32 }
     ensures comes_back { IfOk result (λ played_back. ComeBack films.entry.items played_back.items) }
     ensures refused { IfErr result (λ fault. (fault ≡ RecordFault.NoMemory)
         ⊎ ((record_fault (length films.entry.items) sizes.workers sizes.capacity sizes.window ≡ Some fault)
@@ -107,8 +102,6 @@ fn play_all<Rt: Threads + Sync>(
     mut tracks: Vec<Track<&[u8], Counted<Vec<u8>>>>,
     room: Vec<PlayedBack>,
 ) -> Vec<PlayedBack>
-    requires some { 0 < players }
-    requires few { players ≤ 2 ^ 32 }
     requires room { length tracks.items ≤ vec_capacity room }
     requires none { room.items ≡ [] }
     ensures { AllZip IsPlayed tracks.entry.items result.items }
@@ -128,8 +121,6 @@ fn play_back<Rt: Threads + Sync>(
     players: usize,
     track: Track<&[u8], Counted<Vec<u8>>>,
 ) -> PlayedBack
-    requires some { 0 < players }
-    requires few { players ≤ 2 ^ 32 }
     ensures { IsPlayed track.entry result }
 {
     let recording = track.writer.into_inner();

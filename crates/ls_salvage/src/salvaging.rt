@@ -52,7 +52,7 @@ struct Progress {
 ///
 /// Holds in memory the bytes of one codestream, or what was read of a damaged one, and its frame. Bytes at fault are
 /// held twice while they are put back: all but the first are read again, to find the next start.
-pub fn salvage<T: Text, G: Gaps, R: Feed, W: Outlet>(
+pub fn salvage<T: Text<Frame>, G: Gaps, R: Feed, W: Outlet>(
     alloc: Global,
     reader: &mut Buffered<R>,
     writer: &mut W,
@@ -97,7 +97,7 @@ impl Progress {
 }
 
 /// Writes the text of a frame, or reports a gap. Returns the progress after it.
-fn hand_on<T: Text, G: Gaps, W: Outlet>(
+fn hand_on<T: Text<Frame>, G: Gaps, W: Outlet>(
     alloc: Global,
     next: NextPart,
     writer: &mut W,
@@ -116,16 +116,16 @@ fn hand_on<T: Text, G: Gaps, W: Outlet>(
 {
     match next {
         NextPart::Frame(frame, count) => {
-            show_frame::<T, W>(alloc, &frame, count, writer, progress)
+            show_frame::<T, W>(alloc, frame, count, writer, progress)
         }
         NextPart::Gap(count, fault) => tell_gap(count, fault, gaps, progress),
     }
 }
 
 /// Writes the chunk of a frame whose codestream has `count` bytes. Returns the progress after it.
-fn show_frame<T: Text, W: Outlet>(
+fn show_frame<T: Text<Frame>, W: Outlet>(
     alloc: Global,
-    frame: &Frame,
+    frame: Frame,
     count: u64,
     writer: &mut W,
     progress: Progress,
@@ -133,8 +133,8 @@ fn show_frame<T: Text, W: Outlet>(
     requires small { IsSmall progress }
     requires before_most { progress.place < most_place }
     requires size { count < 2 ^ 63 }
-    ensures shown { IfOk result (λ after. (told : Option (List Gap)) → HandsOn T.text (W.contents writer.old) (W.contents writer.new) told told progress (frame_part count frame.now) after) }
-    ensures stops { IfErr result (λ fault. (told : Option (List Gap)) → StopsHandingOn T.text (W.contents writer.old) (W.contents writer.new) told told progress (frame_part count frame.now) fault) }
+    ensures shown { IfOk result (λ after. (told : Option (List Gap)) → HandsOn T.text (W.contents writer.old) (W.contents writer.new) told told progress (frame_part count frame) after) }
+    ensures stops { IfErr result (λ fault. (told : Option (List Gap)) → StopsHandingOn T.text (W.contents writer.old) (W.contents writer.new) told told progress (frame_part count frame) fault) }
     ensures writes { W.failed_writes writer.new ≡ count_after (failed_writer result) (W.failed_writes writer.old) }
 {
     if progress.frames >= MOST_FRAMES {

@@ -9,10 +9,10 @@ use std::alloc::{AllocError, Global};
 /// A text with nothing in it, for callers that only look for damage.
 pub struct NoText;
 
-impl Text for NoText {
+impl Text<Frame> for NoText {
     ghost text = { λ _. [] };
 
-    fn chunk(alloc: Global, _number: u64, _frame: &Frame) -> Result<Vec<u8>, AllocError> {
+    fn chunk(alloc: Global, _number: u64, _frame: Frame) -> Result<Vec<u8>, AllocError> {
         Ok(Vec::new(alloc))
     }
 

@@ -13,7 +13,7 @@ use crate::checking::{
 };
 use ls_film::MOST_FRAMES;
 use ls_frame::Feed;
-use ls_player::ahead::threads_worth;
+use ls_film::ahead::threads_worth;
 use std::alloc::{AllocError, Global};
 use std::mem::replace;
 use std::thread;

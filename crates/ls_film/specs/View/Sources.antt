@@ -1,6 +1,7 @@
 -- Where a source of images stands, and what it gives. What an image is of a frame, what is made of a frame, what a fault says of the known
 -- bytes, and where the source stands (its place and its reader's), are parameters.
-use Rattle.std.specs.Prelude.{ℕ, List, Option, Some, None, Result, Ok, Err}
+use Rattle.std.specs.Prelude.{◌≡◌, ℕ, List, Option, Some, None, Result, Ok, Err}
+use Rattle.ls_frame.specs.Canonical.{canonical}
 use Rattle.ls_frame.specs.Picture.{Picture, IsFrame}
 use Rattle.ls_frame.specs.View.Known.{Gave, WasAtEnd}
 use Rattle.ls_film.specs.View.Engine.{HasRun}
@@ -20,3 +21,13 @@ abbrev pub StandsAfter : {S : Type 0} → (List ℕ → Picture → Type 0) → 
     → S → Option (List ℕ) → Option (List ℕ) → Option (List ℕ) → Option (List ℕ) → ℕ → ℕ → Type 0
 StandsAfter IsImage text stands source place read written written' n bytes =
     (place' : Option (List ℕ)) × stands source place' read × HasRun IsImage text place place' written written' n bytes
+
+-- ---- what is made of a frame
+
+-- the frame itself
+abbrev pub IsItself : Picture → Picture → Type 0
+IsItself f same = same ≡ f
+
+-- its canonical Netpbm image
+abbrev pub IsShown : Picture → List ℕ → Type 0
+IsShown f image = image ≡ canonical f

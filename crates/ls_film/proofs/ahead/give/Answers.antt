@@ -22,7 +22,7 @@ returns-in-Ok-clause-gives g c = λ place read is.
     let are = first-and-rest c.args.ahead.now.jobs.items c.remove-job.result c.remove-job.new.self.items (omega arith) c.remove-job.ensures.value c.remove-job.ensures.items in
     gives-made g.T.Made.made place read c.args.ahead.now (record { jobs = c.remove-job.new.self; after = c.args.ahead.now.after }) c.remove-job.result are refl is c.in-Ok.made c.in-Ok.is
 
-pub returns-in-Err-clause-gives : goal.returns-in-Err-clause-gives
-returns-in-Err-clause-gives g c = λ place read is.
+pub returns-clause-gives : goal.returns-clause-gives
+returns-clause-gives g c = λ place read is.
     let are = first-and-rest c.args.ahead.now.jobs.items c.remove-job.result c.remove-job.new.self.items (omega arith) c.remove-job.ensures.value c.remove-job.ensures.items in
     gives-fault g.T.Made.made place read c.args.ahead.now (record { jobs = c.remove-job.new.self; after = c.args.ahead.now.after }) c.remove-job.result are refl is c.in-Err.fault c.in-Err.is

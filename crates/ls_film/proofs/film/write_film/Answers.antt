@@ -1,5 +1,8 @@
-use Rattle.ls_film.proofs.StopLemmas.{film-stops}
+use Rattle.std.proofs.Common.{refl}
+use Rattle.ls_film.proofs.StopLemmas.{film-stops-at}
 use Rattle.ls_film.proofs.film.write_film.Goals as goal
 
 pub returns-in-Err-clause-stops : goal.returns-in-Err-clause-stops
-returns-in-Err-clause-stops g c = rw c.of.ensures (film-stops g.T.Text.text _ _ _ _ c.in-Err.stopped c.in-Err.ensures.stops)
+returns-in-Err-clause-stops g c =
+    let why = c.in-Err.ensures.stops (g.R.Read.remaining c.args.reader.now) refl in
+    rw c.of.ensures (film-stops-at g.T.Text.text _ _ _ _ _ c.in-Err.stopped why.1 why.2)

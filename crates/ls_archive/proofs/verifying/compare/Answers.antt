@@ -1,11 +1,11 @@
 use Rattle.std.proofs.Common.{inr}
 use Rattle.std.proofs.lemmas.Result.{err_from_is_err_and}
-use Rattle.ls_archive.proofs.SideLemmas.{compared}
-use Rattle.ls_archive.proofs.verifying.compare_by.Goals as goal
+use Rattle.ls_archive.proofs.ComparingLemmas.{compared}
+use Rattle.ls_archive.proofs.verifying.compare.Goals as goal
 
 pub returns-clause-compared : goal.returns-clause-compared
 returns-clause-compared g c = λ place is.
-    compared (g.F.Read.remaining c.args.film.now) (g.F.Read.remaining c.next_image.new.film) place (g.R.Read.remaining c.next_coded_by.new.recording) c.next_coded_by.new.ahead c.args.number
+    compared g.S.Images.stands (g.F.Read.remaining c.args.film.now) (g.F.Read.remaining c.next_image.new.film) place (g.R.Read.remaining c.next_coded.new.recording) c.next_coded.new.source c.args.number
     c.in_ok-image.image c.in_ok-coded.coded c.verdict_at.result c.in_ok-image.ensures.next (c.in_ok-coded.ensures.next place is) c.verdict_at.ensures
 
 pub returns-in_err-coded-clause-stops : goal.returns-in_err-coded-clause-stops

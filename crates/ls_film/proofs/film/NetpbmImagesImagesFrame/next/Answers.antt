@@ -1,5 +1,5 @@
 use Rattle.std.proofs.Common.{rules}
-use Rattle.ls_film.proofs.film.NetpbmImagesImages.next.Goals as goal
+use Rattle.ls_film.proofs.film.NetpbmImagesImagesFrame.next.Goals as goal
 
 pub returns-in-Ok-None-clause-end : goal.returns-in-Ok-None-clause-end
 returns-in-Ok-None-clause-end g c = search rules

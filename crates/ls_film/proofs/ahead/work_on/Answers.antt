@@ -1,0 +1,1 @@
+use Rattle.ls_film.proofs.ahead.work_on.Goals as goal
