@@ -15,7 +15,7 @@ use Rattle.ls_archive.specs.View.Verifying.{GaveNext, verdict_at, StopsRecording
 use Rattle.ls_archive.specs.View.SideBySide.{IsSame, HasCompared, HasReadAhead}
 use Rattle.ls_archive.proofs.VerifyLemmas.{stops_coded}
 
--- where the recording is at its end there is a verdict
+-- at the end of the recording there is a verdict
 some-verdict : (n : ℕ) (image : Option Picture) (verdict : Option Verdict) → verdict ≡ verdict_at n image None → verdict ≡ None → ⊥
 some-verdict n (Some f) verdict is none = let clash : ⊥ = cc in absurd clash
 some-verdict n None verdict is none = let clash : ⊥ = cc in absurd clash
@@ -44,7 +44,7 @@ pub stops-ahead : (place : Option (List ℕ)) (n : ℕ) (fault : StreamFault) �
 stops-ahead place n fault (inl memory) = stops_coded place n fault memory.1 (inl memory.0)
 stops-ahead place n fault (inr breaks) = stops_coded place n fault (λ told. (breaks told).0.some) (inr breaks)
 
--- the reads that failed in all
+-- the total of failed reads
 reads-none : (failed : Bool) (old new : ℕ) → (failed ≡ true → false ≡ true) → new ≡ old → (new ≡ count_after failed old) ⊎ (new ≡ count_after true old)
 reads-none true old new none is = let clash : ⊥ = (let no : false ≡ true = none refl in cc) in absurd clash
 reads-none false old new none is = inl is

@@ -3,7 +3,7 @@ use Rattle.ls_film.specs.Film.{most_frames}
 use Rattle.ls_archive.specs.View.Verifying.{HaveRun}
 use Rattle.ls_archive.proofs.verifying.verify.Given as goal
 
--- the frames so far were read of both, and are equal
+-- the frames so far were read from both, and are equal
 abbrev pub invariant-loop-number : goal.invariant-loop-number
 invariant-loop-number g l = record {
   run : HaveRun (g.F.Read.remaining l.fn.film) (g.F.Read.remaining l.film) (g.R.Read.remaining l.fn.recording) (g.R.Read.remaining l.recording) l.number;

@@ -7,7 +7,7 @@ use Rattle.ls_archive.specs.View.SideBySide.{IsSame}
 use Rattle.ls_archive.specs.View.Verifying.{HaveRun}
 use Rattle.ls_archive.proofs.verifying.verify_by.Given as goal
 
--- The frames so far were read of both, and are equal; from the place of the recording's next codestream on some were taken ahead.
+-- The frames so far were read from both, and are equal; some of the recording's codestreams, from the next one on, were taken ahead.
 abbrev pub invariant-loop-number : goal.invariant-loop-number
 invariant-loop-number g l = record {
   place : Option (List ℕ);
