@@ -1,4 +1,4 @@
-//! The tests of `ls_film` and of `ls_player`, through what they make public.
+//! The tests of `ls_film`, through what it makes public.
 //!
 //! They stand in a crate of their own because a crate's tests are proved together with the whole crate.
 #![tactic(auto)]
