@@ -1,4 +1,4 @@
-//! The engine over films of Netpbm images.
+//! Runs the engine over films of Netpbm images.
 ghost use Rattle.std.specs.Prelude.{◌≡◌, IfOk, IfErr, false};
 ghost use Rattle.ls_frame.specs.Faults.{blames_device};
 ghost use Rattle.ls_frame.specs.Netpbm.{IsImageOf};
@@ -40,10 +40,10 @@ impl Images<Frame> for NetpbmImages {
     }
 }
 
-/// Writes the text of a film of Netpbm images, frame by frame, and says how many frames there were.
+/// Writes the text of a film of Netpbm images, frame by frame, and returns the number of frames.
 ///
 /// If the bytes of reader and writer are known (as in memory), the clauses say which were read and written. After
-/// `FilmFault::Input` nothing is said of the reader's place.
+/// `FilmFault::Input` the reader's place is unspecified.
 pub fn write_film<T: Text<Frame>, R: Feed, W: Outlet>(
     alloc: Global,
     reader: &mut R,
