@@ -65,7 +65,7 @@ pub trait Findings {
     /// Those received so far, in order, if they are known (as a vector's are).
     ghost found: { Self → Option (List Finding) };
 
-    /// Receives one more finding. Fails only if an allocation fails; the finding isn't received then.
+    /// Receives one more finding. If an allocation fails, it isn't received.
     fn tell(&mut self, finding: Finding) -> Result<(), AllocError>
         ensures told { OnOk result (FindsMore (found self.old) (found self.new) (finding ∷ [])) }
         ensures none { OnErr result (found self.new ≡ found self.old) };
