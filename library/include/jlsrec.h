@@ -1,20 +1,21 @@
-/* Lossless JPEG-LS (ITU-T T.87) for C99 and C++17: pictures of one or three components of 1 to 16 bits a sample, a scan
- * for each component. What each call answers and leaves in memory is proved; what is written of it here is that.
+/* Lossless JPEG-LS (ITU-T T.87) for C99 and C++17: pictures of one or three components, of 1 to 16 bits per sample,
+ * with one scan per component. What each call returns and what it leaves in memory is proved, as described here.
  *
- * Every call returns or writes what its arguments alone determine, keeps nothing, and may be made from any thread at
- * any time, at once with others. Encoding, decoding and jlsrec_extent call malloc, realloc and free, and answer
- * JLSREC_NO_MEMORY if memory is refused.
+ * What a call returns and writes depends on its arguments alone. Calls keep no state, and may be made from any thread
+ * at any time, also at the same time as others. Encoding, decoding and jlsrec_extent call malloc, realloc and free, and
+ * return JLSREC_NO_MEMORY if an allocation fails.
  *
- * What the caller guarantees, in every call:
- *   - each pointer is valid, not null, and aligned for its type, also where the count beside it is 0 (then it may be
- *     the one after an array's last element);
- *   - so many elements stand at it as the count beside it says, and fewer than 2^63 bytes in all;
- *   - memory that a call writes overlaps no other that the same call is given, and no one else reads or writes it
- *     meanwhile; nobody writes meanwhile what the call reads;
- *   - malloc, realloc and free are of one allocator, and what they give is aligned as the C standard asks;
- *   - no call is made from a signal handler, nor in the child of a fork from a process with threads.
+ * The caller guarantees, for every call:
+ *   - each pointer is valid, non-null and aligned for its type, even if the count beside it is 0 (it may then point
+ *     just past an array's last element);
+ *   - it points to as many elements as the count beside it says, of fewer than 2^63 bytes in all;
+ *   - memory that a call writes overlaps no other memory passed to the same call, and nobody else reads or writes it
+ *     during the call; nobody writes memory that the call reads during the call;
+ *   - malloc, realloc and free belong to one allocator, and return memory that is aligned as the C standard requires;
+ *   - no call is made from a signal handler, or in the child of a fork of a process with threads.
  *
- * Samples go from the top row down, in a row from the left, in a pixel component by component (red, green, blue). */
+ * Samples are ordered by rows from the top, by pixels from the left within a row, and by components (red, green, blue)
+ * within a pixel. */
 #ifndef JLSREC_H
 #define JLSREC_H
 
@@ -25,12 +26,13 @@
 extern "C" {
 #endif
 
-/* What the calls answer. A call's own comment names those that it may answer, and in which order it looks for them. */
+/* The statuses that calls return. A call's own comment names those that it may return, and in which order it checks for
+ * them. */
 enum jlsrec_status {
     JLSREC_OK = 0,
-    /* malloc or realloc refused memory. */
+    /* malloc or realloc failed. */
     JLSREC_NO_MEMORY = 1,
-    /* The buffer that is to be written is too small. */
+    /* The output buffer is too small. */
     JLSREC_NO_ROOM = 2,
 
     /* A form or samples that can't be encoded. */
@@ -82,96 +84,99 @@ typedef struct jlsrec_form {
     uint32_t t1, t2, t3, reset;
 } jlsrec_form;
 
-/* What a status leaves open of a fault. What the fault doesn't have is 0. */
+/* Details of a fault that its status doesn't say. Members that don't apply to the fault are 0. */
 typedef struct jlsrec_fault {
     uint32_t component; /* BAD_CODE, LEFTOVER_BITS: the component, from 0 */
     uint32_t marker;    /* UNSUPPORTED_MARKER: the marker's code */
     uint32_t number;    /* UNSUPPORTED_COMPONENTS: how many; LSE_ID: the ID */
 } jlsrec_fault;
 
-/* The most bytes of a codestream of any picture of this form, with any coding parameters: less than 2^32. 0 if there is
- * no picture of this form. */
+/* Returns a number of bytes that is enough for the codestream of any picture of this form, with any coding parameters:
+ * less than 2^32. 0 if there is no picture of this form. */
 uint64_t jlsrec_bound(uint32_t components, uint32_t width, uint32_t height, uint32_t maxval);
 
 /* Encodes a picture.
  *
- *   form     its form and the coding parameters
- *   samples  its samples, each at most form->maxval; there are `count` of them in the buffer
- *   stride   samples from the start of a row to that of the next; 0 stands for width * components
- *   bytes    where its codestream is to go, with room for `room` bytes. jlsrec_bound is always enough
- *   written  how many bytes the codestream has
+ *   form     the picture's form, and the coding parameters
+ *   samples  its samples, each at most form->maxval, in a buffer of `count` samples
+ *   stride   the number of samples from the start of a row to the start of the next; 0 stands for width * components
+ *   bytes    the buffer for the codestream, of `room` bytes; jlsrec_bound bytes are always enough
+ *   written  receives the codestream's size, in bytes
  *
- * Samples between rows, and after the last row, are read by no one and may have any value.
+ * Samples between rows, and after the last row, aren't read and may have any value.
  *
- * It asks for memory for two rows; for all samples, if rows stand apart; and, where jlsrec_bound is at most 2^25 or over
- * `room`, for about as many bytes as that, of which it writes as many as the codestream has.
+ * Allocates memory for two rows; for all samples, if there are other samples between rows; and, if jlsrec_bound is at
+ * most 2^25 or over `room`, for about jlsrec_bound bytes, of which it writes as many as the codestream has.
  *
  * JLSREC_OK: the first *written bytes are T.87's codestream of this picture with these parameters; those after them are
- * as they were. A room of exactly so many bytes is enough.
- * JLSREC_NO_ROOM: *written says how many bytes are needed, and `bytes` is as it was.
- * Any other: *written is 0, and `bytes` is as it was. It is the first of BAD_COMPONENTS, BAD_SIZE, TOO_MANY_SAMPLES,
- * BAD_MAXVAL, NOT_8_BITS (jlsrec_encode_8 alone), BAD_T1, BAD_T2, BAD_T3, BAD_RESET, BAD_STRIDE, TOO_FEW_SAMPLES that is
- * so; or, if none is, NO_MEMORY or SAMPLE_TOO_LARGE. NO_ROOM comes only if no other refusal does. */
+ * unchanged. A buffer of exactly *written bytes is enough.
+ * JLSREC_NO_ROOM: *written is the number of bytes needed, and `bytes` is unchanged.
+ * Any other status: *written is 0, and `bytes` is unchanged. The status is the first that applies of BAD_COMPONENTS,
+ * BAD_SIZE, TOO_MANY_SAMPLES, BAD_MAXVAL, NOT_8_BITS (jlsrec_encode_8 alone), BAD_T1, BAD_T2, BAD_T3, BAD_RESET,
+ * BAD_STRIDE, TOO_FEW_SAMPLES; or, if none applies, NO_MEMORY or SAMPLE_TOO_LARGE. NO_ROOM is returned only if none of
+ * these is. */
 uint32_t jlsrec_encode_8(const jlsrec_form *form, const uint8_t *samples, size_t count, size_t stride, uint8_t *bytes,
                          size_t room, size_t *written);
 uint32_t jlsrec_encode_16(const jlsrec_form *form, const uint16_t *samples, size_t count, size_t stride, uint8_t *bytes,
                           size_t room, size_t *written);
 
-/* Reads what a codestream says of its picture before the samples, and no sample: SOI, the frame header, the coding
- * parameters and the first scan's header, at the front of `count` bytes.
+/* Reads the headers at the front of `count` bytes: SOI, the frame header, the coding parameters and the first scan's
+ * header. Decodes no sample.
  *
- *   form     the form of the picture, with the coding parameters in force
- *   fault    the details of the fault
+ *   form     receives the form of the picture, with the coding parameters in force
+ *   fault    receives the details of the fault
  *
- * JLSREC_OK: that all stands there and is right. Whenever the bytes begin with a codestream of a picture this is
- * answered, and *form is that picture's. *fault is all 0.
- * 20 and above: the first fault, with its details in *fault; *form is all 0. No other status is answered. */
+ * JLSREC_OK: all of these are there and valid. It is always returned if the bytes begin with a codestream of a picture,
+ * and *form is then that picture's. *fault is all 0.
+ * 20 and above: the first fault, with its details in *fault; *form is all 0. No other status is returned. */
 uint32_t jlsrec_read_form(const uint8_t *bytes, size_t count, jlsrec_form *form, jlsrec_fault *fault);
 
-/* Decodes the codestream at the front of `count` bytes. What stands after it makes no difference, but may be read: no
- * one writes there meanwhile.
+/* Decodes the codestream at the front of `count` bytes. Bytes after it don't affect the result, but may be read: nobody
+ * may write them during the call.
  *
  *   bytes    the bytes
- *   samples  where the samples are to go, with room for `room` of them: width * height * components are needed
- *   form     the form of the picture, with the coding parameters in force
- *   used     how many bytes the codestream has
- *   fault    the details of the fault
+ *   samples  the buffer for the samples, of `room` samples: width * height * components are needed
+ *   form     receives the form of the picture, with the coding parameters in force
+ *   used     receives the codestream's size, in bytes
+ *   fault    receives the details of the fault
  *
- * JLSREC_OK: the first *used bytes are a codestream of exactly one picture, which *form and the samples are; those after
- * them are as they were. Whenever the bytes begin with a codestream of a picture this is answered, or NO_MEMORY, or one
+ * JLSREC_OK: the first *used bytes are a codestream of exactly one picture, which *form and the samples are; samples
+ * after these are unchanged. If the bytes begin with a codestream of a picture, this is returned, or NO_MEMORY, or one
  * of the next two.
- * JLSREC_NOT_8_BITS (jlsrec_decode_8 alone) and JLSREC_NO_ROOM: what stands before the data of the first scan is right,
- * and says the picture of *form, whose maxval is over 255, or which has more samples than there is room for; the data
- * isn't looked at. *used is 0, and `samples` is as it was.
- * JLSREC_NO_MEMORY: only if what stands before the data of the first scan is right. `samples` is as it was.
- * 20 and above: the first fault, with its details in *fault (of the other statuses *fault is all 0). Nothing is said of
- * the first samples, as many as the picture has; those after them are as they were.
- * With these two *used is 0, and *form is all 0. */
+ * JLSREC_NOT_8_BITS (jlsrec_decode_8 alone) and JLSREC_NO_ROOM: everything before the data of the first scan is valid,
+ * and describes a picture of *form, whose maxval is over 255, or which has more than `room` samples; the data isn't
+ * examined. *used is 0, and `samples` is unchanged.
+ * JLSREC_NO_MEMORY: only if everything before the data of the first scan is valid. `samples` is unchanged.
+ * 20 and above: the first fault, with its details in *fault (for other statuses *fault is all 0). The first samples, as
+ * many as the picture has, are unspecified; those after them are unchanged.
+ * After JLSREC_NO_MEMORY, and after 20 and above, *used is 0 and *form is all 0. */
 uint32_t jlsrec_decode_8(const uint8_t *bytes, size_t count, uint8_t *samples, size_t room, jlsrec_form *form, size_t *used,
                          jlsrec_fault *fault);
 uint32_t jlsrec_decode_16(const uint8_t *bytes, size_t count, uint16_t *samples, size_t room, jlsrec_form *form,
                           size_t *used, jlsrec_fault *fault);
 
-/* How many bytes the next codestream has, by its markers alone, for codestreams that follow one another: up to and with
- * EOI; or with the byte that shows that the markers break; or all bytes, if they end before. Decoding so many bytes
- * answers what decoding all of them would. What stands after them makes no difference, but may be read.
+/* Finds the size of the next codestream by its markers alone, where codestreams follow one another: the bytes up to and
+ * including EOI; or up to and including the byte that shows that the markers are malformed; or all bytes, if they end
+ * before either. Decoding this number of bytes gives the same result as decoding all of them. Bytes after these don't
+ * affect the result, but may be read.
  *
- * It asks for memory for 64 KiB, and for as many bytes as the codestream has and some more, since it copies them.
+ * Allocates 64 KiB, and somewhat more than the codestream's size, since it copies the codestream.
  *
- * JLSREC_OK: *extent is that. It is 0 only if `count` is.
- * JLSREC_NO_MEMORY, or JLSREC_TOO_LARGE if there are 4,294,967,295 bytes, and they show neither: *extent is 0. */
+ * JLSREC_OK: *extent is that size. It is 0 only if `count` is.
+ * JLSREC_NO_MEMORY, or JLSREC_TOO_LARGE if there are 4,294,967,295 bytes that show neither EOI nor malformed markers:
+ * *extent is 0. */
 uint32_t jlsrec_extent(const uint8_t *bytes, size_t count, size_t *extent);
 
-/* What is said of a status, in English, as by the command jlsrec: "bad code in component 1"; of a number that is no
- * status, "unknown status". `fault` is what the call wrote; where the call has none, all 0.
+/* Writes the English text of a status, as the command jlsrec says it: "bad code in component 1"; for a number that is
+ * no status, "unknown status". `fault` is what the call wrote; for a call that has none, all 0.
  *
- *   text     where the words are to go, cut to `room` - 1 bytes, and a 0 after them; nothing if `room` is 0. Bytes after
- *            that 0 are as they were
+ *   text     the buffer for the text, which is cut to `room` - 1 bytes and followed by a 0; nothing is written if
+ *            `room` is 0. Bytes after that 0 are unchanged
  *
- * Answers how many bytes the words have, without the 0: at most 64. */
+ * Returns the length of the uncut text in bytes, without the 0: at most 64. */
 size_t jlsrec_text(uint32_t status, const jlsrec_fault *fault, char *text, size_t room);
 
-/* The version of the library: 10000 times its first number, 100 times the second, and the third. */
+/* Returns the version of the library: 10000 times its first number, plus 100 times the second, plus the third. */
 uint32_t jlsrec_version(void);
 
 #ifdef __cplusplus

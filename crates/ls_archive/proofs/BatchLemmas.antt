@@ -1,4 +1,4 @@
--- Lines that are taken at once, what is found of them, and what is told.
+-- Lines that are taken at once, what is found for them, and what is reported.
 use Rattle.std.proofs.Common.{◌≡◌, ◌<◌, ◌≤◌, ◌+◌, ℕ, suc, Bool, true, false, inl, inr, List, [], ◌∷◌, ◌++◌, length, get_or, take, drop, Option, None, Some, Result, Ok, Err, IfOk, IfSome, refl, sym, ap, subst, ◌∙◌, arith}
 use Rattle.std.specs.Prelude.{IfNone, OnErr, slice_index_or}
 use Rattle.std.specs.List.{AllZip}
@@ -29,9 +29,9 @@ pub taken-more : (at mid next : Place) (jobs : List Job) (job : Job) → AreTake
 taken-more at mid next [] job are is = (next, subst (λ p. IsTaken p next job) (sym are) is, refl)
 taken-more at mid next (first ∷ jobs) job are is = (are.0, are.1, taken-more are.0 mid next jobs job are.2 is)
 
--- ---- what is found of them
+-- ---- what is found
 
--- what was looked at is what was taken
+-- a job that was taken and looked at
 looked-one : (at next : Place) (job job' : Job) → IsTaken at next job → IsLookedAt job job' → IsLooked at next job'
 looked-one at next job job' taken looked = record {
   number = looked.number ∙ taken.number;
@@ -65,7 +65,7 @@ each-looked [] (job' ∷ jobs') len each = let no : ⊥ = omega arith in absurd 
 each-looked (job ∷ jobs) [] len each = let no : ⊥ = omega arith in absurd no
 each-looked (job ∷ jobs) (job' ∷ jobs') len each = (each 0 job (omega arith), each-looked jobs jobs' (omega arith) (later job job' jobs jobs' each))
 
--- jobs that were lent as a slice were looked at where they stand
+-- jobs that were lent as a slice were looked at in place
 pub looked-whole : (jobs lent after : List Job) (len : ℕ) → lent ≡ jobs → length lent ≡ len → length after ≡ length lent → AllZip IsLookedAt lent after
     → AllZip IsLookedAt jobs (take len (after ++ drop (length after) jobs))
 looked-whole jobs lent after len same size kept looked =
@@ -82,7 +82,7 @@ pub found-of : {E : Type 0} (n offset : ℕ) (l : Line) (bytes : List ℕ) (resu
 found-of n offset l bytes (Ok found) good damaged damage = found-is n offset l bytes found good damaged damage
 found-of n offset l bytes (Err refused) good damaged damage = tt
 
--- ---- what is told
+-- ---- what is reported
 
 pub on-err : {X E P : Type 0} (result : Result X E) → P → OnErr result P
 on-err (Ok x) holds = tt
@@ -96,7 +96,7 @@ looked-step at next jobs i job lt is are =
     (split.0, subst (IsLooked at split.0) (sym is) split.1, split.2)
 
 module _ (told told' : Option (List Finding)) (so_far so_far' : SoFar) (jobs : List Job) where
-  -- the next was
+  -- what was found for the next job was reported
   pub leads-more : (told'' : Option (List Finding)) (done : SoFar) (i : ℕ) (job : Job) → LeadsOn told told' so_far so_far' jobs (drop i jobs) → i < length jobs → job ≡ get_or jobs i job
       → ((index recording : Option (List ℕ)) (found : Option (List Finding)) (at next : Place) → HasCheckedTo index recording found told' at so_far' → IsLooked at next job → HasCheckedTo index recording found told'' next done)
       → LeadsOn told told'' so_far done jobs (drop (i + 1) jobs)
@@ -105,12 +105,12 @@ module _ (told told' : Option (List Finding)) (so_far so_far' : SoFar) (jobs : L
       let step = looked-step here.0 next jobs i job lt is here.2 in
       (step.0, one index recording found here.0 step.0 here.1 step.1, step.2)
 
-  -- all were
+  -- for all of them
   pub leads-all : (i : ℕ) → LeadsOn told told' so_far so_far' jobs (drop i jobs) → length jobs ≤ i → LeadsOn told told' so_far so_far' jobs []
   leads-all i leads all = subst (LeadsOn told told' so_far so_far' jobs) (at_drop_all (λ (js : List Job). js) jobs i all) leads
 
 module _ (index recording : Option (List ℕ)) (found : Option (List Finding)) where
-  -- of one job more
+  -- what was found for one more job was reported
   pub told-more : (told told' : Option (List Finding)) (at next : Place) (so_far done : SoFar) (job : Job) (d : ℕ) → HasCheckedTo index recording found told at so_far
       → (is : IsLooked at next job) → so_far.number < most_frames → HasLooked job.number job.offset (line_of job.line) is.bytes told told' d
       → done.number ≡ so_far.number + 1 → done.offset ≡ so_far.offset + job.line.size → done.damaged ≡ so_far.damaged + d → HasCheckedTo index recording found told' next done
@@ -130,7 +130,7 @@ module _ (index recording : Option (List ℕ)) (found : Option (List Finding)) w
   stops-telling told told' at so_far to same =
       (at.number, stops-after index at.index recording at.recording found told told' at.number at.offset so_far.damaged Anything to.checked same (λ known. tt))
 
-  -- of a batch
+  -- for a batch
   module _ (told told' : Option (List Finding)) (so_far : SoFar) (index0 recording0 index' recording' : Option (List ℕ)) (batch : Batch) (jobs' : List Job)
       (checked : HasChecked index index0 recording recording0 found told so_far.number so_far.offset so_far.damaged)
       (is : IsBatch (record { index = index0; recording = recording0; number = so_far.number; offset = so_far.offset }) index' recording' batch) (looked : AllZip IsLookedAt batch.jobs.items jobs') where
@@ -140,13 +140,13 @@ module _ (index recording : Option (List ℕ)) (found : Option (List Finding)) w
     are : AreLooked (record { index = index0; recording = recording0; number = so_far.number; offset = so_far.offset }) is.mid jobs'
     are = all-looked (record { index = index0; recording = recording0; number = so_far.number; offset = so_far.offset }) is.mid batch.jobs.items jobs' is.taken looked
 
-    -- all of it
+    -- everything was reported
     pub told-batch : (done : SoFar) → LeadsOn told told' so_far done jobs' [] → (mid : Place) × HasCheckedTo index recording found told' mid done × ComesAfter mid index' recording' batch.after
     told-batch done leads =
         let there = leads index recording found (record { index = index0; recording = recording0; number = so_far.number; offset = so_far.offset }) is.mid to-begun are in
         (is.mid, subst (λ (p : Place). HasCheckedTo index recording found told' p done) there.2 there.1, is.after)
 
-    -- or as far as an allocation failed
+    -- or an allocation failed before that
     pub stops-batch : LeadsSomewhere told told' so_far jobs' → Stops index recording found told' fault.NoMemory
     stops-batch leads =
         let there = leads.2 index recording found (record { index = index0; recording = recording0; number = so_far.number; offset = so_far.offset }) is.mid to-begun are in
@@ -180,7 +180,7 @@ module _ (index recording : Option (List ℕ)) (found : Option (List Finding)) w
 
 -- ---- reads that failed
 
--- where memory is refused, one that comes after may have
+-- if an allocation failed, a read that came after it may have failed too
 pub reads-beyond : (failed : Bool) (old new : ℕ) → new ≡ count_after failed old → HasReadBeyond false old new (Err fault.NoMemory)
 reads-beyond true old new is = inr (refl, is)
 reads-beyond false old new is = inl is

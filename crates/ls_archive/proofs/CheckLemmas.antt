@@ -1,4 +1,4 @@
--- What is read of an index and of a recording, and which codestreams are good.
+-- What is read from an index and from a recording, and which codestreams are good.
 use Rattle.std.proofs.Common.{◌≡◌, ◌⊎◌, ◌<◌, ◌≤◌, ◌+◌, ℕ, Bool, true, false, inl, inr, List, [], ◌∷◌, ◌++◌, length, take, drop, Option, None, Some, Ok, Err, refl, sym, ap, subst, ◌∙◌, arith, append_assoc, append-nil, length-append}
 use Rattle.std.proofs.lemmas.List.{take_at, take_all, drop_at, drop_all, drop-drop, length_push, length-drop}
 use Rattle.std.specs.Prelude.{◌↔◌, IsTrue}
@@ -22,7 +22,7 @@ use Rattle.ls_archive.specs.View.Entries.{IsEntry}
 
 -- ---- reading
 
--- so many bytes were given, or all that were left
+-- at most this many bytes were given: all that were asked for, or all that were left
 pub gave_at_most : (old new : Option (List ℕ)) (most : ℕ) (bytes : List ℕ) → (Tells old → Tells new × (known old ≡ bytes ++ known new)) → length bytes ≤ most
     → (length bytes ≡ most) ⊎ (Tells old → known new ≡ []) → GaveAtMost old new most bytes
 gave_at_most old new most bytes gave few (inl all) = record {
@@ -47,24 +47,24 @@ same_read a b rest more e =
     let same = same_ok {A = Outline × List ℕ} _ _ e in
     (ap (λ (p : Outline × List ℕ). p.0) same, ap (λ (p : Outline × List ℕ). p.1) same)
 
--- a codestream of a frame leaves nothing
+-- after a codestream of a frame nothing is left
 pub spelled_whole : SpellingsHaveBoundedOutlines → (bytes left : List ℕ) (o : Outline) (f : Picture) → outline_of bytes ≡ Ok (o, left) → Spells bytes f → left ≡ []
 spelled_whole law bytes left o f read spells =
     let found = law bytes [] f spells in
     (same_read o found.0 left [] (sym read ∙ ap outline_of (sym (append-nil bytes)) ∙ found.1)).1
 
--- nor does one that has an entry
+-- nor after one that has an entry
 pub entry_whole : (bytes left : List ℕ) (o : Outline) (entry : Entry) → outline_of bytes ≡ Ok (o, left) → IsEntry entry → entry.bytes ≡ bytes → left ≡ []
 entry_whole bytes left o entry read is same = (same_read o is.outline left [] (sym read ∙ ap outline_of (sym same) ∙ is.complete)).1
 
 read_or_not : (r : Take Outline) (o : Outline) (left : List ℕ) (fault : StreamFault) → r ≡ Ok (o, left) → r ≡ Err fault → ⊥
 read_or_not r o left fault ok err = let clash : ⊥ = cc in absurd clash
 
--- where the outline breaks, there is no entry
+-- if the outline has a fault, there is no entry
 pub entry_read : (bytes : List ℕ) (fault : StreamFault) (entry : Entry) → outline_of bytes ≡ Err fault → IsEntry entry → entry.bytes ≡ bytes → ⊥
 entry_read bytes fault entry breaks is same = read_or_not (outline_of bytes) is.outline [] fault (ap outline_of (sym same) ∙ is.complete) breaks
 
--- a front that is one is all of it
+-- a codestream of a frame at the front is all of it
 pub spelled_front : SpellingsHaveBoundedOutlines → (bytes front rest : List ℕ) (o : Outline) (f : Picture) → outline_of bytes ≡ Ok (o, []) → bytes ≡ front ++ rest → Spells front f
     → Spells bytes f
 spelled_front law bytes front rest o f read whole spells =
@@ -72,7 +72,7 @@ spelled_front law bytes front rest o f read whole spells =
     let none : rest ≡ [] = sym (same_read o found.0 [] rest (sym read ∙ ap outline_of whole ∙ found.1)).1 in
     subst (λ bs. Spells bs f) (sym (whole ∙ ap (λ s. front ++ s) none ∙ append-nil front)) spells
 
--- bytes have one entry
+-- bytes have at most one entry
 abbrev made : List ℕ → Kind → ℕ → ℕ → ℕ → Parameters → Entry
 made bytes kind width height precision parameters = record { bytes = bytes; kind = kind; width = width; height = height; precision = precision; parameters = parameters }
 
@@ -127,7 +127,7 @@ pub size-push : (lines : List Line) (l : Line) → size_of (lines ++ l ∷ []) �
 size-push [] l = omega arith
 size-push (first ∷ lines) l = omega (arith, size-push lines l)
 
--- what is found of a line, and of those after it
+-- what is found for a line, and for those after it
 found_by : (n offset : ℕ) (l : Line) (all bytes : List ℕ) (found found' : Option (List Finding)) (d : ℕ) → bytes ≡ take l.size all → (looked : HasLooked n offset l bytes found found' d)
     (more : List Line) (besides : List Finding) → AreFound (n + 1) (offset + l.size) more (drop l.size all) besides → AreFound n offset (l ∷ more) all (looked.findings ++ besides)
 found_by n offset l all bytes found found' d same looked more besides are = elim looked.are [
@@ -137,7 +137,7 @@ found_by n offset l all bytes found found' d same looked more besides are = elim
       inr (bad.1.0, besides, ap (λ s. s ++ besides) bad.1.1, subst (λ bs. IsOf n offset l bs bad.1.0) same bad.1.2, (λ good. bad.0 (subst (IsGood n offset l.text) (sym same) good)), are)
 ]
 
--- one line more
+-- one more line
 pub checked-more : (index mid index' recording half recording' : Option (List ℕ)) (found some found' : Option (List Finding)) (n offset damaged d : ℕ) (l : Line) (bytes : List ℕ)
     → HasChecked index mid recording half found some n offset damaged → n < most_frames → IsLine n offset l
     → Gave mid index' (λ read. l.text ≡ read) → GaveAtMost half recording' l.size bytes → HasLooked n offset l bytes some found' d
@@ -243,7 +243,7 @@ stops-reading index mid recording half found found' n offset damaged fault.NoMem
     (n, stops-after index mid recording half found found' found' n offset damaged Anything run refl (λ told. tt))
 stops-reading index mid recording half found found' n offset damaged fault.TooMany run stops = absurd stops
 
--- a line was read after the most that an index has
+-- a line was read after the most that an index may have
 pub begins-with : (n offset : ℕ) (mid index' : Option (List ℕ)) (l : Line) → IsLine n offset l → Gave mid index' (λ read. l.text ≡ read) → Tells mid → BeginsWithLine n offset (known mid)
 begins-with n offset mid index' l is gave told =
     let read = gave told in

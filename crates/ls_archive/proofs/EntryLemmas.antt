@@ -1,4 +1,4 @@
--- What the headers of the next codestream say of all that a reader had left.
+-- The headers of the next codestream, and what they say of all that a reader had left.
 use Rattle.std.proofs.Common.{◌≡◌, ◌+◌, ◌-◌, ◌≤◌, ltb, ℕ, List, [], ◌∷◌, ◌++◌, length, take, drop, inl, Option, Ok, Err, refl, sym, ap, ◌∙◌, arith, append-nil, length-append, length-drop}
 use Rattle.std.proofs.lemmas.Bool.{cond-false, le-ltb}
 use Rattle.std.proofs.lemmas.List.{take_all, drop_all}
@@ -18,19 +18,19 @@ use Rattle.ls_archive.specs.View.Indexing.{StopsNext, index_fault}
 
 -- ---- outlines
 
--- what is past the most bytes of a codestream is left
+-- bytes beyond the most that a codestream may have are left
 left_past : {X : Type 0} (bytes : List ℕ) (r : Take X) (x : X) (left : List ℕ) → of_all bytes r ≡ Ok (x, left) → length bytes - most_bytes ≤ length left
 left_past {X} bytes (Ok found) x left e =
     let same : found.1 ++ drop most_bytes bytes ≡ left = ap (λ (p : X × List ℕ). p.1) (same_ok {A = X × List ℕ} _ _ e) in
     omega (arith, ap length same, length-append found.1 (drop most_bytes bytes), length-drop most_bytes bytes)
 left_past bytes (Err fault) x left e = absurd cc
 
--- so no more are used
+-- so at most that many are used
 pub used_few : (bytes left : List ℕ) (o : Outline) (used : ℕ) → outline_of bytes ≡ Ok (o, left) → used + length left ≡ length bytes → used ≤ most_bytes
 unfolding outline_of
 used_few bytes left o used read size = omega (arith, size, left_past bytes (outline_at (take most_bytes bytes)) o left read)
 
--- what is read of no more bytes than the most is read of all of them
+-- the outline of at most that many bytes is read from all of them
 of_few : {X : Type 0} (bytes : List ℕ) (r : Take X) → length bytes ≤ most_bytes → of_all bytes r ≡ r
 of_few bytes (Ok found) few = ap (λ bs. Ok (found.0, found.1 ++ bs)) (drop_all most_bytes bytes few) ∙ ap (λ bs. Ok (found.0, bs)) (append-nil found.1)
 of_few bytes (Err fault) few = ap (λ (f : StreamFault). Err f) (cond-false (ltb most_bytes (length bytes)) (past_most fault) fault (le-ltb most_bytes (length bytes) few))
@@ -41,7 +41,7 @@ outline_few bytes few = ap (λ bs. of_all bytes (outline_at bs)) (take_all most_
 
 -- ---- the next codestream
 
--- it is complete, and what was read is all of it
+-- it is complete, and the bytes read are all of it
 pub entry_given : (old new : Option (List ℕ)) (bytes : List ℕ) (headers : Headers) → Gave old new (λ read. (bytes ≡ read) × IsNext read (known new)) → HasHeaders bytes headers
     → GaveEntry old new (entry_of bytes headers)
 entry_given old new bytes headers gives has = λ told.
@@ -67,14 +67,14 @@ entry_given old new bytes headers gives has = λ told.
 no_outline : (r : Take Outline) (o : Outline) (left : List ℕ) (fault : StreamFault) → r ≡ Ok (o, left) → r ≡ Err fault → ⊥
 no_outline r o left fault ok err = let clash : ⊥ = cc in absurd clash
 
--- no codestream of a frame stands where the outline breaks
+-- bytes whose outline has a fault begin with no codestream of a frame
 pub none_outlined : SpellingsHaveBoundedOutlines → (bytes : List ℕ) (fault : StreamFault) → outline_of bytes ≡ Err fault
     → (front rest : List ℕ) (f : Picture) → bytes ≡ front ++ rest → Spells front f → ⊥
 none_outlined law bytes fault breaks front rest f whole spells =
     let read = law front rest f spells in
     no_outline (outline_of bytes) read.0 rest fault (ap outline_of whole ∙ read.1) breaks
 
--- where the next codestream, which was looked at, has a fault, all that was left has it
+-- a fault of the next codestream's bytes is a fault of all that was left
 pub breaks_by : (old new : Option (List ℕ)) (bytes seen : List ℕ) (fault : StreamFault) → seen ≡ bytes → (Tells old → HasBytes (known old))
     → (Tells old → (front rest : List ℕ) (f : Picture) → known old ≡ front ++ rest → Spells front f → bytes ≡ front)
     → (Tells old → outline_of (known old) ≡ with_left (known new) (outline_of bytes))
@@ -88,7 +88,7 @@ breaks_by old new bytes seen fault is some only outlines none breaks told = (
   inl (outlines told ∙ ap (λ s. with_left (known new) (outline_of s)) (sym is) ∙ ap (with_left (known new)) breaks),
 )
 
--- no bytes are no codestream
+-- an empty list is no codestream
 no_extent : (r : Left) → r ≡ Err stream.Truncated → r ≡ Ok [] → ⊥
 no_extent r err ok = let clash : ⊥ = cc in absurd clash
 
@@ -97,7 +97,7 @@ unfolding extent_at start_at
 some_outlined [] o read = absurd (no_extent (extent_at []) refl (outlines_have_extents [] [] o (sym (outline_few [] (omega arith)) ∙ read)))
 some_outlined (byte ∷ bytes) o read = omega arith
 
--- what such a fault is to an index
+-- the fault of an index for such a fault
 pub stops_by : (read : Option (List ℕ)) (n : ℕ) (fault : StreamFault) → (Tells read → HasBytes (known read)) → (Tells read → BreaksBy fault (known read))
     → StopsNext read n (index_fault n fault)
 stops_by read n stream.Truncated some breaks = (refl, (λ is. let clash : ⊥ = cc in clash), breaks)

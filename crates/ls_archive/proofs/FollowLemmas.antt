@@ -1,4 +1,4 @@
--- A recording that is followed, as one that is read.
+-- A recording that is followed, seen as one that is read.
 use Rattle.std.proofs.Common.{◌≡◌, ◌+◌, ◌<◌, ℕ, true, List, [], ◌∷◌, ◌++◌, length, replicate, Option, Some, refl, sym, ap, subst, ◌∙◌, arith, append_assoc, append-nil, length-append}
 use Rattle.std.specs.Io.KnownBytes.{Appends}
 use Rattle.ls_frame.specs.Picture.{Picture}
@@ -16,7 +16,7 @@ use Rattle.ls_archive.specs.View.Indexing.{HasRun, Stops, StopsLine}
 use Rattle.ls_archive.proofs.EntryLemmas.{some_outlined}
 use Rattle.ls_archive.proofs.IndexLemmas.{HasRun-more, HasRun-most, stops-next, stops-memory, stops-line}
 
--- more bytes, with which no codestream ends
+-- more bytes, at whose end no codestream ends
 pub held_back : (before pending bytes : List ℕ) (index index' : Option (List ℕ)) (n offset written : ℕ)
     → HasRun true (Some before) (Some pending) index index' n offset written
     → HasRun true (Some (before ++ bytes)) (Some (pending ++ bytes)) index index' n offset written
@@ -32,7 +32,7 @@ held_back before pending bytes index index' n offset written run = record {
   bytes_are = run.bytes_are;
 }
 
--- bytes with which one ends, whose line was written
+-- bytes at whose end a codestream ends, and its line was written
 pub ended : (before pending bytes : List ℕ) (index between new : Option (List ℕ)) (n offset written size : ℕ) (entry : Entry) (text : List ℕ)
     → HasRun true (Some before) (Some pending) index between n offset written → n < most_frames → IsEntry entry → entry.bytes ≡ pending ++ bytes
     → text ≡ line true n offset entry → Appends between new text → size ≡ length entry.bytes
@@ -65,7 +65,7 @@ none_spells f spells =
     let ends = ends_with_eoi [] f spells in
     absurd (omega (arith, ap length ends.1, length-append ends.0 (255 ∷ 217 ∷ [])))
 
--- ---- where an index breaks off
+-- ---- where an index stops
 
 -- an allocation failed for the bytes
 pub unheld : (before pending bytes : List ℕ) (index index' : Option (List ℕ)) (n offset written : ℕ) → 0 < length bytes
@@ -74,11 +74,11 @@ unheld before pending bytes index index' n offset written some run =
     stops-next true (Some (before ++ bytes)) (Some (pending ++ bytes)) (Some []) index index' n offset written NoMemory
     (held_back before pending bytes index index' n offset written run) (λ told. omega (arith, some, length-append pending bytes))
 
--- the codestream that ends with the bytes, as one that was read after those before
+-- the codestream that ends with the bytes, seen as one read after those before
 next_given : (before pending bytes : List ℕ) (entry : Entry) → IsEntry entry → entry.bytes ≡ pending ++ bytes → GaveEntry (Some (pending ++ bytes)) (Some []) entry
 next_given before pending bytes entry is all = λ told. (refl, pending ++ bytes, sym (append-nil (pending ++ bytes)), (sym all, is))
 
--- one codestream more than an index has
+-- one codestream more than an index may have
 pub one_more_than_most : (before pending bytes : List ℕ) (index index' : Option (List ℕ)) (n offset written : ℕ) (entry : Entry)
     → HasRun true (Some before) (Some pending) index index' n offset written → n ≡ most_frames → IsEntry entry → entry.bytes ≡ pending ++ bytes
     → Stops true (Some (before ++ bytes)) (Some []) index index' TooMany

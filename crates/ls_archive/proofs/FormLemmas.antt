@@ -25,7 +25,7 @@ use Rattle.ls_archive.proofs.EntryLemmas.{outline_few, some_outlined}
 no_end : (r : Take Outline) (o : Outline) (left : List ℕ) → r ≡ Ok (o, left) → r ≡ Err stream.Truncated → ⊥
 no_end r o left ok err = let clash : ⊥ = cc in absurd clash
 
--- a codestream that is complete is so whatever follows it
+-- a complete codestream is complete whatever follows it
 outline_more : (bytes rest : List ℕ) (o : Outline) → length bytes ≤ most_bytes → outline_of bytes ≡ Ok (o, []) → outline_of (bytes ++ rest) ≡ Ok (o, rest)
 unfolding outline_of
 outline_more bytes rest o few complete =
@@ -46,13 +46,13 @@ same_read a b rest more e =
 
 -- ---- one index
 
--- what stands before the same is the same
+-- lists with equal ends, whose concatenations are equal, are equal
 same_front : (a b rest : List ℕ) → a ++ rest ≡ b ++ rest → a ≡ b
 same_front a b rest same =
     let size : length a ≡ length b = omega (arith, ap length same, length-append a rest, length-append b rest) in
     sym (take-append_seam a rest) ∙ ap (take (length a)) same ∙ ap (λ n. take n (b ++ rest)) size ∙ take-append_seam b rest
 
--- entries of the same bytes that say the same headers are the same
+-- entries with the same bytes and the same headers are equal
 same_entry : (a b : Entry) (one : Outline) (two : Outline) → a.bytes ≡ b.bytes → one ≡ two → Says one a → Says two b → a ≡ b
 same_entry a b one two bytes same says says' =
     let kind = sym says.kind ∙ ap (λ (o : Outline). o.header.kind) same ∙ says'.kind in
@@ -62,7 +62,7 @@ same_entry a b one two bytes same says says' =
     let parameters = sym says.parameters ∙ ap (λ (o : Outline). o.parameters) same ∙ says'.parameters in
     λ i. record { bytes = bytes i; kind = kind i; width = width i; height = height i; precision = precision i; parameters = parameters i }
 
--- of two entries at the front of the same bytes
+-- two entries at the front of the same bytes are equal
 first_same : (a b : Entry) (rest more : List ℕ) → IsEntry a → IsEntry b → a.bytes ++ rest ≡ b.bytes ++ more → (a ≡ b) × (rest ≡ more)
 first_same a b rest more is is' same =
     let one = same_read is.outline is'.outline rest more
@@ -86,20 +86,20 @@ one_index bytes entries others are also = same_entries entries others are.each a
 
 -- ---- recordings of frames
 
--- the number of elements of two lists whose elements belong together
+-- two lists whose elements correspond have the same length
 zip-length : (entries : List Entry) (frames : List Picture) → AllZip IsOfFrame entries frames → length entries ≡ length frames
 zip-length [] [] all = refl
 zip-length [] (f ∷ frames) all = absurd all
 zip-length (entry ∷ entries) [] all = absurd all
 zip-length (entry ∷ entries) (f ∷ frames) all = ap suc (zip-length entries frames all.1)
 
--- what follows the first frames begins with a codestream, or nothing follows
+-- after the first frames a codestream begins, or nothing follows
 pub no_break : (rest : List ℕ) (more : List Picture) → IsFilm Spells rest more → BeginsWithNone rest → ⊥
 no_break rest [] none broken = absurd (omega (arith, ap length none, broken.some))
 no_break rest (f ∷ more) film broken = broken.none film.0 film.1 f film.2 film.3
 
 module _ (law : SpellingsHaveBoundedOutlines) where
-  -- where a codestream that is complete stands, and one of a frame, they are one
+  -- a complete codestream, and a codestream of a frame, at the front of the same bytes are one
   entry_frame : (entry : Entry) (rest codestream more : List ℕ) (f : Picture) → IsEntry entry → entry.bytes ++ rest ≡ codestream ++ more → Spells codestream f
       → IsOfFrame entry f × (rest ≡ more)
   entry_frame entry rest codestream more f is same spells =
@@ -138,7 +138,7 @@ module _ (law : SpellingsHaveBoundedOutlines) where
   no_bytes [] none = refl
   no_bytes (byte ∷ bytes) none = absurd (omega (arith, none))
 
-  -- nothing is a recording of no frames
+  -- no bytes are a recording of no frames
   none_left : (more : List Picture) → IsFilm Spells [] more → more ≡ []
   none_left [] film = refl
   none_left (f ∷ more) film =
@@ -184,7 +184,7 @@ module _ (law : SpellingsHaveBoundedOutlines) where
 pub index_of : (sums : Bool) (recording out : List ℕ) (left : Option (List ℕ)) (n : ℕ) → Completes sums (Some recording) left (Some []) (Some out) n → IsIndexOf sums recording out n
 index_of sums recording out left n run = record { entries = run.entries; count = run.count; few = run.few; are = (run.gave refl).2; wrote = run.wrote }
 
--- a count that stays at 0 says that no call failed
+-- if a count stays 0, no call failed
 pub no_failure : (failed : Bool) → 0 ≡ count_after failed 0 → failed ≡ false
 no_failure false stays = refl
 no_failure true stays = absurd (omega arith)

@@ -1,4 +1,4 @@
--- The line that the bytes of an index begin with, and the number that stands in it up to a blank.
+-- The first line of the bytes of an index, and the number at the front of a text, up to a blank.
 use Rattle.std.proofs.Common.{◌≡◌, ◌≢◌, inl, inr, ℕ, suc, ◌+◌, ◌<◌, ◌≤◌, List, [], ◌∷◌, ◌++◌, length, take, drop, get_or, Option, None, Some, Result, Ok, Err, MatchResult, decimal, codes, refl, sym, ap, subst, ◌∙◌, arith, append_assoc, append-nil, length-append}
 use Rattle.std.proofs.Math.Seq.{get_or-append_seam, take-append_seam, drop-append_seam}
 use Rattle.std.proofs.lemmas.List.{get_or_append_left}
@@ -39,7 +39,7 @@ no_feed_before (x ∷ front) (y ∷ a) rest b other same less =
     let later : front ++ 10 ∷ rest ≡ a ++ b = ap (drop 1) same in
     no_feed_before front a rest b other.1 later (omega (arith, less))
 
--- what is taken up to LF after bytes without LF is the first line
+-- the bytes taken up to LF, after bytes without LF, end the first line
 pub front-fed : (most last : ℕ) (old mid new : Option (List ℕ)) (before after : List ℕ) → TakesUntil 10 most mid new before after last → last ≡ 10 → HasNoLineFeed before
     → (Tells old → Tells mid × (known old ≡ before ++ known mid)) → Tells old → IsFrontLine (known old) after
 front-fed most last old mid new before after taken feed one gave told =
@@ -54,13 +54,13 @@ front-fed most last old mid new before after taken feed one gave told =
     (sym (append_assoc front (10 ∷ []) rest) ∙ sym begins ∙ all) in
     taken.appended ∙ ap (λ s. before ++ s) run ∙ sym (append_assoc before taken.run (10 ∷ [])) ∙ ap (λ s. s ++ 10 ∷ []) (sym same)
 
--- bytes without LF are as many as a line may have
+-- there are as many bytes without LF as a line may have
 pub front-full : (old new : Option (List ℕ)) (text : List ℕ) → HasNoLineFeed text → (Tells old → Tells new × (known old ≡ text ++ known new)) → 1024 ≤ length text → Tells old
     → IsFrontLine (known old) text
 front-full old new text one gave full told front rest begins none few =
     absurd (no_feed_before front text rest (known new) one (sym (append_assoc front (10 ∷ []) rest) ∙ sym begins ∙ (gave told).1) (omega (arith, few, full)))
 
--- bytes without LF are all that there are
+-- bytes without LF are all that is left
 pub front-ended : (old mid : Option (List ℕ)) (before text : List ℕ) → HasNoLineFeed before → (Tells old → Tells mid × (known old ≡ before ++ known mid)) → (Tells mid → known mid ≡ []) → text ≡ before → Tells old
     → IsFrontLine (known old) text
 front-ended old mid before text one gave end same told front rest begins none few =
@@ -96,7 +96,7 @@ first-blank number end text rest small (inr more) is first =
       | inr (inr later) ↦ absurd (first.0.before (length digits) (omega arith) later (eq-eqb _ _ blank))
     ]
 
--- without a blank the number is all
+-- without a blank the number is the entire text
 pub all-digits : (number : ℕ) (text rest : List ℕ) → EndsColumn rest → text ≡ decimal number ++ rest → IsFirstByte (is_byte 32) text None → length text ≡ length (decimal number)
 all-digits number text rest (inl none) is first =
     let size : length text ≡ length (decimal number) + 0 = ap length is ∙ length-append (decimal number) rest ∙ ap (λ s. length (decimal number) + length s) none in
@@ -112,18 +112,18 @@ all-digits number text rest (inr more) is first =
 pub number-before : (number end : ℕ) (text rest : List ℕ) → text ≡ decimal number ++ rest → end ≡ length (decimal number) → take end text ≡ decimal number
 number-before number end text rest is place = ap (λ n. take n text) place ∙ ap (take (length (decimal number))) is ∙ take-append_seam (decimal number) rest
 
--- if they are read as a number, it is that
+-- parsed as a number, they give that number
 pub number-read : {E : Type 0} (number end : ℕ) (text rest : List ℕ) (r : Result ℕ E) → number ≤ most_bytes → text ≡ decimal number ++ rest → end ≡ length (decimal number)
     → ParsesUnsigned 32 10 (take end text) r → r ≡ Ok number
 number-read number end text rest r small is place parsed =
     parse-decimal 32 number (take end text) r (omega (arith, small)) (omega (arith, small)) (number-before number end text rest is place) parsed
 
--- it is text
+-- they are valid UTF-8
 pub number-is_text : (number end : ℕ) (text rest : List ℕ) → number ≤ most_bytes → text ≡ decimal number ++ rest → end ≡ length (decimal number) → IsUtf8 (take end text)
 number-is_text number end text rest small is place =
     subst IsUtf8 (sym (number-before number end text rest is place)) (IsUtf8-from_ascii (decimal number) (IsAscii-decimal number (omega (arith, small))))
 
--- what is kept of an answer that was Ok, and of one that wasn't
+-- what holds of a result that was Ok, if that alone is kept, and of one that wasn't
 pub kept : {A E : Type 0} (P : A → Type 0) (Q : E → Type 0) (a : A) (r : Result A E) → MatchResult r P Q → Some a ≡ result_ok r → P a
 kept P Q a (Ok b) m same = let is : a ≡ b = cc in subst P (sym is) m
 kept P Q a (Err e) m same = let clash : ⊥ = cc in absurd clash
@@ -134,7 +134,7 @@ refused P Q (Err e) m same never = never e m
 
 -- ---- the columns of a line
 
--- what stands after the number and the offset of a line
+-- a line's beginning, split after the number and the offset
 pub beginning-parts : (n offset size : ℕ) (rest : List ℕ) → beginning n offset size ++ rest ≡ (decimal n ++ (codes " " ++ (decimal offset ++ codes " "))) ++ (decimal size ++ (codes " " ++ rest))
 beginning-parts n offset size rest =
     append_assoc (decimal n) (column offset ++ (column size ++ codes " ")) rest
@@ -142,7 +142,7 @@ beginning-parts n offset size rest =
     ∙ sym (append_assoc (decimal offset) (codes " ") (decimal size ++ 32 ∷ rest)))
     ∙ sym (append_assoc (decimal n) (codes " " ++ (decimal offset ++ codes " ")) (decimal size ++ 32 ∷ rest))
 
--- a line's columns are that and then they
+-- so are the bytes of a line before its LF
 pub line-columns : (n offset size : ℕ) (text columns rest : List ℕ) → text ≡ columns ++ codes "\n" → text ≡ (beginning n offset size ++ rest) ++ codes "\n"
     → columns ≡ (decimal n ++ (codes " " ++ (decimal offset ++ codes " "))) ++ (decimal size ++ (codes " " ++ rest))
 line-columns n offset size text columns rest ends line =
@@ -155,7 +155,7 @@ columns-left n offset size text columns left rest ends begins line =
     let all : front ++ left ≡ front ++ (decimal size ++ (codes " " ++ rest)) = sym begins ∙ line-columns n offset size text columns rest ends line in
     sym (drop-append_seam front left) ∙ ap (drop (length front)) all ∙ drop-append_seam front (decimal size ++ (codes " " ++ rest))
 
--- and the other way round
+-- the converse
 pub line-of_columns : (n offset size : ℕ) (text columns left rest : List ℕ) → text ≡ columns ++ codes "\n" → columns ≡ (decimal n ++ (codes " " ++ (decimal offset ++ codes " "))) ++ left
     → left ≡ (decimal size ++ codes " ") ++ rest → text ≡ (beginning n offset size ++ rest) ++ codes "\n"
 line-of_columns n offset size text columns left rest ends begins number =

@@ -35,7 +35,7 @@ lines_from-push sums n offset (first ∷ entries) entry =
     ∙ ap (λ o. rest ++ line sums (n + length (first ∷ entries)) o entry) place)
     ∙ sym (append_assoc (line sums n offset first) rest (line sums (n + length (first ∷ entries)) (offset + length (joined (first ∷ entries))) entry))
 
--- one line more, of the codestream whose number is the count of those before, and which begins after them
+-- one more line, of the codestream whose number is the count of those before, and which begins where these end
 pub lines-push : (sums : Bool) (entries : List Entry) (entry : Entry) (n offset : ℕ) → length entries ≡ n → offset ≡ length (joined entries)
     → lines sums (entries ++ entry ∷ []) ≡ lines sums entries ++ line sums n offset entry
 lines-push sums entries entry n offset count place =
@@ -50,7 +50,7 @@ lines-push sums entries entry n offset count place =
 pub GaveEntries-none : (old : Option (List ℕ)) → GaveEntries old old []
 GaveEntries-none old = λ told. (told, [], refl, record { joined_are = refl; each = tt })
 
--- a codestream more
+-- one more codestream
 are_more : (bytes more : List ℕ) (entries : List Entry) (entry : Entry) → AreEntriesOf bytes entries → (more ≡ entry.bytes) × IsEntry entry
     → AreEntriesOf (bytes ++ more) (entries ++ entry ∷ [])
 are_more bytes more entries entry are next = record {
@@ -134,7 +134,7 @@ module _ (sums : Bool) where
   stops-next read mid new written out n offset bytes NoMemory run why = (n, stops_at read mid new written out n offset bytes HasBytes run why)
   stops-next read mid new written out n offset bytes TooMany run why = absurd why
 
-  -- memory was refused for the line of a codestream that was read
+  -- an allocation failed for the line of a codestream that was read
   pub stops-memory : (read mid new written out : Option (List ℕ)) (n offset bytes : ℕ) (entry : Entry) → HasRun sums read mid written out n offset bytes → GaveEntry mid new entry
       → (IsEntry entry → 0 < length entry.bytes) → Stops sums read new written out NoMemory
   stops-memory read mid new written out n offset bytes entry run next some = (
@@ -167,7 +167,7 @@ module _ (sums : Bool) where
   stops-line read mid new written midway out n offset bytes entry text NoMemory run room next is why = absurd why
   stops-line read mid new written midway out n offset bytes entry text TooMany run room next is why = absurd why
 
-  -- a codestream was read after the most that a recording has
+  -- a codestream was read after the most that a recording may have
   pub HasRun-most : (read mid new written out : Option (List ℕ)) (offset bytes : ℕ) (entry : Entry) → HasRun sums read mid written out most_frames offset bytes → GaveEntry mid new entry
       → StopsAtMost sums read new written out
   HasRun-most read mid new written out offset bytes entry run next = record {

@@ -13,7 +13,7 @@ pub all-append : {A : Type 0} (P : A → Type 0) (xs ys : List A) → AllByRecur
 all-append P [] ys all more = more
 all-append P (x ∷ xs) ys all more = (all.0, all-append P xs ys all.1 more)
 
--- the last byte apart
+-- the last byte split off
 pub split_last : (text : List ℕ) → 0 < length text → HasNoLineFeed text → IsOneLine text
 split_last [] some one = absurd (omega (arith, some))
 split_last (byte ∷ []) some one = record { first = []; last = byte; text_is = refl; one = tt }
@@ -21,7 +21,7 @@ split_last (byte ∷ next ∷ bytes) some one =
     let later = split_last (next ∷ bytes) (omega arith) one.1 in
     record { first = byte ∷ later.first; last = later.last; text_is = ap (λ s. byte ∷ s) later.text_is; one = (one.0, later.one) }
 
--- what is taken after bytes without LF is one line with them
+-- bytes without LF, and those taken after them, are one line
 pub taken_line : (most last : ℕ) (old new : Option (List ℕ)) (before after : List ℕ) → TakesUntil 10 most old new before after last → HasNoLineFeed before → IsOneLine after
 taken_line most last old new before after taken one = record {
   first = before ++ taken.run;
@@ -34,7 +34,7 @@ unfoldable pub head_or : ℕ → List ℕ → ℕ
 head_or other [] = other
 head_or other (x ∷ xs) = x
 
--- the same but for the last byte
+-- lists that are equal with one byte added to each are equal without it
 pub same_first : (a b : List ℕ) (x y : ℕ) → a ++ x ∷ [] ≡ b ++ y ∷ [] → a ≡ b
 unfolding head_or
 same_first [] [] x y same = refl
@@ -45,7 +45,7 @@ same_first (c ∷ a) (d ∷ b) x y same =
     let later : a ++ x ∷ [] ≡ b ++ y ∷ [] = ap (drop 1) same in
     ap (λ e. e ∷ a) first ∙ ap (λ s. d ∷ s) (same_first a b x y later)
 
--- what is wrong with bytes that don't have their line
+-- the damage of bytes that don't match their line
 pub damage_by : (n offset : ℕ) (l : Line) (bytes : List ℕ) → (HasLine n offset l.text bytes → ⊥) → (short : Bool) → short ≡ nat_lt (length bytes) l.size
     → IsDamage n offset l bytes (if short then Truncated else Changed)
 damage_by n offset l bytes other true is = (other, search (rules, is))

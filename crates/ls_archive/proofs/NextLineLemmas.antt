@@ -1,10 +1,10 @@
--- What begins with no line of an index.
+-- Bytes that don't begin with the next line of an index.
 use Rattle.std.proofs.Common.{◌≡◌, ℕ, ◌<◌, List, [], ◌∷◌, ◌++◌, length, codes, Option, sym, ap, ◌∙◌, arith, length-append}
 use Rattle.ls_frame.specs.View.Known.{Tells, Gave, known}
 use Rattle.ls_archive.specs.View.Checking.{Line, IsLine, beginning}
 use Rattle.ls_archive.specs.View.Checks.{IsOneLine, IsFrontLine, BeginsOtherwise}
 
--- bytes whose first line is no such line begin otherwise
+-- bytes whose first line isn't the next line of an index don't begin with that
 pub begins-otherwise : (index index' : Option (List ℕ)) (n offset : ℕ) (text : List ℕ) → Gave index index' (λ bytes. text ≡ bytes) → IsOneLine text → (Tells index → IsFrontLine (known index) text)
     → ((l : Line) → text ≡ l.text → IsLine n offset l → ⊥) → Tells index → BeginsOtherwise n offset (known index)
 begins-otherwise index index' n offset text gave one front never told =

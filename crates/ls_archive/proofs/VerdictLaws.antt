@@ -1,4 +1,4 @@
--- Two lists of frames have one verdict.
+-- Two lists of frames have exactly one verdict.
 use Rattle.std.proofs.Common.{◌≡◌, suc, ◌+◌, inl, inr, List, [], ◌∷◌, ◌++◌, length, refl, sym, ap, ◌∙◌, arith, length-append}
 use Rattle.std.proofs.lemmas.Bool.{cases_Bool}
 use Rattle.ls_frame.specs.Picture.{Picture, same_picture}
@@ -7,7 +7,7 @@ use Rattle.ls_archive.specs.declared.verifying.Verdict.TheVariants.{Same, Differ
 use Rattle.ls_archive.specs.Verify.{Compares, OneVerdict, SomeVerdict, difference_of}
 use Rattle.ls_archive.proofs.VerifyLemmas.{same_is, other_is}
 
--- ---- no more than one
+-- ---- at most one
 
 head : (f g : Picture) (a b : List Picture) → f ∷ a ≡ g ∷ b → f ≡ g
 head f g a b same = cc
@@ -15,17 +15,17 @@ head f g a b same = cc
 tail : (f g : Picture) (a b : List Picture) → f ∷ a ≡ g ∷ b → a ≡ b
 tail f g a b same = cc
 
--- what follows the same frames is the same
+-- the frames after equal frames are equal
 next : (first a b : List Picture) (f g : Picture) → first ++ f ∷ a ≡ first ++ g ∷ b → f ≡ g
 next [] a b f g same = head f g a b same
 next (x ∷ first) a b f g same = next first a b f g (tail x x _ _ same)
 
--- a list that differs doesn't go on after the other
+-- of two lists that differ at one place, neither extends the other
 not_ended : (first a b left : List Picture) (f g h : Picture) → first ++ f ∷ a ≡ (first ++ g ∷ b) ++ h ∷ left → f ≡ g
 not_ended [] a b left f g h same = head f g a (b ++ h ∷ left) same
 not_ended (x ∷ first) a b left f g h same = not_ended first a b left f g h (tail x x _ _ same)
 
--- two lists differ first in one place
+-- two lists have one first place where they differ
 one_place : (first others a b c d : List Picture) (f g h k : Picture) → first ++ f ∷ a ≡ others ++ h ∷ c → first ++ g ∷ b ≡ others ++ k ∷ d
     → (f ≡ g → ⊥) → (h ≡ k → ⊥) → length first ≡ length others
 one_place [] [] a b c d f g h k one two differ differ' = refl
@@ -36,7 +36,7 @@ one_place (x ∷ first) [] a b c d f g h k one two differ differ' =
 one_place (x ∷ first) (y ∷ others) a b c d f g h k one two differ differ' =
     ap suc (one_place first others a b c d f g h k (tail x y _ _ one) (tail x y _ _ two) differ differ')
 
--- in one pair of frames
+-- and there one pair of frames
 one_pair : (first others a b c d : List Picture) (f g h k : Picture) → first ++ f ∷ a ≡ others ++ h ∷ c → first ++ g ∷ b ≡ others ++ k ∷ d
     → (f ≡ g → ⊥) → (h ≡ k → ⊥) → (f ≡ h) × (g ≡ k)
 one_pair [] [] a b c d f g h k one two differ differ' = (head f h a c one, head g k b d two)
@@ -80,9 +80,9 @@ one_verdict frames others (Extra n) (Differs m other) v w =
 one_verdict frames others (Extra n) (Missing m) v w = absurd (omega (arith, longer others frames v.left v.f v.frames_are, longer frames others w.left w.f w.frames_are))
 one_verdict frames others (Extra n) (Extra m) v w = ap Extra (sym v.count ∙ w.count)
 
--- ---- and one
+-- ---- at least one
 
--- one equal frame more in front
+-- with one equal frame in front of both
 in_front : (f g : Picture) (frames others : List Picture) (v : Verdict) → f ≡ g → Compares frames others v → (w : Verdict) × Compares (f ∷ frames) (g ∷ others) w
 in_front f g frames others (Same n) same v = (Same (suc n), ((λ i. sym same i ∷ v.0 i), ap suc v.1))
 in_front f g frames others (Differs n what) same v = (

@@ -49,7 +49,7 @@ module _ (IsImage : List ℕ → Picture → Type 0)
     (only : (one other rest : List ℕ) (f g : Picture) → IsImage one f → IsImage other g → other ≡ one ++ rest → rest ≡ [])
     (same : (bytes : List ℕ) (f g : Picture) → IsImage bytes f → IsImage bytes g → f ≡ g)
     (bytes : List ℕ) (frames : List Picture) (film : IsFilm IsImage bytes frames) where
-  -- the frames that were read, and one more, are the first
+  -- the frames that were read, and one more, are the first ones
   first_are : (left : Option (List ℕ)) (first : List Picture) (f : Picture) → GaveFrames IsImage (Some bytes) left (first ++ f ∷ [])
       → (more : List Picture) × (frames ≡ first ++ f ∷ more)
   first_are left first f gives =
@@ -71,7 +71,7 @@ module _ (IsImage : List ℕ → Picture → Type 0)
 
 -- ---- a film and a recording
 
--- a fault that is neither of memory nor of a device is of the bytes
+-- a fault that is neither a failed allocation nor a failed read is a fault of the bytes
 of_bytes : (fault : NetpbmFault) → (fault ≡ netpbm.NoMemory → ⊥) → blames_device fault ≡ false → IsTrue (blames_bytes fault)
 of_bytes netpbm.BadMagic memory device = refl
 of_bytes netpbm.BadHeader memory device = refl
@@ -91,7 +91,7 @@ module _ (only_image : (front rest : List ℕ) (f g : Picture) → IsImageOf fro
   only_of : (one other rest : List ℕ) (f g : Picture) → IsImageOf one f → IsImageOf other g → other ≡ one ++ rest → rest ≡ []
   only_of one other rest f g first second is = only_image one rest f g first (rw (sym is) second)
 
-  -- what follows the first frames begins with an image, or nothing follows
+  -- after the first frames an image begins, or nothing follows
   no_break_image : (rest : List ℕ) (more : List Picture) (fault : NetpbmFault) → IsFilm IsImageOf rest more → IsBroken rest fault → ⊥
   no_break_image rest [] fault none broken = none_breaks fault (subst (λ bs. Breaks bs fault) none broken.breaks)
   no_break_image rest (f ∷ more) fault film broken = broken.no_image film.0 film.1 f film.2 film.3

@@ -34,7 +34,7 @@ HaveRun-none film recording = record {
   recording_gave = GaveFrames-none Spells recording;
 }
 
--- what is taken for the same is the same
+-- pictures that compare equal are equal
 pub same_is : (f g : Picture) → same_picture f g ≡ true → f ≡ g
 same_is f g is = (same_picture-decides f g).0 is
 
@@ -62,7 +62,7 @@ module _ (film mid film' recording midway recording' : Option (List ℕ)) (n : �
     recording_gave = GaveFrames-more Spells recording midway recording' run.frames f run.recording_gave (subst (λ h. Gave midway recording' (λ bytes. Spells bytes h)) (sym same) coded);
   }
 
-  -- by cases of both nexts: there is no verdict, and the run goes on
+  -- by cases of what both gave next: there is no verdict, and the run goes on
   goes_on : (image coded : Option Picture) → n < most_frames → GaveNext IsImageOf mid film' image → GaveNext Spells midway recording' coded
       → None ≡ verdict_at n image coded → HaveRun film film' recording recording' (n + 1)
   goes_on (Some f) (Some g) room image coded is = elim (cases_Bool (same_picture f g)) [
@@ -157,7 +157,7 @@ module _ (film mid film' recording midway recording' : Option (List ℕ)) (n : �
   run-stops fault (inl why) = at_film fault why
   run-stops fault (inr why) = at_recording fault why
 
-  -- what was given stood at the front
+  -- the bytes that were given were at the front
   begins : (IsImage : List ℕ → Picture → Type 0) (old new : Option (List ℕ)) (f : Picture) → GaveNext IsImage old new (Some f) → Tells old → BeginsWithImage IsImage (known old)
   begins IsImage old new f gives told = let gave = gives told in (f, gave.1, known new, gave.2, gave.3)
 
@@ -200,7 +200,7 @@ module _ (film mid film' recording midway recording' : Option (List ℕ)) (run :
 
 -- ---- the next image
 
--- what a fault of it is to a comparison
+-- the fault of a comparison for a fault of it
 pub stops_image : (read read' : Option (List ℕ)) (n : ℕ) (fault : NetpbmFault) → (IsTrue (blames_bytes fault) → Tells read → IsBroken (known read) fault)
     → (fault ≡ netpbm.NoMemory → Gave read read' IsWholeHeading) → StopsFilm read n (film_fault n fault)
 stops_image read read' n netpbm.BadMagic broken memory = (refl, (λ is. let clash : ⊥ = cc in clash), (λ told blames. broken blames told))
@@ -220,7 +220,7 @@ coded_fault : (read : Option (List ℕ)) (n : ℕ) (fault : StreamFault) → (fa
 coded_fault read n fault other (inl memory) = absurd (other memory)
 coded_fault read n fault other (inr breaks) = (refl, other, breaks)
 
--- what a fault of it is to a comparison
+-- the fault of a comparison for a fault of it
 pub stops_coded : (read : Option (List ℕ)) (n : ℕ) (fault : StreamFault) → (Tells read → HasBytes (known read)) → (fault ≡ stream.NoMemory) ⊎ (Tells read → BreaksBy fault (known read))
     → StopsRecording read n (recording_fault n fault)
 stops_coded read n stream.Truncated some why = coded_fault read n stream.Truncated (λ is. let clash : ⊥ = cc in clash) why

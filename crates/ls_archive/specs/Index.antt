@@ -1,4 +1,4 @@
--- What an index says of a recording: a line for each codestream.
+-- The index of a recording: a line for each codestream.
 use Rattle.std.specs.Prelude.{ℕ, ◌+◌, Bool, true, false, List, [], ◌∷◌, ◌++◌, length, flat_map, decimal, codes}
 use Rattle.hex.specs.Hex.{encode_lower}
 use Rattle.sha2.specs.Sha256.{sha256}
@@ -6,7 +6,7 @@ use Rattle.ls_frame.specs.declared.frame.Kind.{Kind}
 use Rattle.ls_frame.specs.Parameters.{Parameters}
 use Rattle.ls_film.specs.Listing.{kind_text, column}
 
--- A codestream: its bytes, and what its headers say: the frame's form, the bits a sample (P), and the coding parameters.
+-- A codestream: its bytes, and what its headers say: the frame's form, bits per sample (P), and the coding parameters.
 pub record Entry : Type 0 where
   pub bytes : List ℕ
   pub kind : Kind
@@ -15,7 +15,7 @@ pub record Entry : Type 0 where
   pub precision : ℕ
   pub parameters : Parameters
 
--- the codestreams, one after the other with nothing between
+-- the codestreams, joined with nothing between them
 abbrev pub joined : List Entry → List ℕ
 joined entries = flat_map (λ entry. entry.bytes) entries
 
@@ -28,18 +28,18 @@ columns entry = let p = entry.parameters in
 unfoldable pub sum_text : List ℕ → List ℕ
 sum_text bytes = encode_lower (sha256 bytes)
 
--- a blank and the sum after it; or nothing, without sums
+-- a blank and the sum; or nothing, without sums
 abbrev pub sum_column : Bool → List ℕ → List ℕ
 sum_column true bytes = codes " " ++ sum_text bytes
 sum_column false bytes = []
 
--- the line of codestream n, which begins at this offset: the number, the offset, how many bytes, the kind, and the columns
+-- the line of codestream n, which begins at this offset: number, offset, size in bytes, kind, and the columns
 unfoldable pub line : Bool → ℕ → ℕ → Entry → List ℕ
 line sums n offset entry =
     decimal n ++ column offset ++ column (length entry.bytes) ++ codes " " ++ kind_text entry.kind ++ flat_map column (columns entry)
     ++ sum_column sums entry.bytes ++ codes "\n"
 
--- the lines of codestreams numbered from n on, of which the first begins at this offset
+-- the lines of codestreams numbered from n on, the first of which begins at this offset
 abbrev pub lines_from : Bool → ℕ → ℕ → List Entry → List ℕ
 lines_from sums n offset [] = []
 lines_from sums n offset (entry ∷ entries) = line sums n offset entry ++ lines_from sums (n + 1) (offset + length entry.bytes) entries

@@ -1,4 +1,4 @@
--- What a verdict says of the frames of a film and of a recording.
+-- The verdict on the frames of a film and of a recording.
 use Rattle.std.specs.Prelude.{◌≡◌, ◌≢◌, ◌==◌, ◌&&◌, ℕ, if◌then◌else◌, List, ◌∷◌, ◌++◌, length}
 use Rattle.ls_frame.specs.Picture.{Picture, same_kind}
 use Rattle.ls_archive.specs.declared.verifying.Difference.{Difference}
@@ -6,14 +6,14 @@ use Rattle.ls_archive.specs.declared.verifying.Difference.TheVariants.{Kinds, Si
 use Rattle.ls_archive.specs.declared.verifying.Verdict.{Verdict}
 use Rattle.ls_archive.specs.declared.verifying.Verdict.TheVariants.{Same, Differs, Missing, Extra}
 
--- what two pictures differ in: their kinds; or else their sizes; or else their maxvals; or else samples
+-- the first difference of two pictures: their kinds; or else their sizes; or else their maxvals; or else samples
 abbrev pub difference_of : Picture → Picture → Difference
 difference_of f g =
     if same_kind f.kind g.kind
     then (if f.width == g.width && f.height == g.height then (if f.maxval == g.maxval then Samples else Maxvals f.maxval g.maxval) else Sizes f.width f.height g.width g.height)
     else Kinds f.kind g.kind
 
--- the first n of both are equal, and then both have a frame, and these differ
+-- The first n frames of both are equal; then each has a frame, and these two differ in this.
 pub record DifferAt (frames others : List Picture) (n : ℕ) (what : Difference) : Type 0 where
   pub first : List Picture
   pub f : Picture
@@ -26,7 +26,7 @@ pub record DifferAt (frames others : List Picture) (n : ℕ) (what : Difference)
   pub differ : f ≢ g
   pub what_is : what ≡ difference_of f g
 
--- the others are the first n frames, and there is another frame
+-- The others are the first n frames, and at least one frame follows these.
 pub record EndAt (others frames : List Picture) (n : ℕ) : Type 0 where
   pub f : Picture
   pub left : List Picture
@@ -42,7 +42,7 @@ Compares frames others (Extra n) = EndAt frames others n
 
 -- ---- laws
 
--- Two lists of frames have one verdict: so film and recording are the same exactly if their frames are equal.
+-- Two lists of frames have at most one verdict; so film and recording are the same exactly if their frames are equal.
 abbrev pub OneVerdict : Type 0
 OneVerdict = (frames others : List Picture) (v w : Verdict) → Compares frames others v → Compares frames others w → v ≡ w
 

@@ -1,4 +1,4 @@
--- How a reader, a writer and the code's faults are seen as recordings and what is said of them.
+-- How the code's values (readers, writers, faults) are seen as recordings, indexes and verdicts.
 pub mod Batches
 pub mod Checking
 pub mod Checks

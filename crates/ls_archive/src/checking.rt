@@ -1,7 +1,7 @@
-//! Checking a recording by its index.
+//! Checks a recording by its index.
 //!
-//! A line of the index says at which offset its codestream begins and how many bytes it has. So damage, also to
-//! markers, keeps no other codestream from being looked at.
+//! A line of the index says at which offset its codestream begins and how many bytes it has. So damage, even to
+//! markers, doesn't keep any other codestream from being checked.
 ghost use Rattle.std.specs.Prelude.{if◌then◌else◌, ◌≡◌, ◌≢◌, ◌⊎◌, ◌+◌, ◌*◌, ◌^◌, ◌<◌, ◌≤◌, ◌++◌, ◌∷◌, ◌↔◌, ℕ, List, [], Option, Some, IsTrue, decimal, flat_map, IfOk, IfErr, IfSome, IfNone, OnOk, OnErr, MatchOption, codes, length, true, false};
 ghost use Rattle.ls_frame.specs.declared.frame.Kind.{Kind};
 ghost use Rattle.ls_frame.specs.Picture.{Picture};
@@ -34,44 +34,44 @@ use thiserror::Error;
 /// What is wrong with the bytes at the offset of a line of the index.
 #[derive(Clone, Copy, Debug, Drop, PartialEq, Eq, Error)]
 pub enum Damage {
-    /// They aren't those of the line, and are fewer than it says: the recording ends before.
+    /// They don't match the line, and are fewer than it says: the recording ends before.
     #[error("truncated")]
     Truncated,
-    /// They are as many as the line says, and the line that `write_index` writes of them is another, or there is none.
+    /// They are as many as the line says, but `write_index` writes another line for them, or none.
     #[error("changed")]
     Changed,
-    /// They have that line, and can't be decoded: this is their first fault, never `StreamFault::NoMemory`.
+    /// They match the line, but can't be decoded: this is their first fault, never `StreamFault::NoMemory`.
     #[error("{0}")]
     Fault(StreamFault),
 }
 
-/// A codestream that is damaged.
+/// A damaged codestream.
 #[derive(Clone, Copy, Debug, Drop, PartialEq, Eq)]
 pub struct Finding {
     /// Its number in the index, from 0.
     pub number: u64,
-    /// The offset at which it should begin: how many bytes of the recording stand before it.
+    /// The offset at which it should begin: the number of bytes of the recording before it.
     pub place: u64,
-    /// How many bytes it should have.
+    /// The size that it should have, in bytes.
     pub count: u64,
-    /// The SHA-256 that they should have, if the index says it.
+    /// The SHA-256 that it should have, if the index says one.
     pub sum: Option<[u8; 32]>,
-    /// What is wrong with the bytes that stand there.
+    /// What is wrong with the bytes at that offset.
     pub damage: Damage,
 }
 
-/// What is told of findings, one at a time.
+/// Receives findings, one at a time.
 pub trait Findings {
-    /// Those that it was told of, in order, if they are known (as a vector's are).
+    /// Those received so far, in order, if they are known (as a vector's are).
     ghost found: { Self → Option (List Finding) };
 
-    /// Tells of one finding more. If an allocation fails, none was.
+    /// Receives one more finding. If an allocation fails, it isn't received.
     fn tell(&mut self, finding: Finding) -> Result<(), AllocError>
         ensures told { OnOk result (FindsMore (found self.old) (found self.new) (finding ∷ [])) }
         ensures none { OnErr result (found self.new ≡ found self.old) };
 }
 
-/// Findings in memory, in order.
+/// Collects findings in memory, in order.
 impl Findings for Vec<Finding> {
     ghost use Rattle.std.specs.Prelude.{Some};
 
@@ -85,27 +85,27 @@ impl Findings for Vec<Finding> {
     }
 }
 
-/// What a check by an index came to.
+/// The result of a check by an index.
 #[derive(Clone, Copy, Debug, PartialEq, Eq)]
 pub struct Checked {
-    /// How many lines the index has: `ls_film::MOST_FRAMES` at most.
+    /// The number of lines of the index: `ls_film::MOST_FRAMES` at most.
     pub frames: u64,
-    /// How many of their codestreams are damaged; so many findings were told.
+    /// The number of their codestreams that are damaged, which is the number of findings that were reported.
     pub damaged: u64,
-    /// How many bytes their codestreams have, all together.
+    /// The total of the sizes that the lines say, in bytes.
     pub bytes: u64,
-    /// Whether the recording has bytes after those that the lines speak of.
+    /// Whether the recording goes on after these bytes.
     pub more: bool,
 }
 
 /// Why a check stopped.
 ///
-/// Exactly the findings on the lines before were told.
+/// Exactly the findings on the lines before were reported.
 #[derive(Clone, Copy, Debug, Drop, PartialEq, Eq, Error)]
 pub enum CheckFault {
-    /// After so many lines the index goes on with what isn't the next: it has another number, or another offset than
-    /// the one at which the codestream before it ends, or it isn't of the form that `write_index` writes, as one with
-    /// CR before LF or with a sum in upper case isn't, or the index ends before its LF.
+    /// The index has no valid line of this number, from 0, where that should stand: another number, an offset other
+    /// than the end of the codestream before, or a form that `write_index` doesn't write (such as CR before LF, or a
+    /// sum in upper case), or the index ends before the line's LF.
     #[error("line {0}: not of an index")]
     Line(u64),
     /// A read of the index failed.
@@ -117,7 +117,7 @@ pub enum CheckFault {
     /// An allocation failed.
     #[error("no memory")]
     NoMemory,
-    /// The index has `ls_film::MOST_FRAMES` lines, and another, which is numbered 4,294,967,295.
+    /// The index has more than `ls_film::MOST_FRAMES` lines: one is numbered 4,294,967,295.
     #[error("too many frames")]
     TooMany,
 }
@@ -133,17 +133,20 @@ impl From<AllocError> for CheckFault {
     }
 }
 
-/// Looks, for each line of an index, at the recording's bytes from the line's offset on, as many as it says or all that
-/// are left: they are good if the line is the one that `write_index` writes of them, with their SHA-256 or without, and
-/// they are a codestream of a frame. Tells of all that aren't, in order.
+/// Checks a recording by its index, and reports each damaged codestream to `findings`, in order.
 ///
-/// So by an index with sums bytes of another SHA-256 are found. By one without sums they are if they have another size,
-/// other headers, or data that can't be decoded; a changed byte that leaves these as they are isn't seen.
+/// For each line of the index it looks at the recording's bytes from the line's offset on, as many as the line says, or
+/// all that are left. They are good if `write_index` writes this line for them, with their SHA-256 or without, and they
+/// are a codestream of a frame.
 ///
-/// A line is of the form that `write_index` writes: number, offset and size of its codestream, the kind, eight numbers,
-/// its sum or nothing, one blank between, and LF; each begins where the one before it ends. One codestream is in memory
-/// at a time. If the bytes of both readers are known (as in memory), the clauses say what was found in them; if those
-/// of the findings are, which were told. After a fault nothing is said of the place of either reader.
+/// So an index with sums finds bytes of another SHA-256. One without sums finds bytes of another size, with other
+/// headers, or with data that can't be decoded; a changed byte that affects none of these isn't found.
+///
+/// A line has the form that `write_index` writes: number, offset and size of its codestream, the kind, eight numbers,
+/// and the sum or nothing, with one blank between, and LF; the offset is where the codestream of the line before ends.
+/// One codestream is in memory at a time. If the bytes of both readers are known (as in memory), the clauses say what
+/// was found in them; if those received by `findings` are, which were reported. After a fault the places of both
+/// readers are unspecified.
 pub fn check<I: Feed, R: Feed, F: Findings>(
     alloc: Global,
     index: &mut I,
@@ -174,7 +177,7 @@ pub fn check<I: Feed, R: Feed, F: Findings>(
     end_at_most(alloc, index, recording, offset, damaged)
 }
 
-/// What a check comes to after the most lines that an index may have: there it has to end.
+/// Ends a check after the most lines that an index may have: fails with `TooMany` if another line follows.
 fn end_at_most<I: Feed, R: Feed>(
     alloc: Global,
     index: &mut I,
@@ -203,7 +206,8 @@ fn end_at_most<I: Feed, R: Feed>(
     })
 }
 
-/// A line of an index, how many bytes it says that its codestream has, and their SHA-256, if it says that.
+/// A line of an index: its text, the size of its codestream in bytes, and the codestream's SHA-256, if the line says
+/// one.
 #[derive(Drop)]
 pub(crate) struct IndexLine {
     text: Vec<u8>,
@@ -214,8 +218,8 @@ pub(crate) struct IndexLine {
 /// The most bytes of a line.
 const MOST_LINE: usize = 1024;
 
-/// Takes the next line off an index; `None` at its end. It has to be that of the codestream of this number, which
-/// begins at this offset.
+/// Takes the next line off an index; `None` at its end. Fails with `Line` if it isn't a line of the codestream of this
+/// number, which begins at this offset.
 pub(crate) fn next_line<I: Feed>(
     alloc: Global,
     index: &mut I,
@@ -244,8 +248,8 @@ pub(crate) fn next_line<I: Feed>(
     }
 }
 
-/// Takes the bytes up to the next LF off a reader, or as many as a line may have, or all that are left; `None` at its
-/// end.
+/// Takes the bytes up to and including the next LF off a reader, or as many as a line may have, or all that are left;
+/// `None` at its end.
 fn take_line<I: Feed>(alloc: Global, reader: &mut I) -> Result<Option<Vec<u8>>, FeedFault>
     ensures gave { IfOk result (λ next. IfSome next (λ line. Gave (I.remaining reader.old) (I.remaining reader.new) (λ bytes. line.items ≡ bytes))) }
     ensures one { IfOk result (λ next. IfSome next (λ line. IsOneLine line.items)) }
@@ -266,8 +270,9 @@ fn take_line<I: Feed>(alloc: Global, reader: &mut I) -> Result<Option<Vec<u8>>, 
     Ok(Some(line))
 }
 
-/// How many bytes the line of the codestream of this number, which begins at this offset, says that it has, and what
-/// follows up to LF; `None` if the text doesn't begin and end as such a line.
+/// Parses the beginning of the line of the codestream of this number, which begins at this offset: returns the
+/// codestream's size in bytes, and what follows up to LF; `None` if the text doesn't begin and end as such a line.
+/// Fails only if an allocation fails.
 fn size_in(
     alloc: Global,
     number: u64,
@@ -288,7 +293,7 @@ fn size_in(
     let Some(size) = leading_number(columns) else {
         return Ok(None);
     };
-    // As it is written, with no sign and no zero before it.
+    // The number as it is written, with no sign and no leading zero.
     let wanted = format!(in alloc; "{size} ")?;
     match columns.strip_prefix(wanted.as_bytes()) {
         Some(rest) => Ok(Some((size, rest))),
@@ -296,7 +301,7 @@ fn size_in(
     }
 }
 
-/// The number that stands in a text up to the first blank or the end, if there is one.
+/// The number at the front of a text, up to the first blank or the end, if there is one.
 fn leading_number(text: &[u8]) -> Option<u32>
     ensures { (number : ℕ) (rest : List ℕ) → number ≤ most_bytes → EndsColumn rest → text.now ≡ decimal number ++ rest → result ≡ Some number }
 {
@@ -304,7 +309,7 @@ fn leading_number(text: &[u8]) -> Option<u32>
     digits.parse().ok()
 }
 
-/// How many bytes stand before the first blank, or in all.
+/// The number of bytes before the first blank, or of all if there is none.
 fn end_of_column(text: &[u8]) -> usize
     ensures few { result ≤ length text.now }
     ensures number { (number : ℕ) (rest : List ℕ) → number ≤ most_bytes → EndsColumn rest → text.now ≡ decimal number ++ rest → result ≡ length (decimal number) }
@@ -315,8 +320,8 @@ fn end_of_column(text: &[u8]) -> usize
     }
 }
 
-/// The SHA-256 that stands at the end of what follows the beginning of a line, or that there is none; `None` if it
-/// isn't the kind, eight numbers, and such a sum or nothing, as `write_index` writes them.
+/// Parses what follows the size in a line: returns the SHA-256 at its end, or `Some(None)` if there is none; `None` if
+/// it isn't the kind, eight numbers, and such a sum or nothing, as `write_index` writes them.
 fn sum_in(columns: &[u8]) -> Option<Option<[u8; 32]>>
     ensures some { IfSome result (AreColumns columns.now) }
     ensures given { (sum : Option (List ℕ)) → AreColumns columns.now sum → result ≡ Some sum }
@@ -325,7 +330,7 @@ fn sum_in(columns: &[u8]) -> Option<Option<[u8; 32]>>
     sum_at_end(left)
 }
 
-/// The SHA-256 that a text is, after a blank and in lower case, or that there is none; `None` if it is another text.
+/// Parses a blank and a SHA-256 in lower case, or `Some(None)` from an empty text; `None` from any other text.
 fn sum_at_end(text: &[u8]) -> Option<Option<[u8; 32]>>
     ensures some { IfSome result (λ sum. IsSum sum × (text.now ≡ sum_at_end sum)) }
     ensures given { (sum : Option (List ℕ)) → IsSum sum → text.now ≡ sum_at_end sum → result ≡ Some sum }
@@ -335,7 +340,7 @@ fn sum_at_end(text: &[u8]) -> Option<Option<[u8; 32]>>
     }
     let digits = text.strip_prefix(b" ")?;
     let sum = <[u8; 32] as FromHex>::from_hex(digits).ok()?;
-    // As it is written, in lower case.
+    // The sum as it is written, in lower case.
     let mut wanted = [0u8; 64];
     encode_to_slice(sum.as_slice(), &mut wanted).ok()?;
     if digits == wanted.as_slice() {
@@ -345,7 +350,7 @@ fn sum_at_end(text: &[u8]) -> Option<Option<[u8; 32]>>
     }
 }
 
-/// What follows a kind, if a text begins with one.
+/// What follows the kind at the front of a text, if there is one.
 fn after_kind(text: &[u8]) -> Option<&[u8]>
     ensures some { IfSome result (λ rest. (kind : Kind) × (text.now ≡ kind_text kind ++ rest.now)) }
     ensures given { (kind : Kind) (rest : List ℕ) → text.now ≡ kind_text kind ++ rest → MatchOption result ⊥ (λ left. left.now ≡ rest) }
@@ -356,7 +361,7 @@ fn after_kind(text: &[u8]) -> Option<&[u8]>
     }
 }
 
-/// What follows so many columns of numbers below 2^16, if a text begins with as many.
+/// What follows `count` columns of numbers below 2^16, if a text begins with that many.
 fn after_numbers(text: &[u8], count: usize) -> Option<&[u8]>
     ensures some { IfSome result (λ rest. (numbers : List ℕ) × AreNumbers count numbers × (text.now ≡ flat_map column numbers ++ rest.now)) }
     ensures given { (numbers : List ℕ) (rest : List ℕ) → AreNumbers count numbers → EndsColumn rest → text.now ≡ flat_map column numbers ++ rest
@@ -371,8 +376,8 @@ fn after_numbers(text: &[u8], count: usize) -> Option<&[u8]>
     Some(left)
 }
 
-/// What follows a blank and a number below 2^16, as it is written, up to the next blank or the end; `None` if a text
-/// doesn't begin so.
+/// What follows a blank and a number below 2^16, written without sign or leading zeros, up to the next blank or the
+/// end; `None` if a text doesn't begin so.
 fn after_number(text: &[u8]) -> Option<&[u8]>
     ensures some { IfSome result (λ rest. (number : ℕ) × (number < 2 ^ 16) × (text.now ≡ column number ++ rest.now)) }
     ensures given { (number : ℕ) (rest : List ℕ) → number < 2 ^ 16 → EndsColumn rest → text.now ≡ column number ++ rest
@@ -387,7 +392,8 @@ fn after_number(text: &[u8]) -> Option<&[u8]>
     left.strip_prefix(buffer.format(number).as_bytes())
 }
 
-/// Takes so many bytes off a reader, or all that are left.
+/// Takes `most` bytes off a reader, or all that are left. Fails with `Io` if a read fails, and with `NoMemory` if an
+/// allocation fails.
 fn take_bytes<R: Feed>(alloc: Global, reader: &mut R, most: usize) -> Result<Vec<u8>, CheckFault>
     ensures taken { IfOk result (λ bytes. GaveAtMost (R.remaining reader.old) (R.remaining reader.new) most bytes.items) }
     ensures blame { IfErr result (λ fault. fault ≢ CheckFault.IndexIo) }
@@ -406,7 +412,7 @@ fn take_bytes<R: Feed>(alloc: Global, reader: &mut R, most: usize) -> Result<Vec
     Ok(bytes)
 }
 
-/// Whether a reader has a byte left; it takes one.
+/// Whether a reader has a byte left; takes that byte.
 fn has_more<R: Feed>(alloc: Global, reader: &mut R) -> Result<bool, CheckFault>
     ensures more { IfOk result (λ more. Tells (R.remaining reader.old) → IsTrue more ↔ (0 < length (known (R.remaining reader.old)))) }
     ensures blame { IfErr result (λ fault. fault ≢ CheckFault.IndexIo) }
@@ -417,8 +423,8 @@ fn has_more<R: Feed>(alloc: Global, reader: &mut R) -> Result<bool, CheckFault>
     Ok(!bytes.is_empty())
 }
 
-/// Looks at the bytes at the offset of a line's codestream, tells of what is wrong with them, and says how many are
-/// damaged: 1 or none.
+/// Looks at the bytes at the offset of a line's codestream, reports what is wrong with them, and returns the number of
+/// damaged codestreams: 1 or 0.
 fn look_at<F: Findings>(
     alloc: Global,
     number: u64,
@@ -435,8 +441,8 @@ fn look_at<F: Findings>(
     tell_damage(number, offset, line, damage, findings)
 }
 
-/// Tells of what is wrong with the bytes at the offset of a line's codestream, if anything is, and says how many are
-/// damaged: 1 or none.
+/// Reports what is wrong with the bytes at the offset of a line's codestream, if anything is, and returns the number of
+/// damaged codestreams: 1 or 0.
 fn tell_damage<F: Findings>(
     number: u64,
     offset: u64,
@@ -490,7 +496,7 @@ fn damage_of(
     }
 }
 
-/// What a fault of decoding says of the bytes, unless it is that memory was refused.
+/// Converts a fault of decoding to `Damage`; fails if it is that an allocation failed.
 fn undecoded(fault: StreamFault) -> Result<Option<Damage>, AllocError>
     ensures { IfOk result (λ found. (fault ≢ StreamFault.NoMemory) × (found ≡ Some (Damage.Fault fault))) }
 {
@@ -500,7 +506,7 @@ fn undecoded(fault: StreamFault) -> Result<Option<Damage>, AllocError>
     Ok(Some(Damage::Fault(fault)))
 }
 
-/// What is said of bytes that aren't those of the index: the recording ends before them, or they were changed.
+/// The damage of bytes that don't match their line: the recording ends before, or they were changed.
 fn changed(is_short: bool) -> Damage
     ensures { result ≡ (if is_short then Damage.Truncated else Damage.Changed) }
 {

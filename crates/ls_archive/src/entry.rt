@@ -1,4 +1,4 @@
-//! A codestream that was taken off a reader, and what its headers say.
+//! A codestream taken off a reader, and what its headers say.
 ghost use Rattle.std.specs.Prelude.{◌≡◌, ◌≤◌, ◌++◌, ℕ, List, [], length, Err, IfOk, IfErr, IfSome, IfNone};
 ghost use Rattle.ls_frame.specs.Picture.{Picture};
 ghost use Rattle.ls_frame.specs.View.Devices.{count_after};
@@ -20,7 +20,7 @@ use std::mem::replace;
 /// A codestream, and what its headers say.
 #[derive(Drop)]
 pub struct Indexed {
-    /// The codestream, with nothing after it if the reader's bytes are known.
+    /// The codestream; nothing follows it if the reader's bytes are known.
     bytes: Vec<u8>,
     headers: Headers,
 }
@@ -41,9 +41,9 @@ impl Model for Indexed {
 /// What the headers of a codestream say.
 #[derive(Clone, Copy)]
 pub struct Headers {
-    /// How many bytes it has.
+    /// Its size, in bytes.
     used: usize,
-    /// The bits a sample (P).
+    /// Bits per sample (P).
     precision: u8,
     kind: Kind,
     width: u16,
@@ -52,9 +52,10 @@ pub struct Headers {
 }
 
 impl Indexed {
-    /// Takes the next codestream off a reader, and looks at its headers; `None` exactly at the end of input.
+    /// Takes the next codestream off a reader, and reads its headers; `None` exactly at the end of input.
     ///
-    /// Fails if it isn't complete by its markers and headers, with its number, and where a read or an allocation fails.
+    /// Fails with `Stream` if it isn't complete by its markers and headers, with `Io` if a read fails, both with
+    /// `number`; and with `NoMemory` if an allocation fails.
     pub fn next<R: Feed>(
         alloc: Global,
         reader: &mut R,
@@ -80,7 +81,8 @@ impl Indexed {
         }
     }
 
-    /// Takes the bytes, if they are a codestream by its markers and headers and nothing follows it; else leaves them.
+    /// Takes the bytes if they are one codestream, complete by its markers and headers, with nothing after it;
+    /// otherwise returns `None` and leaves them unchanged.
     pub fn take(alloc: Global, bytes: &mut Vec<u8>) -> Option<Indexed>
         ensures entry { IfSome result (λ entry. IsEntry entry × (entry.bytes ≡ bytes.old.items)) }
         ensures taken { IfSome result (λ entry. bytes.new.items ≡ []) }
@@ -101,7 +103,7 @@ impl Indexed {
         }
     }
 
-    /// The codestream.
+    /// The codestream's bytes.
     pub fn bytes(&self) -> &[u8]
         ensures value { result.now ≡ self.now.bytes }
         ensures few { length result.now ≤ most_bytes }
@@ -116,7 +118,7 @@ impl Indexed {
         self.headers.kind
     }
 
-    /// The numbers of its line after the kind.
+    /// The eight numbers of its line after the kind: width, height, MAXVAL, P, T1, T2, T3 and RESET.
     pub fn columns(&self) -> [u32; 8]
         ensures { result ≡ columns self.now }
     {
@@ -134,7 +136,8 @@ impl Indexed {
     }
 }
 
-/// The headers of the codestream at the front of bytes, whose data isn't decoded; or why there is none.
+/// Reads the headers of the codestream at the front of the bytes, without decoding its data; or returns why there is
+/// none.
 fn headers_of(bytes: &[u8]) -> Result<Headers, StreamFault>
     ensures ok { IfOk result (HasHeaders bytes.now) }
     ensures none { IfErr result (λ fault. (front rest : List ℕ) (f : Picture) → bytes.now ≡ front ++ rest → Spells front f → ⊥) }

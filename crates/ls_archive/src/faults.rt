@@ -1,29 +1,29 @@
-//! Why the making of an index, or a comparison, stopped, and what is said of it.
+//! Why writing an index, or a comparison, stopped.
 use ls_frame::NetpbmFault;
 use ls_stream::StreamFault;
 use std::alloc::AllocError;
 use thiserror::Error;
 
-/// Why the making of an index stopped.
+/// Why writing an index stopped.
 ///
-/// The lines of exactly the codestreams before the one at fault were written, except after `Output`. No more than
+/// Exactly the lines of the codestreams before the one at fault were written, except after `Output`. At most
 /// `ls_film::MOST_FRAMES` lines were.
 #[derive(Clone, Copy, Debug, Drop, PartialEq, Eq, Error)]
 pub enum IndexFault {
-    /// After so many codestreams comes none that is complete by its markers and headers; the fault is never
+    /// The codestream of this number, from 0, isn't complete by its markers and headers; the fault is never
     /// `StreamFault::NoMemory`.
     #[error("frame {0}: {1}")]
     Stream(u64, StreamFault),
-    /// A read failed when so many lines had been written.
+    /// A read failed after this number of lines had been written.
     #[error("read failed")]
     Io(u64),
-    /// A write failed when exactly so many bytes of the lines had gone out.
+    /// A write failed after exactly this number of bytes of the lines had been written.
     #[error("output failed after {0} bytes")]
     Output(u64),
     /// An allocation failed for a codestream or its line.
     #[error("no memory")]
     NoMemory,
-    /// A codestream numbered 4,294,967,295, after `ls_film::MOST_FRAMES` of them.
+    /// The recording has more than `ls_film::MOST_FRAMES` codestreams: one is numbered 4,294,967,295.
     #[error("too many frames")]
     TooMany,
 }
@@ -32,7 +32,7 @@ impl IndexFault {
     ghost use Rattle.std.specs.Prelude.{◌≡◌};
     ghost use Rattle.ls_archive.specs.View.Indexing.{index_fault};
 
-    /// What a fault of the codestream of this number is to an index.
+    /// Converts a fault of the codestream of this number.
     pub(crate) fn of(number: u64, fault: StreamFault) -> IndexFault
         ensures { result ≡ index_fault number fault }
     {
@@ -56,22 +56,23 @@ impl From<AllocError> for IndexFault {
 
 /// Why a film can't be compared with a recording.
 ///
-/// All frames before the one at fault were equal. No more than `ls_film::MOST_FRAMES` of each were read.
+/// All frames before the one at fault were equal, at most `ls_film::MOST_FRAMES` of each.
 #[derive(Clone, Copy, Debug, Drop, PartialEq, Eq, Error)]
 pub enum VerifyFault {
     /// The film's frame of this number, from 0, can't be read; the fault is never `NetpbmFault::NoMemory`.
     #[error("frame {0}: {1}")]
     Film(u64, NetpbmFault),
-    /// After so many codestreams comes none that can be decoded; the fault is never `StreamFault::NoMemory`.
+    /// The codestream of this number, from 0, can't be decoded; the fault is never `StreamFault::NoMemory`.
     #[error("frame {0}: {1}")]
     Recording(u64, StreamFault),
-    /// A read of the recording failed after so many codestreams.
+    /// A read of the recording failed after this number of codestreams.
     #[error("read failed")]
     RecordingIo(u64),
-    /// An allocation failed for a frame of the film, when its header had been read, or for a codestream or its frame.
+    /// An allocation failed: for a frame of the film whose header had been read, or for a codestream or its frame.
     #[error("no memory")]
     NoMemory,
-    /// All frames are equal, and one numbered 4,294,967,295 comes.
+    /// The first `ls_film::MOST_FRAMES` frames of both are equal, and the film or the recording has another, which is
+    /// numbered 4,294,967,295.
     #[error("too many frames")]
     TooMany,
 }
@@ -80,7 +81,7 @@ impl VerifyFault {
     ghost use Rattle.std.specs.Prelude.{◌≡◌};
     ghost use Rattle.ls_archive.specs.View.Verifying.{film_fault, recording_fault};
 
-    /// What a fault of the film's frame of this number is to a comparison.
+    /// Converts a fault of the film's frame of this number.
     pub(crate) fn of_film(number: u64, fault: NetpbmFault) -> VerifyFault
         ensures { result ≡ film_fault number fault }
     {
@@ -90,7 +91,7 @@ impl VerifyFault {
         }
     }
 
-    /// What a fault of the codestream of this number is to a comparison.
+    /// Converts a fault of the recording's codestream of this number.
     pub(crate) fn of_recording(number: u64, fault: StreamFault) -> VerifyFault
         ensures { result ≡ recording_fault number fault }
     {

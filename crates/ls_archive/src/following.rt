@@ -1,4 +1,4 @@
-//! The index of a recording that is being written.
+//! Writes the index of a recording while the recording is being written.
 ghost use Rattle.std.specs.Prelude.{◌≡◌, ◌≤◌, ◌<◌, ◌+◌, ◌*◌, ◌^◌, ◌++◌, List, [], length, take, None, OnOk, OnErr, IfOk, IfErr, IfSome, IfNone, is_err};
 ghost use Rattle.std.specs.Io.{WritesAtMost};
 ghost use Rattle.std.specs.Io.KnownBytes.{Keeps, WriteAppends};
@@ -23,16 +23,16 @@ use std::marker::Model;
 /// The last two bytes of a codestream: EOI (T.87, C.1.1).
 const EOI: [u8; 2] = [0xFF, 0xD9];
 
-/// How far a recording was followed.
+/// How far a recording has been followed.
 #[derive(Drop)]
 pub struct Progress {
-    /// The bytes since the last codestream that ended.
+    /// The bytes since the end of the last codestream.
     pending: Vec<u8>,
-    /// How many codestreams ended.
+    /// The number of codestreams that have ended.
     number: u64,
-    /// How many bytes these have.
+    /// Their size, in bytes.
     offset: u64,
-    /// How many bytes their lines have.
+    /// The size of their lines, in bytes.
     written: u64,
 }
 
@@ -47,7 +47,7 @@ impl Model for Progress {
 }
 
 impl Progress {
-    /// Before the first byte.
+    /// The state before the first byte.
     fn new(alloc: Global) -> Progress
         ensures { result ≡ nothing }
     {
@@ -59,7 +59,7 @@ impl Progress {
         }
     }
 
-    /// Takes the recording's next bytes, and gives the codestream that ends with them, if one does. Fails only if an
+    /// Takes the recording's next bytes, and returns the codestream that ends with them, if one does. Fails only if an
     /// allocation fails.
     fn take(&mut self, alloc: Global, bytes: &[u8]) -> Result<Option<Indexed>, AllocError>
         ensures entry { IfOk result (λ next. IfSome next (λ entry. IsEntry entry × (entry.bytes ≡ self.old.pending ++ bytes.now))) }
@@ -75,7 +75,7 @@ impl Progress {
         Ok(Indexed::take(alloc, &mut self.pending))
     }
 
-    /// Counts a codestream of so many bytes, with whose line so many bytes of lines were written.
+    /// Counts a codestream of `size` bytes; `written` is the size of all lines, in bytes, its own line included.
     fn step(&mut self, size: usize, written: u64)
         requires room { self.old.number < most_frames }
         requires few { size ≤ most_bytes }
@@ -88,12 +88,13 @@ impl Progress {
     }
 }
 
-/// An index that is written while its recording is: it is told the recording's bytes as they go out.
+/// Writes the index of a recording while the recording is being written: it is passed the recording's bytes as they are
+/// written.
 ///
-/// A line is written when the bytes since the last codestream, with those that it is told, are complete by their
-/// markers and headers as `write_index` asks; then it is the line that `write_index` writes, with its sum. After each
-/// call the bytes that are held back are no codestream of a frame. So a recording of codestreams of frames has its
-/// whole index if each ends where bytes that the follower is told end, as they do where each is written by itself.
+/// A line is written once the bytes since the last codestream, those of this call included, are complete by their
+/// markers and headers, as `write_index` requires. It is the line that `write_index` writes, with its sum. After each
+/// call the bytes that are held back aren't a codestream of a frame. So a recording of codestreams of frames gets a
+/// complete index if each codestream ends where the bytes of a call end, as when each is written by a call of its own.
 #[derive(Drop)]
 pub struct Follower<I> {
     alloc: Global,
@@ -102,7 +103,7 @@ pub struct Follower<I> {
 }
 
 impl<I: Outlet> Follower<I> {
-    /// An index, at its first line, of a recording of which nothing is written yet. It takes no memory.
+    /// Begins the index of a recording of which nothing has been written yet. Allocates nothing and can't fail.
     pub fn new(alloc: Global, index: I) -> Follower<I>
         ensures index { index_of result ≡ index }
         ensures none { followed result ≡ nothing }
@@ -115,12 +116,12 @@ impl<I: Outlet> Follower<I> {
         }
     }
 
-    /// Takes the recording's next bytes; if a codestream ends with them, its line is written.
+    /// Takes the recording's next bytes; if a codestream ends with them, writes its line.
     ///
-    /// Fails with `Output` if a write fails, when exactly so many bytes of all lines had gone out; with `NoMemory` if
-    /// an allocation fails for the bytes or a line; with `TooMany` if the codestream is numbered 4,294,967,295. After
-    /// the last two exactly the lines of the codestreams before were written. After a fault it isn't to be called any
-    /// more.
+    /// Fails with `Output` if a write fails, and says exactly how many bytes of all lines were written; with `NoMemory`
+    /// if an allocation fails for the bytes or a line; with `TooMany` if the codestream is numbered 4,294,967,295.
+    /// After the last two exactly the lines of the codestreams before it were written. It isn't to be called again
+    /// after a failure.
     pub fn follow(&mut self, bytes: &[u8]) -> Result<(), IndexFault>
         ensures follows { OnOk result (FollowsOn bytes.now
             (I.contents (index_of self.old)) (I.contents (index_of self.new)) (followed self.old) (followed self.new)) }
@@ -149,7 +150,7 @@ impl<I: Outlet> Follower<I> {
         Ok(())
     }
 
-    /// What the index was written to.
+    /// Returns the writer of the index.
     pub fn into_inner(self) -> I
         ensures { result ≡ index_of self }
     {
@@ -157,11 +158,11 @@ impl<I: Outlet> Follower<I> {
     }
 }
 
-/// A recording's writer that writes an index of it too, if there is one to write.
+/// A recording's writer that also writes an index of the recording, if one is to be written.
 ///
-/// As a writer it is the recording's: what it takes and how it fails is what the recording's writer says. An index that
-/// breaks off leaves the recording as it is; `into_parts` says why it did. That the index follows all that was written
-/// through this writer, call by call, is tested; `Follower::follow` says it of one call.
+/// As a writer it is the recording's: it takes bytes and fails as the recording's writer does. If the index fails, the
+/// recording goes on without it; `into_parts` returns why. That the index follows all that is written through this
+/// writer, call by call, is tested; `Follower::follow` promises it of one call.
 #[derive(Drop)]
 pub struct Indexing<W, I> {
     recording: W,
@@ -170,7 +171,7 @@ pub struct Indexing<W, I> {
 }
 
 impl<W: Outlet, I: Outlet> Indexing<W, I> {
-    /// A recording of which nothing is written yet, and its index, if there is one to write.
+    /// Wraps the writer of a recording of which nothing has been written yet, and its index, if one is to be written.
     pub fn new(recording: W, index: Option<Follower<I>>) -> Indexing<W, I>
         ensures recording { recording_of result ≡ recording }
         ensures index { following result ≡ index }
@@ -183,7 +184,7 @@ impl<W: Outlet, I: Outlet> Indexing<W, I> {
         }
     }
 
-    /// What the recording and its index were written to, and why the index broke off, if it did.
+    /// Returns the recording's writer, its index, and why the index stopped early, if it did.
     pub fn into_parts(self) -> (W, Option<Follower<I>>, Option<IndexFault>)
         ensures recording { result.0 ≡ recording_of self }
         ensures index { result.1 ≡ following self }
@@ -192,8 +193,8 @@ impl<W: Outlet, I: Outlet> Indexing<W, I> {
         (self.recording, self.index, self.fault)
     }
 
-    /// Tells the index of the recording's next bytes: it follows them, or breaks off with them. One that broke off
-    /// before is left as it is.
+    /// Passes the recording's next bytes to the index, which follows them or stops. An index that stopped before isn't
+    /// changed.
     fn tell(&mut self, bytes: &[u8])
         ensures recording { recording_of self.new ≡ recording_of self.old }
         ensures index { IsTold I.contents bytes.now (following self.old) (broken self.old) (following self.new) (broken self.new) }

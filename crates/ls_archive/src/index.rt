@@ -19,12 +19,12 @@ use ls_stream::laws::outlines_follow_the_grammar;
 use sha2::{Digest, Sha256};
 use std::alloc::{AllocError, Global};
 
-/// Writes the line of each codestream of a recording, and says how many there were.
+/// Writes the line of each codestream of a recording, and returns their number.
 ///
-/// A codestream's markers and headers are looked at, and its data isn't decoded. Each line is written before the next
+/// Reads each codestream's markers and headers without decoding its data. Each line is written before the next
 /// codestream is read. With `sums` it ends with the SHA-256 of the codestream's bytes. If the bytes of reader and
 /// writer are known (as in memory), the clauses say which were read and written. After `Stream`, `Io` and `NoMemory`
-/// nothing is said of the reader's place.
+/// the reader's place is unspecified.
 pub fn write_index<R: Feed, W: Outlet>(
     alloc: Global,
     reader: &mut R,
@@ -54,10 +54,11 @@ pub fn write_index<R: Feed, W: Outlet>(
     }
 }
 
-/// The index of a recording in memory, as far as it was written, and how the making of it ended.
+/// The index of a recording in memory, as far as it was written, and how the writing ended.
 ///
-/// The program makes indexes by `write_index`. This is the same over bytes in memory, where nothing is left unknown. If
-/// the recording is codestreams of frames, each has its line, which says the frame's form; or memory was refused.
+/// The program makes indexes by `write_index`. This is the same over bytes in memory, all of which are known. If the
+/// recording is codestreams of at most `ls_film::MOST_FRAMES` frames, each has its line, which says the frame's form,
+/// unless an allocation fails.
 pub fn index_bytes(
     alloc: Global,
     recording: &[u8],
@@ -100,7 +101,7 @@ pub(crate) fn line(
     Ok(text)
 }
 
-/// Puts a blank and a number after a text. Fails only if an allocation fails.
+/// Appends a blank and a number to a text. Fails only if an allocation fails.
 fn push_column(text: &mut String, number: u64) -> Result<(), AllocError>
     ensures pushed { OnOk result (string_bytes text.new ≡ string_bytes text.old ++ column number) }
     ensures short { OnOk result (length (string_bytes text.new) ≤ length (string_bytes text.old) + 41) }
@@ -110,7 +111,7 @@ fn push_column(text: &mut String, number: u64) -> Result<(), AllocError>
     text.push_str(buffer.format(number))
 }
 
-/// Puts a blank and the SHA-256 of bytes after a text; or nothing, without sums. Fails only if an allocation fails.
+/// Appends a blank and the SHA-256 of `bytes` to a text, or nothing without `sums`. Fails only if an allocation fails.
 fn push_sum(alloc: Global, text: &mut String, sums: bool, bytes: &[u8]) -> Result<(), AllocError>
     ensures pushed { OnOk result (string_bytes text.new ≡ string_bytes text.old ++ sum_column sums bytes.now) }
     ensures short { OnOk result (length (string_bytes text.new) ≤ length (string_bytes text.old) + 65) }
@@ -141,7 +142,8 @@ fn kind_text(kind: Kind) -> &'static str
     }
 }
 
-/// Writes a line after the `written` bytes before it, and says how many there are then.
+/// Writes a line after the `written` bytes of the lines before it, and returns their new total. Fails with `Output` if
+/// a write fails.
 pub(crate) fn write_line<W: Outlet>(
     writer: &mut W,
     line: &[u8],

@@ -1,8 +1,8 @@
-//! Laws: each is the contract of a function with nothing to do.
+//! Laws: each is the contract of a function with an empty body.
 ghost use Rattle.ls_archive.specs.Verify.{OneVerdict, SomeVerdict};
 ghost use Rattle.ls_archive.specs.View.Entries.{OneIndex};
 
-/// A recording has one index: its bytes are codestreams with one list of entries alone.
+/// A recording has one index: only one list of entries has the recording's bytes as its codestreams.
 pub fn recordings_have_one_index()
     ensures { OneIndex }
 {}

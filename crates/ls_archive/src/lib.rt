@@ -1,13 +1,14 @@
-//! Archives: what is asked of a recording that is kept. A recording is codestreams joined, with nothing between them.
+//! Archives: indexing a recording that is kept, checking it, and comparing it with its film. A recording is codestreams
+//! joined, with nothing between them.
 //!
-//! What it hands on: the index of a recording is a line for each codestream, found by markers and headers alone
-//! (`specs/Index.antt`); its making, where it stops, says which lines it wrote (`specs/View/Indexing.antt`). A film is
-//! compared with its recording frame by frame, whatever the form of the headers on both sides; the verdict says whether
-//! their frames are equal, or where they aren't (`specs/Verify.antt`, `specs/View/Verifying.antt`). A recording is
-//! checked by its index, line by line; what is damaged is told (`specs/View/Checking.antt`, `specs/View/Checks.antt`).
-//! Of a comparison several threads can decode the recording, and of a check by an index look at it; both say the same
-//! then (`specs/View/SideBySide.antt`, `specs/View/Batches.antt`). An index can also be written while its recording is
-//! (`specs/View/Following.antt`).
+//! The index of a recording has a line for each codestream, found by markers and headers alone (`specs/Index.antt`); if
+//! writing it stops, the fault says which lines were written (`specs/View/Indexing.antt`). A film is compared with its
+//! recording frame by frame, whatever the form of the headers on both sides; the verdict says whether their frames are
+//! equal, or where they first differ (`specs/Verify.antt`, `specs/View/Verifying.antt`). A recording is checked by its
+//! index, line by line, and damage is reported (`specs/View/Checking.antt`, `specs/View/Checks.antt`). Several threads
+//! can decode the recording for a comparison, or look at its codestreams for a check by an index; the result is the
+//! same (`specs/View/Comparing.antt`, `specs/View/Batches.antt`). An index can also be written while its recording is
+//! being written (`specs/View/Following.antt`).
 //!
 //! ```
 //! use ls_archive::{IndexFault, write_index};
@@ -26,9 +27,10 @@
 //! Over files the reader is a `Buffered::new(alloc, Counted::new(file))?` and the writer a `Counted::new(file)`, of
 //! `ls_frame`.
 //!
-//! In reading order: `faults` (why the making of an index, or a comparison, stopped), `index` (the lines), `entry` (a
+//! In reading order: `faults` (why writing an index, or a comparison, stopped), `index` (the lines), `entry` (a
 //! codestream, and what its headers say), `following` (an index that is written with its recording), `checking` (a
-//! recording and its index, by several threads in its `batches`), `verifying` (a film and its recording), `laws`.
+//! recording and its index, by several threads in its `batches`), `places` (codestreams that stand elsewhere than the
+//! index says), `verifying` (a film and its recording), `laws`.
 #![tactic(auto)]
 
 pub mod checking;

@@ -1,4 +1,4 @@
-//! Where the codestreams of an index stand in a recording, if not at the offsets that it says.
+//! Finds the codestreams of an index in a recording where they don't stand at the offsets that the index says.
 ghost use Rattle.std.specs.Prelude.{◌≡◌, ◌⊎◌, ◌<◌, ◌^◌, length, IfOk, IfErr, IfSome, IsTrue};
 ghost use Rattle.ls_frame.specs.View.Chunks.{left_in, inner_reader};
 ghost use Rattle.ls_frame.specs.View.Devices.{count_after};
@@ -18,20 +18,20 @@ use sha2::{Digest, Sha256};
 use std::alloc::{AllocError, Global};
 use std::collections::HashMap;
 
-/// A codestream that is looked for: what its line of an index says of it.
+/// A codestream to look for, as its line of an index describes it.
 #[derive(Clone, Copy, Debug, Drop, PartialEq, Eq)]
 pub struct Wanted {
     /// The offset at which it should begin.
     pub place: u64,
-    /// How many bytes it has.
+    /// Its size, in bytes.
     pub count: u64,
-    /// Their SHA-256; one without it is never found.
+    /// Its SHA-256; a codestream without one is never found.
     pub sum: Option<[u8; 32]>,
 }
 
-/// Reads the lines of an index, and gives what each says of its codestream, in their order.
+/// Reads the lines of an index, and returns what each says of its codestream, in order.
 ///
-/// A line has the form that `check` asks for, and a fault says what it says there; `Io` never comes.
+/// A line must have the form that `check` requires, and a fault means what it means there; `Io` never occurs.
 pub fn read_index<I: Feed>(alloc: Global, index: &mut I) -> Result<Vec<Wanted>, CheckFault>
     ensures reads { I.failed_reads index.new ≡ count_after (failed_index result) (I.failed_reads index.old) }
 {
@@ -58,15 +58,17 @@ pub fn read_index<I: Feed>(alloc: Global, index: &mut I) -> Result<Vec<Wanted>, 
     }
 }
 
-/// Looks for codestreams in a recording, wherever they stand in it, and gives the place of each that was found.
+/// Looks for codestreams in a recording, wherever they stand in it, and returns for each of `wanted` the offset at
+/// which it was found, in bytes.
 ///
-/// It goes through the recording by codestreams that are complete by their markers and headers, and past other bytes to
-/// the next place where one may begin, as a salvage does; so of bytes with a sum that is wanted it sees those that
-/// stand at such a place. Each place is given once: to the codestream that should stand there, or else to the first
-/// with that sum that has none yet. `wanted` are in the order of their places; below `end` a place that is no wanted
-/// one's is passed over, since the codestream that should stand there does.
+/// Goes through the recording codestream by codestream, each complete by its markers and headers, and past other bytes
+/// to the next place where one may begin, as a salvage does; so bytes with a wanted sum are found only at such a place.
+/// Each place is given to one codestream at most: to the one that should stand there, or else to the first with that
+/// sum that has no place yet. `wanted` are in the order of their places. Below `end` a place outside the bytes of all
+/// of `wanted` is passed over, since the codestream that should stand there does.
 ///
-/// If no end is found within as many bytes as a codestream may have, it stops there, with what was found before.
+/// If no end is found within the most bytes that a codestream may have, stops there and returns what was found before.
+/// Fails with `Io` if a read fails, and with `NoMemory` if an allocation fails.
 pub fn find_places<R: Feed>(
     alloc: Global,
     recording: &mut Buffered<R>,
@@ -102,16 +104,16 @@ pub fn find_places<R: Feed>(
     Ok(places)
 }
 
-/// What stands next in a recording.
+/// What comes next in a recording.
 #[derive(Drop)]
 enum Standing {
     /// A codestream that is complete by its markers and headers.
     Codestream(Indexed),
-    /// So many bytes that were passed over.
+    /// Bytes that were passed over: their number.
     Gap(u64),
 }
 
-/// Takes what stands next off a reader; `None` exactly at its end.
+/// Takes what comes next off a reader; `None` exactly at its end.
 fn next_standing<R: Feed>(
     alloc: Global,
     reader: &mut Buffered<R>,
@@ -133,8 +135,8 @@ fn next_standing<R: Feed>(
     }
 }
 
-/// Gives a place, at which so many bytes with this sum stand, to the one that was picked, if it is of such and has no
-/// place yet.
+/// Gives a place, at which `count` bytes with this sum stand, to the codestream that was picked, if that has this size
+/// and sum and no place yet.
 fn give_place(
     wanted: &[Wanted],
     places: &mut Vec<Option<u64>>,
@@ -151,7 +153,7 @@ fn give_place(
     }
 }
 
-/// Whether the codestream of this number among those that are wanted has so many bytes with this sum, and no place yet.
+/// Whether the wanted codestream of this number has `count` bytes with this sum, and no place yet.
 fn fits(
     wanted: &[Wanted],
     places: &[Option<u64>],
@@ -168,14 +170,14 @@ fn fits(
         && wanted[number].sum == Some(*sum)
 }
 
-/// How far a search is.
+/// The state of a search.
 #[derive(Drop)]
 struct Search {
-    /// The number of the first with a sum that may have no place yet, by the sum.
+    /// By sum, the number of the first wanted codestream with it that may have no place yet.
     first: HashMap<[u8; 32], usize>,
-    /// For each that is wanted the number of the next with its sum, or how many are wanted.
+    /// For each wanted codestream, the number of the next with the same sum, or the number of all if there is none.
     next: Vec<usize>,
-    /// The number of the first that doesn't end before the place.
+    /// The number of the first wanted codestream that ends after the current place.
     here: usize,
 }
 
@@ -206,7 +208,8 @@ impl Search {
         })
     }
 
-    /// The number of the one to which so many bytes with this sum, which stand at this place, are to be given.
+    /// Returns the number of the wanted codestream to which `count` bytes with this sum at this place may be given, or
+    /// the number of all if there is none.
     fn pick(
         &mut self,
         wanted: &[Wanted],
@@ -235,7 +238,7 @@ impl Search {
     }
 }
 
-/// The number, from `here` on, of the first that doesn't end before this place.
+/// Returns the number, from `here` on, of the first wanted codestream that ends after this place.
 fn pass_ended(wanted: &[Wanted], here: usize, place: u64) -> usize {
     let mut here = here;
     'here: while here < wanted.len()
@@ -246,7 +249,7 @@ fn pass_ended(wanted: &[Wanted], here: usize, place: u64) -> usize {
     here
 }
 
-/// The first without a place, from this number on, of those with one sum.
+/// Returns the number of the first codestream without a place among those with one sum, from this number on.
 fn pass_given(places: &[Option<u64>], next: &[usize], number: usize) -> usize {
     let mut number = number;
     'given: while number < places.len() && places[number].is_some() {

@@ -8,10 +8,10 @@ use std::alloc::Global;
 use std::process::Abort;
 use std::thread::Threads;
 
-/// What a check answered, its first finding, and how many reads of the index and of the recording failed.
+/// The result of a check, its first finding, and the numbers of failed reads of the index and of the recording.
 type Outcome = (Result<Checked, CheckFault>, Option<Finding>, u64, u64);
 
-/// That a check ended so. Where memory may be refused it may say so.
+/// Checks the outcome of a check; unless memory is ample, an allocation may have failed instead.
 fn check_outcome(rt: &impl Abort, name: &str, got: Outcome, want: Outcome, ample: bool) {
     let refused = !ample && got.0 == Err(CheckFault::NoMemory);
     let want = if refused {
@@ -22,7 +22,7 @@ fn check_outcome(rt: &impl Abort, name: &str, got: Outcome, want: Outcome, ample
     assert_eq!(rt; got, want, "{name}");
 }
 
-/// How a check of what a reader gives by an index ended: by so many workers, or by `check` if there are none.
+/// Checks what a reader gives by an index: by `check_by` with this number of workers, or by `check` if there are none.
 fn outcome_of<Rt: Threads + Sync>(
     rt: &Rt,
     alloc: Global,
@@ -55,7 +55,7 @@ fn outcome_of<Rt: Threads + Sync>(
     )
 }
 
-/// What a check of codestreams of 28 bytes each came to.
+/// The result of a check of codestreams of 28 bytes each.
 fn checked(frames: u64, damaged: u64, more: bool) -> Checked {
     Checked {
         frames,
@@ -82,7 +82,7 @@ fn found(place: u64, damage: Damage, sums: bool) -> Finding {
     }
 }
 
-/// The index of `TWO_CODESTREAMS` without sums, and with those of `sha256sum`.
+/// The index of `TWO_CODESTREAMS`, without sums, and with the sums of `sha256sum`.
 const SIZES: &[u8] = b"0 0 28 gray 1 1 255 8 3 7 21 64\n1 28 28 gray 1 1 255 8 3 7 21 64\n";
 
 const SUMS: &[u8] = b"0 0 28 gray 1 1 255 8 3 7 21 64 \
@@ -101,7 +101,7 @@ const SECOND_SUM: [u8; 32] = [
     0x0c, 0x39, 0x16, 0xe4, 0xfa, 0x23, 0x79, 0xaf, 0x04, 0x82, 0x99, 0xd1, 0x2b, 0x0a, 0x09, 0x53,
 ];
 
-/// The second codestream has another sample.
+/// `TWO_CODESTREAMS` with another sample in the second one.
 const CHANGED: &[u8] = b"\xff\xd8\
 \xff\xf7\x00\x0b\x08\x00\x01\x00\x01\x01\x01\x11\x00\
 \xff\xda\x00\x08\x01\x01\x00\x00\x00\x00\x80\xff\xd9\
@@ -109,8 +109,8 @@ const CHANGED: &[u8] = b"\xff\xd8\
 \xff\xf7\x00\x0b\x08\x00\x01\x00\x01\x01\x01\x11\x00\
 \xff\xda\x00\x08\x01\x01\x00\x00\x00\x00\x80\xff\xd9";
 
-/// What a case is, the index, the recording, what the check comes to: frames, damaged ones, and whether there are more
-/// bytes; and where the first finding is, and what.
+/// The name of a case, the index, the recording, and the result of the check: the numbers of frames and of damaged
+/// ones, and whether there are more bytes; then the offset of the first finding, and its damage.
 type Case = (
     &'static str,
     &'static [u8],
@@ -267,7 +267,7 @@ const CASES: &[Case] = &[
     ),
 ];
 
-/// That a check ends as it should.
+/// Checks the outcome of a case.
 fn check_case<Rt: Threads + Abort + Sync>(
     rt: &Rt,
     alloc: Global,
@@ -308,7 +308,7 @@ fn recordings_are_checked_by_several_or_memory_is_refused(rt: HostRuntime) {
     check_cases(&rt, rt.alloc(), 2, false);
 }
 
-/// That a check ends with the read of this number of the index, by no worker or by two.
+/// Checks that a check stops if the read of this number of the index fails, with no worker or with two.
 fn check_index_read<Rt: Threads + Abort + Sync>(rt: &Rt, alloc: Global, at: usize) {
     let index = Pieces::new(SUMS, 1, Some(at));
     let recording = Pieces::new(TWO_CODESTREAMS, 4096, None);
@@ -317,7 +317,7 @@ fn check_index_read<Rt: Threads + Abort + Sync>(rt: &Rt, alloc: Global, at: usiz
     check_outcome(rt, "a read of the index", got, want, true);
 }
 
-/// That a check ends with the read of this number of the recording, by no worker or by two.
+/// Checks that a check stops if the read of this number of the recording fails, with no worker or with two.
 fn check_recording_read<Rt: Threads + Abort + Sync>(rt: &Rt, alloc: Global, at: usize) {
     let index = Pieces::new(SUMS, 4096, None);
     let recording = Pieces::new(TWO_CODESTREAMS, 1, Some(at));
@@ -340,7 +340,7 @@ fn a_failed_read_of_the_recording_ends_a_check_with_ample_memory(rt: HostRuntime
     }
 }
 
-/// Damages, and their texts.
+/// Kinds of damage, and their texts.
 const DAMAGE_TEXTS: &[(Damage, &str)] = &[
     (Damage::Truncated, "truncated"),
     (Damage::Changed, "changed"),

@@ -1,4 +1,4 @@
-//! What is shown of recordings with damage of each kind, and the gaps that are told.
+//! The frames shown of recordings with damage of each kind, and the gaps that are reported.
 use crate::testing::{BLACK, BLACK_IMAGE, Outcome, WHITE, WHITE_IMAGE, check, ended, gap, joined};
 use ls_salvage::{Gap, salvage_bytes};
 use ls_stream::{StreamFault, What};
@@ -17,7 +17,7 @@ struct Case {
 
 const NONE: &[u8] = b"";
 
-/// A black sample, after an APP0 segment that is all of the white one's codestream.
+/// A black sample, after an APP0 segment that holds the white one's codestream.
 const HOLDING: &[u8] = b"\xff\xd8\xff\xe0\x00\x1e\
 \xff\xd8\
 \xff\xf7\x00\x0b\x08\x00\x01\x00\x01\x01\x01\x11\x00\
@@ -217,7 +217,7 @@ const CASES: &[Case] = &[
     },
 ];
 
-/// That the recording in these parts is salvaged so.
+/// Checks the salvage of a recording.
 fn check_salvaged(rt: &impl Abort, alloc: Global, name: &str, recording: &[u8], want: Outcome<'_>) {
     let (shown, gaps, salvaged) = salvage_bytes(alloc, recording);
     let got = (salvaged, shown.as_slice(), gaps.as_slice());
@@ -239,8 +239,7 @@ fn what_is_whole_is_shown_with_ample_memory(rt: HostRuntime) {
     }
 }
 
-/// Whether the salvage of a recording shows images that begin with the first ones and end with the last, each of them
-/// for itself.
+/// Whether the images that the salvage of a recording shows begin with `first` and end with `last`, without overlap.
 fn shows(alloc: Global, recording: &[u8], first: &[u8], last: &[u8]) -> bool {
     let (shown, _gaps, salvaged) = salvage_bytes(alloc, recording);
     salvaged.is_ok()
@@ -249,17 +248,17 @@ fn shows(alloc: Global, recording: &[u8], first: &[u8], last: &[u8]) -> bool {
         && shown.ends_with(last)
 }
 
-/// Changes the bits of a mask in the byte at a place.
+/// Flips the bits of a mask in the byte at a place.
 fn change(bytes: &mut [u8], place: usize, mask: u8) {
     if let Some(byte) = bytes.get_mut(place) {
         *byte ^= mask;
     }
 }
 
-/// The bits of a byte that are changed.
+/// The masks of bits to flip in a byte.
 const MASKS: &[u8] = &[0xff, 0x01, 0x10, 0x80];
 
-/// That a change of the byte at a place, by each of the masks, leaves images that begin and end so.
+/// Checks that, with the byte at a place changed by each of the masks, the images still begin and end so.
 fn check_changed(
     rt: &impl Abort,
     alloc: Global,
@@ -291,7 +290,7 @@ fn a_byte_changed_costs_no_other_frame_with_ample_memory(rt: HostRuntime) {
     }
 }
 
-/// Two codestreams, and 70,000 of a byte between them.
+/// Two codestreams, with a byte 70,000 times between them.
 fn with_long_gap(rt: &impl Abort, alloc: Global, byte: u8) -> Vec<u8> {
     let junk = vec![in alloc; byte; 70_000].expect(rt, "memory");
     joined(rt, alloc, &[BLACK, &junk, WHITE])

@@ -10,7 +10,7 @@ use ls_testing::{Mishap, Pieces, Sink};
 use std::alloc::Global;
 use std::process::Abort;
 
-/// How a salvage ended, the writer that it wrote to, and the gaps that it told.
+/// How a salvage ended, the writer that it wrote to, and the gaps that it reported.
 type Ending = (Result<Salvaged, SalvageFault>, Sink, Vec<Gap>);
 
 /// Salvages a recording to a writer.
@@ -27,7 +27,7 @@ fn salvaged<T: Text<Frame>>(rt: &impl Abort, alloc: Global, reader: Pieces<'_>, 
     (salvaged, writer.into_inner(), gaps)
 }
 
-/// That a salvage ended so.
+/// Checks how a salvage ended.
 fn check_ending(rt: &impl Abort, name: &str, ending: &Ending, want: Outcome<'_>) {
     let (salvaged, sink, gaps) = ending;
     check(
@@ -45,7 +45,7 @@ const JUNK: Gap = Gap {
     fault: StreamFault::NotSoi,
 };
 
-/// That a read which fails at a byte of two codestreams with junk between them ends a salvage.
+/// Checks that a failed read, at this byte of two codestreams with junk between them, ends a salvage.
 fn check_failed_read(rt: &impl Abort, alloc: Global, recording: &[u8], place: usize) {
     let reader = Pieces::new(recording, 1, Some(place));
     let writer = Sink::new(4096, Mishap::Nothing);
@@ -65,7 +65,7 @@ fn a_failed_read_ends_a_salvage_with_ample_memory(rt: HostRuntime) {
     }
 }
 
-/// That a write which fails after so many bytes of the images ends a salvage.
+/// Checks that a write that fails after `place` bytes of the images ends a salvage.
 fn check_failed_write(
     rt: &impl Abort,
     alloc: Global,
@@ -91,7 +91,7 @@ fn a_failed_write_ends_a_salvage_with_ample_memory(rt: HostRuntime) {
     }
 }
 
-/// That a salvage without text tells of the junk, off chunks of so many bytes, and writes nothing.
+/// Checks that a salvage without text, off chunks of at most `most` bytes, reports the junk and writes nothing.
 fn check_without_text(rt: &impl Abort, alloc: Global, recording: &[u8], most: usize) {
     let reader = Pieces::new(recording, most, None);
     let writer = Sink::new(1, Mishap::Fails(0));

@@ -10,8 +10,8 @@ const TWO_LINES: &[u8] = b"\
 0 0 28 gray 1 1 255 8 3 7 21 64 14c5eaab40e8fcaf165a37d64d027b1357eb15846597672e4e87ef4c04547aa1\n\
 1 28 28 gray 1 1 255 8 3 7 21 64 0efbec04d1400b04eceb24a245c12e080c3916e4fa2379af048299d12b0a0953\n";
 
-/// What went out of a recording, whether both its writes were answered so, and what of its index, and why that broke
-/// off, if it did.
+/// What was written of a recording, whether each of its two writes succeeded, what was written of its index, and why
+/// that stopped early, if it did.
 #[derive(Drop)]
 struct Followed {
     written: (bool, bool),
@@ -20,8 +20,8 @@ struct Followed {
     broken: Option<IndexFault>,
 }
 
-/// Writes a recording of two codestreams, each in pieces of at most so many bytes, and its index. `None` if the index
-/// doesn't come back.
+/// Writes a recording of two codestreams, each in chunks of at most `most` bytes, and its index. `None` if the index
+/// isn't returned.
 fn follow(alloc: Global, most: usize, index: Sink) -> Option<Followed> {
     let follower = Follower::new(alloc, Counted::new(index));
     let recording = Counted::new(Sink::new(most, Mishap::Nothing));
@@ -38,10 +38,11 @@ fn follow(alloc: Global, most: usize, index: Sink) -> Option<Followed> {
     })
 }
 
-/// What of an index goes out, and why it breaks off, if it does.
+/// What is written of an index, and why it stops early, if it does.
 type Outcome<'a> = (&'a [u8], Option<IndexFault>);
 
-/// That a recording in pieces of at most so many bytes is written whole, and of its index this.
+/// Checks that a recording written in chunks of at most `most` bytes is written completely, and what is written of its
+/// index.
 fn check_following(
     rt: &impl Abort,
     alloc: Global,
@@ -54,7 +55,8 @@ fn check_following(
     check_followed(rt, most, &followed, want, ample);
 }
 
-/// That a recording was written whole, and of its index this. Where memory may be refused it may say so.
+/// Checks that a recording was written completely, and what was written of its index; unless memory is ample, the index
+/// may have stopped because an allocation failed.
 fn check_followed(
     rt: &impl Abort,
     most: usize,
@@ -89,7 +91,7 @@ fn an_index_follows_its_recording_or_memory_is_refused(rt: HostRuntime) {
     check_pieces(&rt, rt.alloc(), false);
 }
 
-/// That an index of which the write of this number fails breaks off there.
+/// Checks that an index whose write of this number fails stops there.
 fn check_failed_write(rt: &impl Abort, alloc: Global, call: usize) {
     let index = Sink::new(1, Mishap::Fails(call));
     let front = TWO_LINES.get(..call).unwrap_or(&[]);

@@ -7,10 +7,11 @@ use ls_testing::{Mishap, Pieces, Sink};
 use std::alloc::Global;
 use std::process::Abort;
 
-/// What the making of an index answered, what was written, and how many of its reader's and its writer's calls failed.
+/// The result of writing an index, what was written, and the numbers of failed reads and of failed writes.
 type Outcome<'a> = (Result<u64, IndexFault>, &'a [u8], u64, u64);
 
-/// That the making of an index ended so. Where memory may be refused it may say so, after whole lines.
+/// Checks the outcome of writing an index; unless memory is ample, an allocation may have failed instead, after a front
+/// of the lines.
 fn check_outcome(rt: &impl Abort, name: &str, got: Outcome<'_>, want: Outcome<'_>, ample: bool) {
     let refused = !ample && got.0 == Err(IndexFault::NoMemory) && want.1.starts_with(got.1);
     let want = if refused {
@@ -21,7 +22,7 @@ fn check_outcome(rt: &impl Abort, name: &str, got: Outcome<'_>, want: Outcome<'_
     assert_eq!(rt; got, want, "{name}");
 }
 
-/// The making of an index: its answer, what it wrote to, and how many of its reader's and its writer's calls failed.
+/// An index that was written: the result, the writer, and the numbers of failed reads and of failed writes.
 #[derive(Drop)]
 struct Made {
     answer: Result<u64, IndexFault>,
@@ -36,7 +37,7 @@ impl Made {
     }
 }
 
-/// Makes the index of what a reader gives.
+/// Writes the index of what a reader gives.
 fn make(alloc: Global, reader: Pieces<'_>, writer: Sink, sums: bool) -> Made {
     let mut reader = Counted::new(reader);
     let mut writer = Counted::new(writer);
@@ -49,7 +50,7 @@ fn make(alloc: Global, reader: Pieces<'_>, writer: Sink, sums: bool) -> Made {
     }
 }
 
-/// What a recording is, its bytes, what the making of its index answers, and the index with sums and without. The sums
+/// The name of a recording, its bytes, the result of writing its index, and the index with sums and without. The sums
 /// are those of `sha256sum`.
 type Case = (
     &'static str,
@@ -120,7 +121,7 @@ const RECORDINGS: &[Case] = &[
     ),
 ];
 
-/// That the index of a recording is made as it should be, with sums or without.
+/// Checks the index of a recording, with sums or without.
 fn check_recording(rt: &impl Abort, alloc: Global, case: &Case, sums: bool, ample: bool) {
     let (name, recording, result, with_sums, without) = *case;
     let lines = if sums { with_sums } else { without };
@@ -146,7 +147,7 @@ fn each_codestream_has_its_line_or_memory_is_refused(rt: HostRuntime) {
     check_recordings(&rt, rt.alloc(), false);
 }
 
-/// That the index of a recording in memory is this one.
+/// Checks that this is the index of a recording in memory.
 fn check_in_memory(
     rt: &impl Abort,
     alloc: Global,
@@ -160,7 +161,7 @@ fn check_in_memory(
     check_outcome(rt, name, got, (want.0, want.1, 0, 0), true);
 }
 
-/// That the index of a recording in memory is this one, with sums and without.
+/// Checks the index of a recording in memory, with sums and without.
 fn check_case_in_memory(rt: &impl Abort, alloc: Global, case: &Case) {
     let (name, recording, result, with_sums, without) = *case;
     check_in_memory(rt, alloc, name, recording, true, (result, with_sums));
@@ -180,7 +181,7 @@ const TWO_LINES: &[u8] = b"0 0 28 gray 1 1 255 8 3 7 21 64\n1 28 28 gray 1 1 255
 /// The first of them.
 const FIRST_LINE: &[u8] = b"0 0 28 gray 1 1 255 8 3 7 21 64\n";
 
-/// How the making of the index of so many of the first bytes of `TWO_CODESTREAMS` ends, and the index.
+/// The result of writing the index of the first `len` bytes of `TWO_CODESTREAMS`, and that index.
 fn index_of_front(len: usize) -> (Result<u64, IndexFault>, &'static [u8]) {
     match len {
         0 => (Ok(0), b""),
@@ -194,7 +195,7 @@ fn index_of_front(len: usize) -> (Result<u64, IndexFault>, &'static [u8]) {
     }
 }
 
-/// That the index of so many of the first bytes of `TWO_CODESTREAMS` is made as it should be.
+/// Checks the index of the first `len` bytes of `TWO_CODESTREAMS`.
 fn check_front(rt: &impl Abort, alloc: Global, len: usize) {
     let front = TWO_CODESTREAMS.get(..len).unwrap_or(&[]);
     check_in_memory(rt, alloc, "a front", front, false, index_of_front(len));
@@ -207,7 +208,7 @@ fn recordings_that_break_off_are_truncated_with_ample_memory(rt: HostRuntime) {
     }
 }
 
-/// That the index ends with the write of this number.
+/// Checks that the index stops if the write of this number fails.
 fn check_failed_write(rt: &impl Abort, alloc: Global, call: usize) {
     let reader = Pieces::new(TWO_CODESTREAMS, 4096, None);
     let made = make(alloc, reader, Sink::new(1, Mishap::Fails(call)), false);
@@ -223,7 +224,7 @@ fn a_failed_write_ends_the_index_with_ample_memory(rt: HostRuntime) {
     }
 }
 
-/// That the index ends with the read of this number.
+/// Checks that the index stops if the read of this number fails.
 fn check_failed_read(rt: &impl Abort, alloc: Global, call: usize) {
     let reader = Pieces::new(TWO_CODESTREAMS, 1, Some(call));
     let made = make(alloc, reader, Sink::new(4096, Mishap::Nothing), false);

@@ -1,4 +1,4 @@
-//! Codestreams that are looked for by what an index says of them.
+//! Looking for codestreams by what an index says of them.
 use crate::testing::{BLACK, BROKEN_DATA, WHITE, check, joined};
 use ls_archive::{CheckFault, Wanted, find_places, read_index};
 use ls_frame::{Buffered, Counted, Feed};
@@ -35,7 +35,7 @@ fn try_wanted(alloc: Global, sums: &[[u8; 32]]) -> Result<Vec<Wanted>, AllocErro
     Ok(wanted)
 }
 
-/// That codestreams with these sums are found at these places of a recording that is these parts.
+/// Checks that codestreams with these sums are found at these places of a recording, which is given in parts.
 fn check_places(
     rt: &impl Abort,
     alloc: Global,
@@ -116,7 +116,7 @@ fn codestreams_are_found_where_they_stand_with_ample_memory(rt: HostRuntime) {
     );
 }
 
-/// That a search ends with the read of this number.
+/// Checks that a search stops if the read of this number fails.
 fn check_read(rt: &impl Abort, alloc: Global, at: usize) {
     let reader = Counted::new(Pieces::new(BLACK, 1, Some(at)));
     let mut reader = Buffered::new(alloc, reader).expect(rt, "memory");
@@ -143,7 +143,7 @@ const LINES: &[u8] = b"0 0 28 gray 1 1 255 8 3 7 21 64 \
 1 28 28 gray 1 1 255 8 3 7 21 64 \
 0efbec04d1400b04eceb24a245c12e080c3916e4fa2379af048299d12b0a0953\n";
 
-/// That an index says this, or has this fault.
+/// Checks what an index says, or its fault.
 fn check_index(rt: &impl Abort, alloc: Global, index: &[u8], want: Result<&[Wanted], CheckFault>) {
     let mut reader = index;
     let read = read_index(alloc, &mut reader);

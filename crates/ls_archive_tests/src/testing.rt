@@ -7,15 +7,15 @@ use std::fmt::{Debug, Display};
 use std::io::Write;
 use std::process::Abort;
 
-/// How a salvage ended, what it wrote, and the gaps that it told.
+/// How a salvage ended, what it wrote, and the gaps that it reported.
 pub type Outcome<'a> = (Result<Salvaged, SalvageFault>, &'a [u8], &'a [Gap]);
 
-/// That a value is the wanted one.
+/// Checks that a value is the expected one.
 pub fn check<T: PartialEq + Debug>(rt: &impl Abort, case: &str, got: &T, want: &T) {
     assert_eq!(rt; got, want, "{case}");
 }
 
-/// That a fault has this text.
+/// Checks that a fault has this text.
 pub fn check_text<F: Display + Drop>(rt: &impl Abort, fault: F, text: &str) {
     let mut sink = Sink::new(4096, Mishap::Nothing);
     let written = write!(sink, "{fault}").is_ok();
@@ -23,12 +23,12 @@ pub fn check_text<F: Display + Drop>(rt: &impl Abort, fault: F, text: &str) {
     check(rt, text, &got, &(true, text.as_bytes()));
 }
 
-/// That these bytes are the wanted ones.
+/// Checks that these bytes are the expected ones.
 pub fn check_bytes(rt: &impl Abort, case: &str, got: &[u8], want: &[u8]) {
     check(rt, case, &got, &want);
 }
 
-/// These bytes, one after the other.
+/// Joins these parts.
 pub fn joined(rt: &impl Abort, alloc: Global, parts: &[&[u8]]) -> Vec<u8> {
     try_joined(alloc, parts).expect(rt, "memory")
 }
@@ -41,7 +41,7 @@ fn try_joined(alloc: Global, parts: &[&[u8]]) -> Result<Vec<u8>, AllocError> {
     Ok(bytes)
 }
 
-/// A gap: how many frames and bytes stand before it, how many bytes it has, and why.
+/// A gap: the number of frames before it, its offset and size in bytes, and its fault.
 pub fn gap(frame: u64, place: u64, count: u64, fault: StreamFault) -> Gap {
     Gap {
         frame,
@@ -51,25 +51,25 @@ pub fn gap(frame: u64, place: u64, count: u64, fault: StreamFault) -> Gap {
     }
 }
 
-/// How a salvage ends that wrote so many frames and told of so many gaps.
+/// The result of a salvage that wrote this number of frames and reported this number of gaps.
 pub fn ended(frames: u64, gaps: u64) -> Result<Salvaged, SalvageFault> {
     Ok(Salvaged { frames, gaps })
 }
 
-/// A black sample up to 255 as a codestream of 28 bytes, and as an image.
+/// A black sample of maxval 255, as a codestream of 28 bytes, and as an image.
 pub const BLACK: &[u8] = ls_testing::films::FIRST_CODESTREAM;
 
 pub const BLACK_IMAGE: &[u8] = ls_testing::films::BLACK;
 
-/// The same with a white one.
+/// A white sample of maxval 255, likewise.
 pub const WHITE: &[u8] = b"\xff\xd8\
 \xff\xf7\x00\x0b\x08\x00\x01\x00\x01\x01\x01\x11\x00\
 \xff\xda\x00\x08\x01\x01\x00\x00\x00\x00\x40\xff\xd9";
 
 pub const WHITE_IMAGE: &[u8] = b"P5\n1 1\n255\n\xff";
 
-/// A black pixel in colour, then a gray sample of 1 up to 1, and one of 65535 up to that: codestreams of 56, 43 and 29
-/// bytes.
+/// A black pixel in colour, a gray sample of 1 with maxval 1, and one of 65535 with maxval 65535: codestreams of 56, 43
+/// and 29 bytes.
 pub const MIXED: &[u8] = b"\xff\xd8\
 \xff\xf7\x00\x11\x08\x00\x01\x00\x01\x03\x01\x11\x00\x02\x11\x00\x03\x11\x00\
 \xff\xda\x00\x08\x01\x01\x00\x00\x00\x00\x80\
@@ -91,7 +91,7 @@ pub const ANOTHER_FORM: &[u8] = b"\xff\xd8\
 \xff\xf8\x00\x0d\x01\x00\xff\x00\x03\x00\x07\x00\x15\x00\x20\
 \xff\xda\x00\x08\x01\x01\x00\x00\x00\x00\x80\xff\xd9";
 
-/// A codestream whose markers and headers are complete, and whose data is no plane's.
+/// A codestream whose markers and headers are complete, but whose data can't be decoded.
 pub const BROKEN_DATA: &[u8] = b"\xff\xd8\
 \xff\xf7\x00\x0b\x08\x00\x01\x00\x01\x01\x01\x11\x00\
 \xff\xda\x00\x08\x01\x01\x00\x00\x00\x00\x00\xff\xd9";

@@ -9,10 +9,10 @@ use ls_testing::films::{
 use std::alloc::Global;
 use std::process::Abort;
 
-/// What a comparison answered, and how many reads of the film and of the recording failed.
+/// The result of a comparison, and the numbers of failed reads of the film and of the recording.
 type Outcome = (Result<Verdict, VerifyFault>, u64, u64);
 
-/// That a comparison ended so. Where memory may be refused it may say so.
+/// Checks the outcome of a comparison; unless memory is ample, an allocation may have failed instead.
 fn check_outcome(rt: &impl Abort, name: &str, got: Outcome, want: Outcome, ample: bool) {
     let refused = !ample && got.0 == Err(VerifyFault::NoMemory);
     let want = if refused {
@@ -23,7 +23,7 @@ fn check_outcome(rt: &impl Abort, name: &str, got: Outcome, want: Outcome, ample
     assert_eq!(rt; got, want, "{name}");
 }
 
-/// How comparing what two readers give ended.
+/// Compares what two readers give.
 fn outcome_of(alloc: Global, film: Pieces<'_>, recording: Pieces<'_>) -> Outcome {
     let mut film = Counted::new(film);
     let mut recording = Counted::new(recording);
@@ -31,7 +31,7 @@ fn outcome_of(alloc: Global, film: Pieces<'_>, recording: Pieces<'_>) -> Outcome
     (ended, Feed::failures(&film), Feed::failures(&recording))
 }
 
-/// What a film and a recording are, their bytes, and what comparing them answers.
+/// The name of a case, the bytes of a film and of a recording, and the result of comparing them.
 type Case = (
     &'static str,
     &'static [u8],
@@ -142,7 +142,7 @@ const CASES: &[Case] = &[
     ),
 ];
 
-/// That comparing what two readers give ends as it should.
+/// Checks the comparison of what two readers give.
 fn check_case(rt: &impl Abort, alloc: Global, case: &Case, ample: bool) {
     let (name, film, recording, result) = *case;
     let film = Pieces::new(film, 3, None);
@@ -167,7 +167,7 @@ fn films_are_compared_or_memory_is_refused(rt: HostRuntime) {
     check_cases(&rt, rt.alloc(), false);
 }
 
-/// That comparing a film and a recording in memory answers as it should.
+/// Checks the comparison of a film and a recording in memory.
 fn check_in_memory(rt: &impl Abort, alloc: Global, case: &Case) {
     let (name, film, recording, result) = *case;
     let got = verify_bytes(alloc, film, recording);
@@ -181,7 +181,7 @@ fn films_in_memory_are_compared_with_ample_memory(rt: HostRuntime) {
     }
 }
 
-/// How comparing `TWO_IMAGES` with so many of the first bytes of `TWO_CODESTREAMS` ends.
+/// The result of comparing `TWO_IMAGES` with the first `len` bytes of `TWO_CODESTREAMS`.
 fn end_of_front(len: usize) -> Result<Verdict, VerifyFault> {
     match len {
         0 => Ok(Verdict::Missing(0)),
@@ -192,7 +192,7 @@ fn end_of_front(len: usize) -> Result<Verdict, VerifyFault> {
     }
 }
 
-/// That comparing `TWO_IMAGES` with so many of the first bytes of `TWO_CODESTREAMS` answers as it should.
+/// Checks the comparison of `TWO_IMAGES` with the first `len` bytes of `TWO_CODESTREAMS`.
 fn check_front(rt: &impl Abort, alloc: Global, len: usize) {
     let front = TWO_CODESTREAMS.get(..len).unwrap_or(&[]);
     let got = verify_bytes(alloc, TWO_IMAGES, front);
@@ -206,7 +206,7 @@ fn recordings_that_break_off_are_told_from_short_ones_with_ample_memory(rt: Host
     }
 }
 
-/// That a comparison ends with the read of this number of the recording.
+/// Checks that a comparison stops if the read of this number of the recording fails.
 fn check_recording_read(rt: &impl Abort, alloc: Global, call: usize) {
     let film = Pieces::new(TWO_IMAGES, 4096, None);
     let recording = Pieces::new(TWO_CODESTREAMS, 1, Some(call));
@@ -223,7 +223,7 @@ fn a_failed_read_of_the_recording_ends_the_comparison_with_ample_memory(rt: Host
     }
 }
 
-/// That a comparison ends with the read of this number of the film.
+/// Checks that a comparison stops if the read of this number of the film fails.
 fn check_film_read(rt: &impl Abort, alloc: Global, call: usize) {
     let film = Pieces::new(TWO_IMAGES, 1, Some(call));
     let recording = Pieces::new(TWO_CODESTREAMS, 4096, None);

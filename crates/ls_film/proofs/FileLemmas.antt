@@ -1,4 +1,4 @@
--- The codestreams of a film, one more at a time.
+-- The codestreams of a film, one after another.
 use Rattle.std.proofs.Common.{◌≡◌, List, [], ◌∷◌, ◌++◌, sym, ap, ◌∙◌, append_assoc, append-nil}
 use Rattle.ls_frame.specs.Picture.{Picture}
 use Rattle.ls_frame.specs.Parameters.{default_parameters}

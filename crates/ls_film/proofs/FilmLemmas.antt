@@ -1,4 +1,4 @@
--- A film, frame by frame: what each engine that reads one goes by. What an image is, is a parameter, as in `Film`.
+-- A film, frame by frame: lemmas of every engine that reads one. What an image of a frame is, is a parameter, as in `Film`.
 use Rattle.std.proofs.Common.{◌≡◌, ℕ, List, [], ◌∷◌, ◌++◌, Option, refl, sym, ap, ◌∙◌, append_assoc, append-nil}
 use Rattle.std.specs.List.{AllByRecursion}
 use Rattle.ls_frame.specs.Picture.{Picture}
@@ -6,12 +6,12 @@ use Rattle.ls_frame.specs.View.Known.{Tells, Gave, WasAtEnd, known}
 use Rattle.ls_film.specs.Film.{IsFilm}
 use Rattle.ls_film.specs.View.Given.{GaveFrames, GaveFramesAnd, GaveFilm, IsBrokenAfter, BeginsWithFrames}
 
--- one element more, of which P holds too
+-- one more element, of which P holds too
 pub all-more : {A : Type 0} (P : A → Type 0) (xs : List A) (x : A) → AllByRecursion P xs → P x → AllByRecursion P (xs ++ x ∷ [])
 all-more P [] x all last = (last, _)
 all-more P (y ∷ ys) x all last = (all.0, all-more P ys x all.1 last)
 
--- what holds of the bytes that were given, and less
+-- a weaker claim on the bytes that were given
 pub Gave-weaker : (old new : Option (List ℕ)) (P Q : List ℕ → Type 0) → Gave old new P → ((bytes : List ℕ) → P bytes → Q bytes) → Gave old new Q
 Gave-weaker old new P Q gives weaker = λ told. let gave = gives told in (gave.0, gave.1, gave.2, weaker gave.1 gave.3)
 
@@ -27,7 +27,7 @@ module _ (IsImage : List ℕ → Picture → Type 0) where
   pub GaveFrames-none : (old : Option (List ℕ)) → GaveFrames IsImage old old []
   GaveFrames-none old = λ told. (told, [], refl, refl)
 
-  -- one frame more
+  -- one more frame
   pub GaveFrames-more : (old mid new : Option (List ℕ)) (frames : List Picture) (f : Picture) → GaveFrames IsImage old mid frames → Gave mid new (λ image. IsImage image f)
       → GaveFrames IsImage old new (frames ++ f ∷ [])
   GaveFrames-more old mid new frames f before next = λ told.
@@ -39,7 +39,7 @@ module _ (IsImage : List ℕ → Picture → Type 0) where
         IsFilm-push front.1 image.1 frames f front.3 image.3,
       )
 
-  -- bytes more that are no whole frame
+  -- more bytes, which aren't a complete frame
   pub GaveFrames-and : (old mid new : Option (List ℕ)) (frames : List Picture) (P Q : List ℕ → Type 0) → GaveFrames IsImage old mid frames → Gave mid new P
       → ((bytes : List ℕ) → P bytes → Q bytes) → GaveFramesAnd IsImage old new frames Q
   GaveFrames-and old mid new frames P Q before next weaker = λ told.
@@ -59,13 +59,13 @@ module _ (IsImage : List ℕ → Picture → Type 0) where
       let whole : known old ≡ front.1 = front.2 ∙ ap (λ s. front.1 ++ s) none.1 ∙ append-nil front.1 in
       (none.0, none.2, rw whole front.3)
 
-  -- the next image is broken
+  -- the next image is malformed
   pub IsBrokenAfter-next : (old mid : Option (List ℕ)) (frames : List Picture) (IsBroken : List ℕ → Type 0) → GaveFrames IsImage old mid frames
       → (Tells mid → IsBroken (known mid)) → IsBrokenAfter IsImage old frames IsBroken
   IsBrokenAfter-next old mid frames IsBroken before broken = λ told.
       let front = before told in
       (front.1, known mid, front.2, front.3, broken front.0)
 
-  -- the frames so far stand at the front
+  -- the input begins with the frames so far
   pub BeginsWithFrames-gave : (old mid : Option (List ℕ)) (frames : List Picture) → GaveFrames IsImage old mid frames → BeginsWithFrames IsImage old frames
   BeginsWithFrames-gave old mid frames before = λ told. let front = before told in (front.1, known mid, front.2, front.3)

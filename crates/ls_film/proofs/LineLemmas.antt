@@ -1,4 +1,4 @@
--- The lines of a film, one more at a time.
+-- The lines of a film, one after another.
 use Rattle.std.proofs.Common.{◌≡◌, ℕ, suc, ◌+◌, List, [], ◌∷◌, ◌++◌, length, sym, ap, ◌∙◌, arith, append_assoc, append-nil}
 use Rattle.ls_frame.specs.Picture.{Picture}
 use Rattle.ls_film.specs.Listing.{line, lines_from, lines}
@@ -10,6 +10,6 @@ lines_from-push n (g ∷ frames) f =
     ap (λ s. line n g ++ s) (lines_from-push (n + 1) frames f ∙ ap (λ k. lines_from (n + 1) frames ++ line k f) same)
     ∙ sym (append_assoc (line n g) (lines_from (n + 1) frames) (line (n + suc (length frames)) f))
 
--- one line more, of the frame whose number is the count of those before
+-- one more line, of the frame whose number is the count of those before
 pub lines-push : (frames : List Picture) (f : Picture) (n : ℕ) → length frames ≡ n → lines (frames ++ f ∷ []) ≡ lines frames ++ line n f
 lines-push frames f n count = lines_from-push 0 frames f ∙ (let same : 0 + length frames ≡ n = omega arith in ap (λ k. lines frames ++ line k f) same)

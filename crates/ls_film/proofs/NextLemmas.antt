@@ -11,7 +11,7 @@ use Rattle.ls_stream.specs.declared.faults.StreamFault.{StreamFault}
 use Rattle.ls_stream.specs.declared.next.NextFault.TheVariants as next_fault
 use Rattle.ls_film.specs.View.Codestreams.{BreaksBy}
 
--- a codestream at the front of the bytes that were read is all of them
+-- a codestream of a frame at the front of the bytes that were read is all of them
 pub gave_codestream : (read read' : Option (List ℕ)) (bytes : List ℕ) (used : ℕ) (f : Picture) (P : List ℕ → Type 0)
     → Gave read read' (λ front. (bytes ≡ front) × P front)
     → (Tells read → (front rest : List ℕ) (g : Picture) → known read ≡ front ++ rest → Spells front g → bytes ≡ front)
@@ -24,11 +24,11 @@ gave_codestream read read' bytes used f P gives only spells = λ told.
     let is : bytes ≡ take used bytes = only told (take used bytes) (drop used bytes ++ known read') f (whole ∙ split) spells in
     (gave.0, bytes, whole, rw is spells)
 
--- the same of equal bytes
+-- the first fault of equal bytes
 pub first_alike : (Memory : Type 0) (bytes others : List ℕ) (fault : StreamFault) → bytes ≡ others → Memory ⊎ IsFirstFault bytes fault → Memory ⊎ IsFirstFault others fault
 first_alike Memory bytes others fault is first = subst (λ s. Memory ⊎ IsFirstFault s fault) is first
 
--- where they begin with none, so do all bytes; and their first fault is that of all
+-- if the bytes begin with no codestream of a frame, nor does the input, and their first fault is the input's
 pub breaks_by : (Told Memory : Type 0) (all bytes : List ℕ) (fault : StreamFault) → (Told → 0 < length all)
     → (Told → (front rest : List ℕ) (f : Picture) → all ≡ front ++ rest → Spells front f → bytes ≡ front)
     → (Told → AreBytes all → (other : StreamFault) → IsFirstFault bytes other ↔ IsFirstFault all other)
@@ -54,7 +54,7 @@ gave_some read read' P gives some told =
 pub gave_most : (read read' : Option (List ℕ)) → Gave read read' (λ bytes. length bytes ≡ most_bytes) → Tells read → most_bytes ≤ length (known read)
 gave_most read read' gives told = let gave = gives told in omega (arith, ap length gave.2, length-append gave.1 (known read'), gave.3)
 
--- a codestream that has become too large is none
+-- a codestream that is too large is neither a failed read nor a failed allocation
 pub too_large : (next_fault.TooLarge ≡ next_fault.Io) ⊎ (next_fault.TooLarge ≡ next_fault.NoMemory) → ⊥
 too_large (inl e) = let clash : ⊥ = cc in absurd clash
 too_large (inr e) = let clash : ⊥ = cc in absurd clash

@@ -1,10 +1,10 @@
--- Bytes are a film of one list of frames alone, if images have bytes, none begins another, and each is of one frame.
+-- Bytes are a film of at most one list of frames, if images have bytes, none begins another, and each is of one frame.
 use Rattle.std.proofs.Common.{◌≡◌, ◌⊎◌, ◌<◌, ℕ, inl, inr, List, [], ◌∷◌, ◌++◌, length, refl, sym, ap, ◌∙◌, arith, append_assoc, append-nil}
 use Rattle.std.proofs.lemmas.List.{length-append}
 use Rattle.ls_frame.specs.Picture.{Picture}
 use Rattle.ls_film.specs.Film.{IsFilm}
 
--- of two fronts one begins the other
+-- of two fronts of the same bytes one begins the other
 pub two_fronts : (a b c d : List ℕ) → a ++ b ≡ c ++ d
     → ((s : List ℕ) × (c ≡ a ++ s) × (b ≡ s ++ d)) ⊎ ((s : List ℕ) × (a ≡ c ++ s) × (d ≡ s ++ b))
 two_fronts [] b c d whole = inl (c, refl, whole)
@@ -26,7 +26,7 @@ module _ (IsImage : List ℕ → Picture → Type 0)
   no_frames [] film = refl
   no_frames (f ∷ frames) film = absurd (omega (arith, ap length film.2, length-append film.0 film.1, some film.0 f film.3))
 
-  -- the image at the front of bytes is one, and of one frame
+  -- bytes begin with at most one image, and it is of one frame
   same_front : (a b c d : List ℕ) (f g : Picture) → a ++ b ≡ c ++ d → IsImage a f → IsImage c g → (f ≡ g) × (b ≡ d)
   same_front a b c d f g whole one other = elim (two_fronts a b c d whole) [
     | inl first ↦
@@ -39,7 +39,7 @@ module _ (IsImage : List ℕ → Picture → Type 0)
         (same c f g (rw (sym is) one) other, sym (second.2 ∙ ap (λ s. s ++ b) none))
   ]
 
-  -- the frames of a front are the first of the film, and what follows is a film of the others
+  -- the frames of a front are the film's first frames, and what follows is a film of the others
   pub more_frames : (front rest all : List ℕ) (first frames : List Picture) → all ≡ front ++ rest → IsFilm IsImage front first → IsFilm IsImage all frames
       → (more : List Picture) × (frames ≡ first ++ more) × IsFilm IsImage rest more
   more_frames front rest all [] frames whole none film =
@@ -53,7 +53,7 @@ module _ (IsImage : List ℕ → Picture → Type 0)
       let next = more_frames begins.1 rest film.1 first frames alike.1 begins.4 film.4 in
       (next.0, cc, next.2)
 
-  -- the frames of a film are these alone
+  -- a film has one list of frames
   pub one_film : (film : List ℕ) (frames others : List Picture) → IsFilm IsImage film frames → IsFilm IsImage film others → others ≡ frames
   one_film film frames others whole again =
       let more = more_frames film [] film frames others (sym (append-nil film)) whole again in

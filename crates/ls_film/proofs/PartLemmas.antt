@@ -1,4 +1,4 @@
--- Codestreams that are passed over, and the frames that are shown after them.
+-- Codestreams that are passed over, and the frames after them, which are shown.
 use Rattle.std.specs.Prelude.{IsTrue, IfSome, is_some, not}
 use Rattle.std.proofs.Common.{Bool, true, false, None, Some, ◌≡◌, ◌⊎◌, ◌<◌, ◌≤◌, ◌+◌, ℕ, inl, inr, List, [], ◌∷◌, ◌++◌, length, take, drop, Option, refl, sym, ap, subst, ◌∙◌, arith, append_assoc, append-nil}
 use Rattle.std.proofs.KnownBytes.{Appends-nil}
@@ -29,7 +29,7 @@ joined_more : (streams : List (List ℕ)) (codestream : List ℕ) → joined (st
 joined_more [] codestream = append-nil codestream
 joined_more (first ∷ streams) codestream = ap (λ s. first ++ s) (joined_more streams codestream) ∙ sym (append_assoc first (joined streams) codestream)
 
--- one codestream more
+-- one more codestream
 passed_more : (streams : List (List ℕ)) (codestream rest : List ℕ) → ArePassed streams (codestream ++ rest) → IsNext codestream rest → ArePassed (streams ++ codestream ∷ []) rest
 passed_more [] codestream rest passed next = (next, tt)
 passed_more (first ∷ streams) codestream rest passed next =
@@ -62,7 +62,7 @@ stops-passing read mid new m count next_fault.TooLarge before passed large = rec
 stops-passing read mid new m count next_fault.Io before passed large = record { m = m; before = before; mid = mid; passed = passed; fault_is = inr (inl refl) }
 stops-passing read mid new m count next_fault.NoMemory before passed large = record { m = m; before = before; mid = mid; passed = passed; fault_is = inr (inr refl) }
 
--- a codestream that has become too large is none of a frame
+-- bytes that are too large for a codestream begin with none of a frame
 pub too-large-breaks : (mid new : Option (List ℕ)) (fault : NextFault) → fault ≡ next_fault.TooLarge
     → (fault ≡ next_fault.TooLarge → Gave mid new (λ bytes. length bytes ≡ most_bytes))
     → (Tells mid → (front rest : List ℕ) (f : Picture) → known mid ≡ front ++ rest → Spells front f → (fault ≡ next_fault.Io) ⊎ (fault ≡ next_fault.NoMemory))
@@ -77,23 +77,23 @@ too-large-breaks mid new fault is large complete told = (
 
 -- ---- what is shown
 
--- a recording that ends before a part lacks it
+-- a recording that ends before a part is too short for it
 lacks_all : (first m : ℕ) (last : Option ℕ) → m < first → IfSome last (λ n. (first ≤ n) × (n < most_frames)) → LacksPart first last m
 lacks_all first m None before in_order = omega (arith, before)
 lacks_all first m (Some n) before in_order = omega (arith, before, in_order.0)
 
--- it lacks a part that goes to the end and of which it has no frame
+-- so is one that has no frame of a part that goes to the end
 pub lacks-first : (first n : ℕ) (last : Option ℕ) (open_ended : Bool) → is_some last ≡ not open_ended → open_ended ≡ true → n ≤ 0 → LacksPart first last (first + n)
 lacks-first first n None open_ended is so none = omega (arith, none)
 lacks-first first n (Some l) open_ended is so none = let off : not open_ended ≡ false = ap not so in let clash : ⊥ = cc in absurd clash
 
--- it lacks a part whose last frame it hasn't
+-- so is one without the part's last frame
 pub lacks-last : (first n : ℕ) (last : Option ℕ) (open_ended ended : Bool) → is_some last ≡ not open_ended → open_ended ≡ false → IfSome last (λ l. IsTrue ended → first + n ≤ l)
     → IsTrue ended → LacksPart first last (first + n)
 lacks-last first n None open_ended ended is so few at_end = let on : not open_ended ≡ true = ap not so in let clash : ⊥ = cc in absurd clash
 lacks-last first n (Some l) open_ended ended is so few at_end = few at_end
 
--- nothing was shown, since the recording ended before
+-- nothing was shown, since the recording ended before the part
 pub ends-early : (read mid written : Option (List ℕ)) (first m : ℕ) (last : Option ℕ) → m < first → IfSome last (λ n. (first ≤ n) × (n < most_frames)) → GavePassed read mid m
     → (Tells read → known mid ≡ []) → EndsEarly read mid written written first last m
 ends-early read mid written first m last before in_order passed end = record {
@@ -106,9 +106,9 @@ ends-early read mid written first m last before in_order passed end = record {
   end = end;
 }
 
--- ---- a recording of whole codestreams
+-- ---- a recording that is codestreams of frames
 
--- the codestreams that are passed over are of its first frames
+-- the codestreams that are passed over are those of its first frames
 passed_film : (streams : List (List ℕ)) (rest bytes : List ℕ) (frames : List Picture) → bytes ≡ joined streams ++ rest → ArePassed streams rest → IsFilm Spells bytes frames
     → (length streams ≤ length frames) × IsFilm Spells rest (drop (length streams) frames)
 passed_film [] rest bytes frames whole passed film = (omega arith, subst (λ s. IsFilm Spells s frames) whole film)
@@ -127,14 +127,14 @@ no_more : (frames : List Picture) → length frames ≡ 0 → frames ≡ []
 no_more [] none = refl
 no_more (f ∷ frames) none = absurd (omega (arith, none))
 
--- the frames that are shown are all from the first of a part on, or there are none of it
+-- the frames that are shown are all those from the first of a part on, or the recording has none of the part
 shown_from : (first passed shown : ℕ) (frames them : List Picture) → (passed ≡ first) ⊎ ((passed < first) × (shown ≡ 0)) → drop passed frames ≡ them → length them ≡ shown
     → length frames ≡ passed + shown → drop first frames ≡ them
 shown_from first passed shown frames them (inl is) left count all = ap (λ n. drop n frames) (sym is) ∙ left
 shown_from first passed shown frames them (inr before) left count all =
     no_more (drop first frames) (omega (arith, length-drop first frames, before.0, before.1, all)) ∙ sym (no_more them (omega (arith, count, before.1)))
 
--- what follows those that the reader gave
+-- what follows the codestreams that the reader gave
 rest_film : (read mid : Option (List ℕ)) (n : ℕ) (frames : List Picture) → Tells read → IsFilm Spells (known read) frames → GavePassed read mid n
     → Tells mid × (n ≤ length frames) × IsFilm Spells (known mid) (drop n frames)
 rest_film read mid n frames told film passed =
@@ -215,7 +215,7 @@ module _ (only : (one other rest : List ℕ) (f g : Picture) → Spells one f �
       let short : length (drop first frames) ≤ most_frames = omega (arith, few, length-drop first frames) in
       rw stops.numbered (of_later first stops.alone (none_of_streams stops.mid read' written written' (drop first frames) rest.0 rest.2 short stops.alone stops.stops))
 
--- all that were left were shown, and too few
+-- all frames that were left were shown, and they were too few
 pub early-shown : (read mid read' written written' : Option (List ℕ)) (first n : ℕ) (last : Option ℕ) → GavePassed read mid first → ShowsNext mid read' written written' n
     → LacksPart first last (first + n) → (Tells mid → known read' ≡ []) → EndsEarly read read' written written' first last (first + n)
 early-shown read mid read' written written' first n last passed shows lacks end = record {

@@ -19,13 +19,13 @@ use Rattle.ls_film.specs.View.Playing.{Stops, Plays, IsOutOfMemory, IsCodable, f
 
 -- ---- a writer into memory
 
--- what stops a run says the same of equal bytes written
+-- a stop says the same of equal bytes written
 pub stops-into : (read read' : Option (List ℕ)) (start start' out out' : List ℕ) (fault : PlayFault) → start ≡ start' → out ≡ out'
     → Stops read read' (Some start) (Some out) fault → Stops read read' (Some start') (Some out') fault
 stops-into read read' start start' out out' fault is is' stops =
     subst (λ s. Stops read read' (Some s) (Some out') fault) is (subst (λ s. Stops read read' (Some start) (Some s) fault) is' stops)
 
--- a count that no failure has raised
+-- a count that stays 0 says that no call failed
 pub never_blamed : (blames : Bool) → 0 ≡ count_after blames 0 → blames ≡ false
 never_blamed false same = refl
 never_blamed true same = absurd (omega (arith, same))
@@ -43,7 +43,7 @@ some_bytes (byte ∷ bytes) f spells = omega arith
 
 module _ (only : (one other rest : List ℕ) (f g : Picture) → Spells one f → Spells other g → other ≡ one ++ rest → rest ≡ [])
     (same : (bytes : List ℕ) (f g : Picture) → Spells bytes f → Spells bytes g → f ≡ g) where
-  -- what follows the first frames begins with a codestream, or nothing follows
+  -- after the first frames a codestream begins, or nothing follows
   pub no_break : (rest : List ℕ) (more : List Picture) → IsFilm Spells rest more → BeginsWithNone rest → ⊥
   no_break rest [] none broken = absurd (omega (arith, ap length none, broken.some))
   no_break rest (f ∷ more) film broken = broken.none film.0 film.1 f film.2 film.3

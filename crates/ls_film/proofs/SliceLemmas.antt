@@ -14,12 +14,12 @@ use Rattle.ls_film.specs.declared.faults.FilmFault.TheVariants.{Input, Output, N
 use Rattle.ls_film.specs.View.Stopping.{IsHeadingOrImage, Stops, blames_reader, failed_reader}
 use Rattle.ls_film.specs.View.Memory.{IsTextOf, BeginsFilm, AnyBytes, StopsOver}
 
--- a count that stays at 0 says that no call failed
+-- if a count stays 0, no call failed
 no_failure : (failed : Bool) → 0 ≡ count_after failed 0 → failed ≡ false
 no_failure false stays = refl
 no_failure true stays = absurd (omega arith)
 
--- a header stands at the front of what an image begins
+-- what begins with a header or an image begins with a header
 begins_with_heading : (last rest : List ℕ) → IsHeadingOrImage last → BeginsWithHeading (last ++ rest)
 begins_with_heading last rest (inl heading) = (last, rest, refl, heading)
 begins_with_heading last rest (inr image) =
@@ -36,7 +36,7 @@ module _ (text : List Picture → List ℕ) (film out : List ℕ) (left : Option
       let front = gave refl in
       record { front = front.1; rest = known left; whole = front.2; begins = front.3; follows = tt }
 
-  -- a fault that is neither of memory nor of a device is of the bytes
+  -- a fault that is neither a failed allocation nor a failed read is a fault of the bytes
   of_bytes : (fault : NetpbmFault) → (fault ≡ netpbm.NoMemory → ⊥) → blames_device fault ≡ false → IsTrue (blames_bytes fault)
   of_bytes netpbm.BadMagic memory device = refl
   of_bytes netpbm.BadHeader memory device = refl
@@ -77,7 +77,7 @@ module _ (text : List Picture → List ℕ) (film out : List ℕ) (left : Option
       }
   stops-over TooMany device run = (run.frames, run.last, gave-over (run.frames ++ run.last ∷ []) run.gave, run.count, run.wrote)
 
-  -- a run over memory, whose reader's count stays
+  -- a run over memory, whose reader has no failed call
   pub run-stops : (r : Result ℕ FilmFault) → 0 ≡ count_after (failed_reader r) 0 → IfErr r (Stops text (Some film) left (Some []) (Some out)) → IfErr r (StopsOver text film out)
   run-stops (Ok n) stays run = tt
   run-stops (Err fault) stays run = stops-over fault (no_failure (blames_reader fault) stays) run

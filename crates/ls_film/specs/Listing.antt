@@ -1,4 +1,4 @@
--- What `list` writes of a film.
+-- What `list` writes for a film.
 use Rattle.std.specs.Prelude.{ℕ, ◌+◌, List, [], ◌∷◌, ◌++◌, flat_map, decimal, codes}
 use Rattle.ls_frame.specs.declared.frame.Kind.{Kind}
 use Rattle.ls_frame.specs.declared.frame.Kind.TheVariants.{Gray, Color}
@@ -14,7 +14,7 @@ unfoldable pub columns : Picture → List ℕ
 columns f = let p = default_parameters f.maxval in
     f.width ∷ f.height ∷ f.maxval ∷ bpp_of f.maxval ∷ p.t1 ∷ p.t2 ∷ p.t3 ∷ p.reset ∷ limit_of f.maxval ∷ []
 
--- a blank and the number after it
+-- a blank and the number
 abbrev pub column : ℕ → List ℕ
 column n = 32 ∷ decimal n
 
@@ -27,6 +27,6 @@ abbrev pub lines_from : ℕ → List Picture → List ℕ
 lines_from n [] = []
 lines_from n (f ∷ frames) = line n f ++ lines_from (n + 1) frames
 
--- what `list` writes of a film
+-- what `list` writes for a film
 abbrev pub lines : List Picture → List ℕ
 lines frames = lines_from 0 frames

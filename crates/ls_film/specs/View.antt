@@ -1,4 +1,4 @@
--- How a reader, a writer and the code's faults are seen as films and what is written of them.
+-- How the code's values (readers, writers, faults) are seen as films, and as what is written for these.
 pub mod Ahead
 pub mod Codestreams
 pub mod Engine

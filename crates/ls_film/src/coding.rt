@@ -14,11 +14,11 @@ use ls_frame::{Feed, Frame, Outlet};
 use ls_stream::encode_frame;
 use std::alloc::{AllocError, Global};
 
-/// Writes the codestream of each frame of a film, with the default parameters of its maxval, and says how
-/// many there were.
+/// Writes the codestream of each frame of a film, with the default parameters of its maxval, and returns the number of
+/// frames.
 ///
-/// Each codestream is written as soon as its frame is read. If the bytes of reader and writer are known (as in memory),
-/// the clauses say which were read and written. After `FilmFault::Input` nothing is said of the reader's place.
+/// Each codestream is written before the next frame is read. If the bytes of reader and writer are known (as in
+/// memory), the clauses say which were read and written. After `FilmFault::Input` the reader's place is unspecified.
 pub fn code_film<R: Feed, W: Outlet>(
     alloc: Global,
     reader: &mut R,
@@ -36,7 +36,7 @@ pub fn code_film<R: Feed, W: Outlet>(
 
 /// The codestreams of a film in memory, as far as they were written, and how the coding ended.
 ///
-/// The program codes by `code_film`. This is the same over bytes in memory, where nothing is left unknown.
+/// The program codes by `code_film`. This is the same over bytes in memory, all of which are known.
 pub fn code_bytes(alloc: Global, film: &[u8]) -> (Vec<u8>, Result<u64, FilmFault>)
     ensures completes { IfOk result.1 (IsTextOf default_file film.now result.0.items) }
     ensures stops { IfErr result.1 (StopsOver default_file film.now result.0.items) }

@@ -1,4 +1,4 @@
-//! Why an engine stopped, and what is said of it.
+//! Why an engine over a film stopped.
 use crate::engine::Stopped;
 use ls_frame::NetpbmFault;
 use thiserror::Error;
@@ -8,20 +8,20 @@ pub const MOST_FRAMES: u64 = 4_294_967_295;
 
 /// Why an engine that reads a film and writes a text of its frames stopped.
 ///
-/// The text of exactly the frames before the one at fault was written, except after `Output`. No more than
-/// `MOST_FRAMES` frames were.
+/// The text of exactly the frames before the one at fault was written, except after `Output`: that of at most
+/// `MOST_FRAMES` frames.
 #[derive(Clone, Copy, Debug, Drop, PartialEq, Eq, Error)]
 pub enum FilmFault {
     /// The frame of this number, from 0, can't be read; the fault is never `NetpbmFault::NoMemory`.
     #[error("frame {0}: {1}")]
     Input(u64, NetpbmFault),
-    /// A write failed when exactly so many bytes of the text had gone out.
+    /// A write failed after exactly this number of bytes of the text had been written.
     #[error("output failed after {0} bytes")]
     Output(u64),
-    /// Memory was refused for a frame, when exactly its header had been read, or all of it.
+    /// An allocation failed for a frame, after exactly its header, or all of it, had been read.
     #[error("no memory")]
     NoMemory,
-    /// A frame numbered 4,294,967,295.
+    /// The film has more than `MOST_FRAMES` frames: one is numbered 4,294,967,295.
     #[error("too many frames")]
     TooMany,
 }
@@ -30,7 +30,7 @@ impl FilmFault {
     ghost use Rattle.std.specs.Prelude.{◌≡◌};
     ghost use Rattle.ls_film.specs.View.Stopping.{film_fault};
 
-    /// What the engine's end over Netpbm images is to a film.
+    /// Converts why the engine stopped over Netpbm images.
     pub fn of(stopped: Stopped<NetpbmFault>) -> FilmFault
         ensures { result ≡ film_fault stopped }
     {

@@ -1,4 +1,4 @@
-//! The engine over films of Netpbm images.
+//! Runs the engine over films of Netpbm images.
 ghost use Rattle.std.specs.Prelude.{◌≡◌, ⊤, IfOk, IfErr, false};
 ghost use Rattle.ls_frame.specs.Faults.{blames_device};
 ghost use Rattle.ls_frame.specs.Netpbm.{IsImageOf};
@@ -31,7 +31,11 @@ impl Images<Frame> for NetpbmImages {
 
     ghost may_run = { ⊤ };
 
-    fn next<R: Feed>(&mut self, alloc: Global, reader: &mut R) -> Result<Option<Frame>, NetpbmFault> {
+    fn next<R: Feed>(
+        &mut self,
+        alloc: Global,
+        reader: &mut R,
+    ) -> Result<Option<Frame>, NetpbmFault> {
         match next_frame(alloc, reader) {
             Ok(Some(frame)) => {
                 prove!(frame.maxval() > 0);
@@ -43,10 +47,10 @@ impl Images<Frame> for NetpbmImages {
     }
 }
 
-/// Writes the text of a film of Netpbm images, frame by frame, and says how many frames there were.
+/// Writes the text of a film of Netpbm images, frame by frame, and returns the number of frames.
 ///
 /// If the bytes of reader and writer are known (as in memory), the clauses say which were read and written. After
-/// `FilmFault::Input` nothing is said of the reader's place.
+/// `FilmFault::Input` the reader's place is unspecified.
 pub fn write_film<T: Text<Frame>, R: Feed, W: Outlet>(
     alloc: Global,
     reader: &mut R,
@@ -66,7 +70,10 @@ pub fn write_film<T: Text<Frame>, R: Feed, W: Outlet>(
 }
 
 /// The text of a film in memory, as far as it was written, and how the writing ended.
-pub fn text_of_bytes<T: Text<Frame>>(alloc: Global, film: &[u8]) -> (Vec<u8>, Result<u64, FilmFault>)
+pub fn text_of_bytes<T: Text<Frame>>(
+    alloc: Global,
+    film: &[u8],
+) -> (Vec<u8>, Result<u64, FilmFault>)
     ensures completes { IfOk result.1 (IsTextOf T.text film.now result.0.items) }
     ensures stops { IfErr result.1 (StopsOver T.text film.now result.0.items) }
 {

@@ -14,10 +14,11 @@ use ls_frame::laws::default_parameters_are_legal;
 use ls_frame::{Counted, Feed};
 use std::alloc::Global;
 
-/// What is coded of a film into memory is played back as the film's frames, each as its canonical Netpbm image,
-/// whatever reads the film; or memory was refused. If the reader's bytes are known, it gave images of these frames.
+/// A film that is coded into memory is played back as its frames, each as its canonical Netpbm image, whatever reads
+/// the film, unless an allocation fails. If the reader's bytes are known, it gave images of these frames.
 ///
-/// It answers how the coding ended, what the playing wrote, and how it ended.
+/// Returns how the coding ended, what the playing wrote, and how the playing ended. Nothing is promised if the coding
+/// failed.
 pub fn recordings_are_played_back<R: Feed>(
     alloc: Global,
     reader: &mut R,

@@ -14,10 +14,10 @@ use itoa::Buffer;
 use ls_frame::{Feed, Frame, Kind, Outlet, Presets};
 use std::alloc::{AllocError, Global};
 
-/// Writes the line of each frame of a film, and says how many there were.
+/// Writes the line of each frame of a film, and returns the number of frames.
 ///
 /// If the bytes of reader and writer are known (as in memory), the clauses say which were read and written. After
-/// `FilmFault::Input` nothing is said of the reader's place.
+/// `FilmFault::Input` the reader's place is unspecified.
 pub fn list_film<R: Feed, W: Outlet>(
     alloc: Global,
     reader: &mut R,
@@ -35,7 +35,7 @@ pub fn list_film<R: Feed, W: Outlet>(
 
 /// The lines of a film in memory, as far as they were written, and how the listing ended.
 ///
-/// The program lists by `list_film`. This is the same over bytes in memory, where nothing is left unknown.
+/// The program lists by `list_film`. This is the same over bytes in memory, all of which are known.
 pub fn list_bytes(alloc: Global, film: &[u8]) -> (Vec<u8>, Result<u64, FilmFault>)
     ensures completes { IfOk result.1 (IsTextOf lines film.now result.0.items) }
     ensures stops { IfErr result.1 (StopsOver lines film.now result.0.items) }

@@ -1,4 +1,4 @@
-//! Playing a part of a recording: the codestreams before it are passed over by their markers.
+//! Plays a part of a recording, and passes over the codestreams before it by their markers.
 ghost use Rattle.std.specs.Prelude.{◌≡◌, ◌<◌, ◌≤◌, ◌+◌, ℕ, List, [], Option, false, IsTrue, IfOk, IfErr, IfSome, IfNone, length, drop, take};
 ghost use Rattle.ls_frame.specs.Picture.{Picture};
 ghost use Rattle.ls_frame.specs.View.Devices.{count_after};
@@ -20,38 +20,37 @@ use ls_stream::{NextFault, StreamFault, next_stream};
 use std::alloc::Global;
 use thiserror::Error;
 
-/// A part of a recording: the frames from `first` to `last`, both of them in it, or to the end. They are numbered from
-/// 0.
+/// A part of a recording: the frames from `first` up to and including `last`, or to the end, numbered from 0.
 #[derive(Clone, Copy, Debug, PartialEq, Eq)]
 pub struct Part {
     /// The number of its first frame.
     pub first: u64,
-    /// The number of its last frame; `None` for all up to the end.
+    /// The number of its last frame; `None` for a part that goes to the end.
     pub last: Option<u64>,
 }
 
 /// Why the playing of a part stopped.
 #[derive(Clone, Copy, Debug, Drop, PartialEq, Eq, Error)]
 pub enum PartFault {
-    /// As that of a whole recording, with frames numbered as in it. Nothing was written if it is of a codestream before
-    /// the part.
+    /// A fault as of `play`, with codestreams numbered from the beginning of the recording; `Io` has the number of the
+    /// part's images that were written. If the fault is of a codestream before the part, nothing was written.
     #[error("{0}")]
     Play(PlayFault),
-    /// The recording has only so many frames, and not all that were asked for: no last one, or, where the part goes to
-    /// the end, no first. The images of those of the part that it has were written, and the reader is at its end.
+    /// The recording has only this number of frames, too few for the part: it lacks the part's last frame, or, if the
+    /// part goes to the end, its first. The images of the part's frames that it has were written, and the reader is at
+    /// its end.
     #[error("only {0} frames")]
     TooFew(u64),
 }
 
-/// Writes the canonical Netpbm image of each frame of a part of a recording, and says how many there were.
+/// Writes the canonical Netpbm image of each frame of a part of a recording, and returns the number of these frames.
 ///
-/// The codestreams before the part are passed over by their markers: a fault that only decoding would show isn't looked
-/// for in them. Each image is written before the next codestream is read, and none after the part is read. If the bytes
-/// of reader and writer are known (as in memory), the clauses say which were read and written. After `Stream`, `Io` and
-/// `NoMemory` nothing is said of the reader's place.
+/// The codestreams before the part are passed over by their markers, so faults that only decoding would show aren't
+/// found in them. Each image is written before the next codestream is read, and no codestream after the part is read.
+/// If the bytes of reader and writer are known (as in memory), the clauses say which were read and written. After
+/// `Stream`, `Io` and `NoMemory` the reader's place is unspecified.
 ///
-/// It requires a first frame below `MOST_FRAMES`, and a last one, if any, that is below it too and none before the
-/// first.
+/// Requires a first frame below `MOST_FRAMES`, and a last one, if any, below it too and not before the first.
 pub fn play_part<R: Feed, W: Outlet>(
     alloc: Global,
     part: Part,
@@ -64,7 +63,7 @@ pub fn play_part<R: Feed, W: Outlet>(
     ensures count { IfOk result (λ n. IfSome part.last (λ last. part.first + n ≡ last + 1)) }
     ensures all { IfOk result (λ n. IfNone part.last ((0 < n) × (Tells (R.remaining reader.old) → known (R.remaining reader.new) ≡ []))) }
     ensures stops { IfErr result (StopsPart (R.remaining reader.old) (R.remaining reader.new) (W.contents writer.old) (W.contents writer.new) part.first part.last) }
-    // What comes of a recording that is codestreams of frames.
+    // The result for a recording that is codestreams of frames.
     ensures film { (frames : List Picture) → length frames ≤ most_frames → Tells (R.remaining reader.old) → IsFilm Spells (known (R.remaining reader.old)) frames
         → IsPartOf (W.contents writer.old) (W.contents writer.new) part.first part.last frames result }
     ensures reads { R.failed_reads reader.new ≡ count_after (failed_reader result) (R.failed_reads reader.old) }
@@ -87,7 +86,7 @@ pub fn play_part<R: Feed, W: Outlet>(
     }
 }
 
-/// Shows the frames of a part, once those before it were passed over.
+/// Writes the images of a part, after the codestreams before it were passed over.
 fn show_next<R: Feed, W: Outlet>(
     alloc: Global,
     part: Part,
@@ -106,7 +105,12 @@ fn show_next<R: Feed, W: Outlet>(
     ensures writes { W.failed_writes writer.new ≡ count_after (failed_show result) (W.failed_writes writer.old) }
 {
     let Some(last) = part.last else {
-        return match write_text::<Image, ImageText, OneByOne, R, W>(alloc, &mut OneByOne, reader, writer) {
+        return match write_text::<Image, ImageText, OneByOne, R, W>(
+            alloc,
+            &mut OneByOne,
+            reader,
+            writer,
+        ) {
             Ok(frames) => Ok(Run {
                 frames,
                 ended: true,
@@ -115,13 +119,19 @@ fn show_next<R: Feed, W: Outlet>(
         };
     };
     let most = last - part.first + 1;
-    match write_at_most::<Image, ImageText, OneByOne, R, W>(alloc, &mut OneByOne, reader, writer, most) {
+    match write_at_most::<Image, ImageText, OneByOne, R, W>(
+        alloc,
+        &mut OneByOne,
+        reader,
+        writer,
+        most,
+    ) {
         Ok(run) => Ok(run),
         Err(stopped) => Err(PlayFault::of(stopped)),
     }
 }
 
-/// Passes over the next `count` codestreams by their markers, or over all where there are fewer.
+/// Passes over the next `count` codestreams by their markers, or over all if there are fewer.
 fn pass_streams<R: Feed>(alloc: Global, reader: &mut R, count: u64) -> Result<Run, PlayFault>
     ensures passed { IfOk result (λ run. GavePassed (R.remaining reader.old) (R.remaining reader.new) run.frames) }
     ensures most { IfOk result (λ run. (run.frames ≤ count) × (run.ended ≡ false → run.frames ≡ count)) }
@@ -148,7 +158,7 @@ fn pass_streams<R: Feed>(alloc: Global, reader: &mut R, count: u64) -> Result<Ru
     })
 }
 
-/// What a fault of the next codestream, of this number, is to a recording whose first frames are passed over.
+/// Converts a fault of the codestream of this number, one of those that are passed over.
 fn unpassed(number: u64, fault: NextFault) -> PlayFault
     ensures { result ≡ unpassed number fault }
 {

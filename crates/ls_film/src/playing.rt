@@ -97,7 +97,12 @@ pub fn play<R: Feed, W: Outlet>(
     ensures writes { MatchResult result (λ played. W.failed_writes played.2 ≡ W.failed_writes writer)
         (λ stopped. W.failed_writes stopped.2 ≡ count_after (blames_writer stopped.0) (W.failed_writes writer)) }
 {
-    match write_text::<Image, ImageText, OneByOne, R, W>(alloc, &mut OneByOne, &mut reader, &mut writer) {
+    match write_text::<Image, ImageText, OneByOne, R, W>(
+        alloc,
+        &mut OneByOne,
+        &mut reader,
+        &mut writer,
+    ) {
         Ok(frames) => Ok((frames, reader, writer)),
         Err(stopped) => Err((PlayFault::of(stopped), reader, writer)),
     }

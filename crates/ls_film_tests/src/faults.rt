@@ -4,7 +4,7 @@ use ls_film::engine::Stopped;
 use ls_frame::{NetpbmFault, WriteFault};
 use std::process::Abort;
 
-/// The faults of a frame, but for memory that is refused, and their texts.
+/// The faults of a frame, except a failed allocation, and their texts.
 const INPUT_FAULTS: &[(NetpbmFault, &str)] = &[
     (NetpbmFault::BadMagic, "frame 3: bad magic"),
     (NetpbmFault::BadHeader, "frame 3: bad header"),
@@ -19,7 +19,7 @@ const INPUT_FAULTS: &[(NetpbmFault, &str)] = &[
     (NetpbmFault::Io, "frame 3: read failed"),
 ];
 
-/// That a fault is this one, and has this text.
+/// Checks that a fault is this one, and has this text.
 fn check_fault(rt: &impl Abort, got: FilmFault, want: FilmFault, text: &str) {
     check(rt, text, &got, &want);
     check_text(rt, got, text);

@@ -1,4 +1,4 @@
-//! What the engines write of films, good and bad, and where a read or a write fails.
+//! What the engines write of films, valid and invalid, and what they do when a read or a write fails.
 use crate::testing::{Ending, Outcome, check, check_ending, ending};
 use ls_film::{FilmFault, code_bytes, code_film, list_bytes, list_film};
 use ls_frame::{Counted, Feed, NetpbmFault};
@@ -10,7 +10,7 @@ use ls_testing::{Memory, Mishap, Pieces, Sink};
 use std::alloc::Global;
 use std::process::Abort;
 
-/// What writes a chunk for each frame of a film: a line, or a codestream.
+/// An engine, which writes a chunk for each frame of a film: a line, or a codestream.
 #[derive(Clone, Copy)]
 enum Engine {
     List,
@@ -28,7 +28,7 @@ fn run_on_bytes(engine: Engine, alloc: Global, film: &[u8], writer: Sink) -> End
     ending(result, 0, writer)
 }
 
-/// Runs an engine on a film that comes by chunks.
+/// Runs an engine on a film that is read in chunks.
 fn run_on_chunks(
     engine: Engine,
     alloc: Global,
@@ -44,7 +44,7 @@ fn run_on_chunks(
     ending(result, Feed::failures(&reader), writer)
 }
 
-/// What each of its chunks ends in, and what stands nowhere else in one.
+/// The bytes in which each of an engine's chunks ends, and which occur nowhere else in one.
 fn mark_of(engine: Engine) -> &'static [u8] {
     match engine {
         Engine::List => b"\n",
@@ -52,8 +52,8 @@ fn mark_of(engine: Engine) -> &'static [u8] {
     }
 }
 
-/// That an engine ended so. Or, if memory may be refused, that it says so, that no call of its reader or its writer
-/// failed, and that it wrote the first chunks of the text.
+/// Checks the outcome of an engine. If memory may be refused, it may instead have reported that, with no failed read or
+/// write, after writing the first chunks of the text.
 fn check_ended(
     rt: &impl Abort,
     memory: Memory,
@@ -75,21 +75,21 @@ fn check_ended(
     }
 }
 
-/// That these are the first chunks of a text, each of which ends in `mark`.
+/// Checks that these are the first chunks of a text, each of which ends in `mark`.
 fn check_first_chunks(rt: &impl Abort, case: &str, mark: &[u8], written: &[u8], text: &[u8]) {
     assert!(rt; text.starts_with(written), "{case}: another text");
     let whole = written.is_empty() || written.ends_with(mark);
     assert!(rt; whole, "{case}: a part of a chunk");
 }
 
-/// What the two engines write.
+/// What the two engines write: lines, and codestreams.
 type Texts<'a> = [&'a [u8]; 2];
 
-/// A film: what it is, its bytes, what the engines answer and what they write.
+/// A film: its name, its bytes, the engines' result, and what they write.
 type Film<'a> = (&'a str, &'a [u8], Result<u64, FilmFault>, Texts<'a>);
 
-/// That an engine does this with a film in memory, and with one that comes by chunks of three bytes and goes to a
-/// writer that takes two.
+/// Checks an engine on a film in memory, and on one that is read in chunks of three bytes and written to a writer that
+/// takes two.
 fn check_film(
     rt: &impl Abort,
     alloc: Global,
@@ -107,7 +107,7 @@ fn check_film(
     check_ended(rt, memory, engine, case, &got, &want);
 }
 
-/// The same of both engines.
+/// Checks both engines on a film.
 fn check_both(rt: &impl Abort, alloc: Global, memory: Memory, film: &Film<'_>) {
     let (_, _, _, [lines, codestreams]) = *film;
     check_film(rt, alloc, memory, Engine::List, film, lines);
@@ -157,7 +157,7 @@ fn each_frame_has_its_chunk_or_memory_is_refused(rt: HostRuntime) {
     check_films(&rt, rt.alloc(), Memory::Refusable, WHOLE_FILMS);
 }
 
-/// That the calls for films in memory answer and write this.
+/// Checks what the calls for films in memory return and write.
 fn check_bytes_of(rt: &impl Abort, alloc: Global, film: &Film<'_>) {
     let (case, bytes, result, [lines, codestreams]) = *film;
     let (written, ended) = list_bytes(alloc, bytes);
@@ -183,7 +183,7 @@ const FIRST_CHUNKS: Texts<'static> = [FIRST_LINE, FIRST_CODESTREAM];
 
 const NO_CHUNKS: Texts<'static> = [b"", b""];
 
-/// Films that are bad, at which frame, why, and what is written before.
+/// Invalid films: at which frame, why, and what is written before.
 const BAD_FILMS: &[Film<'static>] = &[
     (
         "another magic number",
@@ -258,7 +258,7 @@ fn a_bad_frame_is_named_after_the_chunks_before_it_or_memory_is_refused(rt: Host
     check_long_header(&rt, rt.alloc(), Memory::Refusable);
 }
 
-/// That a write which goes wrong after `i` bytes of the two images' text ends the engine.
+/// Checks that a write that goes wrong after `i` bytes of the two images' text ends the engine.
 fn check_failed_write(
     rt: &impl Abort,
     alloc: Global,
@@ -274,7 +274,7 @@ fn check_failed_write(
     check_ended(rt, memory, engine, "a failed write", &got, &want);
 }
 
-/// The same of each byte.
+/// Checks this after each number of bytes.
 fn check_writes_of(rt: &impl Abort, alloc: Global, memory: Memory, engine: Engine, text: &[u8]) {
     for i in 0..text.len() {
         check_failed_write(rt, alloc, memory, engine, text, i, Mishap::Fails(i));
@@ -297,7 +297,7 @@ fn a_failed_write_ends_the_film_or_memory_is_refused(rt: HostRuntime) {
     check_failed_writes(&rt, rt.alloc(), Memory::Refusable);
 }
 
-/// That a read which fails at byte `i` of the two images ends the engine.
+/// Checks that a read that fails at byte `i` of the two images ends the engine.
 fn check_failed_read(
     rt: &impl Abort,
     alloc: Global,

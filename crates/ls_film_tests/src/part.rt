@@ -7,7 +7,7 @@ use ls_testing::{Mishap, Pieces, Sink};
 use std::alloc::Global;
 use std::process::Abort;
 
-/// Plays the part from a first frame to a last one, and checks how that ends.
+/// Plays the part from the first of `frames` to the last, and checks the outcome.
 fn check_part(
     rt: &impl Abort,
     alloc: Global,
@@ -31,8 +31,8 @@ fn check_part(
 
 const TOO_FEW: Result<u64, PartFault> = Err(PartFault::TooFew(2));
 
-/// A part of two codestreams, its first and its last frame, what playing it answers, and which bytes of their images it
-/// writes.
+/// A part of two codestreams: its name, its first and last frames, the result of playing it, and which bytes of their
+/// images it writes.
 type Row<'a> = (
     &'a str,
     (u64, Option<u64>),
@@ -52,7 +52,7 @@ const PARTS: &[Row<'static>] = &[
     ("frames after a third", (7, Some(9)), TOO_FEW, (0, 0)),
 ];
 
-/// That a part is shown, off chunks of three bytes and to a writer that takes two.
+/// Checks that a part is shown, read in chunks of three bytes and written to a writer that takes two.
 fn check_shown(rt: &impl Abort, alloc: Global, row: &Row<'_>) {
     let (case, frames, result, (from, to)) = *row;
     let reader = Pieces::new(TWO_CODESTREAMS, 3, None);
@@ -69,7 +69,7 @@ fn parts_are_shown_with_ample_memory(rt: HostRuntime) {
     }
 }
 
-/// The data of both codestreams is damaged.
+/// Two codestreams whose data is damaged.
 const DAMAGED: &[u8] = b"\xff\xd8\
 \xff\xf7\x00\x0b\x08\x00\x01\x00\x01\x01\x01\x11\x00\
 \xff\xda\x00\x08\x01\x01\x00\x00\x00\x00\x00\xff\xd9\
@@ -103,7 +103,7 @@ fn nothing_is_read_after_a_part_with_ample_memory(rt: HostRuntime) {
     check_part(&rt, rt.alloc(), "the first", frames, reader, writer, want);
 }
 
-/// That a read which fails at byte `i` of two codestreams ends the part after the first of them.
+/// Checks that a read that fails at byte `i` of two codestreams ends the part that begins after the first of them.
 fn check_failed_read(rt: &impl Abort, alloc: Global, i: usize) {
     let reader = Pieces::new(TWO_CODESTREAMS, 1, Some(i));
     let writer = Sink::new(4096, Mishap::Nothing);
@@ -118,7 +118,7 @@ fn a_failed_read_ends_the_part_with_ample_memory(rt: HostRuntime) {
     }
 }
 
-/// That a write which fails after `i` bytes of the second image ends the part.
+/// Checks that a write that fails after `i` bytes of the second image ends the part.
 fn check_failed_write(rt: &impl Abort, alloc: Global, i: usize) {
     let reader = Pieces::new(TWO_CODESTREAMS, 4096, None);
     let writer = Sink::new(1, Mishap::Fails(i));

@@ -9,7 +9,8 @@ use ls_testing::{Memory, Mishap, Pieces, Sink};
 use std::alloc::Global;
 use std::process::Abort;
 
-/// That playing ended so. Where memory may be refused it may say so, if no call of its reader or its writer failed.
+/// Checks the outcome of playing. If memory may be refused, it may instead have reported that, with no failed read or
+/// write.
 fn check_played(
     rt: &impl Abort,
     memory: Memory,
@@ -36,7 +37,7 @@ fn played(alloc: Global, reader: Pieces<'_>, writer: Sink) -> Ending<PlayFault> 
     }
 }
 
-/// What a recording is, its bytes, what playing it answers, and the images that it writes.
+/// The name of a recording, its bytes, the result of playing it, and the images that this writes.
 type Recording<'a> = (&'a str, &'a [u8], Result<u64, PlayFault>, &'a [u8]);
 
 const RECORDINGS: &[Recording<'static>] = &[
@@ -68,7 +69,7 @@ const RECORDINGS: &[Recording<'static>] = &[
     ),
 ];
 
-/// That a recording is shown, off chunks of three bytes and to a writer that takes two.
+/// Checks that a recording is shown, read in chunks of three bytes and written to a writer that takes two.
 fn check_recording(rt: &impl Abort, alloc: Global, memory: Memory, recording: &Recording<'_>) {
     let (case, bytes, result, images) = *recording;
     let reader = Pieces::new(bytes, 3, None);
@@ -90,7 +91,7 @@ fn each_frame_is_shown_or_memory_is_refused(rt: HostRuntime) {
     }
 }
 
-/// That the call for recordings in memory answers and writes this.
+/// Checks what the call for recordings in memory returns and writes.
 fn check_bytes_of(rt: &impl Abort, alloc: Global, recording: &Recording<'_>) {
     let (case, bytes, result, images) = *recording;
     let (shown, ended) = play_bytes(alloc, bytes);
@@ -104,7 +105,7 @@ fn recordings_in_memory_are_shown_with_ample_memory(rt: HostRuntime) {
     }
 }
 
-/// That each front of a codestream is truncated.
+/// Checks that each proper front of a codestream is refused as truncated.
 fn check_fronts(rt: &impl Abort, alloc: Global, codestream: &[u8]) {
     let truncated = Err(PlayFault::Stream(0, StreamFault::Truncated));
     for len in 1..codestream.len() {
@@ -119,7 +120,7 @@ fn fronts_of_codestreams_are_truncated_with_ample_memory(rt: HostRuntime) {
     }
 }
 
-/// That a write which fails after `i` bytes of two images ends the playing.
+/// Checks that a write that fails after `i` bytes of two images ends the playing.
 fn check_failed_write(rt: &impl Abort, alloc: Global, i: usize) {
     let reader = Pieces::new(TWO_CODESTREAMS, 4096, None);
     let got = played(alloc, reader, Sink::new(1, Mishap::Fails(i)));
@@ -135,7 +136,7 @@ fn a_failed_write_ends_the_playing_with_ample_memory(rt: HostRuntime) {
     }
 }
 
-/// That a read which fails at byte `i` of two codestreams ends the playing.
+/// Checks that a read that fails at byte `i` of two codestreams ends the playing.
 fn check_failed_read(rt: &impl Abort, alloc: Global, i: usize) {
     let reader = Pieces::new(TWO_CODESTREAMS, 1, Some(i));
     let got = played(alloc, reader, Sink::new(4096, Mishap::Nothing));

@@ -8,11 +8,11 @@ use std::alloc::Global;
 use std::process::Abort;
 use std::thread::Threads;
 
-/// What playing answered, what it wrote, and how many of its reader's and its writer's calls failed.
+/// The result of playing, what was written, and the numbers of failed reads and of failed writes.
 type Outcome<'a> = (Result<u64, PlayFault>, &'a [u8], u64, u64);
 
-/// That playing ended so. Where memory may be refused it may say so, if it wrote a front of the images; a read that
-/// fails may have been tried by then.
+/// Checks the outcome of playing; unless memory is ample, an allocation may have failed instead, after a front of the
+/// images and perhaps after the read that fails.
 fn check_outcome(rt: &impl Abort, got: Outcome<'_>, want: Outcome<'_>, ample: bool) {
     let refused = !ample
         && got.0 == Err(PlayFault::NoMemory)
@@ -26,10 +26,10 @@ fn check_outcome(rt: &impl Abort, got: Outcome<'_>, want: Outcome<'_>, ample: bo
     check(rt, "a recording that is played by several", &got, &want);
 }
 
-/// A recording's bytes, where a read of it fails, what befalls its writer, and how its playing ends.
+/// A recording's bytes, where a read of it fails, what happens to its writer, and how its playing ends.
 type Case<'a> = (&'a [u8], Option<usize>, Mishap, Outcome<'a>);
 
-/// Plays a recording by so many workers, and checks how that ends.
+/// Plays a recording with this number of workers, and checks the outcome.
 fn check_case<Rt: Threads + Abort + Sync>(
     rt: &Rt,
     alloc: Global,
@@ -56,7 +56,7 @@ fn check_case<Rt: Threads + Abort + Sync>(
     check_outcome(rt, (result, sink.written(), reads, writes), want, ample);
 }
 
-/// A codestream of the recordings, its image, and the same with a byte after it.
+/// A codestream of the recordings, its image, and the codestream with a byte after it.
 const BLACK: &[u8] = b"\xff\xd8\
 \xff\xf7\x00\x0b\x08\x00\x01\x00\x01\x01\x01\x11\x00\
 \xff\xda\x00\x08\x01\x01\x00\x00\x00\x00\x80\xff\xd9";

@@ -1,5 +1,4 @@
--- A check by an index whose codestreams are looked at by several threads: lines that are taken at once, and what is
--- found of them.
+-- A check by an index whose codestreams are looked at by several threads: lines that are taken at once, and what is found for them.
 use Rattle.std.specs.Prelude.{◌≡◌, ◌⊎◌, ◌↔◌, ℕ, ◌+◌, ◌<◌, Bool, true, false, IsTrue, List, [], ◌∷◌, length, Option, Result, Err, IfOk}
 use Rattle.ls_frame.specs.View.Devices.{count_after}
 use Rattle.ls_frame.specs.View.Known.{Tells, Gave, WasAtEnd, known}
@@ -16,8 +15,7 @@ use Rattle.ls_archive.specs.declared.checking.batches.SoFar.{SoFar}
 use Rattle.ls_archive.specs.View.Checking.{Line, IsLine}
 use Rattle.ls_archive.specs.View.Checks.{GaveAtMost, IsFound, HasChecked, StopsNextLine, StopsReading, blames_index, blames_recording}
 
--- Where a check is: what is left of the index and of the recording, the number of the next line, and the offset that it
--- has to say.
+-- The place of a check: what is left of the index and of the recording, the number of the next line, and the offset that it must say.
 pub record Place : Type 0 where
   pub index : Option (List ℕ)
   pub recording : Option (List ℕ)
@@ -30,8 +28,8 @@ line_of line = record { text = line.text.items; size = line.size; sum = line.sum
 
 -- ---- lines that are taken
 
--- At this place the index gave the job's line, and the recording the bytes that it speaks of, or all that were left;
--- that led to the next place.
+-- At this place the index gave the job's line, and the recording the line's bytes, or all that were left; the check is then at the next
+-- place.
 pub record IsTaken (at next : Place) (job : Job) : Type 0 where
   pub number : job.number ≡ at.number
   pub offset : job.offset ≡ at.offset
@@ -41,36 +39,35 @@ pub record IsTaken (at next : Place) (job : Job) : Type 0 where
   pub next_number : next.number ≡ at.number + 1
   pub next_offset : next.offset ≡ at.offset + job.line.size
 
--- They were taken one after the other.
+-- The jobs were taken one after the other, from the first place to the second.
 abbrev pub AreTaken : Place → Place → List Job → Type 0
 AreTaken at next [] = at ≡ next
 AreTaken at next (job ∷ jobs) = (mid : Place) × IsTaken at mid job × AreTaken mid next jobs
 
--- what comes after lines that were taken, and leaves this of both readers
+-- what follows the lines that were taken, and leaves this of both readers
 abbrev pub ComesAfter : Place → Option (List ℕ) → Option (List ℕ) → After → Type 0
 ComesAfter at index recording More = (at.index ≡ index) × (at.recording ≡ recording)
 ComesAfter at index recording (End more) =
     WasAtEnd at.index index × (Tells at.recording → IsTrue more ↔ (0 < length (known at.recording)))
 ComesAfter at index recording (Fault fault) = StopsNextLine at.index at.number at.offset fault ⊎ StopsReading fault
 
--- At this place the readers gave these lines with their bytes, and then what comes after them, which leaves this of
--- both.
+-- At this place the readers gave the batch's lines with their bytes, and then what follows these; this is left of both readers.
 pub record IsBatch (at : Place) (index recording : Option (List ℕ)) (batch : Batch) : Type 0 where
   pub mid : Place
   pub taken : AreTaken at mid batch.jobs.items
   pub after : ComesAfter mid index recording batch.after
 
--- ---- what is found of them
+-- ---- what is found
 
--- The job's bytes were looked at, unless memory was refused, and what is wrong with them was found.
+-- The job's bytes were looked at, and what is wrong with them was found, unless an allocation failed.
 pub record IsLookedAt (job job' : Job) : Type 0 where
   pub number : job'.number ≡ job.number
   pub offset : job'.offset ≡ job.offset
   pub line : job'.line ≡ job.line
   pub found : IfOk job'.damage (IsFound job'.number job'.offset (line_of job'.line) job.bytes.items)
 
--- At this place the readers gave the job's line and its bytes, of which was found what the job says, unless memory was
--- refused; that led to the next place.
+-- At this place the readers gave the job's line and its bytes, and the job says what was found of these, unless an allocation failed; the
+-- check is then at the next place.
 pub record IsLooked (at next : Place) (job : Job) : Type 0 where
   pub number : job.number ≡ at.number
   pub offset : job.offset ≡ at.offset
@@ -82,32 +79,32 @@ pub record IsLooked (at next : Place) (job : Job) : Type 0 where
   pub next_number : next.number ≡ at.number + 1
   pub next_offset : next.offset ≡ at.offset + job.line.size
 
--- They were taken one after the other, and looked at.
+-- The jobs were taken one after the other, from the first place to the second, and looked at.
 abbrev pub AreLooked : Place → Place → List Job → Type 0
 AreLooked at next [] = at ≡ next
 AreLooked at next (job ∷ jobs) = (mid : Place) × IsLooked at mid job × AreLooked mid next jobs
 
--- ---- what is told
+-- ---- what is reported
 
--- What the lines before this place speak of was checked, and what was found of it told.
+-- The codestreams of the lines before this place were checked, and the findings on them reported.
 pub record HasCheckedTo (index recording : Option (List ℕ)) (found found' : Option (List Finding)) (at : Place) (so_far : SoFar) : Type 0 where
   pub number : so_far.number ≡ at.number
   pub offset : so_far.offset ≡ at.offset
   pub checked : HasChecked index at.index recording at.recording found found' at.number at.offset so_far.damaged
 
--- A check that stood before these jobs, wherever that was, stands before those that are left, by what was told since.
+-- A check that stands before these jobs, whatever its place, stands before the jobs that are left once what was found is reported.
 abbrev pub LeadsOn : Option (List Finding) → Option (List Finding) → SoFar → SoFar → List Job → List Job → Type 0
 LeadsOn told told' so_far so_far' jobs left =
     (index recording : Option (List ℕ)) (found : Option (List Finding)) (at next : Place) → HasCheckedTo index recording found told at so_far → AreLooked at next jobs
     → (mid : Place) × HasCheckedTo index recording found told' mid so_far' × AreLooked mid next left
 
--- the same, however many are left
+-- the same, for some state and some jobs left
 abbrev pub LeadsSomewhere : Option (List Finding) → Option (List Finding) → SoFar → List Job → Type 0
 LeadsSomewhere told told' so_far jobs = (so_far' : SoFar) × (left : List Job) × LeadsOn told told' so_far so_far' jobs left
 
 -- ---- reads that failed
 
--- whether a read of the index failed after lines that were taken, and whether one of the recording did
+-- whether a read of the index failed after the lines that were taken, and whether a read of the recording did
 abbrev pub fails_index : After → Bool
 fails_index More = false
 fails_index (End more) = false
@@ -118,7 +115,7 @@ fails_recording More = false
 fails_recording (End more) = false
 fails_recording (Fault fault) = blames_recording fault
 
--- The reads that failed: one where that is the fault, else none; or, where memory was refused, one that came after what
--- it was refused for.
+-- The failed reads: one if that is the fault, else none; or, if the result is that an allocation failed, one that came after what the
+-- allocation was for.
 abbrev pub HasReadBeyond : Bool → ℕ → ℕ → Result Checked CheckFault → Type 0
 HasReadBeyond blamed failed failed' result = (failed' ≡ count_after blamed failed) ⊎ ((result ≡ Err fault.NoMemory) × (failed' ≡ count_after true failed))

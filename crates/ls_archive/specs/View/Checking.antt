@@ -1,4 +1,5 @@
--- What a check of a recording by its index finds: of each line of the index whether the codestream stands where it says and is as it was.
+-- What a check of a recording by its index finds: for each line of the index, whether its codestream stands at the offset that the line
+-- says and is unchanged.
 use Rattle.std.specs.Prelude.{◌≡◌, ◌≢◌, ◌⊎◌, ℕ, ◌+◌, ◌<◌, ◌≤◌, ◌^◌, Bool, List, [], ◌∷◌, ◌++◌, length, take, drop, flat_map, decimal, codes, Option, None, Some}
 use Rattle.std.specs.List.{AllByRecursion}
 use Rattle.hex.specs.Hex.{encode_lower, IsBytes}
@@ -15,7 +16,8 @@ use Rattle.ls_archive.specs.declared.checking.Finding.{Finding}
 
 -- ---- lines
 
--- A line of an index, LF and all, how many bytes it says that its codestream has, and their SHA-256, if it says that.
+-- A line of an index: its text with its LF, the size that it says for its codestream, in bytes, and the codestream's SHA-256, if it says
+-- one.
 pub record Line : Type 0 where
   pub text : List ℕ
   pub size : ℕ
@@ -25,11 +27,11 @@ pub record Line : Type 0 where
 abbrev pub HasNoLineFeed : List ℕ → Type 0
 HasNoLineFeed bytes = AllByRecursion (λ byte. byte ≢ 10) bytes
 
--- how the line of codestream n begins, which begins at this offset and has so many bytes
+-- the beginning of the line of codestream n, which begins at this offset and has this size
 abbrev pub beginning : ℕ → ℕ → ℕ → List ℕ
 beginning n offset size = decimal n ++ (column offset ++ (column size ++ codes " "))
 
--- so many numbers of 16 bits
+-- this number of 16-bit numbers
 abbrev pub AreNumbers : ℕ → List ℕ → Type 0
 AreNumbers count numbers = (length numbers ≡ count) × AllByRecursion (λ number. number < 2 ^ 16) numbers
 
@@ -42,7 +44,7 @@ abbrev pub IsSum : Option (List ℕ) → Type 0
 IsSum None = Unit {0}
 IsSum (Some sum) = (length sum ≡ 32) × IsBytes sum
 
--- a blank and the sum in hexadecimal after it, in lower case; or nothing, without a sum
+-- a blank and the sum in hexadecimal, in lower case; or nothing, without a sum
 abbrev pub sum_at_end : Option (List ℕ) → List ℕ
 sum_at_end None = []
 sum_at_end (Some sum) = codes " " ++ encode_lower sum
@@ -55,8 +57,8 @@ pub record AreColumns (text : List ℕ) (sum : Option (List ℕ)) : Type 0 where
   pub is_sum : IsSum sum
   pub text_is : text ≡ kind_text kind ++ (flat_map column numbers ++ sum_at_end sum)
 
--- The line of codestream n, which begins at this offset, as the line of some codestream is: its beginning, its columns, and LF. It says
--- no more bytes than a codestream may have.
+-- The line of codestream n, which begins at this offset, in the form of an index: its beginning, its columns, and LF. The size that it says
+-- is at most that of a codestream.
 pub record IsLine (n offset : ℕ) (l : Line) : Type 0 where
   pub few : l.size ≤ most_bytes
   pub rest : List ℕ
@@ -65,7 +67,7 @@ pub record IsLine (n offset : ℕ) (l : Line) : Type 0 where
   pub one : HasNoLineFeed (beginning n offset l.size ++ rest)
   pub short : length l.text ≤ 1024
 
--- The lines are of codestreams numbered from n on, of which the first begins at this offset, and each where the one before it ends.
+-- The lines of codestreams numbered from n on; the first begins at this offset, and each other where the one before it ends.
 abbrev pub AreLines : ℕ → ℕ → List Line → Type 0
 AreLines n offset [] = Unit {0}
 AreLines n offset (l ∷ ls) = IsLine n offset l × AreLines (n + 1) (offset + l.size) ls
@@ -77,7 +79,7 @@ texts (l ∷ ls) = l.text ++ texts ls
 
 -- ---- codestreams
 
--- The bytes have an entry, and the text is the line n of it, with their sum or without.
+-- The bytes have an entry, and the text is its line as number n, with their sum or without.
 pub record HasLine (n offset : ℕ) (text bytes : List ℕ) : Type 0 where
   pub entry : Entry
   pub is_entry : IsEntry entry
@@ -85,20 +87,20 @@ pub record HasLine (n offset : ℕ) (text bytes : List ℕ) : Type 0 where
   pub sums : Bool
   pub text_is : text ≡ line sums n offset entry
 
--- The bytes are the codestream of line n: they have that very line, and are a codestream of a frame.
+-- The bytes are the codestream of line n: they have exactly that line, and are a codestream of a frame.
 pub record IsGood (n offset : ℕ) (text bytes : List ℕ) : Type 0 where
   pub has : HasLine n offset text bytes
   pub frame : Picture
   pub spells : Spells bytes frame
 
--- What is wrong with the bytes at the place of line n: they don't have that line, and are fewer than it says, or as many; or they have
+-- What is wrong with the bytes at the offset of line n: they don't have that line, and are fewer than it says, or not fewer; or they have
 -- it, and this is the first fault of decoding them.
 abbrev pub IsDamage : ℕ → ℕ → Line → List ℕ → Damage → Type 0
 IsDamage n offset l bytes Truncated = (HasLine n offset l.text bytes → ⊥) × (length bytes < l.size)
 IsDamage n offset l bytes Changed = (HasLine n offset l.text bytes → ⊥) × (l.size ≤ length bytes)
 IsDamage n offset l bytes (Fault fault) = HasLine n offset l.text bytes × IsFirstFault bytes fault
 
--- A finding on line n, whose codestream should begin at this offset: these bytes stand there.
+-- A finding on line n, whose codestream should begin at this offset, where these bytes stand.
 pub record IsOf (n offset : ℕ) (l : Line) (bytes : List ℕ) (finding : Finding) : Type 0 where
   pub number : finding.number ≡ n
   pub place : finding.place ≡ offset
@@ -106,7 +108,7 @@ pub record IsOf (n offset : ℕ) (l : Line) (bytes : List ℕ) (finding : Findin
   pub sum : finding.sum ≡ l.sum
   pub damage : IsDamage n offset l bytes finding.damage
 
--- Of these lines, the first of which is number n and says this offset, the bytes have codestreams that are good but for the findings.
+-- For these lines, of which the first has number n and says this offset, the codestreams in the bytes are good except for the findings.
 abbrev pub AreFound : ℕ → ℕ → List Line → List ℕ → List Finding → Type 0
 AreFound n offset [] bytes findings = findings ≡ []
 AreFound n offset (l ∷ ls) bytes findings =
@@ -114,7 +116,7 @@ AreFound n offset (l ∷ ls) bytes findings =
     ⊎ ((finding : Finding) × (more : List Finding) × (findings ≡ finding ∷ more) × IsOf n offset l (take l.size bytes) finding
     × (IsGood n offset l.text (take l.size bytes) → ⊥) × AreFound (n + 1) (offset + l.size) ls (drop l.size bytes) more)
 
--- the bytes that the lines speak of, all together
+-- the total size that the lines say, in bytes
 abbrev pub size_of : List Line → ℕ
 size_of [] = 0
 size_of (l ∷ ls) = l.size + size_of ls

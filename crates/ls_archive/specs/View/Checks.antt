@@ -1,4 +1,4 @@
--- What a check by an index says of its two readers and of whom it tells its findings.
+-- What a check by an index says of its two readers and of the findings that it reports.
 use Rattle.std.specs.Prelude.{◌≡◌, ◌⊎◌, ◌↔◌, ℕ, ◌<◌, ◌≤◌, Bool, true, false, IsTrue, List, [], ◌∷◌, ◌++◌, length, take, drop, codes, Option, None, Some, Result, Ok, Err}
 use Rattle.ls_film.specs.Film.{most_frames}
 use Rattle.ls_frame.specs.View.Known.{Tells, Gave, known}
@@ -9,35 +9,35 @@ use Rattle.ls_archive.specs.declared.checking.CheckFault.{CheckFault}
 use Rattle.ls_archive.specs.declared.checking.CheckFault.TheVariants as fault
 use Rattle.ls_archive.specs.View.Checking.{Line, HasNoLineFeed, IsLine, AreLines, texts, IsGood, IsDamage, IsOf, AreFound, size_of}
 
--- ---- what is told
+-- ---- what is reported
 
--- those that were told, and one more
+-- more findings were added to those reported before, if these are known; else they stay unknown
 abbrev pub FindsMore : Option (List Finding) → Option (List Finding) → List Finding → Type 0
 FindsMore None new more = new ≡ None
 FindsMore (Some told) new more = new ≡ Some (told ++ more)
 
 -- ---- what is read
 
--- The reader gave as many bytes, or all that were left.
+-- The reader gave this many bytes, or all that were left.
 pub record GaveAtMost (old new : Option (List ℕ)) (most : ℕ) (bytes : List ℕ) : Type 0 where
   pub tells : Tells old → Tells new
   pub taken : Tells old → bytes ≡ take most (known old)
   pub left : Tells old → known new ≡ drop most (known old)
 
--- These bytes aren't none, and but perhaps for the last none is LF.
+-- There is at least one byte, and none but perhaps the last is LF.
 pub record IsOneLine (text : List ℕ) : Type 0 where
   pub first : List ℕ
   pub last : ℕ
   pub text_is : text ≡ first ++ last ∷ []
   pub one : HasNoLineFeed first
 
--- If the bytes begin with some up to LF, 1,024 of them at most, those are the text.
+-- If LF is among the first 1,024 bytes, the text is the bytes up to and including the first LF.
 abbrev pub IsFrontLine : List ℕ → List ℕ → Type 0
 IsFrontLine bytes text = (front rest : List ℕ) → bytes ≡ (front ++ codes "\n") ++ rest → HasNoLineFeed front → length front < 1024 → text ≡ front ++ codes "\n"
 
 -- ---- a check
 
--- The index is these lines, the findings are those of the recording, and it is said whether the recording goes on after them.
+-- The index is these lines, and the findings those on the recording; `more` says whether the recording goes on after them.
 pub record IsChecked (index recording : Option (List ℕ)) (found found' : Option (List Finding)) (checked : Checked) : Type 0 where
   pub lines : List Line
   pub are_lines : AreLines 0 0 lines
@@ -51,12 +51,12 @@ pub record IsChecked (index recording : Option (List ℕ)) (found found' : Optio
   pub bytes : size_of lines ≡ checked.bytes
   pub more : Tells recording → IsTrue checked.more ↔ (size_of lines < length (known recording))
 
--- what is wrong with the bytes of a line, or that they are good
+-- what is wrong with the bytes of a line, or none if they are good
 abbrev pub IsFound : ℕ → ℕ → Line → List ℕ → Option Damage → Type 0
 IsFound n offset l bytes None = IsGood n offset l.text bytes
 IsFound n offset l bytes (Some damage) = (IsGood n offset l.text bytes → ⊥) × IsDamage n offset l bytes damage
 
--- The bytes of a line were looked at: they are good, and nothing was told; or they aren't, and one finding was.
+-- The bytes of a line were looked at: they are good, and nothing was reported; or they aren't, and one finding was.
 pub record HasLooked (n offset : ℕ) (l : Line) (bytes : List ℕ) (found found' : Option (List Finding)) (damaged : ℕ) : Type 0 where
   pub findings : List Finding
   pub damaged_are : length findings ≡ damaged
@@ -64,8 +64,8 @@ pub record HasLooked (n offset : ℕ) (l : Line) (bytes : List ℕ) (found found
   pub told : FindsMore found found' findings
   pub are : (IsGood n offset l.text bytes × (findings ≡ [])) ⊎ ((IsGood n offset l.text bytes → ⊥) × ((finding : Finding) × (findings ≡ finding ∷ []) × IsOf n offset l bytes finding))
 
--- So far n lines were read, of which the next one begins at this offset, and what the bytes before it have was found. What is found in
--- what is left is what is found besides.
+-- So far n lines were read, the codestream of the next one begins at this offset, and what is wrong with the bytes before it was found.
+-- What is found in the rest adds to these findings.
 pub record HasChecked (index index' recording recording' : Option (List ℕ)) (found found' : Option (List Finding)) (n offset damaged : ℕ) : Type 0 where
   pub lines : List Line
   pub count : length lines ≡ n
@@ -83,7 +83,8 @@ pub record HasChecked (index index' recording recording' : Option (List ℕ)) (f
 
 -- ---- where a check stops
 
--- The index begins with m lines, the findings are those on what they speak of, and of what follows the lines in the index P holds.
+-- The index begins with m lines, the findings are those on them, and P holds of the lines' total size and of what follows them in the
+-- index.
 pub record StopsAfter (index recording : Option (List ℕ)) (found found' : Option (List Finding)) (m : ℕ) (P : ℕ → List ℕ → Type 0) : Type 0 where
   pub lines : List Line
   pub are_lines : AreLines 0 0 lines
@@ -102,12 +103,12 @@ BeginsWithLine n offset bytes = (l : Line) × (rest : List ℕ) × (bytes ≡ l.
 abbrev pub BeginsOtherwise : ℕ → ℕ → List ℕ → Type 0
 BeginsOtherwise n offset bytes = (0 < length bytes) × (BeginsWithLine n offset bytes → ⊥)
 
--- nothing is said
+-- no condition
 abbrev pub Anything : ℕ → List ℕ → Type 0
 Anything offset bytes = Unit {0}
 
--- What each fault says: after the lines before the one that is told the index goes on with no line; a read or an allocation failed; there
--- is a line more than an index may have.
+-- What each fault says: the line of this number isn't a line of an index; a read or an allocation failed; there is one line more than an
+-- index may have.
 abbrev pub Stops : Option (List ℕ) → Option (List ℕ) → Option (List Finding) → Option (List Finding) → CheckFault → Type 0
 Stops index recording found found' (fault.Line n) = StopsAfter index recording found found' n (BeginsOtherwise n)
 Stops index recording found found' fault.IndexIo = (m : ℕ) × StopsAfter index recording found found' m Anything
@@ -115,7 +116,7 @@ Stops index recording found found' fault.Io = (m : ℕ) × StopsAfter index reco
 Stops index recording found found' fault.NoMemory = (m : ℕ) × StopsAfter index recording found found' m Anything
 Stops index recording found found' fault.TooMany = StopsAfter index recording found found' most_frames (BeginsWithLine most_frames)
 
--- what an end at line n, whose codestream begins at this offset, says of the index's bytes
+-- what a stop at line n, whose codestream begins at this offset, says of the index's bytes
 abbrev pub StopsNextLine : Option (List ℕ) → ℕ → ℕ → CheckFault → Type 0
 StopsNextLine index n offset (fault.Line m) = (m ≡ n) × (Tells index → BeginsOtherwise n offset (known index))
 StopsNextLine index n offset fault.IndexIo = Unit {0}
@@ -123,7 +124,7 @@ StopsNextLine index n offset fault.Io = ⊥
 StopsNextLine index n offset fault.NoMemory = Unit {0}
 StopsNextLine index n offset fault.TooMany = ⊥
 
--- the faults of a read of the recording
+-- the faults that a read of the recording can have
 abbrev pub StopsReading : CheckFault → Type 0
 StopsReading (fault.Line m) = ⊥
 StopsReading fault.IndexIo = ⊥
@@ -131,7 +132,7 @@ StopsReading fault.Io = Unit {0}
 StopsReading fault.NoMemory = Unit {0}
 StopsReading fault.TooMany = ⊥
 
--- whether a check failed by its index's device, and by its recording's
+-- whether a check failed because a read of the index did, and because a read of the recording did
 abbrev pub blames_index : CheckFault → Bool
 blames_index (fault.Line n) = false
 blames_index fault.IndexIo = true

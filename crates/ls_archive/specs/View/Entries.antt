@@ -1,4 +1,4 @@
--- Which bytes have an entry, and what a reader gave of them.
+-- Which bytes have an entry, and what a reader gave in entries.
 use Rattle.std.specs.Prelude.{◌≡◌, ◌⊎◌, ℕ, ◌+◌, ◌<◌, ◌≤◌, List, [], ◌++◌, length, take, Option, Ok, Err}
 use Rattle.std.specs.List.{AllByRecursion}
 use Rattle.ls_frame.specs.Picture.{Picture}
@@ -13,7 +13,7 @@ use Rattle.ls_archive.specs.Index.{Entry, joined}
 
 -- ---- entries
 
--- The entry says what the outline's headers and parameters say.
+-- The entry has what the outline's headers and parameters say.
 pub record Says (outline : Outline) (entry : Entry) : Type 0 where
   pub kind : outline.header.kind ≡ entry.kind
   pub width : outline.header.width ≡ entry.width
@@ -21,19 +21,19 @@ pub record Says (outline : Outline) (entry : Entry) : Type 0 where
   pub precision : outline.header.precision ≡ entry.precision
   pub parameters : outline.parameters ≡ entry.parameters
 
--- The entry of a codestream that is complete by its markers and headers: its last bytes are EOI's.
+-- The entry of a codestream that is complete by its markers and headers: its last bytes are EOI.
 pub record IsEntry (entry : Entry) : Type 0 where
   pub short : length entry.bytes ≤ most_bytes
   pub outline : Outline
   pub complete : outline_of entry.bytes ≡ Ok (outline, [])
   pub says : Says outline entry
 
--- The bytes are codestreams with these entries, one after the other with nothing between.
+-- The bytes are codestreams with these entries, joined with nothing between them.
 pub record AreEntriesOf (bytes : List ℕ) (entries : List Entry) : Type 0 where
   pub joined_are : bytes ≡ joined entries
   pub each : AllByRecursion IsEntry entries
 
--- an entry that says the form of this frame
+-- The entry says the form of this frame.
 pub record IsOfFrame (entry : Entry) (f : Picture) : Type 0 where
   pub kind : entry.kind ≡ f.kind
   pub width : entry.width ≡ f.width
@@ -54,19 +54,18 @@ GaveEntry old new entry = Gave old new (λ bytes. (bytes ≡ entry.bytes) × IsE
 abbrev pub GaveIndexed : Option (List ℕ) → Option (List ℕ) → List Entry → Type 0
 GaveIndexed old new entries = Tells old → Tells new × (known new ≡ []) × AreEntriesOf (known old) entries
 
--- The input begins with codestreams with these entries, and of what follows them P holds.
+-- The input begins with codestreams with these entries, and P holds of what follows them.
 abbrev pub BeginsWithEntries : Option (List ℕ) → List Entry → (List ℕ → Type 0) → Type 0
 BeginsWithEntries old entries P = Tells old →
     (front : List ℕ) × (rest : List ℕ) × (known old ≡ front ++ rest) × AreEntriesOf front entries × P rest
 
 -- ---- the next codestream
 
--- It is the first fault of their markers and headers; or there are as many bytes as a codestream may have, and it says that they are
--- too many.
+-- The first fault of the bytes' markers and headers; or `TooLarge`, if there are as many bytes as a codestream may have.
 abbrev pub IsFaultBy : List ℕ → StreamFault → Type 0
 IsFaultBy bytes fault = (outline_of bytes ≡ Err fault) ⊎ ((fault ≡ stream.TooLarge) × (most_bytes ≤ length bytes))
 
--- They begin with no codestream of a frame, and have this fault.
+-- The bytes don't begin with a codestream of a frame, and have this fault.
 abbrev pub BreaksBy : StreamFault → List ℕ → Type 0
 BreaksBy fault bytes = BeginsWithNone bytes × IsFaultBy bytes fault
 
@@ -76,7 +75,7 @@ HasBytes bytes = 0 < length bytes
 
 -- ---- headers
 
--- what headers say of the first bytes, as many as they say
+-- the entry of the first bytes by these headers, which say how many bytes it has
 abbrev pub entry_of : List ℕ → Headers → Entry
 entry_of bytes headers = record {
   bytes = take headers.used bytes;
@@ -87,7 +86,7 @@ entry_of bytes headers = record {
   parameters = headers.presets;
 }
 
--- The headers are those of the codestream at the front of the bytes, which has as many of them as they say.
+-- The headers are those of the codestream at the front of the bytes, which has the size that they say.
 pub record HasHeaders (bytes : List ℕ) (headers : Headers) : Type 0 where
   pub outline : Outline
   pub left : List ℕ
@@ -98,6 +97,6 @@ pub record HasHeaders (bytes : List ℕ) (headers : Headers) : Type 0 where
 
 -- ---- laws
 
--- Bytes are codestreams with one list of entries alone.
+-- Only one list of entries has these bytes as its codestreams.
 abbrev pub OneIndex : Type 0
 OneIndex = (bytes : List ℕ) (entries others : List Entry) → AreEntriesOf bytes entries → AreEntriesOf bytes others → entries ≡ others

@@ -1,9 +1,9 @@
--- How far a recording was followed whose index is written while it is.
+-- How far a recording has been followed whose index is written with it.
 use Rattle.std.specs.Prelude.{ℕ, ◌+◌, ◌*◌, ◌^◌, ◌≤◌, List, []}
 use Rattle.ls_film.specs.Film.{most_frames}
 
--- The bytes since the last codestream that ended, which are held back; and of the codestreams before them: how many, of how many bytes
--- in all, and with lines of how many.
+-- The bytes since the end of the last codestream, which are held back; and of the codestreams before them: their number, their total size,
+-- and the total size of their lines, in bytes.
 pub record Followed : Type 0 where
   pub pending : List ℕ
   pub number : ℕ
@@ -18,11 +18,11 @@ nothing = record { pending = []; number = 0; offset = 0; written = 0 }
 abbrev pub holding : List ℕ → Followed → Followed
 holding pending f = record { pending = pending; number = f.number; offset = f.offset; written = f.written }
 
--- with a codestream more, of so many bytes, and so many bytes of lines
+-- with one codestream more, of this size, and this total size of all lines
 abbrev pub stepped : ℕ → ℕ → Followed → Followed
 stepped size written f = record { pending = f.pending; number = f.number + 1; offset = f.offset + size; written = written }
 
--- The counts are of codestreams and lines that there may be.
+-- The counts are in range: at most `most_frames` codestreams, and 2^32 bytes for each of them and for each line.
 pub record IsFollowed (f : Followed) : Type 0 where
   pub few : f.number ≤ most_frames
   pub bounded : f.offset ≤ 2 ^ 32 * f.number

@@ -1,4 +1,4 @@
--- An index that is written while its recording is.
+-- An index that is written while its recording is being written.
 use Rattle.std.specs.Prelude.{◌≡◌, ℕ, true, List, [], ◌++◌, Option, None, Some}
 use Rattle.ls_frame.specs.Picture.{Picture}
 use Rattle.ls_stream.specs.Grammar.{Spells}
@@ -13,7 +13,7 @@ module _ {I : Type 0} where
   abbrev pub index_of : Follower I → I
   index_of f = f.index
 
-  -- how far the recording was followed
+  -- how far the recording has been followed
   abbrev pub followed : Follower I → Followed
   followed f = f.progress
 
@@ -26,29 +26,29 @@ module _ {W I : Type 0} where
   abbrev pub following : Indexing W I → Option (Follower I)
   following i = i.index
 
-  -- why that broke off, if it did
+  -- why that stopped, if it did
   abbrev pub broken : Indexing W I → Option IndexFault
   broken i = i.fault
 
--- The bytes are codestreams and then those that are held back, and exactly the codestreams' lines were written.
+-- The bytes are codestreams and then those held back, and exactly the lines of these codestreams were written.
 abbrev pub HasFollowed : List ℕ → Option (List ℕ) → Option (List ℕ) → Followed → Type 0
 HasFollowed bytes index index' state = HasRun true (Some bytes) (Some state.pending) index index' state.number state.offset state.written
 
--- The bytes are no codestream of a frame, so they wait for more.
+-- The bytes aren't a codestream of a frame, so they wait for more.
 abbrev pub SpellNoFrame : List ℕ → Type 0
 SpellNoFrame bytes = (f : Picture) → Spells bytes f → ⊥
 
 module _ (bytes : List ℕ) (between new : Option (List ℕ)) where
-  -- More bytes were followed, whatever those before were and wherever the index began.
+  -- These bytes were followed too, whatever the bytes before them were and wherever the index began.
   abbrev pub FollowsOn : Followed → Followed → Type 0
   FollowsOn old' new' = (before : List ℕ) (index : Option (List ℕ)) → HasFollowed before index between old' → HasFollowed (before ++ bytes) index new new'
 
-  -- The index broke off with them: this is why, and what of it was written, whatever those before were.
+  -- The index stopped at these bytes: this is the fault, and what was written, whatever the bytes before them were.
   abbrev pub StopsFollowing : Followed → IndexFault → Type 0
   StopsFollowing old' fault = (before : List ℕ) (index : Option (List ℕ)) → HasFollowed before index between old' → Stops true (Some (before ++ bytes)) (Some []) index new fault
 
 module _ {I : Type 0} (contents : I → Option (List ℕ)) (bytes : List ℕ) where
-  -- What becomes of the index when the recording's next bytes go out: it goes on, or breaks off; one that broke off before stays.
+  -- What becomes of the index when the recording's next bytes are written: it goes on, or stops; one that stopped before isn't changed.
   abbrev pub IsTold : Option (Follower I) → Option IndexFault → Option (Follower I) → Option IndexFault → Type 0
   IsTold old (Some fault) new why = (new ≡ old) × (why ≡ Some fault)
   IsTold None None new why = (new ≡ None) × (why ≡ None)

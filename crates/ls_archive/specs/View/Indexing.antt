@@ -1,4 +1,4 @@
--- What the making of an index does, and where it may stop. The reader's and the writer's known bytes before and after come first.
+-- What writing an index does, and where it may stop. The reader's and the writer's known bytes, each before and after, come first.
 use Rattle.std.specs.Prelude.{◌≡◌, ◌≢◌, ℕ, ◌+◌, ◌<◌, ◌≤◌, Bool, true, false, List, [], ◌∷◌, ◌++◌, length, take, Option, Some, Result, Ok, Err}
 use Rattle.std.specs.Io.KnownBytes.{Appends}
 use Rattle.std.specs.List.{AllZip}
@@ -14,7 +14,7 @@ use Rattle.ls_archive.specs.Index.{Entry, joined, lines}
 use Rattle.ls_archive.specs.View.Entries.{AreEntriesOf, IsOfFrame, GaveEntries, GaveIndexed, BeginsWithEntries, BreaksBy, HasBytes}
 
 module _ (sums : Bool) (read read' written written' : Option (List ℕ)) where
-  -- The reader is at its end, it gave n codestreams, and the lines of these were written and nothing else.
+  -- The reader is at its end, it gave n codestreams, and their lines were written and nothing else.
   pub record Completes (n : ℕ) : Type 0 where
     pub entries : List Entry
     pub count : length entries ≡ n
@@ -22,8 +22,8 @@ module _ (sums : Bool) (read read' written written' : Option (List ℕ)) where
     pub gave : GaveIndexed read read' entries
     pub wrote : Appends written written' (lines sums entries)
 
-  -- Codestream m has no entry, or no line: the input begins with m codestreams, and exactly their lines were written. Of what
-  -- follows them P holds.
+  -- Codestream m has no entry, or no line: the input begins with m codestreams, exactly their lines were written, and P holds of what
+  -- follows them.
   pub record StopsAt (m : ℕ) (P : List ℕ → Type 0) : Type 0 where
     pub entries : List Entry
     pub count : length entries ≡ m
@@ -31,7 +31,7 @@ module _ (sums : Bool) (read read' written written' : Option (List ℕ)) where
     pub begins : BeginsWithEntries read entries P
     pub wrote : Appends written written' (lines sums entries)
 
-  -- A write failed: exactly the first bytes of the lines of the codestreams that were read went out.
+  -- A write failed: exactly this many bytes of the lines of the codestreams read were written.
   pub record StopsAtOutput (bytes : ℕ) : Type 0 where
     pub entries : List Entry
     pub few : length entries ≤ most_frames
@@ -47,7 +47,7 @@ module _ (sums : Bool) (read read' written written' : Option (List ℕ)) where
     pub gave : GaveEntries read read' (entries ++ last ∷ [])
     pub wrote : Appends written written' (lines sums entries)
 
-  -- So far n codestreams were read, of so many bytes in all, and their lines were written, of so many.
+  -- So far n codestreams were read, with a total size of offset, and their lines were written, with a total size of bytes.
   pub record HasRun (n offset bytes : ℕ) : Type 0 where
     pub entries : List Entry
     pub count : length entries ≡ n
@@ -67,7 +67,7 @@ module _ (sums : Bool) (read read' written written' : Option (List ℕ)) where
 
 -- ---- the steps
 
--- a fault of codestream m, to an index
+-- the fault of an index for a fault of codestream m
 abbrev pub index_fault : ℕ → StreamFault → IndexFault
 index_fault m stream.Truncated = Stream m stream.Truncated
 index_fault m stream.NotSoi = Stream m stream.NotSoi
@@ -79,7 +79,7 @@ index_fault m (stream.BadCode component) = Stream m (stream.BadCode component)
 index_fault m (stream.LeftoverBits component) = Stream m (stream.LeftoverBits component)
 index_fault m stream.NoMemory = NoMemory
 
--- what an end at the next codestream, of number n, says of the reader's bytes: it has no entry
+-- what a stop at the next codestream, of number n, says of the reader's bytes: it has no entry
 abbrev pub StopsNext : Option (List ℕ) → ℕ → IndexFault → Type 0
 StopsNext read n (Stream m fault) = (m ≡ n) × (fault ≢ stream.NoMemory) × (Tells read → BreaksBy fault (known read))
 StopsNext read n (Io m) = m ≡ n
@@ -87,7 +87,7 @@ StopsNext read n (Output bytes) = ⊥
 StopsNext read n NoMemory = Tells read → HasBytes (known read)
 StopsNext read n TooMany = ⊥
 
--- what an end at a line that is written after so many bytes says: its first bytes went out
+-- what a stop at a line, written after this many bytes of lines, says: only the first bytes of its text were written
 abbrev pub StopsLine : Option (List ℕ) → Option (List ℕ) → ℕ → List ℕ → IndexFault → Type 0
 StopsLine written written' bytes text (Stream m fault) = ⊥
 StopsLine written written' bytes text (Io m) = ⊥
@@ -97,7 +97,7 @@ StopsLine written written' bytes text TooMany = ⊥
 
 -- ---- devices
 
--- whether a run failed by its reader's device, and by its writer's
+-- whether a run failed because a read did, and because a write did
 abbrev pub blames_reader : IndexFault → Bool
 blames_reader (Stream m fault) = false
 blames_reader (Io m) = true
@@ -122,7 +122,7 @@ failed_writer (Err fault) = blames_writer fault
 
 -- ---- in memory
 
--- The recording is n codestreams, and out is the index of them.
+-- The recording is n codestreams, and out is their index.
 pub record IsIndexOf (sums : Bool) (recording out : List ℕ) (n : ℕ) : Type 0 where
   pub entries : List Entry
   pub count : length entries ≡ n
@@ -135,13 +135,13 @@ abbrev pub StopsOver : Bool → List ℕ → List ℕ → IndexFault → Type 0
 StopsOver sums recording out fault =
     (left : Option (List ℕ)) × Stops sums (Some recording) left (Some []) (Some out) fault × (blames_reader fault ≡ false)
 
--- The recording is codestreams of these frames, n in all, and out is the index of it: each entry says its frame's form.
+-- The recording is codestreams of these frames, n in all, and out is its index: each entry says its frame's form.
 pub record IsIndexOfFrames (sums : Bool) (recording : List ℕ) (frames : List Picture) (out : List ℕ) (n : ℕ) : Type 0 where
   pub index : IsIndexOf sums recording out n
   pub count : n ≡ length frames
   pub forms : AllZip IsOfFrame index.entries frames
 
--- Memory was refused, for a codestream or for what is written.
+-- An allocation failed, for a codestream or for what is written (in memory a write fails only then).
 abbrev pub IsOutOfMemory : IndexFault → Type 0
 IsOutOfMemory (Stream m fault) = ⊥
 IsOutOfMemory (Io m) = ⊥

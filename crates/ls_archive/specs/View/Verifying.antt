@@ -1,4 +1,4 @@
--- What a comparison finds, and where it may stop. The film's known bytes before and after come first, and then the recording's.
+-- What a comparison finds, and where it may stop. The film's known bytes before and after come first, then the recording's.
 use Rattle.std.specs.Prelude.{◌≡◌, ◌≢◌, ◌⊎◌, ℕ, ◌≤◌, Bool, true, false, IsTrue, if◌then◌else◌, List, [], ◌∷◌, ◌++◌, length, Option, Some, None, Result, Ok, Err}
 use Rattle.ls_frame.specs.declared.netpbm.NetpbmFault.{NetpbmFault}
 use Rattle.ls_frame.specs.declared.netpbm.NetpbmFault.TheVariants as netpbm
@@ -34,7 +34,7 @@ module _ (film film' recording recording' : Option (List ℕ)) where
     pub film_gave : GaveFrames IsImageOf film film' frames
     pub recording_gave : GaveFrames Spells recording recording' frames
 
-  -- Both are at their ends, and gave the same n frames.
+  -- Both are at their end, and gave the same n frames.
   pub record AreSame (n : ℕ) : Type 0 where
     pub frames : List Picture
     pub count : length frames ≡ n
@@ -42,7 +42,7 @@ module _ (film film' recording recording' : Option (List ℕ)) where
     pub film_gave : GaveFilm IsImageOf film film' frames
     pub recording_gave : GaveFilm Spells recording recording' frames
 
-  -- Both gave the same n frames, and then two that differ, in this.
+  -- Both gave the same n frames, and then one frame each; these two differ in this.
   pub record AreApart (n : ℕ) (what : Difference) : Type 0 where
     pub frames : List Picture
     pub f : Picture
@@ -77,7 +77,7 @@ module _ (film film' recording recording' : Option (List ℕ)) where
   Finds (Extra n) = IsExtra n
 
 module _ (film recording : Option (List ℕ)) where
-  -- Both begin with the same m frames; P holds of what follows them in the film, and Q of what follows them in the recording.
+  -- Both begin with the same m frames; P holds of what follows these in the film, and Q of what follows them in the recording.
   pub record StopsAfter (m : ℕ) (P Q : List ℕ → Type 0) : Type 0 where
     pub frames : List Picture
     pub count : length frames ≡ m
@@ -85,8 +85,8 @@ module _ (film recording : Option (List ℕ)) where
     pub film_begins : IsBrokenAfter IsImageOf film frames P
     pub recording_begins : IsBrokenAfter Spells recording frames Q
 
-  -- What each fault says: an image or a codestream is broken; a read failed; memory was refused, after a whole header of an image or
-  -- for a codestream; one frame too many.
+  -- What each fault says: an image or a codestream is malformed; a read failed; an allocation failed, after a complete header of an image
+  -- or for a codestream; there is one frame too many.
   abbrev pub Stops : VerifyFault → Type 0
   Stops (Film m fault) = StopsAfter m (λ rest. IsTrue (blames_bytes fault) → IsBroken rest fault) AnyBytes × (fault ≢ netpbm.NoMemory)
   Stops (Recording m fault) = StopsAfter m AnyBytes (BreaksBy fault) × (fault ≢ stream.NoMemory)
@@ -96,19 +96,19 @@ module _ (film recording : Option (List ℕ)) where
 
 -- ---- the steps
 
--- what a reader gave: an image of this frame; or it was at its end
+-- the reader gave an image of this frame; or, for none, was at its end
 abbrev pub GaveNext : (List ℕ → Picture → Type 0) → Option (List ℕ) → Option (List ℕ) → Option Picture → Type 0
 GaveNext IsImage old new (Some f) = Gave old new (λ bytes. IsImage bytes f)
 GaveNext IsImage old new None = WasAtEnd old new
 
--- the verdict on the frames of number n, or on the ends, of film and recording; none, if they are two frames and equal
+-- the verdict on frame n of film and recording, or on the end of either; none if both have a frame and these are equal
 abbrev pub verdict_at : ℕ → Option Picture → Option Picture → Option Verdict
 verdict_at n (Some f) (Some g) = if same_picture f g then None else Some (Differs n (difference_of f g))
 verdict_at n (Some f) None = Some (Missing n)
 verdict_at n None (Some g) = Some (Extra n)
 verdict_at n None None = Some (Same n)
 
--- both gave their next, and this is the verdict on it
+-- Both gave their next frame or end, and this is the verdict on these.
 pub record IsCompared (film film' recording recording' : Option (List ℕ)) (n : ℕ) (verdict : Option Verdict) : Type 0 where
   pub image : Option Picture
   pub coded : Option Picture
@@ -116,7 +116,7 @@ pub record IsCompared (film film' recording recording' : Option (List ℕ)) (n :
   pub recording_gave : GaveNext Spells recording recording' coded
   pub is : verdict ≡ verdict_at n image coded
 
--- after the most frames of a film there has to be an end
+-- the result after the most frames of a film: there both must end
 abbrev pub at_most : Option Verdict → Result Verdict VerifyFault
 at_most None = Err TooMany
 at_most (Some (Same n)) = Ok (Same n)
@@ -124,7 +124,7 @@ at_most (Some (Differs n what)) = Err TooMany
 at_most (Some (Missing n)) = Err TooMany
 at_most (Some (Extra n)) = Err TooMany
 
--- a fault of the film's frame m, to a comparison
+-- the fault of a comparison for a fault of the film's frame m
 abbrev pub film_fault : ℕ → NetpbmFault → VerifyFault
 film_fault m netpbm.BadMagic = Film m netpbm.BadMagic
 film_fault m netpbm.BadHeader = Film m netpbm.BadHeader
@@ -136,7 +136,7 @@ film_fault m netpbm.Truncated = Film m netpbm.Truncated
 film_fault m netpbm.Io = Film m netpbm.Io
 film_fault m netpbm.NoMemory = NoMemory
 
--- a fault of codestream m, to a comparison
+-- the fault of a comparison for a fault of codestream m
 abbrev pub recording_fault : ℕ → StreamFault → VerifyFault
 recording_fault m stream.Truncated = Recording m stream.Truncated
 recording_fault m stream.NotSoi = Recording m stream.NotSoi
@@ -148,7 +148,7 @@ recording_fault m (stream.BadCode component) = Recording m (stream.BadCode compo
 recording_fault m (stream.LeftoverBits component) = Recording m (stream.LeftoverBits component)
 recording_fault m stream.NoMemory = NoMemory
 
--- what an end at the film's frame n says of the film's bytes
+-- what a stop at the film's frame n says of the film's bytes
 abbrev pub StopsFilm : Option (List ℕ) → ℕ → VerifyFault → Type 0
 StopsFilm film n (Film m fault) = (m ≡ n) × (fault ≢ netpbm.NoMemory) × (Tells film → IsTrue (blames_bytes fault) → IsBroken (known film) fault)
 StopsFilm film n (Recording m fault) = ⊥
@@ -156,7 +156,7 @@ StopsFilm film n (RecordingIo m) = ⊥
 StopsFilm film n NoMemory = Tells film → BeginsWithHeading (known film)
 StopsFilm film n TooMany = ⊥
 
--- what an end at codestream n says of the recording's bytes
+-- what a stop at codestream n says of the recording's bytes
 abbrev pub StopsRecording : Option (List ℕ) → ℕ → VerifyFault → Type 0
 StopsRecording recording n (Film m fault) = ⊥
 StopsRecording recording n (Recording m fault) = (m ≡ n) × (fault ≢ stream.NoMemory) × (Tells recording → BreaksBy fault (known recording))
@@ -166,7 +166,7 @@ StopsRecording recording n TooMany = ⊥
 
 -- ---- devices
 
--- whether a comparison failed by the film's device, and by the recording's
+-- whether a comparison failed because a read of the film did, and because a read of the recording did
 abbrev pub blames_film : VerifyFault → Bool
 blames_film (Film m fault) = blames_device fault
 blames_film (Recording m fault) = false
@@ -195,7 +195,7 @@ failed_recording (Err fault) = blames_recording fault
 abbrev pub FindsIn : List ℕ → List ℕ → Verdict → Type 0
 FindsIn film recording verdict = (film' : Option (List ℕ)) × (recording' : Option (List ℕ)) × Finds (Some film) film' (Some recording) recording' verdict
 
--- what each fault says of them; none is of a device
+-- what each fault says of them; none is a failed read
 abbrev pub StopsIn : List ℕ → List ℕ → VerifyFault → Type 0
 StopsIn film recording fault =
     Stops (Some film) (Some recording) fault × (blames_film fault ≡ false) × (blames_recording fault ≡ false)

@@ -1,6 +1,6 @@
--- What an engine does that reads frames and writes a text of them, and where it may stop. What an image is of a frame is a
--- parameter, as in `Film`; the reader's and the writer's known bytes before and after the run come after it. What was read are
--- frames whether or not the reader's bytes are known.
+-- What an engine that reads frames and writes a text of them does, and where it may stop. What an image of a frame is, is a parameter, as
+-- in `Film`; the reader's and the writer's known bytes before and after the run come after it. The pictures read are frames whether or not
+-- the reader's bytes are known.
 use Rattle.std.specs.Prelude.{◌≡◌, ℕ, ◌<◌, ◌≤◌, List, [], ◌∷◌, ◌++◌, length, take, Option}
 use Rattle.std.specs.Io.KnownBytes.{Appends}
 use Rattle.std.specs.List.{AllByRecursion}
@@ -9,7 +9,7 @@ use Rattle.ls_film.specs.Film.{most_frames}
 use Rattle.ls_film.specs.View.Given.{GaveFrames, GaveFramesAnd, GaveFilm, IsBrokenAfter, BeginsWithFrames}
 
 module _ (IsImage : List ℕ → Picture → Type 0) (text : List Picture → List ℕ) (read read' written written' : Option (List ℕ)) where
-  -- The reader is at its end, it gave a film of n frames, and the text of these was written and nothing else.
+  -- The reader is at its end, it gave a film of n frames, and their text was written and nothing else.
   pub record Completes (n : ℕ) : Type 0 where
     pub frames : List Picture
     pub count : length frames ≡ n
@@ -18,7 +18,7 @@ module _ (IsImage : List ℕ → Picture → Type 0) (text : List Picture → Li
     pub gave : GaveFilm IsImage read read' frames
     pub wrote : Appends written written' (text frames)
 
-  -- Frame m can't be read: the input begins with m frames and exactly their text was written. Of what follows them P holds.
+  -- Frame m can't be read: the input begins with m frames, exactly their text was written, and P holds of what follows them.
   pub record StopsAtInput (m : ℕ) (P : List ℕ → Type 0) : Type 0 where
     pub frames : List Picture
     pub count : length frames ≡ m
@@ -28,7 +28,7 @@ module _ (IsImage : List ℕ → Picture → Type 0) (text : List Picture → Li
     pub broken : IsBrokenAfter IsImage read frames P
     pub wrote : Appends written written' (text frames)
 
-  -- A write failed: exactly the first bytes of the text of the frames that were read went out.
+  -- A write failed: exactly this many bytes of the text of the frames read were written.
   pub record StopsAtOutput (bytes : ℕ) : Type 0 where
     pub frames : List Picture
     pub few : length frames ≤ most_frames
@@ -37,8 +37,7 @@ module _ (IsImage : List ℕ → Picture → Type 0) (text : List Picture → Li
     pub part : bytes < length (text frames)
     pub wrote : Appends written written' (take bytes (text frames))
 
-  -- Memory was refused for a frame: exactly the text of those before it was written, and of the bytes of it that were read P
-  -- holds.
+  -- An allocation failed for a frame: exactly the text of the frames before it was written, and P holds of the bytes of it that were read.
   pub record StopsForMemory (P : List ℕ → Type 0) : Type 0 where
     pub frames : List Picture
     pub few : length frames ≤ most_frames
@@ -55,7 +54,7 @@ module _ (IsImage : List ℕ → Picture → Type 0) (text : List Picture → Li
     pub gave : GaveFrames IsImage read read' (frames ++ last ∷ [])
     pub wrote : Appends written written' (text frames)
 
-  -- So far n frames were read, no more than a film has, and their text, of this many bytes, was written.
+  -- So far n frames were read, at most as many as a film may have, and their text, of this many bytes, was written.
   pub record HasRun (n bytes : ℕ) : Type 0 where
     pub frames : List Picture
     pub count : length frames ≡ n

@@ -1,5 +1,5 @@
--- What a reader gave: a film, or the first frames of one. The reader's known bytes before and after come first; what an
--- image is, is a parameter, as in `Film`.
+-- What a reader gave: a film, or its first frames. The reader's known bytes before and after come first; what an image of a frame is, is a
+-- parameter, as in `Film`.
 use Rattle.std.specs.Prelude.{◌≡◌, ℕ, List, [], ◌++◌, Option}
 use Rattle.ls_frame.specs.Picture.{Picture}
 use Rattle.ls_frame.specs.View.Known.{Tells, Gave, known}
@@ -10,7 +10,7 @@ module _ (IsImage : List ℕ → Picture → Type 0) where
   abbrev pub GaveFrames : Option (List ℕ) → Option (List ℕ) → List Picture → Type 0
   GaveFrames old new frames = Gave old new (λ bytes. IsFilm IsImage bytes frames)
 
-  -- The reader gave these frames, and then bytes of which P holds.
+  -- The reader gave these frames, and then bytes, of which P holds.
   abbrev pub GaveFramesAnd : Option (List ℕ) → Option (List ℕ) → List Picture → (List ℕ → Type 0) → Type 0
   GaveFramesAnd old new frames P = Gave old new (λ bytes. (film : List ℕ) × (last : List ℕ) × (bytes ≡ film ++ last) × IsFilm IsImage film frames × P last)
 
@@ -22,7 +22,7 @@ module _ (IsImage : List ℕ → Picture → Type 0) where
   abbrev pub BeginsWithFrames : Option (List ℕ) → List Picture → Type 0
   BeginsWithFrames old frames = Tells old → (film : List ℕ) × (rest : List ℕ) × (known old ≡ film ++ rest) × IsFilm IsImage film frames
 
-  -- The input begins with these frames, and what follows them is broken.
+  -- The input begins with these frames, and `IsBroken` holds of what follows them.
   abbrev pub IsBrokenAfter : Option (List ℕ) → List Picture → (List ℕ → Type 0) → Type 0
   IsBrokenAfter old frames IsBroken = Tells old →
       (film : List ℕ) × (rest : List ℕ) × (known old ≡ film ++ rest) × IsFilm IsImage film frames × IsBroken rest

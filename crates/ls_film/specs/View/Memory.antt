@@ -1,4 +1,4 @@
--- What an engine does with a film in memory, where nothing is left unknown.
+-- What an engine does with a film in memory, where all bytes are known.
 use Rattle.std.specs.Prelude.{◌≡◌, ℕ, ◌<◌, ◌≤◌, List, [], ◌∷◌, ◌++◌, length, take}
 use Rattle.ls_frame.specs.Picture.{Picture}
 use Rattle.ls_frame.specs.Netpbm.{IsImageOf, BeginsWithHeading}
@@ -15,7 +15,7 @@ pub record IsTextOf (text : List Picture → List ℕ) (film out : List ℕ) (n 
   pub whole : IsFilm IsImageOf film frames
   pub wrote : out ≡ text frames
 
--- The film begins with images of these frames, and of what follows them P holds.
+-- The film begins with images of these frames, and P holds of what follows them.
 pub record BeginsFilm (film : List ℕ) (frames : List Picture) (P : List ℕ → Type 0) : Type 0 where
   pub front : List ℕ
   pub rest : List ℕ
@@ -23,14 +23,14 @@ pub record BeginsFilm (film : List ℕ) (frames : List Picture) (P : List ℕ �
   pub begins : IsFilm IsImageOf front frames
   pub follows : P rest
 
--- The film begins with images, no more than a film has, and out is the text of their frames; of what follows P holds.
+-- The film begins with images of at most `most_frames` frames, out is their text, and P holds of what follows them.
 pub record IsTextBefore (text : List Picture → List ℕ) (film out : List ℕ) (P : List ℕ → Type 0) : Type 0 where
   pub frames : List Picture
   pub few : length frames ≤ most_frames
   pub begins : BeginsFilm film frames P
   pub wrote : out ≡ text frames
 
--- nothing is said of bytes
+-- no condition on the bytes
 abbrev pub AnyBytes : List ℕ → Type 0
 AnyBytes bytes = Unit {0}
 

@@ -1,4 +1,4 @@
--- A part of a recording: codestreams that are passed over by their markers, and the frames after them, which are shown.
+-- A part of a recording: the codestreams before it are passed over by their markers, and its frames are shown.
 use Rattle.std.specs.Prelude.{◌≡◌, ◌⊎◌, ◌<◌, ◌≤◌, ◌+◌, ℕ, Bool, false, List, [], ◌∷◌, ◌++◌, length, take, drop, Option, None, Some, Result, Ok, Err}
 use Rattle.std.specs.Io.KnownBytes.{Appends}
 use Rattle.std.specs.List.{AllByRecursion}
@@ -24,7 +24,7 @@ abbrev pub joined : List (List ℕ) → List ℕ
 joined [] = []
 joined (codestream ∷ more) = codestream ++ joined more
 
--- Each is the next codestream of the bytes from it on; these bytes come after the last.
+-- Each is the next codestream, by its markers, of the bytes from its start on; rest follows the last one.
 abbrev pub ArePassed : List (List ℕ) → List ℕ → Type 0
 ArePassed [] rest = Unit {0}
 ArePassed (codestream ∷ more) rest = IsNext codestream (joined more ++ rest) × ArePassed more rest
@@ -33,8 +33,8 @@ ArePassed (codestream ∷ more) rest = IsNext codestream (joined more ++ rest) �
 abbrev pub GavePassed : Option (List ℕ) → Option (List ℕ) → ℕ → Type 0
 GavePassed old new n = Gave old new (λ bytes. (streams : List (List ℕ)) × (length streams ≡ n) × (bytes ≡ joined streams) × ArePassed streams (known new))
 
--- Passing over stopped at codestream m, one of the first: there are as many bytes as a codestream may have, and none is at their front; or a
--- read failed, or an allocation.
+-- Passing over the first codestreams stopped at codestream m: there are as many bytes as a codestream may have, and no codestream of a
+-- frame at their front; or a read or an allocation failed.
 pub record StopsPassing (read : Option (List ℕ)) (first : ℕ) (fault : PlayFault) : Type 0 where
   pub m : ℕ
   pub before : m < first
@@ -42,7 +42,7 @@ pub record StopsPassing (read : Option (List ℕ)) (first : ℕ) (fault : PlayFa
   pub passed : GavePassed read mid m
   pub fault_is : ((fault ≡ Stream m stream.TooLarge) × (Tells mid → BreaksBy stream.TooLarge (known mid))) ⊎ (fault ≡ Io 0) ⊎ (fault ≡ NoMemory)
 
--- a fault of codestream m, to a recording whose first frames are passed over
+-- the fault of playing for a fault of codestream m, one of those that are passed over
 abbrev pub unpassed : ℕ → NextFault → PlayFault
 unpassed m next_fault.TooLarge = Stream m stream.TooLarge
 unpassed m next_fault.Io = Io 0
@@ -50,7 +50,8 @@ unpassed m next_fault.NoMemory = NoMemory
 
 -- ---- the part
 
--- A recording of m frames lacks frames from first to last: the last of them, or, where they go to the end, the first.
+-- A recording of m frames is too short for the part from first to last: it lacks the last frame, or, if the part goes to the end, the
+-- first.
 abbrev pub LacksPart : ℕ → Option ℕ → ℕ → Type 0
 LacksPart first None m = m ≤ first
 LacksPart first (Some last) m = m ≤ last
@@ -71,8 +72,8 @@ module _ (read read' written written' : Option (List ℕ)) where
     pub passed : GavePassed read mid first
     pub shows : ShowsNext mid read' written written' n
 
-  -- The recording ended after m codestreams, before the end of the part: those before it were passed over and the others shown; or it ended
-  -- before the part, and nothing was shown.
+  -- The recording ended after m codestreams, before the end of the part: the codestreams before the part were passed over, and the others
+  -- shown; or it ended before the part, and nothing was shown.
   pub record EndsEarly (first : ℕ) (last : Option ℕ) (m : ℕ) : Type 0 where
     pub passed : ℕ
     pub shown : ℕ
@@ -90,7 +91,7 @@ number_in (Output bytes) = 0
 number_in NoMemory = 0
 number_in TooMuch = 0
 
--- a fault of what comes after the first codestreams, numbered by all of them
+-- a fault met after the first codestreams, with its codestream numbered from the beginning of the recording
 abbrev pub later : ℕ → PlayFault → PlayFault
 later first (Stream m fault) = Stream (first + m) fault
 later first (Io m) = Io m
@@ -98,7 +99,7 @@ later first (Output bytes) = Output bytes
 later first NoMemory = NoMemory
 later first TooMuch = TooMuch
 
--- What follows the first codestreams, which were passed over, stopped as the playing of it does.
+-- The first codestreams were passed over, and playing what follows them stopped with this fault, but for its number.
 pub record StopsShowing (read read' written written' : Option (List ℕ)) (first : ℕ) (fault : PlayFault) : Type 0 where
   pub mid : Option (List ℕ)
   pub passed : GavePassed read mid first
@@ -112,9 +113,9 @@ StopsPart read read' written written' first last (Play fault) =
     (StopsPassing read first fault × Appends written written' []) ⊎ StopsShowing read read' written written' first fault
 StopsPart read read' written written' first last (TooFew m) = EndsEarly read read' written written' first last m
 
--- ---- a recording of whole codestreams
+-- ---- a recording that is codestreams of frames
 
--- no codestream is at fault, and there aren't too many
+-- the fault isn't of a codestream, nor that there are too many
 abbrev pub IsNoneOfStreams : PlayFault → Type 0
 IsNoneOfStreams (Stream m fault) = ⊥
 IsNoneOfStreams (Io m) = Unit {0}
@@ -122,14 +123,14 @@ IsNoneOfStreams (Output bytes) = Unit {0}
 IsNoneOfStreams NoMemory = Unit {0}
 IsNoneOfStreams TooMuch = ⊥
 
--- The part isn't all there: there are m frames, and those from the first on are shown, if any.
+-- The recording is too short for the part: it has m frames, and those from the first on are shown, if any.
 pub record IsShortOf (written written' : Option (List ℕ)) (first : ℕ) (last : Option ℕ) (frames : List Picture) (m : ℕ) : Type 0 where
   pub count : m ≡ length frames
   pub lacks : LacksPart first last m
   pub wrote : Appends written written' (show (drop first frames))
 
--- What comes of a part of a recording that is codestreams of these frames: n of them from the first on are shown; or it is said how many
--- there are, since they are too few; or a read failed, a write, or an allocation.
+-- The result of playing a part of a recording that is codestreams of these frames: n of them, from the first on, are shown; or they are too
+-- few, and it says how many there are; or a read, a write or an allocation failed.
 abbrev pub IsPartOf : Option (List ℕ) → Option (List ℕ) → ℕ → Option ℕ → List Picture → Result ℕ PartFault → Type 0
 IsPartOf written written' first last frames (Ok n) = (first + n ≤ length frames) × Appends written written' (show (take n (drop first frames)))
 IsPartOf written written' first last frames (Err (Play fault)) = IsNoneOfStreams fault
@@ -137,7 +138,7 @@ IsPartOf written written' first last frames (Err (TooFew m)) = IsShortOf written
 
 -- ---- failures
 
--- whether a run failed by its reader's device, and by its writer's
+-- whether a run failed because a read did, and because a write did
 abbrev pub blames_reader : PartFault → Bool
 blames_reader (Play fault) = reader_at_fault fault
 blames_reader (TooFew m) = false

@@ -1,5 +1,5 @@
--- Where the engine stops, whatever its images are, and what its steps say of it. What an image is of a frame, and what a fault says
--- of the reader's known bytes before and after it, are parameters.
+-- Where the engine stops, whatever its images are, and what its steps say then. What an image of a frame is, and what a fault says of the
+-- reader's known bytes before and after it, are parameters.
 use Rattle.std.specs.Prelude.{◌≡◌, ℕ, ◌+◌, ◌<◌, Bool, true, false, List, length, take, Option, Result, Ok, Err}
 use Rattle.std.specs.Io.KnownBytes.{Appends}
 use Rattle.ls_frame.specs.Picture.{Picture}
@@ -7,12 +7,12 @@ use Rattle.ls_film.specs.View.Engine.{HasRun, StopsAtOutput, StopsForMemory, Sto
 use Rattle.ls_film.specs.declared.engine.Stopped.{Stopped}
 use Rattle.ls_film.specs.declared.engine.Stopped.TheVariants.{Input, Output, NoMemory, TooMany}
 
--- whether a call failed by its reader's device, told by its fault
+-- whether a call failed because a read did, which its fault says
 abbrev pub failed_input : {E X : Type 0} → (E → Bool) → Result X E → Bool
 failed_input of_device (Ok x) = false
 failed_input of_device (Err fault) = of_device fault
 
--- whether a run failed by its reader's device, and by its writer's
+-- whether a run failed because a read did, and because a write did
 abbrev pub blames_reader : {E : Type 0} → (E → Bool) → Stopped E → Bool
 blames_reader of_device (Input m fault) = of_device fault
 blames_reader of_device (Output bytes) = false
@@ -38,7 +38,7 @@ abbrev pub IsSomeImage : (List ℕ → Picture → Type 0) → List ℕ → Type
 IsSomeImage IsImage bytes = (f : Picture) × IsImage bytes f
 
 module _ {E : Type 0} (IsImage : List ℕ → Picture → Type 0) (Unread : E → Option (List ℕ) → Option (List ℕ) → Type 0) where
-  -- what each end says of the run: of the reader's bytes before and after it, and of the writer's
+  -- what each stop says of the reader's bytes before and after the run, and of the writer's
   abbrev pub HasStopped : (List Picture → List ℕ) → Option (List ℕ) → Option (List ℕ) → Option (List ℕ) → Option (List ℕ) → Stopped E → Type 0
   HasStopped text read read' written written' (Input m fault) =
       (mid : Option (List ℕ)) × (bytes : ℕ) × HasRun IsImage text read mid written written' m bytes × Unread fault mid read'
@@ -46,7 +46,7 @@ module _ {E : Type 0} (IsImage : List ℕ → Picture → Type 0) (Unread : E �
   HasStopped text read read' written written' NoMemory = StopsForMemory IsImage text read read' written written' (IsSomeImage IsImage)
   HasStopped text read read' written written' TooMany = StopsAtMost IsImage text read read' written written'
 
--- what an end at a chunk that is written after so many bytes says: its first bytes went out
+-- what a stop at a chunk, written after this many bytes of text, says: only the first bytes of the chunk were written
 abbrev pub StopsChunk : {E : Type 0} → Option (List ℕ) → Option (List ℕ) → ℕ → List ℕ → Stopped E → Type 0
 StopsChunk written written' bytes chunk (Input m fault) = ⊥
 StopsChunk written written' bytes chunk (Output n) = (here : ℕ) × (n ≡ bytes + here) × (here < length chunk) × Appends written written' (take here chunk)

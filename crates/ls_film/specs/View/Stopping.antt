@@ -1,4 +1,4 @@
--- Why the reading of a film of Netpbm images stopped, and what had happened then.
+-- Why an engine over a film of Netpbm images stopped, and what had been read and written by then.
 use Rattle.std.specs.Prelude.{◌≡◌, ◌≢◌, ℕ, ◌⊎◌, Bool, true, false, IsTrue, List, Option, Result, Ok, Err}
 use Rattle.ls_frame.specs.declared.netpbm.NetpbmFault.{NetpbmFault}
 use Rattle.ls_frame.specs.declared.netpbm.NetpbmFault.TheVariants as netpbm
@@ -13,12 +13,12 @@ use Rattle.ls_film.specs.declared.engine.Stopped.TheVariants as engine
 use Rattle.ls_film.specs.declared.faults.FilmFault.{FilmFault}
 use Rattle.ls_film.specs.declared.faults.FilmFault.TheVariants.{Input, Output, NoMemory, TooMany}
 
--- what a fault of the next image says of the reader's bytes: they are broken; or a whole header was read, and memory refused
+-- what a fault of the next image says of the reader's bytes: they are malformed; or a complete header was read, and an allocation failed
 pub record IsUnread (fault : NetpbmFault) (read read' : Option (List ℕ)) : Type 0 where
   pub broken : IsTrue (blames_bytes fault) → Tells read → IsBroken (known read) fault
   pub memory : fault ≡ netpbm.NoMemory → Gave read read' IsWholeHeading
 
--- a fault of the image of number m, to a film
+-- the fault of an engine over a film for a fault of image m
 abbrev pub input_fault : ℕ → NetpbmFault → FilmFault
 input_fault m netpbm.BadMagic = Input m netpbm.BadMagic
 input_fault m netpbm.BadHeader = Input m netpbm.BadHeader
@@ -30,18 +30,18 @@ input_fault m netpbm.Truncated = Input m netpbm.Truncated
 input_fault m netpbm.Io = Input m netpbm.Io
 input_fault m netpbm.NoMemory = NoMemory
 
--- the engine's end, to a film
+-- the fault of an engine over a film for why the engine stopped
 abbrev pub film_fault : Stopped NetpbmFault → FilmFault
 film_fault (engine.Input m fault) = input_fault m fault
 film_fault (engine.Output bytes) = Output bytes
 film_fault engine.NoMemory = NoMemory
 film_fault engine.TooMany = TooMany
 
--- what was read of the frame that memory was refused for: its header, or all of it
+-- the bytes read of the frame for which an allocation failed: its header, or all of it
 abbrev pub IsHeadingOrImage : List ℕ → Type 0
 IsHeadingOrImage bytes = IsWholeHeading bytes ⊎ IsSomeImage IsImageOf bytes
 
--- what each fault says of the run: of the reader's bytes before and after it, and of the writer's
+-- what each fault says of the reader's bytes before and after the run, and of the writer's
 abbrev pub Stops : (List Picture → List ℕ) → Option (List ℕ) → Option (List ℕ) → Option (List ℕ) → Option (List ℕ) → FilmFault → Type 0
 Stops text read read' written written' (Input m fault) =
     StopsAtInput IsImageOf text read read' written written' m (λ rest. IsTrue (blames_bytes fault) → IsBroken rest fault) × (fault ≢ netpbm.NoMemory)
@@ -49,7 +49,7 @@ Stops text read read' written written' (Output bytes) = StopsAtOutput IsImageOf 
 Stops text read read' written written' NoMemory = StopsForMemory IsImageOf text read read' written written' IsHeadingOrImage
 Stops text read read' written written' TooMany = StopsAtMost IsImageOf text read read' written written'
 
--- whether a run failed by its reader's device, and by its writer's
+-- whether a run failed because a read did, and because a write did
 abbrev pub blames_reader : FilmFault → Bool
 blames_reader (Input m fault) = blames_device fault
 blames_reader (Output bytes) = false

@@ -4,7 +4,7 @@ use Rattle.ls_film.specs.Listing.{column}
 use Rattle.ls_archive.specs.View.Checking.{AreNumbers, EndsColumn}
 use Rattle.ls_archive.proofs.checking.after_numbers.Given as goal
 
--- the columns so far were passed, and if all are columns of numbers, the others are left
+-- the columns so far were passed; if the text is columns of numbers, the remaining ones are left
 abbrev pub invariant-columns : goal.invariant-columns
 invariant-columns l = record {
   few : l.passed ≤ l.count;

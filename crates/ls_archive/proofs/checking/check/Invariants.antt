@@ -2,7 +2,7 @@ use Rattle.std.proofs.Common.{◌≡◌, ◌≤◌, ◌*◌, ◌^◌}
 use Rattle.ls_archive.specs.View.Checks.{HasChecked}
 use Rattle.ls_archive.proofs.checking.check.Given as goal
 
--- the lines so far, and what was found by them
+-- the lines so far, and what was found for them
 abbrev pub invariant-loop-number : goal.invariant-loop-number
 invariant-loop-number g l = record {
   so_far : HasChecked (g.I.Read.remaining l.fn.index) (g.I.Read.remaining l.index) (g.R.Read.remaining l.fn.recording) (g.R.Read.remaining l.recording)

@@ -2,7 +2,7 @@ use Rattle.std.proofs.Common.{◌≡◌, length}
 use Rattle.ls_frame.specs.View.Chunks.{inner_reader}
 use Rattle.ls_archive.proofs.places.find_places.Given as goal
 
--- each that is wanted has its place, and no read has failed
+-- each wanted codestream has its entry in the places, and no read has failed
 abbrev pub invariant-steps : goal.invariant-steps
 invariant-steps g l = record {
   count : length l.places.items ≡ length l.wanted;

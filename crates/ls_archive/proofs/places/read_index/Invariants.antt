@@ -1,7 +1,7 @@
 use Rattle.std.proofs.Common.{◌≡◌, ◌≤◌, ◌*◌, ◌^◌}
 use Rattle.ls_archive.proofs.places.read_index.Given as goal
 
--- no codestream has more bytes than it may have, and no read has failed
+-- each codestream's size is at most that of a codestream, and no read has failed
 abbrev pub invariant-loop-number : goal.invariant-loop-number
 invariant-loop-number g l = record {
   bounded : l.offset ≤ 2 ^ 32 * l.number;

@@ -2,7 +2,7 @@ use Rattle.std.proofs.Common.{◌≡◌, length}
 use Rattle.ls_film.specs.View.Ahead.{AreTaken, codestreams_of}
 use Rattle.ls_film.proofs.ahead.take.Given as goal
 
--- so many codestreams were taken
+-- the codestreams so far were taken
 abbrev pub invariant-loop-place : goal.invariant-loop-place
 invariant-loop-place g l = record {
   taken : AreTaken (g.R.Read.remaining l.fn.reader) (g.R.Read.remaining l.reader) (codestreams_of l.jobs.items);

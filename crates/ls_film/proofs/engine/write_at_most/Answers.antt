@@ -37,8 +37,11 @@ returns-in_err-written-clause-stops g c = λ place stands.
     let i = c.loop-number.invariant.run place stands in
     let next = rw c.in-Ok-Some.field-0-is at (c.in-Ok-Some.ensures.gives i.0 i.1) in
     let grows = rw (sym c.deref.ensures.value) at c.in_ok-chunk.ensures.grows next.2 next.4 i.2.frames i.2.count in
-    rw (p.1, p.2) (next.0, next.1,
-    stops-chunk g.I.Images.image g.I.Images.unread g.X.Text.text place i.0 next.0 _ _ _ c.loop-number.number c.loop-number.written next.2 c.deref.result.now _ i.2 (omega arith) next.3 grows c.in_err-written.ensures.stops)
+    rw (p.1, p.2) (
+      next.0,
+      next.1,
+      stops-chunk g.I.Images.image g.I.Images.unread g.X.Text.text place i.0 next.0 _ _ _ c.loop-number.number c.loop-number.written next.2 c.deref.result.now _ i.2 (omega arith) next.3 grows c.in_err-written.ensures.stops,
+    )
 
 pub loop-number-preserved : goal.loop-number-preserved
 loop-number-preserved g c = record {
@@ -46,8 +49,11 @@ loop-number-preserved g c = record {
       let i = c.loop-number.invariant.run place stands in
       let next = rw c.in-Ok-Some.field-0-is at (c.in-Ok-Some.ensures.gives i.0 i.1) in
       let grows = rw (sym c.deref.ensures.value) at c.in_ok-chunk.ensures.grows next.2 next.4 i.2.frames i.2.count in
-      rw c.in_ok-written.ensures.count (next.0, next.1,
-      HasRun-more g.I.Images.image g.X.Text.text place i.0 next.0 _ _ _ c.loop-number.number c.loop-number.written next.2 c.deref.result.now i.2 (omega arith) next.3 grows c.in_ok-written.ensures.all);
+      rw c.in_ok-written.ensures.count (
+        next.0,
+        next.1,
+        HasRun-more g.I.Images.image g.X.Text.text place i.0 next.0 _ _ _ c.loop-number.number c.loop-number.written next.2 c.deref.result.now i.2 (omega arith) next.3 grows c.in_ok-written.ensures.all,
+      );
   small = omega (arith, c.in_ok-written.ensures.count, c.in_ok-chunk.ensures.short, ap length c.deref.ensures.value);
   reads = λ failed is. c.in-Ok-Some.ensures.failures failed (c.loop-number.invariant.reads failed is);
   writes = search rules;

@@ -12,4 +12,3 @@ returns-in-Ok-Some-clause-stops g c = λ place stands.
     let next = rw c.in-Ok-Some.field-0-is at (c.in-Ok-Some.ensures.gives i.0 i.1) in
     let run = subst (λ n. HasRun g.I.Images.image g.X.Text.text place i.0 (g.W.Write.contents c.args.writer.now) (g.W.Write.contents c.write_at_most.new.writer) n ran.0) all i.2 in
     (next.0, next.1, HasRun-most g.I.Images.image g.X.Text.text place i.0 next.0 _ _ ran.0 next.2 run next.3)
-

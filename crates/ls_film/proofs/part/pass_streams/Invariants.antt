@@ -2,7 +2,7 @@ use Rattle.std.proofs.Common.{◌≡◌}
 use Rattle.ls_film.specs.View.Parts.{GavePassed}
 use Rattle.ls_film.proofs.part.pass_streams.Given as goal
 
--- so many codestreams were passed over
+-- the codestreams so far were passed over
 abbrev pub invariant-loop-number : goal.invariant-loop-number
 invariant-loop-number g l = record {
   passed : GavePassed (g.R.Read.remaining l.fn.reader) (g.R.Read.remaining l.reader) l.number;

@@ -3,7 +3,7 @@ use Rattle.ls_film.specs.Film.{most_frames}
 use Rattle.ls_archive.specs.View.Checks.{HasChecked}
 use Rattle.ls_archive.proofs.checking.batches.check_by.Given as goal
 
--- the lines so far, and what was found by them
+-- the lines so far, and what was found for them
 abbrev pub invariant-loop-so_far : goal.invariant-loop-so_far
 invariant-loop-so_far g l = record {
   so_far : HasChecked (g.I.Read.remaining l.fn.index) (g.I.Read.remaining l.index) (g.R.Read.remaining l.fn.recording) (g.R.Read.remaining l.recording)

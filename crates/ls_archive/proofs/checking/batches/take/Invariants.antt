@@ -2,7 +2,7 @@ use Rattle.std.proofs.Common.{◌≡◌, ◌≤◌, ◌+◌, ◌*◌, ◌^◌, l
 use Rattle.ls_archive.specs.View.Batches.{AreTaken}
 use Rattle.ls_archive.proofs.checking.batches.take.Given as goal
 
--- so many lines were taken, with the bytes that they speak of
+-- the lines so far were taken, with their bytes
 abbrev pub invariant-loop-number : goal.invariant-loop-number
 invariant-loop-number g l = record {
   taken : AreTaken
