@@ -1,5 +1,5 @@
 -- The next codestream of a recording: what is made of it, or its fault, says the same of what the reader had left.
-use Rattle.std.proofs.Common.{◌≡◌, ◌⊎◌, ℕ, inl, inr, List, [], ◌∷◌, ◌++◌, take, length, ◌<◌, Option, refl, ap, ◌∙◌, append-nil}
+use Rattle.std.proofs.Common.{◌≡◌, ◌⊎◌, ℕ, inl, inr, List, [], ◌∷◌, ◌++◌, take, length, Option, refl, ap, ◌∙◌, append-nil}
 use Rattle.std.proofs.lemmas.List.Concat.{flat_map-append}
 use Rattle.ls_frame.specs.Canonical.{canonical}
 use Rattle.ls_frame.specs.Picture.{Picture, IsFrame}
@@ -12,7 +12,7 @@ use Rattle.ls_stream.specs.Grammar.{Spells, most_bytes}
 use Rattle.ls_stream.specs.View.Extents.{IsNext}
 use Rattle.ls_stream.specs.View.Outlines.{IsFirstFault}
 use Rattle.ls_film.specs.Showing.{show}
-use Rattle.ls_film.specs.View.Codestreams.{IsTaken, IsUnmade, IsUnread, BreaksBy, unread_of}
+use Rattle.ls_film.specs.View.Codestreams.{IsTaken, IsUnmade, IsUnread, unread_of}
 use Rattle.ls_film.specs.declared.codestreams.Unread.TheVariants.{Stream}
 use Rattle.ls_film.proofs.NextLemmas.{gave_codestream, gave_some, breaks_by}
 use Rattle.ls_film.proofs.PartLemmas.{too-large-breaks}

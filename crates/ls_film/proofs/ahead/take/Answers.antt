@@ -1,4 +1,4 @@
-use Rattle.std.proofs.Common.{◌≡◌, [], ◌∷◌, ◌++◌, rules, arith, refl, sym, ap, subst, ◌∙◌, inl}
+use Rattle.std.proofs.Common.{◌≡◌, [], ◌∷◌, ◌++◌, rules, arith, refl, sym, subst, inl}
 use Rattle.std.proofs.lemmas.List.{map-append}
 use Rattle.ls_film.specs.View.Codestreams.{IsTaken}
 use Rattle.ls_film.specs.View.Ahead.{AreTaken, codestreams_of}

@@ -1,1 +1,0 @@
-use Rattle.ls_film.proofs.ahead.work_on.Goals as goal

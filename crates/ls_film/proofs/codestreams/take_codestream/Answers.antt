@@ -1,4 +1,3 @@
-use Rattle.std.proofs.Common.{◌≡◌, ℕ, List, ap, subst, sym}
 use Rattle.ls_film.specs.View.Codestreams.{IsTaken}
 use Rattle.ls_film.proofs.CodestreamLemmas.{untaken}
 use Rattle.ls_film.proofs.codestreams.take_codestream.Goals as goal

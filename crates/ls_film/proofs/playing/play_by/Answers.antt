@@ -1,5 +1,4 @@
-use Rattle.std.proofs.Common.{◌≡◌, false, refl}
-use Rattle.ls_film.specs.View.Ahead.{IsAhead, failed_after}
+use Rattle.std.proofs.Common.{refl}
 use Rattle.ls_film.specs.View.Sources.{IsShown}
 use Rattle.ls_film.proofs.AheadLemmas.{ahead-none}
 use Rattle.ls_film.proofs.PlayLemmas.{play-stops, reads-ahead}

@@ -1,10 +1,5 @@
-use Rattle.std.proofs.Common.{◌≡◌, ℕ, List, Option, refl, sym, subst, ap}
-use Rattle.ls_frame.specs.Picture.{IsFrame}
-use Rattle.ls_frame.specs.View.Known.{Gave}
-use Rattle.ls_stream.specs.Grammar.{Spells}
-use Rattle.ls_stream.specs.declared.faults.StreamFault.{StreamFault}
-use Rattle.ls_film.specs.declared.codestreams.Unread.TheVariants.{Stream}
-use Rattle.ls_film.specs.View.Codestreams.{IsTaken, IsMadeOf, IsUnmade, IsUnread}
+use Rattle.std.proofs.Common.{ℕ, List, refl, subst}
+use Rattle.ls_film.specs.View.Codestreams.{IsTaken, IsMadeOf, IsUnmade}
 use Rattle.ls_film.proofs.CodestreamLemmas.{taken_frame, taken_fault}
 use Rattle.ls_film.proofs.codestreams.OneByOneImages.next.Goals as goal
 
