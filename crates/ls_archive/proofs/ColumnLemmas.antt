@@ -1,8 +1,7 @@
 -- What follows the size in a line: its kind, its numbers and its sum.
-use Rattle.std.proofs.Common.{◌≡◌, ◌≢◌, inl, inr, ℕ, suc, ◌+◌, ◌-◌, ◌<◌, ◌≤◌, ◌^◌, List, [], ◌∷◌, ◌++◌, length, drop, Option, None, Some, Result, Ok, Err, decimal, codes, refl, sym, ap, subst, ◌∙◌, arith, append_assoc, append-nil}
+use Rattle.std.proofs.Common.{◌≡◌, ◌≢◌, inl, inr, ℕ, ◌+◌, ◌-◌, ◌<◌, ◌^◌, List, [], ◌∷◌, ◌++◌, length, drop, Option, None, Some, Result, Ok, Err, decimal, codes, refl, sym, ap, ◌∙◌, arith, append_assoc, append-nil}
 use denote.Ref.{Bor}
 use Rattle.std.specs.Prelude.{MatchOption, IfSome, OnOk, flat_map}
-use Rattle.std.specs.List.{AllByRecursion}
 use Rattle.std.proofs.Math.Seq.{drop-append_seam}
 use Rattle.std.proofs.lemmas.List.{length_push}
 use Rattle.std.specs.Result.{result_ok}

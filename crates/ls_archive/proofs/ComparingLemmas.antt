@@ -1,18 +1,15 @@
 -- A comparison step by step, whichever source the recording's frames come from.
-use Rattle.std.proofs.Common.{◌≡◌, ◌⊎◌, ℕ, Bool, true, false, List, Option, Some, None, Result, sym, ap, subst, inl, inr, refl, ◌∙◌}
-use Rattle.std.specs.Prelude.{◌||◌, Ok}
+use Rattle.std.proofs.Common.{◌≡◌, ◌⊎◌, ℕ, List, Option, Some, None, sym, subst, inl, inr, refl}
 use Rattle.ls_frame.specs.Netpbm.{IsImageOf}
 use Rattle.ls_frame.specs.Picture.{Picture}
-use Rattle.ls_frame.specs.View.Devices.{count_after}
 use Rattle.ls_frame.specs.View.Known.{Gave}
 use Rattle.ls_stream.specs.declared.faults.StreamFault.{StreamFault}
 use Rattle.ls_stream.specs.Grammar.{Spells}
 use Rattle.ls_film.specs.declared.codestreams.Unread.TheVariants.{Stream}
 use Rattle.ls_film.specs.View.Codestreams.{IsUnread}
-use Rattle.ls_archive.specs.declared.faults.VerifyFault.{VerifyFault}
 use Rattle.ls_archive.specs.declared.verifying.Verdict.{Verdict}
-use Rattle.ls_archive.specs.View.Verifying.{GaveNext, verdict_at, StopsRecording, recording_fault, failed_recording}
-use Rattle.ls_archive.specs.View.Comparing.{GivesCoded, HasCompared, HasReadAhead}
+use Rattle.ls_archive.specs.View.Verifying.{Finds, GaveNext, verdict_at, StopsRecording, recording_fault}
+use Rattle.ls_archive.specs.View.Comparing.{GivesCoded, HasCompared}
 use Rattle.ls_archive.proofs.VerifyLemmas.{stops_coded}
 
 -- where the recording is at its end there is a verdict
@@ -47,15 +44,8 @@ pub stops-ahead : (place : Option (List ℕ)) (n : ℕ) (fault : StreamFault) �
 stops-ahead place n fault (inl memory) = stops_coded place n fault memory.1 (inl memory.0)
 stops-ahead place n fault (inr breaks) = stops_coded place n fault (λ told. (breaks told).0.some) (inr breaks)
 
--- the reads that failed in all
-pub or-false : (b : Bool) → b || false ≡ b
-or-false true = refl
-or-false false = refl
-
-or-true : (b : Bool) → b || true ≡ true
-or-true true = refl
-or-true false = refl
-
-pub reads-ahead : (owes : Bool) (old new : ℕ) (result : Result Verdict VerifyFault) → new ≡ count_after (failed_recording result || owes) old → HasReadAhead old new result
-reads-ahead true old new result is = inr (is ∙ ap (λ b. count_after b old) (or-true (failed_recording result)))
-reads-ahead false old new result is = inl (is ∙ ap (λ b. count_after b old) (or-false (failed_recording result)))
+-- a source that ends where its reader is
+pub found-here : (film film' recording recording' : Option (List ℕ)) (verdict : Verdict)
+    → (place : Option (List ℕ)) × Finds film film' recording place verdict × ((place ≡ recording') ⊎ (place ≡ recording')) → Finds film film' recording recording' verdict
+found-here film film' recording recording' verdict (place, finds, inl is) = subst (λ p. Finds film film' recording p verdict) is finds
+found-here film film' recording recording' verdict (place, finds, inr is) = subst (λ p. Finds film film' recording p verdict) is finds

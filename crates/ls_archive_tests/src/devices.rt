@@ -14,7 +14,12 @@ use std::process::Abort;
 type Ending = (Result<Salvaged, SalvageFault>, Sink, Vec<Gap>);
 
 /// Salvages a recording to a writer.
-fn salvaged<T: Text<Frame>>(rt: &impl Abort, alloc: Global, reader: Pieces<'_>, writer: Sink) -> Ending {
+fn salvaged<T: Text<Frame>>(
+    rt: &impl Abort,
+    alloc: Global,
+    reader: Pieces<'_>,
+    writer: Sink,
+) -> Ending {
     let mut reader = Buffered::new(alloc, Counted::new(reader)).expect(rt, "memory");
     let mut writer = Counted::new(writer);
     let mut gaps = Vec::new(alloc);

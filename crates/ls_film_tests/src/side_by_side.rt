@@ -40,13 +40,7 @@ fn check_case<Rt: Threads + Abort + Sync>(
     let (recording, failure, mishap, want) = *case;
     let reader = Counted::new(Pieces::new(recording, 3, failure));
     let writer = Counted::new(Sink::new(2, mishap));
-    let workers = usize::from(workers);
-    let played = if workers > 1 {
-        play_by(rt, alloc, workers, reader, writer)
-    } else {
-        play_by(rt, alloc, 1, reader, writer)
-    };
-    let (result, reader, writer) = match played {
+    let (result, reader, writer) = match play_by(rt, alloc, usize::from(workers), reader, writer) {
         Ok((frames, reader, writer)) => (Ok(frames), reader, writer),
         Err((fault, reader, writer)) => (Err(fault), reader, writer),
     };
@@ -107,7 +101,7 @@ const CASES: &[Case<'static>] = &[
 ];
 
 fn check_cases<Rt: Threads + Abort + Sync>(rt: &Rt, alloc: Global, ample: bool) {
-    for workers in [1u8, 2, 16] {
+    for workers in [0u8, 1, 2, 16] {
         for case in CASES {
             check_case(rt, alloc, workers, case, ample);
         }

@@ -12,8 +12,8 @@ use crate::checking::{
     take_bytes, tell_damage,
 };
 use ls_film::MOST_FRAMES;
-use ls_frame::Feed;
 use ls_film::ahead::threads_worth;
+use ls_frame::Feed;
 use std::alloc::{AllocError, Global};
 use std::mem::replace;
 use std::thread;

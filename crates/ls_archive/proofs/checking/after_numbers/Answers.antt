@@ -1,4 +1,4 @@
-use Rattle.std.proofs.Common.{◌≡◌, ◌<◌, ◌-◌, ◌+◌, sym, ap, subst, arith}
+use Rattle.std.proofs.Common.{◌≡◌, ◌<◌, ◌-◌, ◌+◌, subst, arith}
 use Rattle.ls_archive.specs.View.Checking.{AreNumbers}
 use Rattle.ls_archive.proofs.ColumnLemmas.{numbers-none, numbers-push, numbers-first, numbers-nothing, columns-end}
 use Rattle.ls_archive.proofs.checking.after_numbers.Goals as goal

@@ -1,4 +1,4 @@
-use Rattle.ls_archive.proofs.ColumnLemmas.{are-columns-some, columns-end, sum-ends}
+use Rattle.ls_archive.proofs.ColumnLemmas.{are-columns-some, sum-ends}
 use Rattle.ls_archive.specs.View.Checking.{sum_at_end}
 use Rattle.ls_archive.proofs.checking.sum_in.Goals as goal
 

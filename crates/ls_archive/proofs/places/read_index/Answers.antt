@@ -1,4 +1,4 @@
-use Rattle.std.proofs.Common.{◌≡◌, refl, arith, rules}
+use Rattle.std.proofs.Common.{refl, arith, rules}
 use Rattle.ls_archive.proofs.places.read_index.Goals as goal
 
 pub loop-number-init : goal.loop-number-init
