@@ -3,7 +3,7 @@ use crate::testing::{
     BLACK, BLACK_IMAGE, Outcome, WHITE, WHITE_IMAGE, check, check_text, ended, joined,
 };
 use ls_film::engine::Text;
-use ls_frame::{Buffered, Counted};
+use ls_frame::{Buffered, Counted, Frame};
 use ls_salvage::{Gap, ImageText, NoText, SalvageFault, Salvaged, salvage};
 use ls_stream::StreamFault;
 use ls_testing::{Mishap, Pieces, Sink};
