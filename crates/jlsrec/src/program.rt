@@ -70,7 +70,38 @@ where
     match read_words(alloc, words) {
         Ok((request, reasons)) => {
             console.tell_reasons(reasons);
-            do_request(rt, opener, request, output, console)
+            match request {
+                Request::List { file } => list(rt, file, output, console),
+                Request::Code { file, index } => match index {
+                    Some(index) => code_with_index(rt, file, index, output, console),
+                    None => code(rt, file, output, console),
+                },
+                Request::Play {
+                    file,
+                    frames,
+                    salvage,
+                    workers,
+                    ..
+                } if !salvage => show(rt, file, frames.map(part_of), workers, output, console),
+                Request::Play { file, index, .. } => show_whole(rt, file, index, output, console),
+                Request::Index { file, sums } => index(rt, file, sums, output, console),
+                Request::Check {
+                    file,
+                    index,
+                    workers,
+                } => check_recording(rt, file, index, workers, output, console),
+                Request::Verify {
+                    film,
+                    recording,
+                    workers,
+                } => verify_files(rt, film, recording, workers, console),
+                Request::Record(asked) => record_films(rt, opener, asked, output, console),
+                Request::Replay {
+                    sources,
+                    capacity,
+                    file,
+                } => replay_file(rt, sources, capacity, file, output, console),
+            }
         }
         Err(other) => answer(printable(alloc, words, other), output, console),
     }
@@ -105,55 +136,6 @@ fn shown_word(alloc: Global, word: &str) -> Result<String, AllocError> {
         word.to_string(alloc)
     } else {
         Escaped(word).to_string(alloc)
-    }
-}
-
-/// Does what is asked for, and returns the status.
-fn do_request<R, O, W, E>(
-    rt: &R,
-    opener: O,
-    request: Request<'_>,
-    output: &mut Counted<W>,
-    console: &mut Console<'_, E>,
-) -> u8
-where
-    R: Eprint + Files + AllocGlobal + Clock + Threads + Wait + Sync,
-    O: Makes<File = R::File> + Copy + Send,
-    R::File: Send + Locks,
-    W: Write + Send,
-    E: Outlet + Send,
-{
-    match request {
-        Request::List { file } => list(rt, file, output, console),
-        Request::Code { file, index } => match index {
-            Some(index) => code_with_index(rt, file, index, output, console),
-            None => code(rt, file, output, console),
-        },
-        Request::Play {
-            file,
-            frames,
-            salvage,
-            workers,
-            ..
-        } if !salvage => show(rt, file, frames.map(part_of), workers, output, console),
-        Request::Play { file, index, .. } => show_whole(rt, file, index, output, console),
-        Request::Index { file, sums } => index(rt, file, sums, output, console),
-        Request::Check {
-            file,
-            index,
-            workers,
-        } => check_recording(rt, file, index, workers, output, console),
-        Request::Verify {
-            film,
-            recording,
-            workers,
-        } => verify_files(rt, film, recording, workers, console),
-        Request::Record(asked) => record_films(rt, opener, asked, output, console),
-        Request::Replay {
-            sources,
-            capacity,
-            file,
-        } => replay_file(rt, sources, capacity, file, output, console),
     }
 }
 

@@ -1,4 +1,5 @@
 //! The table of commands and options, and how `clap` is given them.
+use crate::limits::{CAPACITY, QUEUE, SOURCES, WINDOW, WORKERS};
 use crate::texts::{
     CAPACITY_HELP, CHECK_HELP, CHECKERS_HELP, CODE_HELP, FILM_HELP, FILMS_HELP, FRAMES_HELP,
     INDEX_FILE_HELP, INDEX_HELP, INDEX_OF_CODE_HELP, INDEX_OF_RECORDING_HELP,
@@ -48,8 +49,8 @@ const COMMANDS: [Entry; 8] = [
         help: RECORD_HELP,
         arguments: &[
             Argument::Number("workers", WORKERS, "2", WORKERS_HELP),
-            Argument::Number("queue", (1, 256), "8", QUEUE_HELP),
-            Argument::Number("window", (1, 64), "4", WINDOW_HELP),
+            Argument::Number("queue", QUEUE, "8", QUEUE_HELP),
+            Argument::Number("window", WINDOW, "4", WINDOW_HELP),
             Argument::Text("preset", "T1,T2,T3,RESET", PRESET_HELP),
             Argument::Text("into", "FOLDER", INTO_HELP),
             Argument::Flag("replace", REPLACE_HELP),
@@ -126,8 +127,8 @@ const COMMANDS: [Entry; 8] = [
         about: "Replays the steps of a queue",
         help: REPLAY_HELP,
         arguments: &[
-            Argument::RequiredNumber("sources", (0, 255), SOURCES_HELP),
-            Argument::RequiredNumber("capacity", (0, 4_294_967_295), CAPACITY_HELP),
+            Argument::RequiredNumber("sources", SOURCES, SOURCES_HELP),
+            Argument::RequiredNumber("capacity", CAPACITY, CAPACITY_HELP),
             REASONS,
             Argument::File("FILE", STEPS_HELP),
         ],
@@ -136,9 +137,6 @@ const COMMANDS: [Entry; 8] = [
 
 /// The option of every command to say why a device failed.
 const REASONS: Argument = Argument::Flag("reasons", REASONS_HELP);
-
-/// The least and the most workers.
-const WORKERS: (i64, i64) = (1, 16);
 
 /// The program's commands, options and help.
 pub fn command<'a>(alloc: Global) -> Result<Command<'a>, AllocError> {

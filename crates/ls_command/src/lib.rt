@@ -14,12 +14,13 @@
 //! ```
 //!
 //! The words are parsed by `clap`, which isn't seen outside: `commands` gives it the commands and options, and
-//! `texts` holds their help. `frames` and `preset` read the values of `--frames` and `--preset`. The tests of the
-//! whole program show which words are accepted, and how others are answered.
+//! `texts` holds their help. `limits` has the limits on numbers; `frames` and `preset` read the values of `--frames`
+//! and `--preset`. The tests of the whole program show which words are accepted, and how others are answered.
 #![tactic(auto)]
 
 mod commands;
 pub mod frames;
+mod limits;
 mod preset;
 mod texts;
 
@@ -28,11 +29,13 @@ use clap::{ArgMatches, Command, Error};
 use commands::{command, command_named};
 pub use frames::Frames;
 use frames::read_frames;
+pub use limits::MOST_FILMS;
 use ls_frame::Tuning;
 use preset::tuning_of;
 use std::alloc::{AllocError, Global};
 use texts::{
-    BEGINNING, CHECKERS_WANTED, COMMAND_WANTED, FRAMES_WANTED, PLAYERS_WANTED, SALVAGE_WANTED,
+    BAD_PRESET, BEGINNING, CHECKERS_WANTED, COMMAND_WANTED, FRAMES_OR_SALVAGE, FRAMES_WANTED,
+    PLAYERS_WANTED, SALVAGE_WANTED, TOO_MANY_FILMS,
 };
 
 /// A request, one variant for each command.
@@ -86,15 +89,14 @@ pub enum Request<'a> {
     },
 }
 
-/// The most films that are recorded side by side.
-pub const MOST_FILMS: usize = 16;
-
 /// A request to record films.
 #[derive(Drop)]
 pub struct Recording<'a> {
-    pub workers: u8,
-    pub queue: u16,
-    pub window: u8,
+    /// The number of workers, of frames that may wait for one, and of frames of a film that may be read and not
+    /// written.
+    pub workers: usize,
+    pub capacity: usize,
+    pub window: usize,
     /// The coding parameters that were chosen.
     pub tuning: Tuning,
     /// The folder for the recordings.
@@ -254,10 +256,7 @@ fn play_request<'a>(alloc: Global, words: &ArgMatches<'a>) -> Result<Option<Requ
     let salvage = words.get_flag("salvage");
     let frames = match words.get_str("frames") {
         Some(_) if salvage => {
-            return Err(usage_fault(
-                command_named(alloc, "play"),
-                "--frames and --salvage don't go together",
-            ));
+            return Err(usage_fault(command_named(alloc, "play"), FRAMES_OR_SALVAGE));
         }
         Some(text) => match read_frames(text) {
             Some(frames) => Some(frames),
@@ -323,12 +322,10 @@ fn record_request<'a>(
     words: &ArgMatches<'a>,
 ) -> Result<Option<Request<'a>>, Refusal> {
     let Some(tuning) = tuning_of(words.get_str("preset")) else {
-        return Err(Refusal::Limit("jlsrec: bad preset\n"));
+        return Err(Refusal::Limit(BAD_PRESET));
     };
     match words.get_strs("FILE").unwrap_or(&[]).to_vec(alloc) {
-        Ok(files) if files.len() > MOST_FILMS => {
-            Err(Refusal::Limit("jlsrec: at most 16 files\n"))
-        }
+        Ok(files) if files.len() > MOST_FILMS => Err(Refusal::Limit(TOO_MANY_FILMS)),
         Ok(files) => Ok(recording_of(words, tuning, files)),
         Err(refused) => Err(Refusal::Clap(Error::from(refused))),
     }
@@ -342,7 +339,7 @@ fn recording_of<'a>(
 ) -> Option<Request<'a>> {
     Some(Request::Record(Recording {
         workers: words.get_one("workers")?,
-        queue: words.get_one("queue")?,
+        capacity: words.get_one("queue")?,
         window: words.get_one("window")?,
         tuning,
         into: words.get_str("into"),

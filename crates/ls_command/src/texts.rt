@@ -79,6 +79,8 @@ recorded frames that weren't played, each run of them by a line on standard erro
   FILE: frame N is lost
 or `frames N to M are lost`. FILE is read twice then, so a pipe can't be played so";
 
+pub const FRAMES_OR_SALVAGE: &str = "--frames and --salvage don't go together";
+
 pub const SALVAGE_WANTED: &str = "--index goes only with --salvage";
 
 pub const PLAYERS_HELP: &str = "\
@@ -173,6 +175,10 @@ once its recording is on the disk.
   left.pgm: 250 frames
   right.pgm: 250 frames
   $ jlsrec play left.pgm.jls | cmp - left.pgm";
+
+pub const TOO_MANY_FILMS: &str = "jlsrec: at most 16 files\n";
+
+pub const BAD_PRESET: &str = "jlsrec: bad preset\n";
 
 pub const WORKERS_HELP: &str = "How many workers code frames, 1 to 16";
 

@@ -23,8 +23,9 @@
 //! ```
 //!
 //! In reading order: `shown` (file names and other words), `console` (standard error), `output` (standard output, and
-//! the statuses), `reader` (reads films and recordings, and finds the cause of a fault), `written` (says how a file
-//! that was written ended). No contract says what is said; the tests of the whole program show it.
+//! the statuses), `reader` (reads films and recordings, and finds the cause of a fault), `written` (makes a
+//! file, and says how one that was written ended). No contract says what is said; the tests of the whole program show
+//! it.
 #![tactic(auto)]
 
 mod console;
@@ -39,4 +40,4 @@ pub use output::{
 };
 pub use reader::{Cause, Reader, buffered, cause_of_input, explain, open_film};
 pub use shown::{Escaped, Shown, ShownBytes, is_shown_plain};
-pub use written::{EndedIndex, say_index_end, say_unmade, say_unsynced};
+pub use written::{EndedIndex, MadeFile, make_file, say_index_end, say_unmade, say_unsynced};

@@ -1,12 +1,48 @@
-//! Says how a file that was written ended.
+//! Makes a file that isn't a recording's, and says how a file that was written ended.
 use crate::console::Console;
 use crate::output::FAILED;
 use crate::reader::Cause;
 use crate::shown::Shown;
-use ls_files::{Opens, Target};
+use ls_files::{Keeper, Makes, Opens, Target};
 use ls_frame::{Counted, Failed, Outlet};
+use std::alloc::Global;
 use std::fmt::Display;
 use std::io;
+
+/// A file that was made by itself, as a report is: its path, the file to write to, and its keeper.
+#[derive(Drop)]
+pub struct MadeFile<'a, O: Makes> {
+    pub path: &'a str,
+    pub target: Target<'a, O>,
+    pub keeper: Keeper<O>,
+}
+
+/// Makes the file at `path`, whose place was claimed by `keeper`, and says what was renamed for it. On failure says
+/// why and returns the status.
+pub fn make_file<'a, O, E>(
+    alloc: Global,
+    path: &'a str,
+    mut keeper: Keeper<O>,
+    console: &mut Console<'_, E>,
+) -> Result<MadeFile<'a, O>, u8>
+where
+    O: Makes + Copy + Drop,
+    E: Outlet,
+{
+    match keeper.make(alloc, path, None) {
+        Ok(targets) => {
+            if let Some(renamed) = keeper.renamed() {
+                console.mention(path, renamed);
+            }
+            Ok(MadeFile {
+                path,
+                target: targets.recording,
+                keeper,
+            })
+        }
+        Err(unmade) => Err(say_unmade(path, unmade.fault, console)),
+    }
+}
 
 /// An index whose recording has ended: whether it is whole, and its file.
 #[derive(Drop)]

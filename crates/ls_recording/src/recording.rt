@@ -1,15 +1,15 @@
 //! The command `record`: opens the films, records them, and says how each ended.
-use crate::ending::report::write_report;
-use crate::ending::say_recorded;
-use crate::opening::{Names, Opened, Writer, names_once, open_films};
+use crate::ending::report::{table_of, write_report};
+use crate::ending::{end_films, release, say_counts};
+use crate::names::names_once;
+use crate::opening::{Devices, Opened, Writer, open_films};
 use crate::watching::Watch;
 use crate::watching::progress::Teller;
 use ls_command::Recording as Asked;
 use ls_console::{Console, Reader, no_memory};
 use ls_files::Makes;
-use ls_frame::{Counted, Feed, Outlet, Tuning};
-use ls_recorder::{RecordFault, Recording as Tracks, Sizes, Track, record};
-use std::alloc::Global;
+use ls_frame::{Counted, Outlet};
+use ls_recorder::{RecordFault, Recording as Tracks, Track, record};
 use std::io::Write;
 use std::rt::Files;
 use std::sync::Wait;
@@ -20,15 +20,18 @@ use std::time::Clock;
 /// The outcome of a film: its reader, its writer and the result.
 pub type FilmTrack<'a, O> = Track<Reader<'a, O>, Writer<'a, O>>;
 
-/// The outcomes of all films; or the fault that kept them from being recorded, and the films.
-pub type Recorded<R, W> = Result<Tracks<R, W>, (RecordFault, Vec<(R, W, Tuning)>)>;
+/// The outcomes of all films; or the fault that kept them from being recorded, and what their lanes were given.
+pub type Recorded<'a, O> = Result<
+    Tracks<Reader<'a, O>, Writer<'a, O>>,
+    (RecordFault, Vec<Devices<'a, O>>),
+>;
 
-/// Records the films that are asked for, says how each ended, and returns the status. On a terminal progress is
-/// always shown.
+/// Records the films that are asked for, says how each ended, and returns the status. On a terminal progress is always
+/// shown.
 pub fn record_films<R, O, W, E>(
     rt: &R,
     opener: O,
-    mut asked: Asked<'_>,
+    asked: Asked<'_>,
     output: &mut Counted<W>,
     console: &mut Console<'_, E>,
 ) -> u8
@@ -39,41 +42,42 @@ where
     W: Write + Send,
     E: Outlet + Send,
 {
-    asked.progress = asked.progress || console.is_terminal();
-    match names_once(rt.alloc(), &asked, console) {
-        Ok(names) => record_named(rt, opener, &asked, &names, output, console),
-        Err(status) => status,
-    }
+    let alloc = rt.alloc();
+    let names = match names_once(alloc, &asked, console.columns()) {
+        Ok(names) => names,
+        Err(refusal) => return refusal.say(console),
+    };
+    let opened = match open_films(rt, opener, &asked, &names, console) {
+        Ok(opened) => opened,
+        Err(refusal) => return refusal.say(console),
+    };
+    record_opened(rt, &asked, opened, output, console)
 }
 
-/// Records films that have no duplicates among their names, says how each ended, and returns the status.
-fn record_named<'a, R, O, W, E>(
+/// Records films whose files are open, while another thread watches them, says how each ended, and returns the status.
+/// If no thread can be started to watch, the films' files are settled at the end.
+fn record_opened<'a, R, O, W, E>(
     rt: &R,
-    opener: O,
     asked: &'a Asked<'a>,
-    names: &'a [Names<'a>],
+    opened: Opened<'a, O>,
     output: &mut Counted<W>,
     console: &mut Console<'_, E>,
 ) -> u8
 where
-    R: Files + AllocGlobal + Clock + Threads + Wait + Sync,
-    O: Makes<File = R::File> + Copy + Send,
-    R::File: Send,
+    R: AllocGlobal + Clock + Threads + Wait + Sync,
+    O: Makes + Copy + Send,
+    O::File: Send,
     W: Write + Send,
     E: Outlet + Send,
 {
-    let opened = match open_films(rt, opener, asked, names, console) {
-        Ok(opened) => opened,
-        Err(status) => return status,
-    };
+    let alloc = rt.alloc();
     let Opened {
-        films,
-        mut kept,
+        mut films,
+        devices,
         report,
     } = opened;
-    let alloc = rt.alloc();
-    let is_timed = asked.progress || report.is_some();
-    let Ok(watch) = Watch::new(rt, alloc, films.len(), is_timed) else {
+    let is_telling = asked.progress || console.is_terminal();
+    let Ok(watch) = Watch::new(rt, alloc, films.len(), is_telling || report.is_some()) else {
         return no_memory(console);
     };
     let teller = Teller {
@@ -81,70 +85,37 @@ where
         alloc,
         watch: &watch,
         files: &asked.files,
-        kept: &mut kept,
+        films: &mut films,
         output,
         console,
-        is_telling: asked.progress,
+        is_telling,
     };
-    let sizes = Sizes {
-        workers: usize::from(asked.workers),
-        capacity: usize::from(asked.queue),
-        window: usize::from(asked.window),
-    };
-    let recorded = record_told(films, sizes, teller);
-    let status = say_recorded(alloc, &watch, kept, recorded, output, console);
-    match report {
-        Some(report) => {
-            let workers = usize::from(asked.workers);
-            status.max(write_report(alloc, report, &watch, &asked.files, workers, console))
-        }
-        None => status,
-    }
-}
-
-/// Records films while another thread watches them. If none can be started for that, their files are settled at the
-/// end.
-fn record_told<'s, 'a, 'e, R, O, W, E>(
-    films: Vec<(Reader<'a, O>, Writer<'a, O>, Tuning)>,
-    sizes: Sizes,
-    teller: Teller<'s, 'a, 'e, R, O, W, E>,
-) -> Recorded<Reader<'a, O>, Writer<'a, O>>
-where
-    R: Clock + Threads + Wait + Sync,
-    O: Makes + Copy + Send,
-    O::File: Send,
-    W: Write + Send,
-    E: Outlet + Send,
-{
-    let (rt, alloc, watch) = (teller.rt, teller.alloc, teller.watch);
+    let (workers, capacity, window) = (asked.workers, asked.capacity, asked.window);
     // The first of the two is called in a thread of its own, or else after the second: then it has nothing left to do.
     let ((), recorded) = thread::join(
         rt,
         move || teller.tell(),
-        move || record_watched(rt, alloc, films, sizes, watch),
+        || {
+            let recorded = record(rt, alloc, devices, workers, capacity, window, &watch);
+            watch.end();
+            recorded
+        },
     );
-    recorded
-}
-
-/// Records films under a watch, and wakes the thread that waits for the end.
-fn record_watched<Rt, R, F>(
-    rt: &Rt,
-    alloc: Global,
-    films: Vec<(R, F, Tuning)>,
-    sizes: Sizes,
-    watch: &Watch<'_, Rt>,
-) -> Recorded<R, F>
-where
-    Rt: Clock + Threads + Wait + Sync,
-    R: Feed + Send + Drop,
-    F: Outlet + Send + Drop,
-{
-    let Sizes {
-        workers,
-        capacity,
-        window,
-    } = sizes;
-    let recorded = record(rt, alloc, films, workers, capacity, window, watch);
-    watch.end();
-    recorded
+    let status = match end_films(alloc, &watch, &mut films, recorded, console) {
+        Ok(files) => {
+            let status = say_counts(alloc, &films, output, console);
+            release(files);
+            status
+        }
+        Err(status) => status,
+    };
+    // The films' files are unlocked before the report is written, which may wait for what reads it.
+    drop(films);
+    match report {
+        Some(report) => {
+            let table = table_of(alloc, &watch, &asked.files, workers);
+            status.max(write_report(report, table, console))
+        }
+        None => status,
+    }
 }

@@ -1,36 +1,31 @@
 //! The report of a recording: a table of how each film went, and how busy the workers were.
-use super::kept::failed_of;
 use super::table::{add_film, add_workers, head};
-use crate::opening::Report;
+use crate::film::failed_of;
 use crate::watching::Watch;
-use ls_console::{Console, DONE, FAILED, Shown};
+use ls_console::{Console, DONE, FAILED, MadeFile, Shown};
 use ls_files::Makes;
 use ls_frame::{Counted, Outlet, write_bytes};
 use std::alloc::{AllocError, Global};
 use std::time::Clock;
 
-/// Writes the report of a recording that has ended, of films by their names, and syncs it to disk; or says that it
-/// can't. Returns the status.
-pub fn write_report<R, O, E>(
-    alloc: Global,
-    report: Report<'_, O>,
-    watch: &Watch<'_, R>,
-    files: &[&str],
-    workers: usize,
+/// Writes a table to the file of a report, if there was memory for one, and syncs it to disk; or says that it can't.
+/// Returns the status.
+pub fn write_report<O, E>(
+    report: MadeFile<'_, O>,
+    table: Result<String, AllocError>,
     console: &mut Console<'_, E>,
 ) -> u8
 where
-    R: Clock,
     O: Makes + Copy + Drop,
     E: Outlet,
 {
-    let Report {
+    let MadeFile {
         path,
         target,
         mut keeper,
     } = report;
     let shown = Shown(path);
-    let Ok(text) = table_of(alloc, watch, files, workers) else {
+    let Ok(text) = table else {
         console.say(format_args!("{shown}: no memory"));
         keeper.give_back();
         return FAILED;
@@ -58,8 +53,8 @@ where
     status
 }
 
-/// A line for each film, by its name, and one of the workers.
-fn table_of<R: Clock>(
+/// The table of a recording that has ended: a line for each film, by its name, and one of the workers.
+pub fn table_of<R: Clock>(
     alloc: Global,
     watch: &Watch<'_, R>,
     files: &[&str],

@@ -2,10 +2,10 @@
 //! standard error: on a terminal in a progress line, elsewhere as lines.
 use super::Watch;
 use super::pace::{Pace, line_of};
-use crate::ending::kept::Kept;
 use crate::ending::say_count;
+use crate::film::Film;
 use ls_console::{Console, Shown};
-use ls_files::Makes;
+use ls_files::{Keeper, Makes};
 use ls_frame::{Counted, Outlet};
 use std::alloc::{AllocError, Global};
 use std::io::Write;
@@ -23,7 +23,7 @@ pub struct Teller<'s, 'a, 'e, R, O: Makes, W, E> {
     pub watch: &'s Watch<'s, R>,
     /// The films' names.
     pub files: &'s [&'s str],
-    pub kept: &'s mut [Kept<'a, O>],
+    pub films: &'s mut [Film<'a, Keeper<O>>],
     pub output: &'s mut Counted<W>,
     pub console: &'s mut Console<'e, E>,
     /// Whether progress is said.
@@ -47,7 +47,7 @@ where
             alloc,
             watch,
             files,
-            kept,
+            films,
             output,
             console,
             is_telling,
@@ -62,12 +62,12 @@ where
             if watch.is_over() {
                 break;
             }
-            settle_ended(watch, kept);
+            settle_ended(watch, films);
             if !is_telling {
                 continue;
             }
             tell_news(watch, files, console);
-            tell_counts(alloc, watch, kept, output, console);
+            tell_counts(alloc, watch, films, output, console);
             let now = watch.now();
             let time = now.saturating_sub(said);
             if time >= DUE {
@@ -94,18 +94,18 @@ fn longest_wait(is_telling: bool) -> Duration {
 
 /// Settles the files of each film that has ended since, and removes earlier files that the recordings of the others
 /// have replaced.
-fn settle_ended<R, O>(watch: &Watch<'_, R>, kept: &mut [Kept<'_, O>])
+fn settle_ended<R, O>(watch: &Watch<'_, R>, films: &mut [Film<'_, Keeper<O>>])
 where
     R: Clock,
     O: Makes + Copy + Drop,
 {
-    for (film, kept) in kept.iter_mut().enumerate() {
-        let written = watch.written(film);
-        match watch.ended(film) {
+    for (number, film) in films.iter_mut().enumerate() {
+        let written = watch.written(number);
+        match watch.ended(number) {
             Some(result) => {
-                let _synced = kept.settle(result, written);
+                let _synced = film.settle(result, written);
             }
-            None => kept.replace(written),
+            None => film.replace(written),
         }
     }
 }
@@ -114,7 +114,7 @@ where
 fn tell_counts<R, O, W, E>(
     alloc: Global,
     watch: &Watch<'_, R>,
-    kept: &mut [Kept<'_, O>],
+    films: &mut [Film<'_, Keeper<O>>],
     output: &mut Counted<W>,
     console: &mut Console<'_, E>,
 )
@@ -124,14 +124,14 @@ where
     W: Write,
     E: Outlet,
 {
-    for (film, kept) in kept.iter_mut().enumerate() {
-        if kept.is_told || !kept.is_on_disk() {
+    for (number, film) in films.iter_mut().enumerate() {
+        if film.is_told || !film.is_on_disk() {
             continue;
         }
-        if let Some(Ok(frames)) = watch.ended(film) {
-            kept.is_told = true;
+        if let Some(Ok(frames)) = watch.ended(number) {
+            film.is_told = true;
             console.clear();
-            let _said = say_count(alloc, kept.names.file, frames, output, console);
+            let _said = say_count(alloc, film.names.file, frames, output, console);
         }
     }
 }

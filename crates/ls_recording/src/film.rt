@@ -1,0 +1,202 @@
+//! A film that is recorded, from the opening of its file until its recording has ended.
+use crate::names::Names;
+use crate::refusal::Refusal;
+use ls_console::Console;
+use ls_files::{Identity, Keeper, Makes, Place, Spot, Targets, Unmade};
+use ls_frame::{Failed, Outlet};
+use ls_recorder::LaneFault;
+use std::alloc::Global;
+use std::io;
+use std::rt::Files;
+
+/// A film. `K` is `Keeper`, which holds the files that are made for it; or `()` until existing files are locked.
+#[derive(Drop)]
+pub struct Film<'a, K> {
+    pub names: &'a Names<'a>,
+    /// The film's file, and the folder and name at which it is.
+    pub identity: Option<Identity>,
+    pub spot: Option<Spot<'a>>,
+    /// The places of its recording and of the index of that.
+    pub place: Place<'a>,
+    pub index: Place<'a>,
+    keeper: K,
+    /// Whether the recording and its index are on the disk, once the film has ended.
+    synced: Option<Synced>,
+    /// The failure to sync the recording while it went on. (The system says so only once.)
+    unsynced: Option<Failed>,
+    /// The number of frames, once the film has ended and if its recording is whole.
+    pub frames: Option<u64>,
+    /// Whether it has an index that isn't whole, once the film has ended.
+    pub is_index_broken: bool,
+    /// Whether the line with its number of frames was written.
+    pub is_told: bool,
+}
+
+/// Whether a recording and its index were synced to disk, or why not.
+#[derive(Clone, Copy)]
+pub struct Synced {
+    pub recording: Result<(), Failed>,
+    pub index: Result<(), Failed>,
+}
+
+impl<'a> Film<'a, ()> {
+    /// The film of this identity: looks at where it is, and at the places of its recording and index.
+    pub fn look<R: Files + AllocGlobal>(
+        rt: &R,
+        names: &'a Names<'a>,
+        identity: Option<Identity>,
+    ) -> Film<'a, ()> {
+        Film {
+            names,
+            identity,
+            spot: Spot::of(rt, names.file),
+            place: Place::of(rt, names.recording.as_str()),
+            index: Place::of(rt, names.index.as_str()),
+            keeper: (),
+            synced: None,
+            unsynced: None,
+            frames: None,
+            is_index_broken: false,
+            is_told: false,
+        }
+    }
+
+    /// Locks existing files at the place of its recording, and at that of the index if `has_index`.
+    pub fn claim<O: Makes + Copy + Drop>(
+        &self,
+        alloc: Global,
+        opener: O,
+        has_index: bool,
+        replace: bool,
+    ) -> Result<Film<'a, Keeper<O>>, Refusal<'a>> {
+        let index = if has_index { Some(&self.index) } else { None };
+        match Keeper::claim(alloc, opener, &self.place, index, replace) {
+            Ok(keeper) => Ok(Film {
+                names: self.names,
+                identity: self.identity,
+                spot: self.spot,
+                place: self.place,
+                index: self.index,
+                keeper,
+                synced: None,
+                unsynced: None,
+                frames: None,
+                is_index_broken: false,
+                is_told: false,
+            }),
+            Err(unmade) => Err(unmade_of(self.names, unmade)),
+        }
+    }
+}
+
+impl<'a, O: Makes + Copy + Drop> Film<'a, Keeper<O>> {
+    /// Makes the files of its recording, and says what was renamed for them.
+    pub fn make<E: Outlet>(
+        &mut self,
+        alloc: Global,
+        console: &mut Console<'_, E>,
+    ) -> Result<Targets<'a, O>, Refusal<'a>> {
+        let names = self.names;
+        let index = if names.is_indexed {
+            Some(names.index.as_str())
+        } else {
+            None
+        };
+        match self.keeper.make(alloc, names.recording.as_str(), index) {
+            Ok(targets) => {
+                mention(names.recording.as_str(), self.keeper.renamed(), console);
+                mention(names.index.as_str(), self.keeper.renamed_index(), console);
+                Ok(targets)
+            }
+            Err(unmade) => Err(unmade_of(names, unmade)),
+        }
+    }
+
+    /// Removes earlier files that are to be replaced, once the recording has a codestream and is synced.
+    pub fn replace(&mut self, written: u64) {
+        if written > 0 && self.unsynced.is_none() && self.keeper.replaces() {
+            match self.keeper.sync() {
+                Ok(()) => self.keeper.replace(),
+                Err(fault) => self.unsynced = Some(Failed::from(fault)),
+            }
+        }
+    }
+
+    /// Settles the files of a film that has ended with this outcome and this number of codestreams: syncs them, and
+    /// removes earlier files that are to be replaced; or, if it stopped before anything was recorded, removes the new
+    /// files and gives earlier ones their names back. Returns whether they are on the disk, as at the first call.
+    pub fn settle(&mut self, outcome: Result<u64, LaneFault>, written: u64) -> Synced {
+        match self.synced {
+            Some(synced) => synced,
+            None => {
+                if outcome.is_err() {
+                    self.give_back();
+                }
+                let synced = Synced {
+                    recording: self.sync(),
+                    index: failed_of(self.keeper.sync_index()),
+                };
+                if synced.recording.is_ok() && written > 0 {
+                    self.keeper.replace();
+                }
+                self.synced = Some(synced);
+                synced
+            }
+        }
+    }
+
+    /// The earlier recording's new name, if it was to be replaced and stays, since the film has ended without a frame
+    /// or its recording couldn't be synced.
+    pub fn left_over(&mut self) -> Option<&str> {
+        if !self.keeper.replaces() {
+            return None;
+        }
+        self.keeper.keep();
+        self.keeper.renamed()
+    }
+
+    /// If nothing was recorded, removes the files that were made, and gives earlier ones their names back.
+    pub fn give_back(&mut self) {
+        self.keeper.give_back();
+    }
+
+    /// Whether it has ended, and the recording is on the disk.
+    pub fn is_on_disk(&self) -> bool {
+        match self.synced {
+            Some(synced) => synced.recording.is_ok(),
+            None => false,
+        }
+    }
+
+    fn sync(&self) -> Result<(), Failed> {
+        match self.unsynced {
+            Some(failure) => Err(failure),
+            None => failed_of(self.keeper.sync()),
+        }
+    }
+}
+
+/// Which file of a film can't be made, and why.
+fn unmade_of<'a>(names: &'a Names<'a>, unmade: Unmade) -> Refusal<'a> {
+    let path = if unmade.is_index {
+        names.index.as_str()
+    } else {
+        names.recording.as_str()
+    };
+    Refusal::Unmade(path, unmade.fault)
+}
+
+/// Says that the file at `path` was renamed, if it was and reasons are on.
+fn mention<E: Outlet>(path: &str, renamed: Option<&str>, console: &mut Console<'_, E>) {
+    if let Some(name) = renamed {
+        console.mention(path, name);
+    }
+}
+
+/// Converts an error of the system to a failure.
+pub fn failed_of(outcome: io::Result<()>) -> Result<(), Failed> {
+    match outcome {
+        Ok(()) => Ok(()),
+        Err(fault) => Err(Failed::from(fault)),
+    }
+}

@@ -1,0 +1,115 @@
+//! The names of a film and of the files of its recording, and which of them are duplicates.
+use crate::refusal::Refusal;
+use ls_command::Recording as Asked;
+use ls_console::{Shown, cleared};
+use ls_files::INDEX;
+use ls_files::identity::last_part;
+use std::alloc::{AllocError, Global};
+
+/// The names of a film, of its recording and of the index of that, and the line for a terminal once the film's pipe
+/// is open.
+#[derive(Drop)]
+pub struct Names<'a> {
+    pub file: &'a str,
+    pub recording: String,
+    /// The name of the recording's index.
+    pub index: String,
+    /// Whether an index is made.
+    pub is_indexed: bool,
+    pub notice: String,
+}
+
+/// The names of the films and of the files made for them, for a terminal with progress lines of `columns` characters.
+/// Refused if one is a duplicate.
+pub fn names_once<'a>(
+    alloc: Global,
+    asked: &Asked<'a>,
+    columns: usize,
+) -> Result<Vec<Names<'a>>, Refusal<'a>> {
+    let mut names = Vec::new(alloc);
+    for file in &asked.files {
+        names.push(film_names(alloc, *file, asked.into, asked.index, columns)?)?;
+    }
+    match named_twice(&names, asked.report) {
+        Some(name) => Err(Refusal::Twice(name)),
+        None => Ok(names),
+    }
+}
+
+/// The names of a film.
+fn film_names<'a>(
+    alloc: Global,
+    file: &'a str,
+    into: Option<&str>,
+    is_indexed: bool,
+    columns: usize,
+) -> Result<Names<'a>, AllocError> {
+    let recording = recording_name(alloc, file, into)?;
+    let index = format!(in alloc; "{recording}{INDEX}")?;
+    // It goes over the progress line that may be shown by then.
+    let (blanks, shown) = (cleared(alloc, columns)?, Shown(file));
+    let notice = format!(in alloc; "{blanks}jlsrec: {shown}: opened")?;
+    Ok(Names {
+        file,
+        recording,
+        index,
+        is_indexed,
+        notice,
+    })
+}
+
+/// The name of a film's recording.
+fn recording_name(alloc: Global, file: &str, into: Option<&str>) -> Result<String, AllocError> {
+    match into {
+        None => format!(in alloc; "{file}.jls"),
+        Some(folder) => {
+            let folder = folder.strip_suffix("/").unwrap_or(folder);
+            let name = last_part(file);
+            format!(in alloc; "{folder}/{name}.jls")
+        }
+    }
+}
+
+/// The first duplicate name: of a film, or else of the report.
+fn named_twice<'a>(names: &[Names<'a>], report: Option<&'a str>) -> Option<&'a str> {
+    match film_named_twice(names) {
+        Some(file) => Some(file),
+        None => named_as_report(names, report),
+    }
+}
+
+/// The first film whose name is that of another film, of another's recording or of an index, or whose recording has
+/// the name of another's.
+fn film_named_twice<'a>(names: &[Names<'a>]) -> Option<&'a str> {
+    for (place, film) in names.iter().enumerate() {
+        for (other, one) in names.iter().enumerate() {
+            if is_index_of(film.file, one) || (place != other && are_named_alike(film, one)) {
+                return Some(film.file);
+            }
+        }
+    }
+    None
+}
+
+/// Whether an index that is to be made for a film has this name.
+fn is_index_of(name: &str, film: &Names<'_>) -> bool {
+    film.is_indexed && film.index.as_str() == name
+}
+
+/// Whether a film has the name of another or of its recording, or their recordings have the same name.
+fn are_named_alike(film: &Names<'_>, other: &Names<'_>) -> bool {
+    film.file == other.file
+        || film.file == other.recording.as_str()
+        || film.recording == other.recording
+}
+
+/// The report's name, if it is that of a film, of a recording or of an index.
+fn named_as_report<'a>(names: &[Names<'_>], report: Option<&'a str>) -> Option<&'a str> {
+    let report = report?;
+    for film in names {
+        if film.file == report || film.recording.as_str() == report || is_index_of(report, film) {
+            return Some(report);
+        }
+    }
+    None
+}

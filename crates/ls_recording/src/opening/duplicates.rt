@@ -1,0 +1,75 @@
+//! Which files of the films are duplicates, whatever they are called.
+use crate::film::Film;
+use ls_files::Place;
+
+/// The first film whose recording or index would be the same file as another's, or that is another's recording or an
+/// index, or into which a recording or an index would be written.
+pub fn written_twice<'a>(films: &[Film<'a, ()>], replace: bool) -> Option<&'a str> {
+    for (place, film) in films.iter().enumerate() {
+        for (other, one) in films.iter().enumerate() {
+            if is_overwritten(film, one, replace)
+                || meets_index(film, one, replace)
+                || (place != other && are_one(film, one))
+            {
+                return Some(film.names.file);
+            }
+        }
+    }
+    None
+}
+
+/// Whether the recording of `other` would be written into this film.
+fn is_overwritten(film: &Film<'_, ()>, other: &Film<'_, ()>, replace: bool) -> bool {
+    match film.identity {
+        Some(identity) => other.place.would_write_into(identity, replace),
+        None => false,
+    }
+}
+
+/// Whether two films have the same recording or the same index, or the first is where the other's recording is to be
+/// made.
+fn are_one(film: &Film<'_, ()>, other: &Film<'_, ()>) -> bool {
+    film.place.is_one_with(&other.place)
+        || (film.spot.is_some() && film.spot == other.place.spot())
+        || (other.names.is_indexed && has_index_at(film, &other.index))
+}
+
+/// Whether a film's index is to be made at this place.
+pub fn has_index_at(film: &Film<'_, ()>, place: &Place<'_>) -> bool {
+    film.names.is_indexed && film.index.is_one_with(place)
+}
+
+/// Whether the index of `other` would be the same file as this film's recording, is where the film is, or would be
+/// written into the film.
+fn meets_index(film: &Film<'_, ()>, other: &Film<'_, ()>, replace: bool) -> bool {
+    other.names.is_indexed && is_met(film, &other.index, replace)
+}
+
+/// Whether a report or an index would be the same file as a film's recording, is where the film is, or would be
+/// written into the film.
+pub fn is_met(film: &Film<'_, ()>, place: &Place<'_>, replace: bool) -> bool {
+    film.place.is_one_with(place)
+        || (film.spot.is_some() && film.spot == place.spot())
+        || film
+            .identity
+            .is_some_and(|identity| place.would_write_into(identity, replace))
+}
+
+/// Whether a film's index is claimed with its recording: if one is made; and if none is, so that an existing one is
+/// renamed with the recording, unless the recording is written into a pipe, a device or an open file, or the index is
+/// one of the films or the report.
+pub fn has_index(film: &Film<'_, ()>, films: &[Film<'_, ()>], report: Option<&Place<'_>>) -> bool {
+    film.names.is_indexed || !(film.place.is_written_into() || is_given(&film.index, films, report))
+}
+
+/// Whether the file at a place is one of the films or the report.
+fn is_given(place: &Place<'_>, films: &[Film<'_, ()>], report: Option<&Place<'_>>) -> bool {
+    films.iter().any(|film| is_at(film, place))
+        || report.is_some_and(|report| report.is_one_with(place))
+}
+
+/// Whether a film is at a place.
+fn is_at(film: &Film<'_, ()>, place: &Place<'_>) -> bool {
+    (film.spot.is_some() && film.spot == place.spot())
+        || (film.identity.is_some() && film.identity == place.identity())
+}
