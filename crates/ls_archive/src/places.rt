@@ -67,8 +67,8 @@ pub fn read_index<I: Feed>(alloc: Global, index: &mut I) -> Result<Vec<Wanted>, 
 /// sum that has no place yet. `wanted` are in the order of their places. Below `end` a place outside the bytes of all
 /// of `wanted` is passed over, since the codestream that should stand there does.
 ///
-/// If no end is found within the most bytes that a codestream may have, stops there and returns what was found before.
-/// Fails with `Io` if a read fails, and with `NoMemory` if an allocation fails.
+/// If no end is found within the most bytes that a codestream may have, or after 2^62 bytes, stops there and returns
+/// what was found before. Fails with `Io` if a read fails, and with `NoMemory` if an allocation fails.
 pub fn find_places<R: Feed>(
     alloc: Global,
     recording: &mut Buffered<R>,

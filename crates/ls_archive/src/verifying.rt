@@ -22,36 +22,36 @@ use ls_stream::laws::{no_codestream_begins_another, one_frame_each};
 use std::alloc::Global;
 use std::thread::Threads;
 
-/// What two frames differ in, the film's first: the first of these that does.
+/// What two frames differ in: the first of these that differs. The film's value comes before the recording's.
 #[derive(Clone, Copy, Debug, Drop, PartialEq, Eq)]
 pub enum Difference {
     /// Their kinds.
     Kinds(Kind, Kind),
-    /// Their widths and heights: the film's, and then the recording's.
+    /// Their widths and heights: width and height of the film's frame, then those of the recording's.
     Sizes(u16, u16, u16, u16),
     /// Their maxvals.
     Maxvals(u16, u16),
-    /// Samples alone.
+    /// Only their samples.
     Samples,
 }
 
 /// What a comparison finds.
 #[derive(Clone, Copy, Debug, Drop, PartialEq, Eq)]
 pub enum Verdict {
-    /// Film and recording have the same frames, so many.
+    /// Film and recording have the same frames, this number of them.
     Same(u64),
-    /// So many frames are the same, and then both have one, and these differ, in this.
+    /// This number of frames are the same; then each has another, and these two differ in this.
     Differs(u64, Difference),
-    /// The recording ends after so many frames of the film's, and the film has another.
+    /// The recording ends after this number of the film's frames, and the film has another.
     Missing(u64),
-    /// The film ends after so many frames of the recording's, and the recording has another.
+    /// The film ends after this number of the recording's frames, and the recording has another.
     Extra(u64),
 }
 
 /// Whether a recording has the frames of a film of Netpbm images, whatever the form of the headers on both sides.
 ///
-/// A frame of each is read in turn, the film's first, up to the first that differ. If the bytes are known (as in
-/// memory), the clauses say which were read. After a fault nothing is said of the readers' places.
+/// A frame of each is read in turn, the film's first, up to the first two that differ. If the bytes are known (as in
+/// memory), the clauses say which were read. After a fault the places of both readers are unspecified.
 pub fn verify<F: Feed, R: Feed>(
     alloc: Global,
     film: &mut F,
@@ -66,7 +66,7 @@ pub fn verify<F: Feed, R: Feed>(
     compare_all::<OneByOne, F, R>(alloc, film, &mut OneByOne, recording)
 }
 
-/// The same, where at most this number of threads decode the recording's codestreams side by side.
+/// As `verify`, with at most `workers` threads that decode the recording's codestreams side by side.
 ///
 /// The recording may be read further than the verdict says, and a read of it after the frames compared may have failed.
 /// No workers count as one.
@@ -89,8 +89,9 @@ pub fn verify_by<Rt: Threads + Sync, F: Feed, R: Feed>(
 
 /// Whether a recording in memory has the frames of a film in memory.
 ///
-/// The program compares by `verify`. This is the same over bytes in memory, where nothing is left unknown. If they are
-/// a film and a recording, the verdict is what their frames say; or memory was refused.
+/// The program compares by `verify`. This is the same over bytes in memory, all of which are known. If they are a film
+/// and a recording of at most `ls_film::MOST_FRAMES` frames each, the verdict is that on their frames, unless an
+/// allocation fails.
 pub fn verify_bytes(alloc: Global, film: &[u8], recording: &[u8]) -> Result<Verdict, VerifyFault>
     ensures finds { IfOk result (FindsIn film.now recording.now) }
     ensures stops { IfErr result (StopsIn film.now recording.now) }
@@ -197,7 +198,7 @@ fn next_coded<S: Recorded<Frame>, R: Feed>(
     }
 }
 
-/// What the frames of this number, or the ends, of film and recording show; nothing, if they are two frames and equal.
+/// The verdict on the frames of this number, or the ends, of film and recording; `None` if they are two equal frames.
 fn verdict_at(number: u64, image: &Option<Frame>, coded: &Option<Frame>) -> Option<Verdict>
     ensures { result ≡ verdict_at number image.now coded.now }
 {
@@ -210,7 +211,7 @@ fn verdict_at(number: u64, image: &Option<Frame>, coded: &Option<Frame>) -> Opti
     }
 }
 
-/// What two frames that differ differ in.
+/// What two different frames differ in.
 fn difference_of(image: &Frame, coded: &Frame) -> Difference
     ensures { result ≡ difference_of image.now coded.now }
 {
@@ -226,7 +227,7 @@ fn difference_of(image: &Frame, coded: &Frame) -> Difference
     Difference::Samples
 }
 
-/// After the most frames of a film there has to be an end.
+/// The result after the most frames of a film, where both must end.
 fn at_most(verdict: Option<Verdict>) -> Result<Verdict, VerifyFault>
     ensures { result ≡ at_most verdict }
 {

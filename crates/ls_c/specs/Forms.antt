@@ -131,8 +131,8 @@ encode_refusal most form stride samples room =
 
 -- ---- the bound
 
--- the most bytes of a codestream of this form: SOI, the frame header, preset parameters, a scan header for each component and EOI; and for each
--- component LIMIT bits per sample, seven to a byte, and one byte more
+-- a bound on the bytes of a codestream of this form: SOI, the frame header, preset parameters, a scan header for each component and EOI; and for
+-- each component LIMIT bits per sample, seven to a byte, and one byte more
 abbrev pub most_bytes_of : JlsrecForm → ℕ
 most_bytes_of form =
     let count = components (kind_of form.components) in

@@ -1,4 +1,4 @@
-//! The length of the next codestream, and the most bytes that one may have.
+//! The length of the next codestream, and a bound on the length of one of a given form.
 ghost use Rattle.std.specs.Prelude.{◌≡◌, ◌<◌, ◌≤◌, List, ℕ, length};
 ghost use Rattle.ls_frame.specs.Picture.{Picture, IsFrame};
 ghost use Rattle.ls_frame.specs.Parameters.{Parameters, IsLegal};
@@ -38,7 +38,8 @@ pub fn next_extent(alloc: Global, bytes: &[u8], extent: &mut usize) -> Result<()
     }
 }
 
-/// Returns the most bytes of a codestream of this form, with any coding parameters; 0 if there is no picture of it.
+/// Returns an upper bound on the bytes of a codestream of this form, with any coding parameters; 0 if there is no
+/// picture of it.
 pub fn bound(form: &JlsrecForm) -> u64
     ensures value { result ≡ bound_of form.now }
     ensures enough { (f : Picture) (p : Parameters) → IsFrame f → IsLegal p → p.maxval ≡ f.maxval → IsOfForm f form.now

@@ -8,8 +8,8 @@
 //!
 //! In reading order: `form` (the structs shared with C), `refusal` (why a call refuses, and the statuses), `request`
 //! (what is to be encoded, checked before anything is allocated), `coding` (encoding and decoding), `reading` (reading
-//! a form alone), `extent` (the length of the next codestream, and the most bytes that one may have), `text` (the text
-//! of a status).
+//! a form alone), `extent` (the length of the next codestream, and a bound on the length of one of a given form),
+//! `text` (the text of a status).
 #![tactic(auto)]
 
 mod coding;
@@ -120,8 +120,8 @@ pub extern "C" fn jlsrec_extent(alloc: Global, bytes: &[u8], extent: &mut usize)
     status_of(next_extent(alloc, bytes, extent))
 }
 
-/// Returns the most bytes of a codestream of a picture of this form, with any coding parameters; 0 if there is no such
-/// picture.
+/// Returns an upper bound on the bytes of a codestream of a picture of this form, with any coding parameters; 0 if
+/// there is no such picture.
 #[unsafe(no_mangle)]
 pub extern "C" fn jlsrec_bound(components: u32, width: u32, height: u32, maxval: u32) -> u64
     ensures value { result ≡ bound_of (plain_form components width height maxval) }

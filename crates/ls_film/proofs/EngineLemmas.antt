@@ -68,7 +68,7 @@ module _ (IsImage : List ℕ → Picture → Type 0) (text : List Picture → Li
         wrote = subst (Appends written out) (sym front) (Appends-trans written midway out (text run.frames) (take here chunk) run.wrote wrote);
       }
 
-  -- memory was refused for the chunk of a frame that was read
+  -- an allocation failed for the chunk of a frame that was read
   pub HasRun-no_chunk : (read mid new written out : Option (List ℕ)) (n bytes : ℕ) (f : Picture) → HasRun IsImage text read mid written out n bytes
       → IsFrame f × Gave mid new (λ image. IsImage image f) → StopsForMemory IsImage text read new written out (IsSomeImage IsImage)
   HasRun-no_chunk read mid new written out n bytes f run next = record {

@@ -55,7 +55,7 @@ module _ (read read' written written' : Option (List ℕ)) where
   at_codestream mid m bytes fault other run (inl memory) = absurd (other_than_memory fault other memory.0)
   at_codestream mid m bytes fault other run (inr none) = (stops_after mid m bytes (BreaksBy fault) run none, other_than_memory fault other)
 
-  -- memory was refused for the image of a frame
+  -- an allocation failed for the image of a frame
   at_image : (run : StopsForMemory Spells show read read' written written' (IsSomeImage Spells)) → StopsAtInput Spells show read read' written written' (length run.frames) AnyBytes
   at_image run =
       let begins : (told : Tells read) → (film : List ℕ) × (rest : List ℕ) × (known read ≡ film ++ rest) × IsFilm Spells film run.frames = λ told.

@@ -52,7 +52,7 @@ module _ (text : List Picture → List ℕ) (read read' written written' : Optio
         other_than_memory fault other,
       )
 
-  -- memory was refused for an image, when its header had been read
+  -- an allocation failed for an image whose header had been read
   at_heading : (m : ℕ) → HasStopped IsImageOf IsUnread text read read' written written' (Input m netpbm.NoMemory)
       → StopsForMemory IsImageOf text read read' written written' IsHeadingOrImage
   at_heading m stopped =
@@ -65,7 +65,7 @@ module _ (text : List Picture → List ℕ) (read read' written written' : Optio
         wrote = run.wrote;
       }
 
-  -- memory was refused for the chunk of a frame
+  -- an allocation failed for the chunk of a frame
   at_chunk : StopsForMemory IsImageOf text read read' written written' (IsSomeImage IsImageOf)
       → StopsForMemory IsImageOf text read read' written written' IsHeadingOrImage
   at_chunk run = record {

@@ -53,7 +53,7 @@ pub fn take_codestream<R: Feed>(alloc: Global, reader: &mut R) -> Result<Option<
     }
 }
 
-/// What is made of the frame that these bytes begin with the codestream of; or the fault of decoding them.
+/// What is made of the frame whose codestream these bytes begin with; or the fault of decoding them.
 pub fn made_of<T: Made>(alloc: Global, bytes: &[u8]) -> Result<T, StreamFault>
     ensures { MatchResult result (IsMadeOf T.made bytes.now) (IsUnmade bytes.now) }
 {

@@ -1,11 +1,11 @@
 //! Films: images of frames, one after the other, and what is written of one: a line for each frame, or a codestream;
 //! and of a film of codestreams, a recording, an image for each.
 //!
-//! What it hands on: a film is images and nothing between them (`specs/Film.antt`); what is written of it is the lines,
-//! the codestreams or the canonical Netpbm images of its frames (`specs/Listing.antt`, `specs/Coding.antt`,
-//! `specs/Showing.antt`); an engine that stops says which frames it read and which bytes it wrote
-//! (`specs/View/Engine.antt`, and of recordings `specs/View/Playing.antt`). The relations on films take what an image
-//! is as a parameter, so a film of codestreams is read by the same ones.
+//! A film is images joined with nothing between them (`specs/Film.antt`); what is written of it is the lines, the
+//! codestreams or the canonical Netpbm images of its frames (`specs/Listing.antt`, `specs/Coding.antt`,
+//! `specs/Showing.antt`); if an engine stops, the fault says which frames it read and which bytes it wrote
+//! (`specs/View/Engine.antt`, and for recordings `specs/View/Playing.antt`). What an image is, is a parameter of the
+//! relations on films, so the same ones describe a film of codestreams.
 //!
 //! ```
 //! use ls_film::{FilmFault, PlayFault, code_film, play};

@@ -23,23 +23,23 @@ use thiserror::Error;
 
 /// Why the playing of a recording stopped.
 ///
-/// The images of exactly the frames before the codestream at fault were written, except after `Output`. No more than
-/// `ls_film::MOST_FRAMES` frames were.
+/// The images of exactly the frames before the codestream at fault were written, except after `Output`: those of at
+/// most `ls_film::MOST_FRAMES` frames.
 #[derive(Clone, Copy, Debug, Drop, PartialEq, Eq, Error)]
 pub enum PlayFault {
-    /// After so many codestreams comes none that can be decoded; the fault is never `StreamFault::NoMemory`.
+    /// The codestream of this number, from 0, can't be decoded; the fault is never `StreamFault::NoMemory`.
     #[error("frame {0}: {1}")]
     Stream(u64, StreamFault),
-    /// A read failed when so many frames had been written.
+    /// A read failed after the images of this number of frames had been written.
     #[error("read failed")]
     Io(u64),
-    /// A write failed when exactly so many bytes of the images had gone out.
+    /// A write failed after exactly this number of bytes of the images had been written.
     #[error("output failed after {0} bytes")]
     Output(u64),
-    /// Memory was refused for a codestream, its frame or its image.
+    /// An allocation failed for a codestream, its frame or its image.
     #[error("no memory")]
     NoMemory,
-    /// A codestream numbered 4,294,967,295.
+    /// The images of `ls_film::MOST_FRAMES` frames were written, and another frame follows.
     #[error("too many frames")]
     TooMuch,
 }
@@ -63,9 +63,10 @@ impl PlayFault {
 impl PlayFault {
     ghost use Rattle.ls_film.specs.View.Parts.{later, number_in};
 
-    /// The same of what comes after the first codestreams: numbered by all of them.
+    /// Converts a fault met after the first `first` codestreams: the number of a codestream is then counted from the
+    /// beginning of the recording.
     ///
-    /// It requires that the number is one of 64 bits.
+    /// Requires that this number is below 2^64.
     pub(crate) fn later(self, first: u64) -> PlayFault
         requires { first + number_in self < 2 ^ 64 }
         ensures { result ≡ later first self }
@@ -77,12 +78,12 @@ impl PlayFault {
     }
 }
 
-/// Writes the canonical Netpbm image of each frame of a recording, and says how many there were. Reader and writer come
-/// back.
+/// Writes the canonical Netpbm image of each frame of a recording. Returns the number of frames, or the fault, with the
+/// reader and the writer.
 ///
 /// Each image is written before the next codestream is read. If the bytes of reader and writer are known (as in
-/// memory), the clauses say which were read and written. After `Stream`, `Io` and `NoMemory` nothing is said of the
-/// reader's place.
+/// memory), the clauses say which were read and written. After `Stream`, `Io` and `NoMemory` the reader's place is
+/// unspecified.
 pub fn play<R: Feed, W: Outlet>(
     alloc: Global,
     mut reader: R,
@@ -108,11 +109,11 @@ pub fn play<R: Feed, W: Outlet>(
     }
 }
 
-/// The same, where at most this number of threads decode codestreams side by side.
+/// As `play`, with at most `workers` threads that decode codestreams side by side.
 ///
 /// Twice as many codestreams as workers are taken at once, and their images are written in order before the next are
-/// taken. Where no thread can be started, the calling one decodes them all; no workers count as one. After a fault
-/// nothing is said of the reader's place, and a read after the codestream at fault may have failed.
+/// taken. If no thread can be started, the calling one decodes them all; no workers count as one. After a fault the
+/// reader's place is unspecified, and a read after the codestream at fault may have failed.
 pub fn play_by<Rt: Threads + Sync, R: Feed, W: Outlet>(
     rt: &Rt,
     alloc: Global,
@@ -141,11 +142,11 @@ pub fn play_by<Rt: Threads + Sync, R: Feed, W: Outlet>(
     }
 }
 
-/// What a recording in memory shows, as far as it was written, and how the playing ended.
+/// The images of a recording in memory, as far as they were written, and how the playing ended.
 ///
 /// A fault says what `play` says of it. It is never `Io`, since memory is read, and `Output` says that an allocation
-/// failed for what is written. If the recording is the codestreams of frames, whatever their parameters, these are
-/// shown and nothing else; or an allocation failed.
+/// failed for what is written. If the recording is codestreams of at most `ls_film::MOST_FRAMES` frames, whatever their
+/// parameters, these are shown and nothing else, unless an allocation fails.
 pub fn play_bytes(alloc: Global, recording: &[u8]) -> (Vec<u8>, Result<u64, PlayFault>)
     ensures { Plays recording.now result.0.items result.1 }
 {
@@ -158,7 +159,7 @@ pub fn play_bytes(alloc: Global, recording: &[u8]) -> (Vec<u8>, Result<u64, Play
     }
 }
 
-/// The same, where at most this number of threads decode codestreams side by side. No workers count as one.
+/// As `play_bytes`, with at most `workers` threads that decode codestreams side by side. No workers count as one.
 pub fn play_bytes_by<Rt: Threads + Sync>(
     rt: &Rt,
     alloc: Global,

@@ -40,7 +40,7 @@ fn two_come_back<R: Threads + Wait + Sync>(
     ample: bool,
 ) -> Option<bool> {
     let (workers, window, players) = means;
-    // At least one player is required.
+    // No players would count as one.
     let players = usize::from(players).max(1);
     let sizes = Sizes {
         workers,

@@ -27,7 +27,6 @@
 //! codestream at a time from a reader), with `awaited` (what its next byte is). Both directions share `marker`,
 //! `segments`, `shape` (the size of a picture), `lines` (padded lines of samples) and `buffers` (memory for two lines).
 //! `laws` has what follows from the definitions, and the round trip.
-//! `buffers` (what is needed beside a frame). `laws` has what follows from the definitions, and the round trip.
 #![tactic(auto)]
 
 mod buffers;

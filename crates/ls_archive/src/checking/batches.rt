@@ -1,4 +1,4 @@
-//! A check by an index whose codestreams are looked at by several threads: so many lines at once.
+//! A check by an index whose codestreams several threads look at, a batch of lines at once.
 ghost use Rattle.std.specs.Prelude.{◌≡◌, ◌≢◌, ◌+◌, ◌*◌, ◌^◌, ◌<◌, ◌≤◌, List, [], ℕ, Option, length, IfOk, IfErr, OnErr, MatchResult};
 ghost use Rattle.std.specs.List.{AllZip};
 ghost use Rattle.ls_film.specs.Film.{most_frames};
@@ -19,14 +19,14 @@ use std::mem::replace;
 use std::thread;
 use std::thread::Threads;
 
-/// The same as `check`, where so many threads at most look at the codestreams side by side.
+/// As `check`, with at most `workers` threads that look at the codestreams side by side.
 ///
-/// Twice as many lines as workers are taken off the index at once, with the bytes that they speak of; what is wrong
-/// with these is told in order before the next are taken. Where no thread can be made, the calling one looks at all of
-/// them. What is told, what a check comes to and why it stops is what `check` says, whatever the threads do. If memory
-/// is refused, a read that comes after what it was refused for may have failed besides.
+/// Twice as many lines as workers are taken off the index at once, with the bytes of their codestreams; what is wrong
+/// with these is reported, in order, before the next are taken. If no thread can be made, the calling one looks at all
+/// of them. The findings, the result and the fault are as `check` says, whatever the threads do. If an allocation
+/// fails, a read after what it was for may have failed too.
 ///
-/// It requires at least one worker, and no more than 2^32.
+/// Requires at least one worker, and no more than 2^32.
 pub fn check_by<Rt: Threads + Sync, I: Feed, R: Feed, F: Findings>(
     rt: &Rt,
     alloc: Global,
@@ -71,11 +71,11 @@ pub fn check_by<Rt: Threads + Sync, I: Feed, R: Feed, F: Findings>(
 /// How far a check is.
 #[derive(Clone, Copy)]
 pub struct SoFar {
-    /// The number of the next line: how many were told of.
+    /// The number of the next line, which is the number of lines checked so far.
     pub number: u64,
-    /// The offset that it has to say.
+    /// The offset that the next line must say.
     pub offset: u64,
-    /// How many codestreams before it are damaged.
+    /// The number of damaged codestreams so far.
     pub damaged: u64,
 }
 
@@ -87,7 +87,7 @@ pub struct Job {
     pub line: IndexLine,
     /// As many as the line says, or all that were left; none once they were looked at.
     pub bytes: Vec<u8>,
-    /// What is wrong with them, or that memory was refused. Before they are looked at it counts as refused.
+    /// What is wrong with them, or that an allocation failed; the latter also before they are looked at.
     pub damage: Result<Option<Damage>, AllocError>,
 }
 
@@ -101,16 +101,16 @@ pub struct Batch {
 /// What comes after lines that were taken.
 #[derive(Clone, Copy)]
 pub enum After {
-    /// What comes wasn't looked at.
+    /// Nothing after them was read yet.
     More,
     /// The end of the index, and whether the recording goes on there.
     End(bool),
-    /// What a check stops for.
+    /// The fault for which a check stops.
     Fault(CheckFault),
 }
 
-/// Takes so many lines off an index, or as many as there are before its end or a fault, with the bytes that they speak
-/// of.
+/// Takes `most` lines off an index, or those before its end or a fault if there are fewer, with the bytes of their
+/// codestreams.
 fn take<I: Feed, R: Feed>(
     alloc: Global,
     index: &mut I,
@@ -150,7 +150,7 @@ fn take<I: Feed, R: Feed>(
     }
 }
 
-/// Takes the next line off an index, with the bytes that it speaks of; or says what comes in its place.
+/// Takes the next line off an index, with the bytes of its codestream. Fails with what comes instead of it.
 fn next_job<I: Feed, R: Feed>(
     alloc: Global,
     index: &mut I,
@@ -193,7 +193,7 @@ fn next_job<I: Feed, R: Feed>(
     }
 }
 
-/// Has the bytes of all jobs looked at, by so many threads at most.
+/// Looks at the bytes of all jobs, by at most `workers` threads.
 fn look_at_all<Rt: Threads + Sync>(rt: &Rt, alloc: Global, workers: usize, jobs: &mut Vec<Job>)
     requires { 0 < workers }
     ensures { AllZip IsLookedAt jobs.old.items jobs.new.items }
@@ -209,7 +209,7 @@ fn look_at_all<Rt: Threads + Sync>(rt: &Rt, alloc: Global, workers: usize, jobs:
     );
 }
 
-/// How many threads jobs are worth: no more than the workers.
+/// The number of threads that jobs justify, at most `workers`.
 fn threads_for(jobs: &[Job], workers: usize) -> usize
     requires { 0 < workers }
     ensures { (0 < result) × (result ≤ workers) }
@@ -221,7 +221,7 @@ fn threads_for(jobs: &[Job], workers: usize) -> usize
     threads_worth(bytes, workers)
 }
 
-/// Looks at the bytes of a job, which are let go.
+/// Looks at the bytes of a job, and frees them.
 fn look_at_job(alloc: Global, job: &mut Job)
     ensures { IsLookedAt job.old job.new }
 {
@@ -229,7 +229,7 @@ fn look_at_job(alloc: Global, job: &mut Job)
     job.damage = damage_of(alloc, job.number, job.offset, &job.line, bytes);
 }
 
-/// Tells of what is wrong with the bytes of jobs, in their order, and says how far the check is then.
+/// Reports what is wrong with the bytes of jobs, in order, and returns how far the check is then.
 fn tell_all<F: Findings>(jobs: &[Job], so_far: SoFar, findings: &mut F) -> Result<SoFar, AllocError>
     requires few { so_far.number + length jobs.now ≤ most_frames }
     requires bounded { so_far.offset ≤ 2 ^ 32 * so_far.number }
@@ -247,7 +247,7 @@ fn tell_all<F: Findings>(jobs: &[Job], so_far: SoFar, findings: &mut F) -> Resul
     Ok(so_far)
 }
 
-/// Tells of what is wrong with the bytes of the next job, if anything is, and says how far the check is then.
+/// Reports what is wrong with the bytes of the next job, if anything is, and returns how far the check is then.
 fn tell_of<F: Findings>(job: &Job, so_far: SoFar, findings: &mut F) -> Result<SoFar, AllocError>
     requires few { so_far.number < most_frames }
     requires bounded { so_far.offset ≤ 2 ^ 32 * so_far.number }

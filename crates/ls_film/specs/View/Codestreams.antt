@@ -20,8 +20,8 @@ pub record BeginsWithNone (bytes : List ℕ) : Type 0 where
   pub some : 0 < length bytes
   pub none : (front rest : List ℕ) (f : Picture) → bytes ≡ front ++ rest → Spells front f → ⊥
 
--- It is the first fault of the bytes; or there are as many as a codestream may have, and it says that they are too many. (Of exactly
--- so many, that break off, the first fault is that they are truncated.)
+-- It is the first fault of the bytes; or there are at least as many as a codestream may have, and it says that they are too many. (If there are
+-- exactly that many, and they show no other fault, their first fault is that they are truncated.)
 abbrev pub IsFaultOf : List ℕ → StreamFault → Type 0
 IsFaultOf bytes fault = (AreBytes bytes → IsFirstFault bytes fault) ⊎ ((fault ≡ stream.TooLarge) × (most_bytes ≤ length bytes))
 

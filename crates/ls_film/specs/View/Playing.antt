@@ -83,7 +83,7 @@ pub record IsShownOf (recording out : List ℕ) (n : ℕ) : Type 0 where
   pub whole : IsFilm Spells recording frames
   pub shown : out ≡ show frames
 
--- Memory was refused, for a frame or for what is written.
+-- An allocation failed, for a frame or for what is written.
 abbrev pub IsOutOfMemory : PlayFault → Type 0
 IsOutOfMemory (Stream m fault) = ⊥
 IsOutOfMemory (Io m) = ⊥
