@@ -1,8 +1,11 @@
-//! The tests of `ls_coding`, by its public interface.
+//! The tests of `ls_bits` and of `ls_coding`, by their public interfaces.
 //!
-//! They are a crate of their own because a crate's tests are proved together with the whole crate.
+//! They are a crate of their own because a crate's tests are proved together with the whole crate, and these need only
+//! the statements of the two.
 #![tactic(auto)]
 
+#[cfg(test)]
+mod bits;
 #[cfg(test)]
 mod context;
 #[cfg(test)]

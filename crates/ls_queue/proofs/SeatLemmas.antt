@@ -29,7 +29,7 @@ module _ {X : Type 0} where
   worker_known s n v w is made = made ∙ (ap worker_made is ∙ ap (λ m. closer_view m s (n + 1)) (omega arith))
 
   pub AreNewSources-more : (channel : Channel X) (m n : ℕ) (seats : List (SourceSeat X)) (seat : SourceSeat X) → AreNewSources channel m seats → n ≡ m + length seats
-      → IsSeatAt (sends_on channel.entrance) seat.pass → view seat.pass ≡ source_view n [] → seat.source ≡ n → seat.count ≡ 0 → n < channel.sources
+      → IsSeatAt (sends_on channel.sender) seat.pass → view seat.pass ≡ source_view n [] → seat.source ≡ n → seat.count ≡ 0 → n < channel.sources
       → AreNewSources channel m (seats ++ seat ∷ [])
   AreNewSources-more channel m n [] seat before at pass known source count below =
       let none : items_put seat ≡ [] = ap (λ (u : View X). items_in u.puts) known in (
@@ -49,7 +49,7 @@ module _ {X : Type 0} where
       (before.0, AreNewSources-more channel (suc m) n seats seat before.1 (omega arith) pass known source count below)
 
   pub AreNewWorkers-more : (channel : Channel X) (seats : List (WorkerSeat X)) (seat : WorkerSeat X) → AreNewWorkers channel seats
-      → IsSeatAt (sends_on channel.entrance) seat.pass → view seat.pass ≡ worker_view channel.sources [] false → seat.done ≡ false
+      → IsSeatAt (sends_on channel.sender) seat.pass → view seat.pass ≡ worker_view channel.sources [] false → seat.done ≡ false
       → AreNewWorkers channel (seats ++ seat ∷ [])
   AreNewWorkers-more channel [] seat before pass known waits =
       let none : jobs_taken seat ≡ [] = ap (λ (u : View X). jobs_in_first u.takes) known in (

@@ -114,13 +114,13 @@ pub type SeatPass<T> = Pass<Message<T>, View<T>>;
 /// The channel of a queue: its sender, its receiver, and the numbers of sources and workers.
 #[derive(Drop)]
 pub struct Channel<T: Drop> {
-    pub entrance: RuledSender<Message<T>, View<T>, Rule>,
-    pub exit: RuledReceiver<Message<T>, View<T>, Rule>,
+    pub sender: RuledSender<Message<T>, View<T>, Rule>,
+    pub receiver: RuledReceiver<Message<T>, View<T>, Rule>,
     /// The number of sources, 1 to 16.
     pub sources: u8,
     /// The number of workers, 1 to 16.
     pub workers: usize,
-    ghost one_channel: { receives_on exit ≡ sends_on entrance },
+    ghost one_channel: { receives_on receiver ≡ sends_on sender },
     ghost some_source: { 1 ≤ sources },
     ghost few_sources: { sources ≤ 16 },
     ghost some_worker: { 1 ≤ workers },

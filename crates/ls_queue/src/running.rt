@@ -127,10 +127,10 @@ pub fn open<T: Drop, R: Wait>(
     if let Some(fault) = open_fault(sources, workers, capacity) {
         return Err(fault);
     }
-    let (entrance, exit, mut pass) = bounded_with(alloc, capacity.max(workers))?;
+    let (sender, receiver, mut pass) = bounded_with(alloc, capacity.max(workers))?;
     let channel = Channel {
-        entrance,
-        exit,
+        sender,
+        receiver,
         sources,
         workers,
     };
@@ -146,9 +146,9 @@ fn source_seats<T: Drop>(
     channel: &Channel<T>,
     pass: &mut SeatPass<T>,
 ) -> Result<Vec<SourceSeat<T>>, AllocError>
-    requires pass { IsSeatAt (sends_on channel.now.entrance) pass.old }
+    requires pass { IsSeatAt (sends_on channel.now.sender) pass.old }
     requires first { view pass.old ≡ closer_view 64 0 0 }
-    ensures pass { IfOk result (λ seats. IsSeatAt (sends_on channel.now.entrance) pass.new) }
+    ensures pass { IfOk result (λ seats. IsSeatAt (sends_on channel.now.sender) pass.new) }
     ensures known { IfOk result (λ seats. view pass.new ≡ closer_view (64 - channel.now.sources) channel.now.sources 0) }
     ensures seats { IfOk result (λ seats. AreNewSources channel.now 0 seats.items × (length seats.items ≡ channel.now.sources)) }
 {
@@ -157,7 +157,7 @@ fn source_seats<T: Drop>(
         seats.push(SourceSeat {
             source,
             count: 0,
-            pass: channel.entrance.another::<SourceSeated>(pass),
+            pass: channel.sender.another::<SourceSeated>(pass),
         })?;
     }
     Ok(seats)
@@ -169,9 +169,9 @@ fn worker_seats<T: Drop>(
     channel: &Channel<T>,
     pass: &mut SeatPass<T>,
 ) -> Result<Vec<WorkerSeat<T>>, AllocError>
-    requires pass { IsSeatAt (sends_on channel.now.entrance) pass.old }
+    requires pass { IsSeatAt (sends_on channel.now.sender) pass.old }
     requires sources { view pass.old ≡ closer_view (64 - channel.now.sources) channel.now.sources 0 }
-    ensures pass { IfOk result (λ seats. IsSeatAt (sends_on channel.now.entrance) pass.new) }
+    ensures pass { IfOk result (λ seats. IsSeatAt (sends_on channel.now.sender) pass.new) }
     ensures known { IfOk result (λ seats. view pass.new ≡ closer_view (64 - channel.now.sources - channel.now.workers) channel.now.sources channel.now.workers) }
     ensures seats { IfOk result (λ seats. AreNewWorkers channel.now seats.items × (length seats.items ≡ channel.now.workers)) }
 {
@@ -180,7 +180,7 @@ fn worker_seats<T: Drop>(
         seats.push(WorkerSeat {
             done: false,
             patience: Patience::new(),
-            pass: channel.entrance.another::<WorkerSeated>(pass),
+            pass: channel.sender.another::<WorkerSeated>(pass),
         })?;
     }
     Ok(seats)
@@ -209,7 +209,7 @@ impl<T: Drop> Queue<T> {
         for _ in rt.forever() {
             match self
                 .channel
-                .entrance
+                .sender
                 .send_as::<JobSent, R>(rt, &mut seat.pass, message)
             {
                 Ok(()) => {
@@ -253,7 +253,7 @@ impl<T: Drop> Queue<T> {
         for _ in rt.forever() {
             match receive::<Message<T>, View<T>, Rule, Received, R>(
                 rt,
-                &self.channel.exit,
+                &self.channel.receiver,
                 &mut seat.pass,
                 &mut seat.patience,
             ) {
@@ -327,10 +327,10 @@ fn join_ends<T: Drop>(
     pass: &mut SeatPass<T>,
     mut ended: Vec<Ended<T>>,
 ) -> [u64; 16]
-    requires pass { IsSeatAt (sends_on channel.now.entrance) pass.old }
+    requires pass { IsSeatAt (sends_on channel.now.sender) pass.old }
     requires known { view pass.old ≡ closer_view (64 - channel.now.sources - channel.now.workers) channel.now.sources channel.now.workers }
     requires ended { AllByRecursion (IsEndedAt channel.now) ended.items }
-    ensures pass { IsSeatAt (sends_on channel.now.entrance) pass.new }
+    ensures pass { IsSeatAt (sends_on channel.now.sender) pass.new }
     ensures known { view pass.new ≡ ending_view (64 - channel.now.sources - channel.now.workers + length ended.items) (parts_of ended.items) channel.now.sources channel.now.workers 0 }
     ensures counts { (s : ℕ) → has_end s ended.items ≡ true → IsCounted result (parts_of ended.items) s }
 {
@@ -342,7 +342,7 @@ fn join_ends<T: Drop>(
             pass: theirs,
         } = ended.remove(0);
         counts[source as usize] = count;
-        channel.entrance.absorb::<Joined>(pass, theirs);
+        channel.sender.absorb::<Joined>(pass, theirs);
     }
     counts
 }
@@ -354,11 +354,11 @@ fn send_marks<T: Drop, R: Wait>(
     pass: &mut SeatPass<T>,
     counts: [u64; 16],
 )
-    requires pass { IsSeatAt (sends_on channel.now.entrance) pass.old }
+    requires pass { IsSeatAt (sends_on channel.now.sender) pass.old }
     requires closes { (view pass.old).closes ≡ true }
     requires none { (view pass.old).marks ≡ 0 }
     requires counts { (s : ℕ) → s < (view pass.old).sources → IsCounted counts (view pass.old).puts s }
-    ensures pass { IsSeatAt (sends_on channel.now.entrance) pass.new }
+    ensures pass { IsSeatAt (sends_on channel.now.sender) pass.new }
     ensures sent { view pass.new ≡ with_marks (view pass.old) channel.now.workers }
 {
     for mark in 0..channel.workers {
@@ -373,15 +373,15 @@ fn send_mark<T: Drop, R: Wait>(
     pass: &mut SeatPass<T>,
     counts: [u64; 16],
 )
-    requires pass { IsSeatAt (sends_on channel.now.entrance) pass.old }
+    requires pass { IsSeatAt (sends_on channel.now.sender) pass.old }
     requires closes { (view pass.old).closes ≡ true }
     requires counts { (s : ℕ) → s < (view pass.old).sources → IsCounted counts (view pass.old).puts s }
-    ensures pass { IsSeatAt (sends_on channel.now.entrance) pass.new }
+    ensures pass { IsSeatAt (sends_on channel.now.sender) pass.new }
     ensures sent { view pass.new ≡ after_mark (view pass.old) }
 {
     for _ in rt.forever() {
         match channel
-            .entrance
+            .sender
             .send_as::<MarkSent, R>(rt, pass, Message::Mark(counts))
         {
             Ok(()) => return,
@@ -426,7 +426,7 @@ pub fn settle<T: Drop, R: Wait>(
     let Queue { channel } = queue;
     let Finished { counts, mut pass } = finished;
     join_seats(&channel, &mut pass, seats);
-    channel.entrance.learn_as::<Settled>(&mut pass);
+    channel.sender.learn_as::<Settled>(&mut pass);
     Ok(Account {
         counts,
         sources: channel.sources,
@@ -447,14 +447,14 @@ fn all_done<T>(seats: &[WorkerSeat<T>]) -> bool
 
 /// Joins the passes of the worker seats to the closer's.
 fn join_seats<T: Drop>(channel: &Channel<T>, pass: &mut SeatPass<T>, mut seats: Vec<WorkerSeat<T>>)
-    requires pass { IsSeatAt (sends_on channel.now.entrance) pass.old }
+    requires pass { IsSeatAt (sends_on channel.now.sender) pass.old }
     requires closes { (view pass.old).closes ≡ true }
     requires seats { AllByRecursion (IsWorkerAt channel.now) seats.items }
-    ensures pass { IsSeatAt (sends_on channel.now.entrance) pass.new }
+    ensures pass { IsSeatAt (sends_on channel.now.sender) pass.new }
     ensures known { view pass.new ≡ with_takes (view pass.old) (takes_of seats.items) }
 {
     while !seats.is_empty() {
         let WorkerSeat { pass: theirs, .. } = seats.remove(0);
-        channel.entrance.absorb::<Joined>(pass, theirs);
+        channel.sender.absorb::<Joined>(pass, theirs);
     }
 }

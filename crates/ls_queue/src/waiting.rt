@@ -55,17 +55,17 @@ impl Patience {
 /// channel, and the step `M` must keep the rule `P`. If it fails, the pass's view is unchanged.
 pub fn receive<T: Drop, V, P: Protocol<T, V>, M: Outcome<T, V> + Lesson<T, V>, R: Wait>(
     rt: &R,
-    exit: &RuledReceiver<T, V, P>,
+    receiver: &RuledReceiver<T, V, P>,
     pass: &mut Pass<T, V>,
     patience: &mut Patience,
 ) -> Result<T, RecvError>
-    requires channel { IsSeatAt (receives_on exit.now) pass.old }
+    requires channel { IsSeatAt (receives_on receiver.now) pass.old }
     requires rule { Pops P.holds pass.old.id (view pass.old) (M.then (view pass.old)) × Learns P.holds pass.old.id (view pass.old) (M.fact (view pass.old)) }
-    ensures channel { IsSeatAt (receives_on exit.now) pass.new × (pass.new.id ≡ pass.old.id) }
+    ensures channel { IsSeatAt (receives_on receiver.now) pass.new × (pass.new.id ≡ pass.old.id) }
     ensures rule { MatchResult result (λ message. M.then (view pass.old) message (view pass.new)) (λ _. view pass.new ≡ view pass.old) }
 {
     for look in 0..patience.looks {
-        match exit.try_recv_as::<M, R>(rt, pass) {
+        match receiver.try_recv_as::<M, R>(rt, pass) {
             Ok(message) => {
                 if look > 0 {
                     patience.grow();
@@ -77,5 +77,5 @@ pub fn receive<T: Drop, V, P: Protocol<T, V>, M: Outcome<T, V> + Lesson<T, V>, R
         }
     }
     patience.shrink();
-    exit.recv_as::<M, R>(rt, pass)
+    receiver.recv_as::<M, R>(rt, pass)
 }

@@ -22,7 +22,7 @@ use Rattle.ls_pieces.specs.Orders.{Ordered}
 use Rattle.ls_recorder.specs.declared.recording.lanes.Lane.{Lane}
 use Rattle.ls_recorder.specs.declared.recording.Track.{Track}
 use Rattle.crossbeam_channel.specs.Ends.{sends_on, receives_on}
-use Rattle.ls_recorder.specs.declared.delivery.ends.Door.{Door}
+use Rattle.ls_recorder.specs.declared.delivery.ends.InboxSender.{InboxSender}
 use Rattle.ls_recorder.specs.declared.delivery.ends.Outbox.{Outbox}
 use Rattle.ls_recorder.specs.View.Boxes.{AreFrom, LeadTo}
 use Rattle.ls_recorder.specs.View.Recordings.{IsTrack, IsLaneEnd, IsStarted, AreStarted, AreDone, AreTracks, AreCounted, LeadToAll}
@@ -248,16 +248,16 @@ recorded-count tuning items read read' written written' (Ok n) count is records 
     is ∙ (ap length records.put.0 ∙ (length-with_tuning tuning records.run.frames ∙ records.run.count))
 recorded-count tuning items read read' written written' (Err fault) count is records = records
 
--- ---- each outbox has a door to each inbox
+-- ---- each outbox has a sender to each inbox
 
 length-map : {A B : Type 0} (f : A → B) (xs : List A) → length (map f xs) ≡ length xs
 length-map f [] = refl
 length-map f (x ∷ xs) = ap suc (length-map f xs)
 
-lead-length : (inboxes : List Inbox) (doors : List Door) → LeadTo inboxes doors → length doors ≡ length inboxes
-lead-length inboxes doors lead =
-    sym (length-map (λ (door : Door). sends_on door.entrance) doors) ∙ (ap length lead ∙ length-map (λ (inbox : Inbox). receives_on inbox.exit) inboxes)
+lead-length : (inboxes : List Inbox) (senders : List InboxSender) → LeadTo inboxes senders → length senders ≡ length inboxes
+lead-length inboxes senders lead =
+    sym (length-map (λ (sender : InboxSender). sends_on sender.channel) senders) ∙ (ap length lead ∙ length-map (λ (inbox : Inbox). receives_on inbox.receiver) inboxes)
 
-pub lead-all : (n : ℕ) (inboxes : List Inbox) (outboxes : List Outbox) → length inboxes ≡ n → AllByRecursion (λ (outbox : Outbox). LeadTo inboxes outbox.doors.items) outboxes → LeadToAll n outboxes
+pub lead-all : (n : ℕ) (inboxes : List Inbox) (outboxes : List Outbox) → length inboxes ≡ n → AllByRecursion (λ (outbox : Outbox). LeadTo inboxes outbox.senders.items) outboxes → LeadToAll n outboxes
 lead-all n inboxes [] many all = _
-lead-all n inboxes (o ∷ os) many all = ((let l = lead-length inboxes o.doors.items all.0 in omega arith), lead-all n inboxes os many all.1)
+lead-all n inboxes (o ∷ os) many all = ((let l = lead-length inboxes o.senders.items all.0 in omega arith), lead-all n inboxes os many all.1)

@@ -5,14 +5,14 @@ ghost use Rattle.std.specs.Prelude.{◌≡◌, ◌<◌, ◌⊎◌, None, Some, l
 ghost use Rattle.std.specs.List.{AllByRecursion};
 ghost use Rattle.ls_recorder.specs.declared.delivery.ends.Outbox.{Outbox};
 ghost use Rattle.ls_recorder.specs.Sizes.{box_fault};
-ghost use Rattle.ls_recorder.specs.View.Boxes.{AreFrom, HaveRoom, LeadTo, LeadAlike, AreBoxes};
+ghost use Rattle.ls_recorder.specs.View.Boxes.{AreFrom, HaveCapacity, LeadTo, LeadAlike, AreBoxes};
 
 use crate::faults::RecordFault;
 use crate::sizes::Sizes;
 use crossbeam_channel::bounded_with;
 use crossbeam_channel::protocol::Free;
 pub(crate) use ends::Another;
-use ends::Door;
+use ends::InboxSender;
 pub use ends::{Answer, Inbox, Outbox};
 use ls_queue::Patience;
 use std::alloc::{AllocError, Global};
@@ -43,8 +43,8 @@ pub fn boxes<R: Wait>(
     if let Some(fault) = sizes.fault(usize::from(sources)) {
         return Err(fault);
     }
-    let (inboxes, doors) = channels(alloc, sources, window)?;
-    let outboxes = outboxes(alloc, doors, workers)?;
+    let (inboxes, senders) = channels(alloc, sources, window)?;
+    let outboxes = outboxes(alloc, senders, workers)?;
     Ok((inboxes, outboxes))
 }
 
@@ -53,49 +53,49 @@ fn channels(
     alloc: Global,
     sources: u8,
     window: usize,
-) -> Result<(Vec<Inbox>, Vec<Door>), AllocError>
+) -> Result<(Vec<Inbox>, Vec<InboxSender>), AllocError>
     requires { 0 < window }
-    ensures { IfOk result (λ made. (length made.0.items ≡ sources) × AreFrom 0 made.0.items × HaveRoom window made.0.items × LeadTo made.0.items made.1.items) }
+    ensures { IfOk result (λ made. (length made.0.items ≡ sources) × AreFrom 0 made.0.items × HaveCapacity window made.0.items × LeadTo made.0.items made.1.items) }
 {
     let mut inboxes = Vec::new(alloc);
-    let mut doors = Vec::new(alloc);
+    let mut senders = Vec::new(alloc);
     for source in 0..sources {
-        let (entrance, exit, mut pass) = bounded_with::<Answer, (), Free, Global>(alloc, window)?;
-        let other = entrance.another::<Another>(&mut pass);
+        let (channel, receiver, mut pass) = bounded_with::<Answer, (), Free, Global>(alloc, window)?;
+        let other = channel.another::<Another>(&mut pass);
         inboxes.push(Inbox {
             source,
-            exit,
+            receiver,
             pass,
             patience: Patience::new(),
         })?;
-        doors.push(Door {
-            entrance,
+        senders.push(InboxSender {
+            channel,
             pass: other,
         })?;
     }
-    Ok((inboxes, doors))
+    Ok((inboxes, senders))
 }
 
 /// Makes an outbox for each worker, with a copy of each of these senders.
-fn outboxes(alloc: Global, mut doors: Vec<Door>, workers: usize) -> Result<Vec<Outbox>, AllocError>
-    ensures { IfOk result (λ made. (length made.items ≡ workers) × AllByRecursion (λ (outbox : Outbox). LeadAlike outbox.doors.items doors.items) made.items) }
+fn outboxes(alloc: Global, mut senders: Vec<InboxSender>, workers: usize) -> Result<Vec<Outbox>, AllocError>
+    ensures { IfOk result (λ made. (length made.items ≡ workers) × AllByRecursion (λ (outbox : Outbox). LeadAlike outbox.senders.items senders.items) made.items) }
 {
     let mut outboxes = Vec::new(alloc);
     for _worker in 0..workers {
-        let doors = copies(alloc, &mut doors)?;
-        outboxes.push(Outbox { doors })?;
+        let senders = copies(alloc, &mut senders)?;
+        outboxes.push(Outbox { senders })?;
     }
     Ok(outboxes)
 }
 
 /// Copies each of these senders.
-fn copies(alloc: Global, doors: &mut Vec<Door>) -> Result<Vec<Door>, AllocError>
-    ensures same { IfOk result (λ copies. LeadAlike doors.new.items doors.old.items) }
-    ensures copies { IfOk result (λ copies. LeadAlike copies.items doors.old.items) }
+fn copies(alloc: Global, senders: &mut Vec<InboxSender>) -> Result<Vec<InboxSender>, AllocError>
+    ensures same { IfOk result (λ copies. LeadAlike senders.new.items senders.old.items) }
+    ensures copies { IfOk result (λ copies. LeadAlike copies.items senders.old.items) }
 {
     let mut copies = Vec::new(alloc);
-    for place in 0..doors.len() {
-        copies.push(doors[place].another()?)?;
+    for place in 0..senders.len() {
+        copies.push(senders[place].another()?)?;
     }
     Ok(copies)
 }

@@ -31,7 +31,7 @@ use std::sync::Wait;
 use std::thread;
 use std::thread::{Promise, Scope, Threads};
 use thiserror::Error;
-use writing::{Writing, WritingEnd, write_film};
+use writing::{Arrivals, Writing, WritingEnd, write_film};
 
 /// The reason why a lane stopped.
 #[derive(Clone, Copy, Debug, Drop, PartialEq, Eq, Error)]
@@ -213,9 +213,11 @@ pub fn watched_lane<F: Feed + Drop, W: Outlet + Send + Drop, R: Threads + Wait +
     };
     let writing = Writing {
         seat: taker,
-        inbox,
-        collector,
-        returns,
+        arrivals: Arrivals {
+            inbox,
+            collector,
+            returns,
+        },
         writer,
     };
     let setting = Setting {

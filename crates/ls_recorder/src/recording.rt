@@ -5,9 +5,9 @@ mod workers;
 
 ghost use Rattle.std.specs.Prelude.{◌≡◌, ℕ, max, List, ◌⊎◌, Some, None, length, IfOk, IfErr};
 ghost use Rattle.ls_queue.specs.View.Running.{sources_of, workers_of, places_of};
-ghost use Rattle.ls_recorder.specs.View.Boxes.{HaveRoom};
+ghost use Rattle.ls_recorder.specs.View.Boxes.{HaveCapacity};
 ghost use Rattle.ls_recorder.specs.Sizes.{record_fault};
-ghost use Rattle.ls_recorder.specs.View.Recordings.{AreTracks, AreCounted, AreParts, HasRun, MayRun};
+ghost use Rattle.ls_recorder.specs.View.Recordings.{AreTracks, AreCounted, AreSeats, HasRun, MayRun};
 
 use crate::delivery::boxes;
 use crate::faults::RecordFault;
@@ -21,7 +21,7 @@ use std::alloc::Global;
 use std::sync::Wait;
 use std::sync::atomic::AtomicBool;
 use std::thread::Threads;
-use threads::{Parts, Ran, Room, Shared, flags_for, room_for, run_in_scope};
+use threads::{Seats, Ran, Buffers, Shared, flags_for, buffers_for, run_in_scope};
 
 /// The result of a film's lane: its reader and writer, and the number of frames recorded, or why it stopped.
 #[derive(Drop)]
@@ -84,20 +84,21 @@ pub fn record<Rt: Threads + Wait + Sync, R: Feed + Send + Drop, W: Outlet + Send
     let Ok(prepared) = prepare(rt, alloc, films.len(), sizes) else {
         return Err((RecordFault::NoMemory, films));
     };
-    match run_prepared(rt, alloc, films, prepared, window, gate) {
+    match run_prepared(rt, alloc, films, prepared, gate) {
         Ok(recording) => Ok(recording),
         Err(films) => Err((RecordFault::NotStarted, films)),
     }
 }
 
-/// The parts of a recording that are allocated before it starts a thread: its queue with the seats and boxes, a flag
-/// for each source, and buffers for its threads' results.
+/// What a recording has before it starts a thread: its queue with the seats and boxes, a flag for each source, buffers
+/// for its threads' results, and the number of frames in a window.
 #[derive(Drop)]
 struct Prepared<R: Feed + Drop, W: Outlet + Drop> {
     queue: Queue<Order>,
-    parts: Parts,
+    seats: Seats,
     flags: Vec<AtomicBool>,
-    room: Room<R, W>,
+    buffers: Buffers<R, W>,
+    window: usize,
 }
 
 /// Allocates what a recording of `sources` films needs before it starts a thread. Requires numbers within their limits.
@@ -110,16 +111,17 @@ fn prepare<Rt: Wait, R: Feed + Drop, W: Outlet + Drop>(
 ) -> Result<Prepared<R, W>, RecordFault>
     requires { record_fault sources sizes.workers sizes.capacity sizes.window ≡ None }
     ensures { IfOk result (λ prepared. (films : List (R × W × Tuning)) → length films ≡ sources
-        → MayRun prepared.queue prepared.flags.items sizes.window films prepared.parts prepared.room) }
+        → MayRun prepared.queue prepared.flags.items prepared.window films prepared.seats prepared.buffers) }
 {
     let flags = flags_for(alloc, sources)?;
-    let room = room_for(alloc, sources, sizes.workers)?;
-    let (queue, parts) = make_queue(rt, alloc, sources as u8, sizes)?;
+    let buffers = buffers_for(alloc, sources, sizes.workers)?;
+    let (queue, seats) = make_queue(rt, alloc, sources as u8, sizes)?;
     Ok(Prepared {
         queue,
-        parts,
+        seats,
         flags,
-        room,
+        buffers,
+        window: sizes.window,
     })
 }
 
@@ -129,10 +131,9 @@ fn run_prepared<Rt: Threads + Wait + Sync, R: Feed + Send + Drop, W: Outlet + Se
     alloc: Global,
     films: Vec<(R, W, Tuning)>,
     prepared: Prepared<R, W>,
-    window: usize,
     gate: &G,
 ) -> Result<Recording<R, W>, Vec<(R, W, Tuning)>>
-    requires { MayRun prepared.queue prepared.flags.items window films.items prepared.parts prepared.room }
+    requires { MayRun prepared.queue prepared.flags.items prepared.window films.items prepared.seats prepared.buffers }
     ensures tracks { IfOk result (λ recording. AreTracks R.remaining R.failed_reads W.contents W.failed_writes recording.account.counts 0 films.items recording.tracks.items) }
     ensures account { IfOk result (λ recording. AreCounted recording.account.counts 0 recording.tracks.items) }
     ensures sources { IfOk result (λ recording. recording.account.sources ≡ length films.items) }
@@ -140,9 +141,10 @@ fn run_prepared<Rt: Threads + Wait + Sync, R: Feed + Send + Drop, W: Outlet + Se
 {
     let Prepared {
         queue,
-        parts,
+        seats,
         flags,
-        room,
+        buffers,
+        window,
     } = prepared;
     let shared = Shared {
         rt,
@@ -152,7 +154,7 @@ fn run_prepared<Rt: Threads + Wait + Sync, R: Feed + Send + Drop, W: Outlet + Se
         refused: &flags,
         window,
     };
-    match run_in_scope(&shared, films, parts, room) {
+    match run_in_scope(&shared, films, seats, buffers) {
         Ok(ran) => Ok(settled(rt, queue, ran)),
         Err(films) => Err(films),
     }
@@ -166,10 +168,10 @@ fn make_queue<Rt: Wait>(
     alloc: Global,
     sources: u8,
     sizes: Sizes,
-) -> Result<(Queue<Order>, Parts), RecordFault>
+) -> Result<(Queue<Order>, Seats), RecordFault>
     requires { record_fault sources sizes.workers sizes.capacity sizes.window ≡ None }
-    ensures parts { IfOk result (λ made. (sources_of made.0 ≡ sources) × (workers_of made.0 ≡ sizes.workers) × AreParts made.0 made.1) }
-    ensures places { IfOk result (λ made. (places_of made.0 ≡ max sizes.capacity sizes.workers) × HaveRoom sizes.window made.1.inboxes.items) }
+    ensures seats { IfOk result (λ made. (sources_of made.0 ≡ sources) × (workers_of made.0 ≡ sizes.workers) × AreSeats made.0 made.1) }
+    ensures places { IfOk result (λ made. (places_of made.0 ≡ max sizes.capacity sizes.workers) × HaveCapacity sizes.window made.1.inboxes.items) }
 {
     let Sizes {
         workers,
@@ -184,7 +186,7 @@ fn make_queue<Rt: Wait>(
     };
     Ok((
         queue,
-        Parts {
+        Seats {
             sources,
             workers,
             closer,

@@ -34,7 +34,7 @@ pub fn work<R: Wait, G: Gate>(
     gate: &G,
 ) -> Worked
     requires seat { IsWorkerSeat queue.now seat }
-    requires boxes { sources_of queue.now ≤ length outbox.doors.items }
+    requires boxes { sources_of queue.now ≤ length outbox.senders.items }
     ensures seat { IsWorkerSeat queue.now result.seat }
     ensures done { is_done result.seat ≡ true }
     ensures coded { length (jobs_taken seat) + result.coded ≤ length (jobs_taken result.seat) }

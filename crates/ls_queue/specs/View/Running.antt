@@ -56,11 +56,11 @@ module _ {X : Type 0} where
 
   -- the most jobs and end marks that its channel holds
   abbrev pub places_of : Queue X → ℕ
-  places_of queue = ruled_capacity (sends_on queue.channel.entrance)
+  places_of queue = ruled_capacity (sends_on queue.channel.sender)
 
   -- seats, ends and the closer that belong to the queue with this channel
   pub record IsSourceAt (channel : Channel X) (seat : SourceSeat X) : Type 0 where
-    pub pass : IsSeatAt (sends_on channel.entrance) seat.pass
+    pub pass : IsSeatAt (sends_on channel.sender) seat.pass
     pub known : view seat.pass ≡ source_view seat.source (items_put seat)
     pub count : seat.count ≡ length (items_put seat)
     pub source : seat.source < channel.sources
@@ -69,14 +69,14 @@ module _ {X : Type 0} where
   IsSourceSeat queue seat = IsSourceAt queue.channel seat
 
   pub record IsWorkerAt (channel : Channel X) (seat : WorkerSeat X) : Type 0 where
-    pub pass : IsSeatAt (sends_on channel.entrance) seat.pass
+    pub pass : IsSeatAt (sends_on channel.sender) seat.pass
     pub known : view seat.pass ≡ worker_view channel.sources (jobs_taken seat) (is_done seat)
 
   abbrev pub IsWorkerSeat : Queue X → WorkerSeat X → Type 0
   IsWorkerSeat queue seat = IsWorkerAt queue.channel seat
 
   pub record IsEndedAt (channel : Channel X) (ended : Ended X) : Type 0 where
-    pub pass : IsSeatAt (sends_on channel.entrance) ended.pass
+    pub pass : IsSeatAt (sends_on channel.sender) ended.pass
     pub known : view ended.pass ≡ source_view ended.source (items_ended ended)
     pub count : ended.count ≡ length (items_ended ended)
     pub source : ended.source < channel.sources
@@ -85,7 +85,7 @@ module _ {X : Type 0} where
   IsEnded queue ended = IsEndedAt queue.channel ended
 
   pub record IsCloser (queue : Queue X) (closer : Closer X) : Type 0 where
-    pub pass : IsSeatAt (sends_on queue.channel.entrance) closer.pass
+    pub pass : IsSeatAt (sends_on queue.channel.sender) closer.pass
     pub known : view closer.pass ≡ closer_view (64 - queue.channel.sources - queue.channel.workers) queue.channel.sources queue.channel.workers
 
   -- a new seat for each source from number n on: it has put nothing
@@ -145,7 +145,7 @@ module _ {X : Type 0} where
 
   -- all sources have ended, each with its count, and there is an end mark for each worker
   pub record IsFinished (queue : Queue X) (finished : Finished X) : Type 0 where
-    pub pass : IsSeatAt (sends_on queue.channel.entrance) finished.pass
+    pub pass : IsSeatAt (sends_on queue.channel.sender) finished.pass
     pub shares : ℕ
     pub known : view finished.pass ≡ ending_view shares (puts_of finished) queue.channel.sources queue.channel.workers queue.channel.workers
     pub left : 64 ≤ shares + queue.channel.workers

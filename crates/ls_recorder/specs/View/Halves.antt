@@ -168,8 +168,8 @@ module _ {W : Type 0} where
     pub seat : IsWorkerSeat bookings writing.seat
     pub untaken : jobs_taken writing.seat ≡ []
     pub some : 1 ≤ window
-    pub collector : writing.collector ≡ new_collection writing.inbox.source window
-    pub returns : writing.returns.returned ≡ 0
+    pub collector : writing.arrivals.collector ≡ new_collection writing.arrivals.inbox.source window
+    pub returns : writing.arrivals.returns.returned ≡ 0
 
 module _ {W : Type 0} (contents : W → Option (List ℕ)) (failed_writes : W → ℕ) where
   -- How the writing half ended: the bookings are done, and the codestreams of the orders taken from them were written, or the fault says what was.

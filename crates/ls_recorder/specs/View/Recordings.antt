@@ -14,8 +14,8 @@ use Rattle.ls_recorder.specs.declared.lane.LaneEnd.{LaneEnd}
 use Rattle.ls_recorder.specs.declared.lane.LaneFault.TheVariants.{NotStarted}
 use Rattle.ls_recorder.specs.declared.working.Worked.{Worked}
 use Rattle.ls_recorder.specs.declared.recording.Track.{Track}
-use Rattle.ls_recorder.specs.declared.recording.threads.Parts.{Parts}
-use Rattle.ls_recorder.specs.declared.recording.threads.Room.{Room}
+use Rattle.ls_recorder.specs.declared.recording.threads.Seats.{Seats}
+use Rattle.ls_recorder.specs.declared.recording.threads.Buffers.{Buffers}
 use Rattle.ls_recorder.specs.declared.recording.threads.Ran.{Ran}
 use Rattle.ls_recorder.specs.declared.recording.workers.WorkerOf.{WorkerOf}
 use Rattle.ls_recorder.specs.declared.recording.lanes.Lane.{Lane}
@@ -97,12 +97,12 @@ module _ {R W : Type 0} where
   AreCounted counts s (t ∷ ts) = IfOk t.result (λ n. slice_index_or counts s 0 ≡ n) × AreCounted counts (suc s) ts
 
   -- all vectors are empty, with capacity for these numbers of sources and workers
-  pub record IsRoom (sources workers : ℕ) (room : Room R W) : Type 0 where
-    pub working : (room.working.items ≡ []) × (workers ≤ vec_capacity room.working)
-    pub lanes : (room.lanes.items ≡ []) × (sources ≤ vec_capacity room.lanes)
-    pub ended : (room.ended.items ≡ []) × (sources ≤ vec_capacity room.ended)
-    pub tracks : (room.tracks.items ≡ []) × (sources ≤ vec_capacity room.tracks)
-    pub seats : (room.seats.items ≡ []) × (workers ≤ vec_capacity room.seats)
+  pub record AreBuffers (sources workers : ℕ) (buffers : Buffers R W) : Type 0 where
+    pub working : (buffers.working.items ≡ []) × (workers ≤ vec_capacity buffers.working)
+    pub lanes : (buffers.lanes.items ≡ []) × (sources ≤ vec_capacity buffers.lanes)
+    pub ended : (buffers.ended.items ≡ []) × (sources ≤ vec_capacity buffers.ended)
+    pub tracks : (buffers.tracks.items ≡ []) × (sources ≤ vec_capacity buffers.tracks)
+    pub seats : (buffers.seats.items ≡ []) × (workers ≤ vec_capacity buffers.seats)
 
 -- ---- workers
 
@@ -117,27 +117,27 @@ AreWorking queue handles = AllByRecursion (λ (h : PromisedHandle Worked WorkerO
 
 -- ---- what threads are started with
 
--- each outbox has a door for each source
+-- each outbox has a sender for each source
 abbrev pub LeadToAll : ℕ → List Outbox → Type 0
-LeadToAll sources outboxes = AllByRecursion (λ (outbox : Outbox). sources ≤ length outbox.doors.items) outboxes
+LeadToAll sources outboxes = AllByRecursion (λ (outbox : Outbox). sources ≤ length outbox.senders.items) outboxes
 
 -- all seats of the queue, its closer, and a box for each source and each worker
-pub record AreParts (queue : Queue Ordered) (parts : Parts) : Type 0 where
-  pub sources : AreAllSources queue parts.sources.items
-  pub workers : AreWorkerSeats queue parts.workers.items
-  pub workers_are : length parts.workers.items ≡ workers_of queue
-  pub closer : IsCloser queue parts.closer
-  pub inboxes : AreFrom 0 parts.inboxes.items
-  pub inboxes_are : length parts.inboxes.items ≡ sources_of queue
-  pub outboxes : LeadToAll (sources_of queue) parts.outboxes.items
-  pub outboxes_are : length parts.outboxes.items ≡ workers_of queue
+pub record AreSeats (queue : Queue Ordered) (seats : Seats) : Type 0 where
+  pub sources : AreAllSources queue seats.sources.items
+  pub workers : AreWorkerSeats queue seats.workers.items
+  pub workers_are : length seats.workers.items ≡ workers_of queue
+  pub closer : IsCloser queue seats.closer
+  pub inboxes : AreFrom 0 seats.inboxes.items
+  pub inboxes_are : length seats.inboxes.items ≡ sources_of queue
+  pub outboxes : LeadToAll (sources_of queue) seats.outboxes.items
+  pub outboxes_are : length seats.outboxes.items ≡ workers_of queue
 
 -- the films, and all that was prepared for their lanes and for the workers
-pub record MayRun {R W : Type 0} (queue : Queue Ordered) (refused : List AtomicBool) (window : ℕ) (films : List (R × W × Tuning)) (parts : Parts) (room : Room R W) : Type 0 where
+pub record MayRun {R W : Type 0} (queue : Queue Ordered) (refused : List AtomicBool) (window : ℕ) (films : List (R × W × Tuning)) (seats : Seats) (buffers : Buffers R W) : Type 0 where
   pub films_are : length films ≡ sources_of queue
   pub sources : sources_of queue ≤ 16
-  pub seats : AreParts queue parts
+  pub seats_are : AreSeats queue seats
   pub flags : length refused ≡ sources_of queue
   pub some : 1 ≤ window
   pub few : window ≤ most_window
-  pub places : IsRoom (sources_of queue) (workers_of queue) room
+  pub buffers_are : AreBuffers (sources_of queue) (workers_of queue) buffers

@@ -26,25 +26,25 @@ impl Split<()> for Another {
 #[derive(Drop)]
 pub struct Inbox {
     pub(crate) source: u8,
-    pub(crate) exit: RuledReceiver<Answer, (), Free>,
+    pub(crate) receiver: RuledReceiver<Answer, (), Free>,
     pub(crate) pass: Pass<Answer, ()>,
     pub(crate) patience: Patience,
-    ghost own: { IsSeatAt (receives_on exit) pass },
+    ghost own: { IsSeatAt (receives_on receiver) pass },
 }
 
 /// A sender to the inbox of one source.
 #[derive(Drop)]
-pub struct Door {
-    pub entrance: RuledSender<Answer, (), Free>,
+pub struct InboxSender {
+    pub channel: RuledSender<Answer, (), Free>,
     pub pass: Pass<Answer, ()>,
-    ghost own: { IsSeatAt (sends_on entrance) pass },
+    ghost own: { IsSeatAt (sends_on channel) pass },
 }
 
 /// The senders of one worker: it sends its results here, whatever their source.
 #[derive(Drop)]
 pub struct Outbox {
     /// A sender for each source, in order from source 0.
-    pub(crate) doors: Vec<Door>,
+    pub(crate) senders: Vec<InboxSender>,
 }
 
 impl Inbox {
@@ -53,48 +53,48 @@ impl Inbox {
     /// Nothing is promised of which result comes, and when.
     pub fn recv<R: Wait>(&mut self, rt: &R) -> Option<Answer>
         ensures source { self.new.source ≡ self.old.source }
-        ensures same { receives_on self.new.exit ≡ receives_on self.old.exit }
+        ensures same { receives_on self.new.receiver ≡ receives_on self.old.receiver }
     {
         receive::<Answer, (), Free, Free, R>(
             rt,
-            &self.exit,
+            &self.receiver,
             &mut self.pass,
             &mut self.patience,
         ).ok()
     }
 }
 
-impl Door {
+impl InboxSender {
     /// Makes another sender to the same inbox.
-    pub fn another(&mut self) -> Result<Door, AllocError>
-        ensures same { sends_on self.new.entrance ≡ sends_on self.old.entrance }
-        ensures another { IfOk result (λ door. sends_on door.entrance ≡ sends_on self.old.entrance) }
+    pub fn another(&mut self) -> Result<InboxSender, AllocError>
+        ensures same { sends_on self.new.channel ≡ sends_on self.old.channel }
+        ensures another { IfOk result (λ sender. sends_on sender.channel ≡ sends_on self.old.channel) }
     {
-        let entrance = self.entrance.try_clone()?;
-        let pass = entrance.another::<Another>(&mut self.pass);
-        Ok(Door { entrance, pass })
+        let channel = self.channel.try_clone()?;
+        let pass = channel.another::<Another>(&mut self.pass);
+        Ok(InboxSender { channel, pass })
     }
 }
 
 impl Outbox {
     /// The number of sources that the boxes were made for.
     pub fn sources(&self) -> usize
-        ensures { result ≡ length self.now.doors.items }
+        ensures { result ≡ length self.now.senders.items }
     {
-        self.doors.len()
+        self.senders.len()
     }
 
     /// Sends a result to the inbox of a source, which has to be one that the boxes were made for. Waits while the inbox
     /// is full. Returns the result if the lane that receives from the inbox is gone. Each sender still leads to its
     /// inbox.
     pub fn send<R: Wait>(&mut self, rt: &R, source: u8, answer: Answer) -> Result<(), Answer>
-        requires { source < length self.old.doors.items }
+        requires { source < length self.old.senders.items }
         ensures refused { IfErr result (λ back. back ≡ answer) }
-        ensures sources { length self.new.doors.items ≡ length self.old.doors.items }
-        ensures doors { map (λ door. sends_on door.entrance) self.new.doors.items ≡ map (λ door. sends_on door.entrance) self.old.doors.items }
+        ensures sources { length self.new.senders.items ≡ length self.old.senders.items }
+        ensures senders { map (λ sender. sends_on sender.channel) self.new.senders.items ≡ map (λ sender. sends_on sender.channel) self.old.senders.items }
     {
-        let door = &mut self.doors[source as usize];
-        match door.entrance.send_as::<Free, R>(rt, &mut door.pass, answer) {
+        let sender = &mut self.senders[source as usize];
+        match sender.channel.send_as::<Free, R>(rt, &mut sender.pass, answer) {
             Ok(()) => Ok(()),
             Err(refused) => Err(refused.into_inner()),
         }

@@ -16,17 +16,17 @@ use std::sync::Wait;
 pub struct Places {
     /// The number of free places, without those that were handed back and not yet counted.
     free: usize,
-    exit: RuledReceiver<usize, (), Free>,
+    receiver: RuledReceiver<usize, (), Free>,
     pass: Pass<usize, ()>,
     patience: Patience,
-    ghost own: { IsSeatAt (receives_on exit) pass },
+    ghost own: { IsSeatAt (receives_on receiver) pass },
 }
 
 /// The end by which the writing half gives places back. It hands them back several at a time, since each time the
 /// reading half may have to be woken.
 #[derive(Drop)]
 pub struct Returns {
-    entrance: RuledSender<usize, (), Free>,
+    sender: RuledSender<usize, (), Free>,
     pass: Pass<usize, ()>,
     /// The number of places given back.
     pub returned: u64,
@@ -34,7 +34,7 @@ pub struct Returns {
     kept: usize,
     /// The number at which they are handed back at the latest: half of the window, rounded down.
     most: usize,
-    ghost own: { IsSeatAt (sends_on entrance) pass },
+    ghost own: { IsSeatAt (sends_on sender) pass },
 }
 
 impl Places {
@@ -44,16 +44,16 @@ impl Places {
         requires { 0 < window }
         ensures none { IfOk result (λ made. made.1.returned ≡ 0) }
     {
-        let (entrance, exit, mut pass) = bounded_with::<usize, (), Free, Global>(alloc, window)?;
-        let other = entrance.another::<Another>(&mut pass);
+        let (sender, receiver, mut pass) = bounded_with::<usize, (), Free, Global>(alloc, window)?;
+        let other = sender.another::<Another>(&mut pass);
         let places = Places {
             free: window,
-            exit,
+            receiver,
             pass,
             patience: Patience::new(),
         };
         let returns = Returns {
-            entrance,
+            sender,
             pass: other,
             returned: 0,
             kept: 0,
@@ -74,7 +74,7 @@ impl Places {
         }
         match receive::<usize, (), Free, Free, R>(
             rt,
-            &self.exit,
+            &self.receiver,
             &mut self.pass,
             &mut self.patience,
         ) {
@@ -89,7 +89,7 @@ impl Places {
     /// Counts the places that were handed back. Whether more may come.
     fn count_returned<R: Wait>(&mut self, rt: &R) -> bool {
         for _ in rt.forever() {
-            match self.exit.try_recv_as::<Free, R>(rt, &mut self.pass) {
+            match self.receiver.try_recv_as::<Free, R>(rt, &mut self.pass) {
                 Ok(places) => self.free = self.free.saturating_add(places),
                 Err(TryRecvError::Empty) => return true,
                 Err(TryRecvError::Disconnected) => return false,
@@ -119,7 +119,7 @@ impl Returns {
     {
         if self.kept > 0 {
             let _sent = self
-                .entrance
+                .sender
                 .send_as::<Free, R>(rt, &mut self.pass, self.kept);
             self.kept = 0;
         }

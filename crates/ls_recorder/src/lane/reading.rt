@@ -18,7 +18,7 @@ use crate::lane::{LaneFault, Setting};
 use ls_film::MOST_FRAMES;
 use ls_frame::{Feed, Frame, NetpbmFault, Tuning, next_frame};
 use ls_pieces::Order;
-use ls_queue::{Closer, Ended, Finished, Queue, SourceSeat};
+use ls_queue::{Closer, Ended, Finished, SourceSeat};
 use std::alloc::Global;
 use std::sync::{Arc, Wait};
 
@@ -112,14 +112,7 @@ fn read_film<F: Feed, R: Wait, G: Gate>(
         };
         let bytes = sample_bytes(order.frame());
         setting.notice(Notice::Read { number, bytes });
-        put(
-            setting.rt,
-            setting.queue,
-            setting.bookings,
-            seat,
-            booked,
-            order,
-        )?;
+        put(setting, seat, booked, order)?;
         setting.notice(Notice::Put(number));
     }
     unreachable!()
@@ -172,20 +165,18 @@ fn next_order<F: Feed>(
 
 /// Books an order for the writing half, and puts it into the queue. Fails with `NoMemory` only if the order can't be
 /// copied; then nothing was booked or put.
-fn put<R: Wait>(
-    rt: &R,
-    queue: &Queue<Order>,
-    bookings: &Queue<Order>,
+fn put<R: Wait, G: Gate>(
+    setting: &Setting<'_, R, G>,
     seat: &mut SourceSeat<Order>,
     booked: &mut SourceSeat<Order>,
     order: Order,
 ) -> Result<(), LaneFault>
-    requires seat { IsSourceSeat queue.now seat.old }
-    requires booked { IsSourceSeat bookings.now booked.old }
+    requires seat { IsSourceSeat setting.now.queue.now seat.old }
+    requires booked { IsSourceSeat setting.now.bookings.now booked.old }
     requires same { items_put booked.old ≡ items_put seat.old }
     requires short { length (items_put seat.old) < most_frames }
-    ensures seat { IsSourceSeat queue.now seat.new × (seat.new.source ≡ seat.old.source) }
-    ensures booked { IsSourceSeat bookings.now booked.new × (booked.new.source ≡ booked.old.source) }
+    ensures seat { IsSourceSeat setting.now.queue.now seat.new × (seat.new.source ≡ seat.old.source) }
+    ensures booked { IsSourceSeat setting.now.bookings.now booked.new × (booked.new.source ≡ booked.old.source) }
     ensures same { items_put booked.new ≡ items_put seat.new }
     ensures put { OnOk result (items_put seat.new ≡ items_put seat.old ++ order ∷ []) }
     ensures refused { IfErr result (λ fault. (fault ≡ LaneFault.NoMemory) × (items_put seat.new ≡ items_put seat.old)) }
@@ -193,28 +184,27 @@ fn put<R: Wait>(
     let Ok(copy) = order.clone() else {
         return Err(LaneFault::NoMemory);
     };
-    let Ok(_number) = bookings.put(rt, booked, copy) else {
+    let Ok(_number) = setting.bookings.put(setting.rt, booked, copy) else {
         unreachable!()
     };
-    put_booked(rt, queue, seat, booked, order);
+    put_booked(setting, seat, booked, order);
     Ok(())
 }
 
 /// Puts an order into the queue after it was booked: its coded frame may come at once.
-fn put_booked<R: Wait>(
-    rt: &R,
-    queue: &Queue<Order>,
+fn put_booked<R: Wait, G: Gate>(
+    setting: &Setting<'_, R, G>,
     seat: &mut SourceSeat<Order>,
     booked: &SourceSeat<Order>,
     order: Order,
 )
-    requires seat { IsSourceSeat queue.now seat.old }
+    requires seat { IsSourceSeat setting.now.queue.now seat.old }
     requires booked { items_put booked.now ≡ items_put seat.old ++ order ∷ [] }
     requires short { length (items_put seat.old) < most_frames }
-    ensures seat { IsSourceSeat queue.now seat.new × (seat.new.source ≡ seat.old.source) }
+    ensures seat { IsSourceSeat setting.now.queue.now seat.new × (seat.new.source ≡ seat.old.source) }
     ensures put { items_put seat.new ≡ items_put seat.old ++ order ∷ [] }
 {
-    let Ok(_number) = queue.put(rt, seat, order) else {
+    let Ok(_number) = setting.queue.put(setting.rt, seat, order) else {
         unreachable!()
     };
 }

@@ -20,15 +20,21 @@ use ls_pieces::{Coded, Collector, Misfit, Order};
 use ls_queue::{Queue, Taken, WorkerSeat};
 use std::sync::Wait;
 
-/// The input of the writing half: its seat at the bookings, the inbox of its source, a collector with nothing booked,
-/// the end that gives places back, and the writer.
+/// The input of the writing half: its seat at the bookings, what brings it coded frames, and the writer.
 #[derive(Drop)]
 pub struct Writing<W> {
     pub seat: WorkerSeat<Order>,
+    pub arrivals: Arrivals,
+    pub writer: W,
+}
+
+/// What coded frames come by, until they are written: the inbox of their source, a collector that puts them in order,
+/// and the end that gives their places back.
+#[derive(Drop)]
+pub struct Arrivals {
     pub inbox: Inbox,
     pub collector: Collector,
     pub returns: Returns,
-    pub writer: W,
 }
 
 /// The result of the writing half: its seat, whose last take returned Done, the writer, and why writing stopped, if it
@@ -59,25 +65,20 @@ pub fn write_film<W: Outlet, R: Wait, G: Gate>(
 {
     let Writing {
         mut seat,
-        inbox,
-        collector,
-        returns,
+        mut arrivals,
         mut writer,
     } = start;
-    match write_booked(setting, &mut seat, inbox, collector, returns, &mut writer) {
-        Ok(()) => WritingEnd {
-            seat,
-            writer,
-            result: Ok(()),
-        },
-        Err(halt) => {
-            let fault = take_the_rest(setting, &mut seat, halt);
-            WritingEnd {
-                seat,
-                writer,
-                result: Err(fault),
-            }
-        }
+    let written = write_booked(setting, &mut seat, &mut arrivals, &mut writer);
+    // From here on nobody waits for the inbox or for places.
+    drop(arrivals);
+    let result = match written {
+        Ok(()) => Ok(()),
+        Err(halt) => Err(take_the_rest(setting, &mut seat, halt)),
+    };
+    WritingEnd {
+        seat,
+        writer,
+        result,
     }
 }
 
@@ -113,55 +114,18 @@ fn take_the_rest<R: Wait, G: Gate>(
     }
 }
 
-/// Writes until the bookings are done, or until it has to stop. Then it drops the inbox and the places, so that nobody
-/// waits for them.
+/// Writes until the bookings are done, or until it has to stop.
 fn write_booked<W: Outlet, R: Wait, G: Gate>(
     setting: &Setting<'_, R, G>,
     seat: &mut WorkerSeat<Order>,
-    inbox: Inbox,
-    collector: Collector,
-    returns: Returns,
+    arrivals: &mut Arrivals,
     writer: &mut W,
 ) -> Result<(), Halt>
-    requires taken { HasTaken setting.now.bookings.now setting.now.window seat.old collector }
+    requires taken { HasTaken setting.now.bookings.now setting.now.window seat.old arrivals.old.collector }
     requires some { 1 ≤ setting.now.window }
     requires none { jobs_taken seat.old ≡ [] }
-    requires new { collector ≡ new_collection collector.source setting.now.window }
-    requires returned { returns.returned ≡ 0 }
-    ensures seat { IsWorkerSeat setting.now.bookings.now seat.new }
-    ensures done { OnOk result (is_done seat.new ≡ true) }
-    ensures wrote { OnOk result (Appends (W.contents writer.old) (W.contents writer.new) (file (orders_taken seat.new))) }
-    ensures halts { IfErr result (HaltsWriting (orders_taken seat.new) (W.contents writer.old) (W.contents writer.new)) }
-    ensures failures { W.failed_writes writer.new ≡ count_after (halted_writer result) (W.failed_writes writer.old) }
-    ensures untouched { length (jobs_taken seat.new) ≡ 0 → writer.new ≡ writer.old }
-{
-    let mut inbox = inbox;
-    let mut collector = collector;
-    let mut returns = returns;
-    write_each(
-        setting,
-        seat,
-        &mut inbox,
-        &mut collector,
-        &mut returns,
-        writer,
-    )
-}
-
-/// As `write_booked`, with the inbox, the collector and the places borrowed.
-fn write_each<W: Outlet, R: Wait, G: Gate>(
-    setting: &Setting<'_, R, G>,
-    seat: &mut WorkerSeat<Order>,
-    inbox: &mut Inbox,
-    collector: &mut Collector,
-    returns: &mut Returns,
-    writer: &mut W,
-) -> Result<(), Halt>
-    requires taken { HasTaken setting.now.bookings.now setting.now.window seat.old collector.old }
-    requires some { 1 ≤ setting.now.window }
-    requires none { jobs_taken seat.old ≡ [] }
-    requires new { collector.old ≡ new_collection collector.old.source setting.now.window }
-    requires returned { returns.old.returned ≡ 0 }
+    requires new { arrivals.old.collector ≡ new_collection arrivals.old.collector.source setting.now.window }
+    requires returned { arrivals.old.returns.returned ≡ 0 }
     ensures seat { IsWorkerSeat setting.now.bookings.now seat.new }
     ensures done { OnOk result (is_done seat.new ≡ true) }
     ensures wrote { OnOk result (Appends (W.contents writer.old) (W.contents writer.new) (file (orders_taken seat.new))) }
@@ -171,13 +135,13 @@ fn write_each<W: Outlet, R: Wait, G: Gate>(
 {
     let mut written = 0;
     for _ in setting.rt.forever() {
-        if !some_waits(setting, seat, collector)? {
+        if !some_waits(setting, seat, &mut arrivals.collector)? {
             return Ok(());
         }
-        let piece = receive(setting.rt, inbox)?;
-        book_until(setting, seat, collector, piece.number())?;
-        accept(collector, piece)?;
-        written = write_ready(setting, collector, returns, writer, written)?;
+        let piece = receive(setting.rt, &mut arrivals.inbox)?;
+        book_until(setting, seat, &mut arrivals.collector, piece.number())?;
+        accept(&mut arrivals.collector, piece)?;
+        written = write_ready(setting, arrivals, writer, written)?;
     }
     unreachable!()
 }
@@ -287,23 +251,22 @@ fn accept(collector: &mut Collector, piece: Coded) -> Result<(), Halt>
 /// Returns the number of bytes written by then. Each frame gives its place back.
 fn write_ready<W: Outlet, R: Wait, G: Gate>(
     setting: &Setting<'_, R, G>,
-    collector: &mut Collector,
-    returns: &mut Returns,
+    arrivals: &mut Arrivals,
     writer: &mut W,
     written: u64,
 ) -> Result<u64, Halt>
-    requires few { booked collector.old ≤ most_frames }
-    requires small { written ≤ 2 ^ 32 * collector.old.first }
-    requires returned { returns.old.returned ≡ collector.old.first }
-    ensures goes_on { IfOk result (λ now. GoesOn (W.contents writer.old) collector.old written (W.contents writer.new) collector.new now) }
-    ensures small { IfOk result (λ now. now ≤ 2 ^ 32 * collector.new.first) }
-    ensures returned { OnOk result (returns.new.returned ≡ collector.new.first) }
-    ensures same { OnOk result ((booked collector.new ≡ booked collector.old) × (collector.new.window ≡ collector.old.window)) }
-    ensures halts { IfErr result (HaltsSo (W.contents writer.old) collector.old written (W.contents writer.new)) }
+    requires few { booked arrivals.old.collector ≤ most_frames }
+    requires small { written ≤ 2 ^ 32 * arrivals.old.collector.first }
+    requires returned { arrivals.old.returns.returned ≡ arrivals.old.collector.first }
+    ensures goes_on { IfOk result (λ now. GoesOn (W.contents writer.old) arrivals.old.collector written (W.contents writer.new) arrivals.new.collector now) }
+    ensures small { IfOk result (λ now. now ≤ 2 ^ 32 * arrivals.new.collector.first) }
+    ensures returned { OnOk result (arrivals.new.returns.returned ≡ arrivals.new.collector.first) }
+    ensures same { OnOk result ((booked arrivals.new.collector ≡ booked arrivals.old.collector) × (arrivals.new.collector.window ≡ arrivals.old.collector.window)) }
+    ensures halts { IfErr result (HaltsSo (W.contents writer.old) arrivals.old.collector written (W.contents writer.new)) }
     ensures failures { W.failed_writes writer.new ≡ count_after (halted_writer result) (W.failed_writes writer.old) }
 {
     let mut written = written;
-    while let Some(piece) = collector.next() {
+    while let Some(piece) = arrivals.collector.next() {
         written = write_piece(writer, &piece, written)?;
         setting.notice(Notice::Written {
             number: piece.number(),
@@ -311,9 +274,9 @@ fn write_ready<W: Outlet, R: Wait, G: Gate>(
         });
         // Its memory is freed before another frame may take its place.
         drop(piece);
-        returns.give(setting.rt);
+        arrivals.returns.give(setting.rt);
     }
-    returns.hand_back(setting.rt);
+    arrivals.returns.hand_back(setting.rt);
     Ok(written)
 }
 

@@ -15,10 +15,9 @@ use crate::recording::threads::Shared;
 use ls_frame::{Feed, Outlet, Tuning};
 use ls_pieces::Order;
 use ls_queue::{Ended, Queue, SourceSeat};
-use std::alloc::Global;
 use std::snapshot::Snapshot;
 use std::sync::Wait;
-use std::sync::atomic::{AtomicBool, Ordering};
+use std::sync::atomic::Ordering;
 use std::thread::{Promise, PromisedHandle, Scope, Threads};
 
 /// The promise of a lane's thread: what its result is about.
@@ -54,7 +53,7 @@ pub fn start_lanes<
     G: Gate,
 >(
     scope: &Scope<'s, E>,
-    shared: &Shared<'s, Rt, G>,
+    shared: &'s Shared<'s, Rt, G>,
     mut films: Vec<(R, W, Tuning)>,
     mut seats: Vec<SourceSeat<Order>>,
     mut inboxes: Vec<Inbox>,
@@ -67,7 +66,7 @@ pub fn start_lanes<
     requires sources { sources_of shared.now.queue.now ≤ 16 }
     requires some { 1 ≤ shared.now.window }
     requires few { shared.now.window ≤ most_window }
-    requires room { length films.items ≤ vec_capacity lanes.old }
+    requires capacity { length films.items ≤ vec_capacity lanes.old }
     requires none { lanes.old.items ≡ [] }
     ensures lanes { AreStarted R.remaining R.failed_reads W.contents W.failed_writes shared.now.queue.now 0 films.items lanes.new.items }
     ensures many { length lanes.new.items ≡ length films.items }
@@ -96,19 +95,14 @@ fn start_lane<
     R: Feed + Send + Drop + 's,
     W: Outlet + Send + Drop + 's,
     G: Gate,
->(scope: &Scope<'s, E>, shared: &Shared<'s, Rt, G>, source: u8, start: Start<R, W>) -> Lane<R, W>
+>(scope: &Scope<'s, E>, shared: &'s Shared<'s, Rt, G>, source: u8, start: Start<R, W>) -> Lane<R, W>
     requires may { MayStart shared.now.queue.now start }
     requires source { start.seat.source ≡ source }
     requires flag { source < length shared.now.refused.now }
     ensures { IsStarted R.remaining R.failed_reads W.contents W.failed_writes shared.now.queue.now source start.film result }
 {
-    let rt = shared.rt;
-    let alloc = shared.alloc;
-    let queue = shared.queue;
-    let gate = shared.gate;
-    let refused = &shared.refused[source as usize];
     let promise = LaneOf {
-        queue: Snapshot::of(queue),
+        queue: Snapshot::of(shared.queue),
         source,
         tuning: start.film.2,
         reader: Snapshot::of(&start.film.0),
@@ -117,14 +111,14 @@ fn start_lane<
     let started = scope.spawn_with(
         promise,
         move || -> LaneEnd<R, W>
-            requires { MayStart queue.now start }
-            ensures { IsLaneEnd R.remaining R.failed_reads W.contents W.failed_writes queue.entry.now start.seat.source start.film.2 start.film.0 start.film.1 result }
-        { begin_lane(rt, alloc, queue, gate, refused, start) },
+            requires { MayStart shared.now.queue.now start × (source < length shared.now.refused.now) }
+            ensures { IsLaneEnd R.remaining R.failed_reads W.contents W.failed_writes shared.entry.now.queue.now start.seat.source start.film.2 start.film.0 start.film.1 result }
+        { begin_lane(shared, source, start) },
     );
     match started {
         Ok(handle) => Lane::Running(handle),
         Err(closure) => {
-            refused.store(true, Ordering::SeqCst);
+            shared.refused[source as usize].store(true, Ordering::SeqCst);
             Lane::Refused((closure.value)())
         }
     }
@@ -132,18 +126,16 @@ fn start_lane<
 
 /// Runs a lane, unless no thread could be made for it: then ends its source, with `NotStarted`.
 fn begin_lane<Rt: Threads + Wait + Sync, R: Feed + Drop, W: Outlet + Send + Drop, G: Gate>(
-    rt: &Rt,
-    alloc: Global,
-    queue: &Queue<Order>,
-    gate: &G,
-    refused: &AtomicBool,
+    shared: &Shared<'_, Rt, G>,
+    source: u8,
     start: Start<R, W>,
 ) -> LaneEnd<R, W>
-    requires { MayStart queue.now start }
-    ensures { IsLaneEnd R.remaining R.failed_reads W.contents W.failed_writes queue.now start.seat.source start.film.2 start.film.0 start.film.1 result }
+    requires may { MayStart shared.now.queue.now start }
+    requires flag { source < length shared.now.refused.now }
+    ensures { IsLaneEnd R.remaining R.failed_reads W.contents W.failed_writes shared.now.queue.now start.seat.source start.film.2 start.film.0 start.film.1 result }
 {
-    if !refused.load(Ordering::SeqCst) {
-        return watched_lane(rt, alloc, queue, gate, start);
+    if !shared.refused[source as usize].load(Ordering::SeqCst) {
+        return watched_lane(shared.rt, shared.alloc, shared.queue, shared.gate, start);
     }
     let Start {
         seat,
@@ -152,9 +144,9 @@ fn begin_lane<Rt: Threads + Wait + Sync, R: Feed + Drop, W: Outlet + Send + Drop
         ..
     } = start;
     let result = Err(LaneFault::NotStarted);
-    gate.notice(inbox.source, Notice::Ended(result));
+    shared.gate.notice(inbox.source, Notice::Ended(result));
     LaneEnd {
-        ended: queue.end(rt, seat),
+        ended: shared.queue.end(shared.rt, seat),
         reader,
         writer,
         result,
@@ -169,8 +161,8 @@ pub fn join_lanes<Rt: Threads, R: Feed + Drop, W: Outlet + Drop>(
     ended: &mut Vec<Ended<Order>>,
     tracks: &mut Vec<Track<R, W>>,
 )
-    requires ended_room { length lanes.items ≤ vec_capacity ended.old }
-    requires tracks_room { length lanes.items ≤ vec_capacity tracks.old }
+    requires ended_capacity { length lanes.items ≤ vec_capacity ended.old }
+    requires tracks_capacity { length lanes.items ≤ vec_capacity tracks.old }
     requires no_ended { ended.old.items ≡ [] }
     requires no_tracks { tracks.old.items ≡ [] }
     ensures { (films : List (R × W × Tuning)) → AreStarted R.remaining R.failed_reads W.contents W.failed_writes queue.now 0 films lanes.items

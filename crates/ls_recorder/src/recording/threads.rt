@@ -2,7 +2,7 @@
 //! scope.
 ghost use Rattle.std.specs.Prelude.{◌≡◌, List, ◌≤◌, [], length, vec_capacity, IfOk, IfErr};
 ghost use Rattle.ls_queue.specs.View.Running.{AreAllSources, EachHasEnd, IsFinished, IsCloser, puts_of, parts_of, sources_of, AreEnds};
-ghost use Rattle.ls_recorder.specs.View.Recordings.{HasRun, MayRun, IsRoom};
+ghost use Rattle.ls_recorder.specs.View.Recordings.{HasRun, MayRun, AreBuffers};
 
 use crate::delivery::{Inbox, Outbox};
 use crate::gate::Gate;
@@ -33,7 +33,7 @@ pub struct Shared<'s, Rt, G> {
 
 /// The seats of a queue, its closer, and the boxes.
 #[derive(Drop)]
-pub struct Parts {
+pub struct Seats {
     pub sources: Vec<SourceSeat<Order>>,
     pub workers: Vec<WorkerSeat<Order>>,
     pub closer: Closer<Order>,
@@ -43,7 +43,7 @@ pub struct Parts {
 
 /// Empty vectors, with capacity for the handles and the results of the threads.
 #[derive(Drop)]
-pub struct Room<R: Feed + Drop, W: Outlet + Drop> {
+pub struct Buffers<R: Feed + Drop, W: Outlet + Drop> {
     pub working: Vec<PromisedHandle<Worked, WorkerOf>>,
     pub lanes: Vec<Lane<R, W>>,
     pub ended: Vec<Ended<Order>>,
@@ -61,14 +61,14 @@ pub struct Ran<R, W> {
 
 /// Allocates for the handles and the results of `sources` lanes and `workers` workers. Fails only if an allocation
 /// fails.
-pub fn room_for<R: Feed + Drop, W: Outlet + Drop>(
+pub fn buffers_for<R: Feed + Drop, W: Outlet + Drop>(
     alloc: Global,
     sources: usize,
     workers: usize,
-) -> Result<Room<R, W>, AllocError>
-    ensures { IfOk result (IsRoom sources workers) }
+) -> Result<Buffers<R, W>, AllocError>
+    ensures { IfOk result (AreBuffers sources workers) }
 {
-    Ok(Room {
+    Ok(Buffers {
         working: Vec::with_capacity(alloc, workers)?,
         lanes: Vec::with_capacity(alloc, sources)?,
         ended: Vec::with_capacity(alloc, sources)?,
@@ -97,10 +97,10 @@ pub fn run_in_scope<
 >(
     shared: &Shared<'_, Rt, G>,
     films: Vec<(R, W, Tuning)>,
-    parts: Parts,
-    room: Room<R, W>,
+    seats: Seats,
+    buffers: Buffers<R, W>,
 ) -> Result<Ran<R, W>, Vec<(R, W, Tuning)>>
-    requires { MayRun shared.now.queue.now shared.now.refused.now shared.now.window films.items parts room }
+    requires { MayRun shared.now.queue.now shared.now.refused.now shared.now.window films.items seats buffers }
     ensures ran { IfOk result (HasRun R.remaining R.failed_reads W.contents W.failed_writes shared.now.queue.now films.items) }
     ensures refused { IfErr result (λ back. back.items ≡ films.items) }
 {
@@ -108,9 +108,9 @@ pub fn run_in_scope<
         thread::scope_env(),
         shared.rt,
         move |scope| -> Result<Ran<R, W>, Vec<(R, W, Tuning)>>
-            requires { MayRun shared.now.queue.now shared.now.refused.now shared.now.window films.items parts room }
+            requires { MayRun shared.now.queue.now shared.now.refused.now shared.now.window films.items seats buffers }
             ensures { IfOk result (HasRun R.remaining R.failed_reads W.contents W.failed_writes shared.entry.now.queue.now films.items) × IfErr result (λ back. back.items ≡ films.items) }
-        { run_threads(scope, shared, films, parts, room) },
+        { run_threads(scope, shared, films, seats, buffers) },
     )
 }
 
@@ -125,29 +125,29 @@ fn run_threads<
     G: Gate,
 >(
     scope: &Scope<'s, E>,
-    shared: &Shared<'s, Rt, G>,
+    shared: &'s Shared<'s, Rt, G>,
     films: Vec<(R, W, Tuning)>,
-    parts: Parts,
-    room: Room<R, W>,
+    seats: Seats,
+    buffers: Buffers<R, W>,
 ) -> Result<Ran<R, W>, Vec<(R, W, Tuning)>>
-    requires { MayRun shared.now.queue.now shared.now.refused.now shared.now.window films.items parts room }
+    requires { MayRun shared.now.queue.now shared.now.refused.now shared.now.window films.items seats buffers }
     ensures ran { IfOk result (HasRun R.remaining R.failed_reads W.contents W.failed_writes shared.now.queue.now films.items) }
     ensures refused { IfErr result (λ back. back.items ≡ films.items) }
 {
-    let Parts {
+    let Seats {
         sources,
         workers,
         closer,
         inboxes,
         outboxes,
-    } = parts;
-    let Room {
+    } = seats;
+    let Buffers {
         mut working,
         mut lanes,
         mut ended,
         mut tracks,
         mut seats,
-    } = room;
+    } = buffers;
     let rt = shared.rt;
     let queue = shared.queue;
     if !start_workers(scope, shared, workers, outboxes, &mut working) {
@@ -174,7 +174,7 @@ fn end_all<Rt: Wait>(
     ended: &mut Vec<Ended<Order>>,
 )
     requires seats { AreAllSources queue.now seats.items }
-    requires room { length seats.items ≤ vec_capacity ended.old }
+    requires capacity { length seats.items ≤ vec_capacity ended.old }
     requires none { ended.old.items ≡ [] }
     ensures ended { AreEnds queue.now ended.new.items }
     ensures each { EachHasEnd (sources_of queue.now) ended.new.items }

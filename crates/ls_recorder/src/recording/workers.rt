@@ -35,7 +35,7 @@ pub fn start_workers<'s, E, Rt: Threads + Wait + Sync, G: Gate>(
 ) -> bool
     requires seats { AreWorkerSeats shared.now.queue.now seats.items }
     requires outboxes { LeadToAll (sources_of shared.now.queue.now) outboxes.items × (length outboxes.items ≡ length seats.items) }
-    requires room { vec_len working.old + length seats.items ≤ vec_capacity working.old }
+    requires capacity { vec_len working.old + length seats.items ≤ vec_capacity working.old }
     requires working { AreWorking shared.now.queue.now working.old.items }
     ensures working { AreWorking shared.now.queue.now working.new.items }
     ensures all { result ≡ true → vec_len working.new ≡ vec_len working.old + length seats.items }
@@ -53,7 +53,7 @@ pub fn start_workers<'s, E, Rt: Threads + Wait + Sync, G: Gate>(
         let started = scope.spawn_with(
             promise,
             move || -> Worked
-                requires { IsWorkerSeat queue.now seat × (sources_of queue.now ≤ length outbox.doors.items) }
+                requires { IsWorkerSeat queue.now seat × (sources_of queue.now ≤ length outbox.senders.items) }
                 ensures { IsWorked queue.entry.now result }
             { work(rt, alloc, queue, seat, outbox, gate) },
         );
@@ -73,7 +73,7 @@ pub fn join_workers<Rt: Threads>(
     seats: &mut Vec<WorkerSeat<Order>>,
 )
     requires working { AreWorking queue.now working.items }
-    requires room { length working.items ≤ vec_capacity seats.old }
+    requires capacity { length working.items ≤ vec_capacity seats.old }
     requires none { seats.old.items ≡ [] }
     ensures seats { AreWorkerSeats queue.now seats.new.items }
     ensures done { all_done seats.new.items ≡ true }

@@ -10,7 +10,7 @@ use Rattle.ls_queue.proofs.running.join_ends.Given as goal
 -- the passes so far are joined and their sources counted; the others remain
 abbrev pub invariant-loop-ended : goal.invariant-loop-ended
 invariant-loop-ended g l = record {
-  pass : IsSeatAt (sends_on l.channel.entrance) l.pass;
+  pass : IsSeatAt (sends_on l.channel.sender) l.pass;
   left : AllByRecursion (IsEndedAt l.channel) l.ended.items;
   known : view l.pass ≡ ending_view (64 - l.channel.sources - l.channel.workers + (length l.fn.ended.items - length l.ended.items)) (view l.pass).puts l.channel.sources l.channel.workers 0;
   fewer : length l.ended.items ≤ length l.fn.ended.items;

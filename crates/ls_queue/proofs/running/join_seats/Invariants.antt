@@ -9,7 +9,7 @@ use Rattle.ls_queue.proofs.running.join_seats.Given as goal
 -- the passes so far are joined; with the remaining ones they are all
 abbrev pub invariant-loop-seats : goal.invariant-loop-seats
 invariant-loop-seats g l = record {
-  pass : IsSeatAt (sends_on l.channel.entrance) l.pass;
+  pass : IsSeatAt (sends_on l.channel.sender) l.pass;
   closes : (view l.pass).closes ≡ true;
   left : AllByRecursion (IsWorkerAt l.channel) l.seats.items;
   known : with_takes (view l.pass) (takes_of l.seats.items) ≡ with_takes (view l.fn.pass) (takes_of l.fn.seats.items);

@@ -10,7 +10,7 @@ returns g c = (
   search rules,
   refl,
   refl,
-  omega (arith, c.in_ok-entrance.ensures.1),
+  omega (arith, c.in_ok-sender.ensures.1),
   c.in_ok-source_seats.ensures.seats,
   c.in_ok-worker_seats.ensures.seats,
   record {

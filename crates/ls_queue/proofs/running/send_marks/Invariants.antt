@@ -6,6 +6,6 @@ use Rattle.ls_queue.proofs.running.send_marks.Given as goal
 
 abbrev pub invariant-loop-mark : goal.invariant-loop-mark
 invariant-loop-mark g l = record {
-  pass : IsSeatAt (sends_on l.channel.entrance) l.pass;
+  pass : IsSeatAt (sends_on l.channel.sender) l.pass;
   sent : view l.pass ≡ with_marks (view l.fn.pass) l.mark;
 }

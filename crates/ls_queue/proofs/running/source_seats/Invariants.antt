@@ -8,7 +8,7 @@ use Rattle.ls_queue.proofs.running.source_seats.Given as goal
 -- the seats of the sources so far, each with one of the closer's shares
 abbrev pub invariant-loop-source : goal.invariant-loop-source
 invariant-loop-source g l = record {
-  pass : IsSeatAt (sends_on l.channel.entrance) l.pass;
+  pass : IsSeatAt (sends_on l.channel.sender) l.pass;
   known : view l.pass ≡ closer_view (64 - l.source) l.source 0;
   seats : AreNewSources l.channel 0 l.seats.items;
   many : length l.seats.items ≡ l.source;

@@ -8,7 +8,7 @@ use Rattle.ls_queue.proofs.running.worker_seats.Given as goal
 -- the seats of the workers so far, each with one of the closer's shares
 abbrev pub invariant-loop-worker : goal.invariant-loop-worker
 invariant-loop-worker g l = record {
-  pass : IsSeatAt (sends_on l.channel.entrance) l.pass;
+  pass : IsSeatAt (sends_on l.channel.sender) l.pass;
   known : view l.pass ≡ closer_view (64 - l.channel.sources - l.worker) l.channel.sources l.worker;
   seats : AreNewWorkers l.channel l.seats.items;
   many : length l.seats.items ≡ l.worker;

@@ -2,8 +2,8 @@ use Rattle.std.proofs.Common.{◌∙◌, sym}
 use Rattle.ls_recorder.proofs.RecordingLemmas.{new-workers, lead-all}
 use Rattle.ls_recorder.proofs.recording.make_queue.Goals as goal
 
-pub returns-clause-parts : goal.returns-clause-parts
-returns-clause-parts g c =
+pub returns-clause-seats : goal.returns-clause-seats
+returns-clause-seats g c =
     let made = c.in-Ok-open.ensures in
     let boxes = c.in-Ok.ensures.1 in (
       made.1,
@@ -21,4 +21,4 @@ returns-clause-parts g c =
     )
 
 pub returns-clause-places : goal.returns-clause-places
-returns-clause-places g c = (c.in-Ok-open.ensures.3, c.in-Ok.ensures.1.room)
+returns-clause-places g c = (c.in-Ok-open.ensures.3, c.in-Ok.ensures.1.capacity)

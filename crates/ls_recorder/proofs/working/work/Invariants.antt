@@ -8,7 +8,7 @@ invariant-loop g l = record {
   next : (goal.iterator-loop g).can_next l.iterator';
   goes_on : (goal.iterator-loop g).is_finite l.iterator';
   seat : IsWorkerSeat l.queue l.seat;
-  boxes : sources_of l.queue ≤ length l.outbox.doors.items;
+  boxes : sources_of l.queue ≤ length l.outbox.senders.items;
   coded : length (jobs_taken l.fn.seat) + l.coded ≤ length (jobs_taken l.seat);
   undelivered : length (jobs_taken l.fn.seat) + l.undelivered ≤ length (jobs_taken l.seat);
 }

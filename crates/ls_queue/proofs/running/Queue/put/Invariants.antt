@@ -8,7 +8,7 @@ use Rattle.ls_queue.proofs.running.Queue.put.Given as goal
 -- the job isn't sent yet, and the seat is as it was
 abbrev pub invariant-loop : goal.invariant-loop
 invariant-loop g l = record {
-  pass : IsSeatAt (sends_on l.self.channel.entrance) l.seat.pass;
+  pass : IsSeatAt (sends_on l.self.channel.sender) l.seat.pass;
   known : view l.seat.pass ≡ view l.fn.seat.pass;
   source : l.seat.source ≡ l.fn.seat.source;
   message : l.message ≡ message.Job (job l.fn.seat.source l.fn.seat.count l.fn.item);

@@ -7,8 +7,8 @@ use Rattle.ls_recorder.proofs.lane.writing.write_ready.Goals as goal
 
 pub loop-piece-preserved : goal.loop-piece-preserved
 loop-piece-preserved g c =
-    let reply : next_reply c.loop-piece.collector ≡ Some c.in-Some.piece = search rules in
-    let out = hands_out c.loop-piece.collector c.next.new.self c.in-Some.piece c.next.ensures.lawful reply c.next.ensures.state in
+    let reply : next_reply c.loop-piece.arrivals.collector ≡ Some c.in-Some.piece = search rules in
+    let out = hands_out c.loop-piece.arrivals.collector c.next.new.self c.in-Some.piece c.next.ensures.lawful reply c.next.ensures.state in
     let before = c.loop-piece.invariant in
     let all = c.in_ok-written.ensures.all in
     record {
@@ -22,8 +22,8 @@ loop-piece-preserved g c =
 
 pub returns-in_err-written-clause-halts : goal.returns-in_err-written-clause-halts
 returns-in_err-written-clause-halts g c =
-    let reply : next_reply c.loop-piece.collector ≡ Some c.in-Some.piece = search rules in
-    let out = hands_out c.loop-piece.collector c.next.new.self c.in-Some.piece c.next.ensures.lawful reply c.next.ensures.state in
+    let reply : next_reply c.loop-piece.arrivals.collector ≡ Some c.in-Some.piece = search rules in
+    let out = hands_out c.loop-piece.arrivals.collector c.next.new.self c.in-Some.piece c.next.ensures.lawful reply c.next.ensures.state in
     let p = err_from_is_err_and c.from_residual.result c.from_residual.ensures.1 in
     let why = c.in_err-written.ensures.stops in
     rw (p.1, p.2, why.1) (λ items start writing. (

@@ -6,13 +6,13 @@ use Rattle.ls_recorder.proofs.lane.writing.write_ready.Given as goal
 -- the coded frames so far were written
 abbrev pub invariant-loop-piece : goal.invariant-loop-piece
 invariant-loop-piece g l = record {
-  goes_on : GoesOn (g.W.Write.contents l.fn.writer) l.fn.collector l.fn.written (g.W.Write.contents l.writer) l.collector l.written;
-  small : l.written ≤ 2 ^ 32 * l.collector.first;
-  returned : l.returns.returned ≡ l.collector.first;
-  booked : booked l.collector ≡ booked l.fn.collector;
-  window : l.collector.window ≡ l.fn.collector.window;
+  goes_on : GoesOn (g.W.Write.contents l.fn.writer) l.fn.arrivals.collector l.fn.written (g.W.Write.contents l.writer) l.arrivals.collector l.written;
+  small : l.written ≤ 2 ^ 32 * l.arrivals.collector.first;
+  returned : l.arrivals.returns.returned ≡ l.arrivals.collector.first;
+  booked : booked l.arrivals.collector ≡ booked l.fn.arrivals.collector;
+  window : l.arrivals.collector.window ≡ l.fn.arrivals.collector.window;
   writes : g.W.Outlet.failed_writes l.writer ≡ g.W.Outlet.failed_writes l.fn.writer;
 }
 
 abbrev pub decreases-loop-piece : goal.decreases-loop-piece
-decreases-loop-piece g l = length l.collector.slots
+decreases-loop-piece g l = length l.arrivals.collector.slots

@@ -21,8 +21,8 @@ loop-lanes-init g c =
       );
       sum = omega arith;
       same = omega arith;
-      ended_room = refl;
-      tracks_room = refl;
+      ended_capacity = refl;
+      tracks_capacity = refl;
     }
 
 pub loop-lanes-preserved : goal.loop-lanes-preserved
@@ -50,8 +50,8 @@ loop-lanes-preserved g c =
           );
       sum = (let s = before.sum in omega arith);
       same = (let s = before.same in omega arith);
-      ended_room = c.push_reserved.ensures.capacity ∙ before.ended_room;
-      tracks_room = c.push_reserved-in-loop-lanes.ensures.capacity ∙ before.tracks_room;
+      ended_capacity = c.push_reserved.ensures.capacity ∙ before.ended_capacity;
+      tracks_capacity = c.push_reserved-in-loop-lanes.ensures.capacity ∙ before.tracks_capacity;
     }
 
 pub returns : goal.returns

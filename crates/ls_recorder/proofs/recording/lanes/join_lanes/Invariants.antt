@@ -12,8 +12,8 @@ invariant-loop-lanes g l = record {
       × AreStarted g.R.Read.remaining g.R.Feed.failed_reads g.W.Write.contents g.W.Outlet.failed_writes l.queue (length done) left l.lanes.items;
   sum : length l.ended.items + length l.lanes.items ≡ length l.fn.lanes.items;
   same : length l.tracks.items ≡ length l.ended.items;
-  ended_room : vec_capacity l.ended ≡ vec_capacity l.fn.ended;
-  tracks_room : vec_capacity l.tracks ≡ vec_capacity l.fn.tracks;
+  ended_capacity : vec_capacity l.ended ≡ vec_capacity l.fn.ended;
+  tracks_capacity : vec_capacity l.tracks ≡ vec_capacity l.fn.tracks;
 }
 
 abbrev pub decreases-loop-lanes : goal.decreases-loop-lanes

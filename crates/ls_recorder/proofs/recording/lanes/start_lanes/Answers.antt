@@ -20,7 +20,7 @@ loop-films-init g c =
       many_seats = c.requires.seats.1 ∙ sym c.requires.films;
       many_inboxes = c.requires.inboxes.1 ∙ sym c.requires.films;
       sum = omega arith;
-      room = refl;
+      capacity = refl;
     }
 
 pub loop-films-preserved : goal.loop-films-preserved
@@ -53,5 +53,5 @@ loop-films-preserved g c =
       many_seats = (let n = before.many_seats in omega arith);
       many_inboxes = (let n = before.many_inboxes in omega arith);
       sum = (let n = before.sum in omega arith);
-      room = c.push_reserved.ensures.capacity ∙ before.room;
+      capacity = c.push_reserved.ensures.capacity ∙ before.capacity;
     }

@@ -18,7 +18,7 @@ invariant-loop-films g l = record {
   many_seats : length l.seats.items ≡ length l.films.items;
   many_inboxes : length l.inboxes.items ≡ length l.films.items;
   sum : l.source + length l.films.items ≡ length l.fn.films.items;
-  room : vec_capacity l.lanes ≡ vec_capacity l.fn.lanes;
+  capacity : vec_capacity l.lanes ≡ vec_capacity l.fn.lanes;
 }
 
 abbrev pub decreases-loop-films : goal.decreases-loop-films

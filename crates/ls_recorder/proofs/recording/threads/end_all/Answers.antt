@@ -24,5 +24,5 @@ loop-seats-preserved g c =
           (each-more ended end (length ended) before.each (c.end.ensures.same.0 ∙ left.0.1) s (omega arith));
       sum = (let s = before.sum in omega arith);
       same = before.same;
-      room = c.push_reserved.ensures.capacity ∙ before.room;
+      capacity = c.push_reserved.ensures.capacity ∙ before.capacity;
     }

@@ -10,7 +10,7 @@ invariant-loop-seats g l = record {
   each : (s : ℕ) → s < length l.ended.items → has_end s l.ended.items ≡ true;
   sum : length l.ended.items + length l.seats.items ≡ sources_of l.queue;
   same : length l.fn.seats.items ≡ sources_of l.queue;
-  room : vec_capacity l.ended ≡ vec_capacity l.fn.ended;
+  capacity : vec_capacity l.ended ≡ vec_capacity l.fn.ended;
 }
 
 abbrev pub decreases-loop-seats : goal.decreases-loop-seats

@@ -1,4 +1,4 @@
-use crate::testing::{check, check_bytes};
+use crate::bits::testing::{check, check_bytes};
 use ls_bits::{Data, Stop, data_of};
 
 const FRONTS: &[(&[u8], usize, Stop)] = &[

@@ -1,7 +1,7 @@
 use Rattle.std.proofs.Common.{◌≡◌, ◌+◌, length, ap, ◌∙◌, arith, length-append}
 use Rattle.ls_bits.specs.Bits.{bits_of}
 use Rattle.ls_bits.proofs.BitLemmas.{length-bits_of}
-use Rattle.ls_bits_tests.proofs.testing.Filling.put.Goals as goal
+use Rattle.ls_coding_tests.proofs.bits.testing.Filling.put.Goals as goal
 
 pub invariant_of-self-clause-bits : goal.invariant_of-self-clause-bits
 invariant_of-self-clause-bits g c =

@@ -5,7 +5,7 @@ use Rattle.ls_queue.specs.View.Running.{jobs_taken}
 use Rattle.ls_recorder.specs.View.Halves.{orders_taken}
 use Rattle.ls_recorder.proofs.LaneLemmas.{keeps, writes-kept, writes-fewer, writes-front}
 use Rattle.ls_recorder.proofs.WritingLemmas.{orders-many, wrote-all, halts-refused, memory-is-no-misfit, lost-is-no-misfit}
-use Rattle.ls_recorder.proofs.lane.writing.write_each.Goals as goal
+use Rattle.ls_recorder.proofs.lane.writing.write_booked.Goals as goal
 
 pub returns-then-not-branch-clause-wrote : goal.returns-then-not-branch-clause-wrote
 returns-then-not-branch-clause-wrote g c =

@@ -1,6 +1,6 @@
 ghost use Rattle.std.specs.Prelude.{◌<◌};
 
-use crate::testing::{Code, Filling, Put, WORDS, Word, check_bytes, put, put_word};
+use crate::bits::testing::{Code, Filling, Put, WORDS, Word, check_bytes, put, put_word};
 use ls_bits::BitSink;
 use std::alloc::{AllocError, Global};
 use std::process::Abort;

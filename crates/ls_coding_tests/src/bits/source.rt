@@ -1,4 +1,4 @@
-use crate::testing::{
+use crate::bits::testing::{
     Code, WORDS, Word, check, check_answer, check_bytes, check_few, check_left, check_run,
     source_of,
 };

@@ -1,4 +1,4 @@
-use crate::testing::{check_answer, check_bytes};
+use crate::bits::testing::{check_answer, check_bytes};
 use ls_bits::{BitSink, BitSource, CodeFault, data_of};
 use std::alloc::{AllocError, Global};
 

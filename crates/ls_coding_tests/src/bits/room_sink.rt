@@ -1,4 +1,4 @@
-use crate::testing::{check, check_bytes};
+use crate::bits::testing::{check, check_bytes};
 use ls_bits::{RoomSink, SliceRoom};
 
 #[test]
