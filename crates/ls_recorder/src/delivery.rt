@@ -60,7 +60,9 @@ fn channels(
     let mut inboxes = Vec::new(alloc);
     let mut senders = Vec::new(alloc);
     for source in 0..sources {
-        let (channel, receiver, mut pass) = bounded_with::<Answer, (), Free, Global>(alloc, window)?;
+        let (channel, receiver, mut pass) = bounded_with::<Answer, (), Free, Global>(
+            alloc, window,
+        )?;
         let other = channel.another::<Another>(&mut pass);
         inboxes.push(Inbox {
             source,
@@ -77,7 +79,11 @@ fn channels(
 }
 
 /// Makes an outbox for each worker, with a copy of each of these senders.
-fn outboxes(alloc: Global, mut senders: Vec<InboxSender>, workers: usize) -> Result<Vec<Outbox>, AllocError>
+fn outboxes(
+    alloc: Global,
+    mut senders: Vec<InboxSender>,
+    workers: usize,
+) -> Result<Vec<Outbox>, AllocError>
     ensures { IfOk result (λ made. (length made.items ≡ workers) × AllByRecursion (λ (outbox : Outbox). LeadAlike outbox.senders.items senders.items) made.items) }
 {
     let mut outboxes = Vec::new(alloc);

@@ -21,7 +21,7 @@ use std::alloc::Global;
 use std::sync::Wait;
 use std::sync::atomic::AtomicBool;
 use std::thread::Threads;
-use threads::{Seats, Ran, Buffers, Shared, flags_for, buffers_for, run_in_scope};
+use threads::{Buffers, Ran, Seats, Shared, buffers_for, flags_for, run_in_scope};
 
 /// The result of a film's lane: its reader and writer, and the number of frames recorded, or why it stopped.
 #[derive(Drop)]

@@ -94,7 +94,10 @@ impl Outbox {
         ensures senders { map (λ sender. sends_on sender.channel) self.new.senders.items ≡ map (λ sender. sends_on sender.channel) self.old.senders.items }
     {
         let sender = &mut self.senders[source as usize];
-        match sender.channel.send_as::<Free, R>(rt, &mut sender.pass, answer) {
+        match sender
+            .channel
+            .send_as::<Free, R>(rt, &mut sender.pass, answer)
+        {
             Ok(()) => Ok(()),
             Err(refused) => Err(refused.into_inner()),
         }

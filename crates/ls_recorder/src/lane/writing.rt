@@ -71,14 +71,20 @@ pub fn write_film<W: Outlet, R: Wait, G: Gate>(
     let written = write_booked(setting, &mut seat, &mut arrivals, &mut writer);
     // From here on nobody waits for the inbox or for places.
     drop(arrivals);
-    let result = match written {
-        Ok(()) => Ok(()),
-        Err(halt) => Err(take_the_rest(setting, &mut seat, halt)),
-    };
-    WritingEnd {
-        seat,
-        writer,
-        result,
+    match written {
+        Ok(()) => WritingEnd {
+            seat,
+            writer,
+            result: Ok(()),
+        },
+        Err(halt) => {
+            let fault = take_the_rest(setting, &mut seat, halt);
+            WritingEnd {
+                seat,
+                writer,
+                result: Err(fault),
+            }
+        }
     }
 }
 

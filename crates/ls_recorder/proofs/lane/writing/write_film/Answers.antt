@@ -4,7 +4,7 @@ use Rattle.ls_recorder.proofs.lane.writing.write_film.Goals as goal
 
 pub returns-in-Err : goal.returns-in-Err
 returns-in-Err g c =
-    let rest = c.take_the_rest.ensures in
+    let rest = c.take_the_rest-fault.ensures in
     record {
       seat = rest.seat;
       done = rest.done;
