@@ -3,7 +3,7 @@ use Rattle.std.proofs.Common.{◌≡◌, ℕ, zero, suc, ◌+◌, ◌-◌, ◌<�
 use Rattle.std.specs.List.{slice_get}
 use Rattle.std.specs.Io.KnownBytes.{Appends}
 use Rattle.std.proofs.lemmas.Bool.{leb-false, lt-leb, le-leb, ltb-false}
-use Rattle.std.proofs.lemmas.List.{length-append, length-map, length_push, map-append, take-append-le}
+use Rattle.std.proofs.lemmas.List.{length-append, length-map, map-append, take-append-le}
 use Rattle.ls_film.specs.Coding.{file}
 use Rattle.ls_queue.specs.declared.replies.Job.{Job}
 use Rattle.ls_queue.specs.declared.running.WorkerSeat.{WorkerSeat}
@@ -12,12 +12,12 @@ use Rattle.ls_pieces.specs.declared.collector.Slot.{Slot}
 use Rattle.ls_pieces.specs.declared.collector.Misfit.{Misfit as Cause}
 use Rattle.ls_pieces.specs.declared.collector.Misfit.TheVariants.{Stranger, NotBooked, Twice, OtherFrame}
 use Rattle.ls_pieces.specs.Orders.{Ordered}
-use Rattle.ls_pieces.specs.Collecting.{Collection, booked, has_piece, is_of, slot_of, was_accepted, misfit_of, new_collection}
+use Rattle.ls_pieces.specs.Collecting.{Collection, booked, has_piece, is_of, slot_of, was_accepted, misfit_of}
 use Rattle.ls_recorder.specs.declared.lane.LaneFault.{LaneFault}
 use Rattle.ls_recorder.specs.declared.lane.LaneFault.TheVariants as fault
 use Rattle.ls_recorder.specs.declared.lane.writing.Halt.{Halt}
 use Rattle.ls_recorder.specs.declared.lane.writing.Halt.TheVariants as halt
-use Rattle.ls_recorder.specs.View.Lanes.{WroteFront, WroteFewer, WrotePart, orders_in, IsWriting, IsMisfit, StopsWriting}
+use Rattle.ls_recorder.specs.View.Lanes.{WroteFront, WroteFewer, WrotePart, orders_in, IsWriting, StopsWriting}
 use Rattle.ls_recorder.specs.View.Halves.{orders_taken, IsAhead, RefusesPiece, HaltsWriting}
 use Rattle.ls_recorder.proofs.LaneLemmas.{file-append, take-front, writes-fewer, writes-front}
 

@@ -7,7 +7,7 @@ use Rattle.ls_frame.specs.declared.tuning.Tuning.{Tuning}
 use Rattle.ls_frame.specs.View.Devices.{count_after}
 use Rattle.ls_queue.specs.declared.running.Queue.{Queue}
 use Rattle.ls_queue.specs.declared.running.Ended.{Ended}
-use Rattle.ls_queue.specs.View.Running.{IsEnded, IsSourceSeat, IsWorkerSeat, items_put, is_done, puts_of, parts_of, IsFinished, IsCloser, AreAllSources, AreWorkerSeats, all_done, sources_of, workers_of}
+use Rattle.ls_queue.specs.View.Running.{IsEnded, IsWorkerSeat, is_done, puts_of, parts_of, IsFinished, IsCloser, AreAllSources, AreWorkerSeats, all_done, sources_of, workers_of}
 use Rattle.ls_pieces.specs.Collecting.{most_window}
 use Rattle.ls_recorder.specs.declared.delivery.ends.Outbox.{Outbox}
 use Rattle.ls_recorder.specs.declared.lane.LaneEnd.{LaneEnd}

@@ -1,10 +1,9 @@
-use Rattle.std.proofs.Common.{◌≡◌, length, sym, ap, subst, ◌∙◌, inr}
+use Rattle.std.proofs.Common.{length, sym, ap, subst, ◌∙◌, inr}
 use Rattle.std.specs.Prelude.{MatchResult}
 use Rattle.std.specs.Io.KnownBytes.{Appends}
 use Rattle.ls_film.specs.Coding.{file}
-use Rattle.ls_queue.specs.View.Running.{items_put, items_ended}
+use Rattle.ls_queue.specs.View.Running.{items_put}
 use Rattle.ls_recorder.specs.View.Lanes.{StopsWriting}
-use Rattle.ls_recorder.specs.View.Halves.{orders_taken}
 use Rattle.ls_recorder.proofs.WritingLemmas.{orders-many}
 use Rattle.ls_recorder.proofs.LaneEndLemmas.{Ends, ends-both, begins-without-memory}
 use Rattle.ls_recorder.proofs.lane.watched_lane.Goals as goal

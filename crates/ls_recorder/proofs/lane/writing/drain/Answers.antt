@@ -1,8 +1,5 @@
-use Rattle.std.proofs.Common.{◌≡◌, ◌∷◌, ◌++◌, [], List, true, false, true≢false, length, map, sym, ap, ◌∙◌, arith, append_assoc}
-use Rattle.std.proofs.lemmas.List.{length_push, map-append}
-use Rattle.ls_queue.specs.declared.replies.Job.{Job}
-use Rattle.ls_queue.specs.View.Running.{jobs_taken}
-use Rattle.ls_pieces.specs.Orders.{Ordered}
+use Rattle.std.proofs.Common.{◌∷◌, ◌++◌, [], true≢false, sym, ap, ◌∙◌, arith, append_assoc}
+use Rattle.std.proofs.lemmas.List.{length_push}
 use Rattle.ls_recorder.specs.View.Halves.{orders_taken}
 use Rattle.ls_recorder.proofs.WritingLemmas.{orders-more}
 use Rattle.ls_recorder.proofs.lane.writing.drain.Goals.{then-left-eq0, in-Job-2}

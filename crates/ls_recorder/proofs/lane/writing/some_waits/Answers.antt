@@ -1,4 +1,4 @@
-use Rattle.std.proofs.Common.{true, false, true≢false}
+use Rattle.std.proofs.Common.{true≢false}
 use Rattle.ls_recorder.proofs.lane.writing.some_waits.Goals as goal
 
 pub returns-then-waiting-gt0-clause-done : goal.returns-then-waiting-gt0-clause-done

@@ -1,4 +1,4 @@
-use Rattle.std.proofs.Common.{sym, subst, rules}
+use Rattle.std.proofs.Common.{sym, subst}
 use Rattle.ls_pieces.specs.declared.collector.Misfit.TheVariants.{NotBooked}
 use Rattle.ls_recorder.specs.declared.lane.LaneFault.TheVariants.{NoMemory, Misfit}
 use Rattle.ls_recorder.specs.View.Lanes.{StopsWriting}
