@@ -149,12 +149,13 @@ fn headers_of(bytes: &[u8]) -> Result<Headers, StreamFault>
         Ok(used) => used,
         Err(fault) => return Err(fault),
     };
+    let form = opening.form();
     Ok(Headers {
         used,
         precision: opening.precision(),
-        kind: opening.kind(),
-        width: opening.width(),
-        height: opening.height(),
+        kind: form.kind,
+        width: form.width,
+        height: form.height,
         presets: *opening.presets(),
     })
 }

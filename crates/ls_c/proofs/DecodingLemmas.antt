@@ -20,7 +20,7 @@ use Rattle.ls_c.proofs.NumberLemmas.{fault_above, fault_some, fault_not_two}
 
 frame_samples : (f : Picture) (form : JlsrecForm) → IsFrame f → IsOfForm f form → length f.samples ≡ samples_of form
 frame_samples f form frame is =
-    frame.count ∙ ap (λ n. f.width * f.height * n) is.components ∙ ap (λ w. w * f.height * form.components) is.width ∙ ap (λ h. form.width * h * form.components) is.height
+    frame.formed.count ∙ ap (λ n. f.width * f.height * n) is.components ∙ ap (λ w. w * f.height * form.components) is.width ∙ ap (λ h. form.width * h * form.components) is.height
 
 within_all : (most : ℕ) (f : Picture) (room : ℕ) → f.maxval ≤ most → length f.samples ≤ room → within most f room ≡ None
 within_all most f room shallow few = grind (arith, nat_tests)

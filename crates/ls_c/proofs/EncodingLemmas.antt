@@ -5,7 +5,7 @@ use Rattle.std.specs.List.{position}
 use Rattle.std.proofs.lemmas.Bool.{lt-leb}
 use Rattle.std.proofs.lemmas.Grind.{common_steps}
 use Rattle.ls_frame.specs.declared.presets.PresetFault.{PresetFault}
-use Rattle.ls_frame.specs.Picture.{Picture, IsFormed, IsFrame, components, sample_count, most_samples}
+use Rattle.ls_frame.specs.Picture.{Picture, IsFormed, IsFrame, picture_of, components, sample_count, most_samples}
 use Rattle.ls_frame.specs.Parameters.{Parameters, preset_fault}
 use Rattle.ls_frame.proofs.SampleLemmas.{whole_frame}
 use Rattle.ls_stream.specs.declared.faults.StreamFault.TheVariants as stream
@@ -19,7 +19,7 @@ use Rattle.ls_c.specs.Forms.{is_none, unless_met, or_next, preset_refusal, form_
 use Rattle.ls_c.specs.Refusals.{number_of, status_of, status_by}
 use Rattle.ls_c.specs.Calls.{IsEncoding}
 use Rattle.ls_c.specs.declared.request.Request.{Request}
-use Rattle.ls_c.specs.Requests.{IsRequest, shaped}
+use Rattle.ls_c.specs.Requests.{IsRequest}
 use Rattle.ls_c.proofs.NumberLemmas.{preset_above, number_some, two_is_no_room}
 use Rattle.ls_c.proofs.RowLemmas.{rows_length, rows_adjacent}
 
@@ -175,13 +175,13 @@ coded_is most form stride samples old new written (Err r) none coding = record {
 }
 
 same_picture : (form : JlsrecForm) (stride count : ℕ) (samples joined : List ℕ) (request : Request) → IsRequest request form stride count
-    → joined ≡ rows_of request.rows.row request.rows.stride request.rows.height samples → shaped request.shape joined ≡ picture_in form stride samples
+    → joined ≡ rows_of request.rows.row request.rows.stride request.rows.height samples → picture_of request.form joined ≡ picture_in form stride samples
 same_picture form stride count samples joined request is e = cc
 
 pub answered : (most : ℕ) (form : JlsrecForm) (stride : ℕ) (samples joined old new : List ℕ) (written : ℕ) (request : Request) (result : Result (Unit {0}) Refusal)
     → request_refusal most form stride (length samples) ≡ None → IsRequest request form stride (length samples)
     → joined ≡ rows_of request.rows.row request.rows.stride request.rows.height samples
-    → IsCoding (shaped request.shape joined) request.presets old new written result → IsEncoding most form stride samples old new written (status_of result)
+    → IsCoding (picture_of request.form joined) request.presets old new written result → IsEncoding most form stride samples old new written (status_of result)
 answered most form stride samples joined old new written request result none is e coding =
     let by_picture = subst (λ (f : Picture). IsCoding f request.presets old new written result) (same_picture form stride (length samples) samples joined request is e) coding in
     coded_is most form stride samples old new written result none
@@ -192,7 +192,7 @@ product h w k = omega arith
 
 pub joined_count : (form : JlsrecForm) (stride : ℕ) (samples joined : List ℕ) (request : Request) → IsRequest request form stride (length samples)
     → joined ≡ rows_of request.rows.row request.rows.stride request.rows.height samples
-    → length joined ≡ sample_count request.shape.kind request.shape.width request.shape.height
+    → length joined ≡ sample_count request.form.kind request.form.width request.form.height
 joined_count form stride samples joined request is e =
     let some : 0 < form.height = omega (arith, is.some_height, is.height) in
     let whole = rows_length (row_of form) (stride_of form stride) form.height samples some is.enough ∙ product form.height form.width (components (kind_of form.components)) in
@@ -200,10 +200,10 @@ joined_count form stride samples joined request is e =
 
 -- rows without gaps are the samples at the front, as many as the picture has
 pub adjacent_rows : (form : JlsrecForm) (stride : ℕ) (samples front : List ℕ) (request : Request) → IsRequest request form stride (length samples)
-    → request.rows.stride ≡ request.rows.row → front ≡ take (sample_count request.shape.kind request.shape.width request.shape.height) samples
+    → request.rows.stride ≡ request.rows.row → front ≡ take (sample_count request.form.kind request.form.width request.form.height) samples
     → front ≡ rows_of request.rows.row request.rows.stride request.rows.height samples
 adjacent_rows form stride samples front request is adjacent e =
-    let count : request.rows.height * request.rows.row ≡ sample_count request.shape.kind request.shape.width request.shape.height =
+    let count : request.rows.height * request.rows.row ≡ sample_count request.form.kind request.form.width request.form.height =
     rw is.kind (rw is.width (rw is.height (rw is.rows (rw is.row (product form.height form.width (components (kind_of form.components))))))) in
     e ∙ ap (λ n. take n samples) (sym count) ∙ sym (rows_adjacent request.rows.row request.rows.height samples)
     ∙ ap (λ n. rows_of request.rows.row n request.rows.height samples) (sym adjacent)

@@ -3,9 +3,9 @@ use Rattle.std.proofs.Common.{◌≡◌, ℕ, ◌<◌, ◌≤◌, List, ◌++◌
 use Rattle.std.specs.Prelude.{slice_index}
 use Rattle.std.proofs.lemmas.Bool.{cases_lt}
 use Rattle.std.proofs.Math.Seq.{drop-append_seam}
-use Rattle.ls_frame.specs.Picture.{Picture, components, sample_count}
+use Rattle.ls_frame.specs.Picture.{Picture, picture_of, components, sample_count}
 use Rattle.ls_stream.specs.Grammar.{Spells}
-use Rattle.ls_stream.specs.View.Openings.{Opened, IsOfForm as HasForm, picture_of}
+use Rattle.ls_stream.specs.View.Openings.{Opened, IsOfForm as HasForm, opened_form}
 use Rattle.ls_c.specs.declared.form.JlsrecForm.{JlsrecForm}
 use Rattle.ls_c.specs.declared.form.JlsrecFault.{JlsrecFault}
 use Rattle.ls_c.specs.Forms.{IsOfForm}
@@ -38,13 +38,13 @@ zeros_small most samples zeros k =
 -- what was decoded, after an opening, into this number of places
 pub decoded_of : (most : ℕ) (bytes old new : List ℕ) (form : JlsrecForm) (used : ℕ) (fault : JlsrecFault) (o : Opened) (places : List ℕ) → o.bytes ≡ bytes
     → (o.parameters.maxval ≤ most) × (sample_count o.kind o.width o.height ≤ length old) → HaveForm bytes form × (form ≡ form_by o) → SaysForm bytes form
-    → (used ≤ length o.bytes) × Spells (take used o.bytes) (picture_of o places)
-    → ((front rest : List ℕ) (g : Picture) → o.bytes ≡ front ++ rest → Spells front g → (picture_of o places ≡ g) × (used ≡ length front))
+    → (used ≤ length o.bytes) × Spells (take used o.bytes) (picture_of (opened_form o) places)
+    → ((front rest : List ℕ) (g : Picture) → o.bytes ≡ front ++ rest → Spells front g → (picture_of (opened_form o) places ≡ g) × (used ≡ length front))
     → fault ≡ no_details → new ≡ laid places old → IsDecoding most bytes old new form used fault 0
 decoded_of most bytes old new form used fault o places same_bytes fits has says ok only none laid_is =
-    let f : Picture = picture_of o places in
+    let f : Picture = picture_of (opened_form o) places in
     let whole = subst (λ b. (used ≤ length b) × Spells (take used b) f) same_bytes ok in
-    decoded most bytes old new form used fault f fits.0 (omega (arith, whole.1.frame.count, fits.1)) says
+    decoded most bytes old new form used fault f fits.0 (omega (arith, whole.1.frame.formed.count, fits.1)) says
     (told o form f has.1 (record { kind = refl; width = refl; height = refl; maxval = refl })) has.0 whole.0 whole.1 none
     (λ front rest g e s. only front rest g (same_bytes ∙ e) s) laid_is
 

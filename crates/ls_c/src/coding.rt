@@ -1,23 +1,22 @@
 //! Encoding into a caller's memory, and decoding into it.
 ghost use Rattle.std.specs.Prelude.{◌≡◌, ◌⊎◌, ◌+◌, ◌*◌, ◌<◌, ◌≤◌, ◌++◌, Some, OnOk, OnErr, IfOk, IfErr, Ok, Err, None, nat_le, length, take, drop, ℕ, List, MatchResult, slice_index};
 ghost use Rattle.std.specs.List.{AllByRecursion};
-ghost use Rattle.ls_frame.specs.Picture.{Picture, IsFrame, sample_count, most_samples};
+ghost use Rattle.ls_frame.specs.Picture.{Picture, IsFrame, picture_of, sample_count, most_samples};
 ghost use Rattle.ls_frame.specs.Parameters.{IsLegal};
-ghost use Rattle.ls_frame.specs.View.Numbers.{numbers};
+ghost use Rattle.ls_frame.specs.View.Numbers.{numbers, most_of};
 ghost use Rattle.ls_stream.specs.Grammar.{Spells};
 ghost use Rattle.ls_stream.specs.Layout.{codestream};
 ghost use Rattle.ls_stream.specs.Grammar.{most_bytes};
 ghost use Rattle.ls_stream.specs.Faults.{BeginsWithOpening};
 ghost use Rattle.ls_stream.specs.View.Outlines.{IsFirstFault};
-ghost use Rattle.ls_stream.specs.View.Openings.{picture_of};
+ghost use Rattle.ls_stream.specs.View.Openings.{opened_form};
 ghost use Rattle.ls_c.specs.Forms.{coding_refusal, no_form};
 ghost use Rattle.ls_c.specs.Refusals.{status_by, status_of, details_of, no_details};
 ghost use Rattle.ls_c.specs.Calls.{IsEncoding, IsDecoding, IsUnopened, HaveForm, SaysForm, form_by, laid};
-ghost use Rattle.ls_c.specs.Requests.{shaped};
 
 use crate::form::{JlsrecFault, JlsrecForm, details_of, form_by, no_details, no_form};
 use crate::refusal::{NO_MEMORY, Refusal};
-use crate::request::{Request, Shape, adjacent, joined, request_of};
+use crate::request::{Request, adjacent, joined, request_of};
 use ls_frame::{FrameView, PictureView, Place, Presets, Samples};
 use ls_stream::laws::codestreams_spell_their_frames;
 use ls_stream::{Lines, Opening, Regions, StreamFault, encode_into, encode_picture, picture_bound};
@@ -27,81 +26,39 @@ use std::alloc::Global;
 /// each time (with glibc), which takes longer than to check all samples before they are coded.
 const MOST_HANDED_OUT_AGAIN: u64 = 1 << 25;
 
-/// Encodes samples of 16 bits to the front of `bytes`. A row starts `stride` samples after the one before; a stride of
-/// 0 means rows without gaps. `written` is the number of bytes of the codestream, also if they don't fit in `bytes`
-/// (`NoRoom`); after any other refusal it is 0. A refusal leaves `bytes` unchanged.
-pub fn encode_words(
+/// Encodes samples to the front of `bytes`. A row starts `stride` samples after the one before; a stride of 0 means
+/// rows without gaps. `written` is the number of bytes of the codestream, also if they don't fit in `bytes` (`NoRoom`);
+/// after any other refusal it is 0. A form with a maxval that such samples can't have is refused as `NotEightBits`. A
+/// refusal leaves `bytes` unchanged.
+pub fn encode(
     alloc: Global,
     form: &JlsrecForm,
-    samples: &[u16],
+    samples: Samples,
     stride: usize,
     bytes: &mut [u8],
     written: &mut usize,
 ) -> Result<(), Refusal>
-    ensures { IsEncoding 65535 form.now stride samples.now bytes.old bytes.new written.new (status_of result) }
+    ensures { IsEncoding (most_of samples.entry) form.now stride (numbers samples.entry) bytes.old bytes.new written.new (status_of result) }
 {
     *written = 0;
-    let request = match request_of(65535, form, stride, samples.len()) {
+    let most = u32::from(samples.most());
+    let request = match request_of(most, form, stride, samples.len()) {
         Ok(request) => request,
         Err(refused) => return Err(refused),
     };
     if let Some(samples) = adjacent(&request, samples) {
-        return encode_joined(
-            alloc,
-            request.shape,
-            &request.presets,
-            Samples::Words(samples),
-            bytes,
-            written,
-        );
+        return encode_joined(alloc, &request, samples, bytes, written);
     }
-    let joined = joined(alloc, &request.rows, samples)?;
-    encode_joined(
-        alloc,
-        request.shape,
-        &request.presets,
-        Samples::Words(&joined),
-        bytes,
-        written,
-    )
-}
-
-/// Encodes samples of 8 bits, as `encode_words` does those of 16; a form with a maxval over 255 is refused as
-/// `NotEightBits`.
-pub fn encode_bytes(
-    alloc: Global,
-    form: &JlsrecForm,
-    samples: &[u8],
-    stride: usize,
-    bytes: &mut [u8],
-    written: &mut usize,
-) -> Result<(), Refusal>
-    ensures { IsEncoding 255 form.now stride samples.now bytes.old bytes.new written.new (status_of result) }
-{
-    *written = 0;
-    let request = match request_of(255, form, stride, samples.len()) {
-        Ok(request) => request,
-        Err(refused) => return Err(refused),
-    };
-    if let Some(samples) = adjacent(&request, samples) {
-        return encode_joined(
-            alloc,
-            request.shape,
-            &request.presets,
-            Samples::Bytes(samples),
-            bytes,
-            written,
-        );
+    match samples {
+        Samples::Bytes(apart) => {
+            let joined = joined(alloc, &request.rows, apart)?;
+            encode_joined(alloc, &request, Samples::Bytes(&joined), bytes, written)
+        }
+        Samples::Words(apart) => {
+            let joined = joined(alloc, &request.rows, apart)?;
+            encode_joined(alloc, &request, Samples::Words(&joined), bytes, written)
+        }
     }
-    let joined = joined(alloc, &request.rows, samples)?;
-    encode_joined(
-        alloc,
-        request.shape,
-        &request.presets,
-        Samples::Bytes(&joined),
-        bytes,
-        written,
-    )
 }
 
 /// Encodes the samples of a picture, whose rows have no gaps, to the front of `bytes`, and sets `written` to the number
@@ -109,48 +66,41 @@ pub fn encode_bytes(
 /// own, which checks samples while they are coded; else it checks all samples first, and encodes into `bytes`.
 fn encode_joined(
     alloc: Global,
-    shape: Shape,
-    presets: &Presets,
+    request: &Request,
     samples: Samples,
     bytes: &mut [u8],
     written: &mut usize,
 ) -> Result<(), Refusal>
-    requires some_width { 0 < shape.width }
-    requires some_height { 0 < shape.height }
-    requires some_maxval { 0 < shape.maxval }
-    requires maxval { presets.now.maxval ≡ shape.maxval }
-    requires legal { IsLegal presets.now }
-    requires few { sample_count shape.kind shape.width shape.height ≤ most_samples }
-    requires count { length (numbers samples) ≡ sample_count shape.kind shape.width shape.height }
+    requires some_width { 0 < request.now.form.width }
+    requires some_height { 0 < request.now.form.height }
+    requires some_maxval { 0 < request.now.form.maxval }
+    requires maxval { request.now.presets.maxval ≡ request.now.form.maxval }
+    requires legal { IsLegal request.now.presets }
+    requires few { sample_count request.now.form.kind request.now.form.width request.now.form.height ≤ most_samples }
+    requires count { length (numbers samples) ≡ sample_count request.now.form.kind request.now.form.width request.now.form.height }
     requires nothing { written.old ≡ 0 }
     ensures exactly { (result ≡ Err (Refusal.Stream StreamFault.NoMemory))
-        ⊎ (status_of result ≡ status_by (coding_refusal (shaped shape (numbers samples.entry)) presets.now (length bytes.old))) }
-    ensures frame { OnOk result (IsFrame (shaped shape (numbers samples.entry))) }
-    ensures done { OnOk result (bytes.new ≡ codestream (shaped shape (numbers samples.entry)) presets.now ++ drop written.new bytes.old) }
-    ensures spells { OnOk result (Spells (codestream (shaped shape (numbers samples.entry)) presets.now) (shaped shape (numbers samples.entry))) }
-    ensures written { OnOk result (written.new ≡ length (codestream (shaped shape (numbers samples.entry)) presets.now)) }
+        ⊎ (status_of result ≡ status_by (coding_refusal (picture_of request.now.form (numbers samples.entry)) request.now.presets (length bytes.old))) }
+    ensures frame { OnOk result (IsFrame (picture_of request.now.form (numbers samples.entry))) }
+    ensures done { OnOk result (bytes.new ≡ codestream (picture_of request.now.form (numbers samples.entry)) request.now.presets ++ drop written.new bytes.old) }
+    ensures spells { OnOk result (Spells (codestream (picture_of request.now.form (numbers samples.entry)) request.now.presets) (picture_of request.now.form (numbers samples.entry))) }
+    ensures written { OnOk result (written.new ≡ length (codestream (picture_of request.now.form (numbers samples.entry)) request.now.presets)) }
     ensures kept { OnErr result (bytes.new ≡ bytes.old) }
     ensures need { result ≡ Err Refusal.NoRoom
-        → (written.new ≡ length (codestream (shaped shape (numbers samples.entry)) presets.now)) × (length bytes.old < written.new) }
+        → (written.new ≡ length (codestream (picture_of request.now.form (numbers samples.entry)) request.now.presets)) × (length bytes.old < written.new) }
     ensures none { IfErr result (λ refused. (refused ≡ Refusal.NoRoom) ⊎ (written.new ≡ 0)) }
 {
     codestreams_spell_their_frames();
-    let picture = PictureView::from_parts(
-        shape.kind,
-        shape.width,
-        shape.height,
-        shape.maxval,
-        samples,
-    );
+    let presets = &request.presets;
+    let picture = PictureView::from_parts(request.form, samples);
     let bound = picture_bound(&picture, presets);
     if bound <= MOST_HANDED_OUT_AGAIN || bound > bytes.len() as u64 {
         return encode_apart(alloc, &picture, presets, bytes, written);
     }
-    let made = FrameView::new(shape.kind, shape.width, shape.height, shape.maxval, samples);
-    let Ok(frame) = made else {
+    let Ok(frame) = FrameView::new(request.form, samples) else {
         return Err(Refusal::SampleTooLarge);
     };
-    let mut lines = Lines::new(alloc, shape.width)?;
+    let mut lines = Lines::new(alloc, request.form.width)?;
     *written = encode_into(&frame, presets, &mut lines, bytes);
     Ok(())
 }
@@ -188,53 +138,22 @@ fn encode_apart(
     Ok(())
 }
 
-/// Decodes the codestream at the front of `bytes` to the front of `samples`, of 16 bits; sets `form`, and `used` to the
-/// number of bytes of the codestream. If `samples` is too small (`NoRoom`), `form` is set all the same. If the bytes
-/// can't be decoded, `fault` has the details, and the samples of the frame may have been overwritten. After any other
-/// refusal, `samples` is unchanged.
-pub fn decode_words(
+/// Decodes the codestream at the front of `bytes` to the front of `samples`; sets `form`, and `used` to the number of
+/// bytes of the codestream. If `samples` is too small (`NoRoom`) or can't hold maxval (`NotEightBits`), `form` is set
+/// all the same. If the bytes can't be decoded, `fault` has the details, and the samples of the frame may have been
+/// overwritten. After any other refusal, `samples` is unchanged.
+pub fn decode<S: Place>(
     alloc: Global,
     bytes: &[u8],
-    samples: &mut [u16],
+    samples: &mut [S],
     form: &mut JlsrecForm,
     used: &mut usize,
     fault: &mut JlsrecFault,
 ) -> Result<(), Refusal>
-    ensures { IsDecoding 65535 bytes.now samples.old samples.new form.new used.new fault.new (status_of result) }
+    ensures { IsDecoding S.most bytes.now (S.numbers samples.old) (S.numbers samples.new) form.new used.new fault.new (status_of result) }
 {
     *used = 0;
-    let opening = match open(bytes, 65535, samples.len(), form, fault) {
-        Ok(opening) => opening,
-        Err(refused) => return Err(refused),
-    };
-    let count = opening.sample_count();
-    match decode_at(alloc, &opening, &mut samples[..count]) {
-        Ok(taken) => {
-            *used = taken;
-            Ok(())
-        }
-        Err(first) => {
-            *form = no_form();
-            *fault = details_of(first);
-            Err(Refusal::Stream(first))
-        }
-    }
-}
-
-/// Decodes into samples of 8 bits, as `decode_words` does into those of 16; if maxval is over 255 (`NotEightBits`),
-/// `form` is set all the same.
-pub fn decode_bytes(
-    alloc: Global,
-    bytes: &[u8],
-    samples: &mut [u8],
-    form: &mut JlsrecForm,
-    used: &mut usize,
-    fault: &mut JlsrecFault,
-) -> Result<(), Refusal>
-    ensures { IsDecoding 255 bytes.now samples.old samples.new form.new used.new fault.new (status_of result) }
-{
-    *used = 0;
-    let opening = match open(bytes, 255, samples.len(), form, fault) {
+    let opening = match open(bytes, S::greatest(), samples.len(), form, fault) {
         Ok(opening) => opening,
         Err(refused) => return Err(refused),
     };
@@ -298,13 +217,13 @@ fn decode_at<S: Place>(
     requires fits { opening.now.parameters.maxval ≤ S.most }
     requires samples { length (S.numbers places.old) ≡ sample_count opening.now.kind opening.now.width opening.now.height }
     ensures ok { IfOk result (λ used. (used ≤ length opening.now.bytes)
-        × Spells (take used opening.now.bytes) (picture_of opening.now (S.numbers places.new))) }
+        × Spells (take used opening.now.bytes) (picture_of (opened_form opening.now) (S.numbers places.new))) }
     ensures complete { (front rest : List ℕ) (f : Picture) → opening.now.bytes ≡ front ++ rest → Spells front f
-        → MatchResult result (λ used. (picture_of opening.now (S.numbers places.new) ≡ f) × (used ≡ length front)) (λ fault. fault ≡ StreamFault.NoMemory) }
+        → MatchResult result (λ used. (picture_of (opened_form opening.now) (S.numbers places.new) ≡ f) × (used ≡ length front)) (λ fault. fault ≡ StreamFault.NoMemory) }
     ensures first { IfErr result (λ fault. (fault ≡ StreamFault.NoMemory) ⊎ IsFirstFault opening.now.bytes fault) }
     ensures kept { IfErr result (λ fault. fault ≡ StreamFault.NoMemory → S.numbers places.new ≡ S.numbers places.old) }
 {
-    let mut lines = Lines::new(alloc, opening.width())?;
+    let mut lines = Lines::new(alloc, opening.form().width)?;
     let regions = Regions::new(alloc, opening.presets())?;
     S::clear(places);
     match opening.decode(&mut lines, &regions, places) {

@@ -9,7 +9,7 @@ ghost use Rattle.ls_c.specs.Refusals.{status_of};
 
 use crate::form::JlsrecForm;
 use crate::refusal::{NO_MEMORY, Refusal};
-use crate::request::shape_of;
+use crate::request::picture_form;
 use ls_frame::{Buffered, Presets};
 use ls_stream::{NextFault, StreamFault, next_stream};
 use std::alloc::Global;
@@ -45,11 +45,11 @@ pub fn bound(form: &JlsrecForm) -> u64
     ensures enough { (f : Picture) (p : Parameters) → IsFrame f → IsLegal p → p.maxval ≡ f.maxval → IsOfForm f form.now
         → length (codestream f p) ≤ result }
 {
-    let Ok(shape) = shape_of(form) else {
+    let Ok(form) = picture_form(form) else {
         return 0;
     };
-    let count = u64::from(shape.kind.components());
-    let pixels = u64::from(shape.width) * u64::from(shape.height);
-    let limit = u64::from(Presets::default_of(shape.maxval).limit());
+    let count = u64::from(form.kind.components());
+    let pixels = u64::from(form.width) * u64::from(form.height);
+    let limit = u64::from(Presets::default_of(form.maxval).limit());
     29 + 13 * count + count * (limit * pixels / 7 + 1)
 }

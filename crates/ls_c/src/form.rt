@@ -42,12 +42,13 @@ pub struct JlsrecFault {
 pub fn form_by(opening: &Opening) -> JlsrecForm
     ensures { result ≡ form_by opening.now }
 {
+    let form = opening.form();
     let presets = opening.presets();
     JlsrecForm {
-        components: u32::from(opening.kind().components()),
-        width: u32::from(opening.width()),
-        height: u32::from(opening.height()),
-        maxval: u32::from(presets.maxval()),
+        components: u32::from(form.kind.components()),
+        width: u32::from(form.width),
+        height: u32::from(form.height),
+        maxval: u32::from(form.maxval),
         t1: u32::from(presets.t1()),
         t2: u32::from(presets.t2()),
         t3: u32::from(presets.t3()),

@@ -27,9 +27,10 @@ ghost use Rattle.ls_stream.specs.Layout.{codestream};
 ghost use Rattle.ls_c.specs.Calls.{IsEncoding, IsDecoding, IsReading, IsExtent, printed};
 ghost use Rattle.ls_c.specs.Forms.{bound_of, plain_form, IsOfForm};
 
-use coding::{decode_bytes, decode_words, encode_bytes, encode_words};
+use coding::{decode, encode};
 use extent::{bound, next_extent};
 use form::{JlsrecFault, JlsrecForm, plain_form};
+use ls_frame::Samples;
 use reading::read_form;
 use refusal::status_of;
 use std::alloc::Global;
@@ -48,7 +49,7 @@ pub extern "C" fn jlsrec_encode_16(
 ) -> u32
     ensures { IsEncoding 65535 form.now stride samples.now bytes.old bytes.new written.new result }
 {
-    status_of(encode_words(alloc, form, samples, stride, bytes, written))
+    status_of(encode(alloc, form, Samples::Words(samples), stride, bytes, written))
 }
 
 /// Encodes samples of 8 bits into `bytes`. `written` is the number of bytes of the codestream, also if it doesn't fit
@@ -64,7 +65,7 @@ pub extern "C" fn jlsrec_encode_8(
 ) -> u32
     ensures { IsEncoding 255 form.now stride samples.now bytes.old bytes.new written.new result }
 {
-    status_of(encode_bytes(alloc, form, samples, stride, bytes, written))
+    status_of(encode(alloc, form, Samples::Bytes(samples), stride, bytes, written))
 }
 
 /// Decodes the codestream at the front of `bytes` into samples of 16 bits; sets `form`, `used` (its number of bytes)
@@ -80,7 +81,7 @@ pub extern "C" fn jlsrec_decode_16(
 ) -> u32
     ensures { IsDecoding 65535 bytes.now samples.old samples.new form.new used.new fault.new result }
 {
-    status_of(decode_words(alloc, bytes, samples, form, used, fault))
+    status_of(decode(alloc, bytes, samples, form, used, fault))
 }
 
 /// Decodes the codestream at the front of `bytes` into samples of 8 bits; sets `form`, `used` (its number of bytes) and
@@ -96,7 +97,7 @@ pub extern "C" fn jlsrec_decode_8(
 ) -> u32
     ensures { IsDecoding 255 bytes.now samples.old samples.new form.new used.new fault.new result }
 {
-    status_of(decode_bytes(alloc, bytes, samples, form, used, fault))
+    status_of(decode(alloc, bytes, samples, form, used, fault))
 }
 
 /// Sets `form` to that of the codestream at the front of `bytes`, read from its headers alone, or `fault` to the

@@ -3,23 +3,15 @@ ghost use Rattle.std.specs.Prelude.{◌≡◌, ◌*◌, ◌<◌, ◌≤◌, true
 ghost use Rattle.ls_frame.specs.Picture.{components, sample_count, most_samples};
 ghost use Rattle.ls_frame.specs.Parameters.{preset_fault, IsLegal};
 ghost use Rattle.ls_frame.specs.Tuning.{or_default};
+ghost use Rattle.ls_frame.specs.View.Numbers.{numbers};
 ghost use Rattle.ls_c.specs.Forms.{kind_of, is_sixteen_bits, form_refusal, request_refusal, rows_refusal, parameters, narrowed, stride_by, rows_of};
 ghost use Rattle.ls_c.specs.Requests.{IsRequest};
 
 use crate::form::JlsrecForm;
 use crate::refusal::Refusal;
 use ls_frame::frame::MOST_SAMPLES;
-use ls_frame::{Kind, PresetFault, Presets};
+use ls_frame::{Form, Kind, PresetFault, Presets, Samples};
 use std::alloc::{AllocError, Global};
-
-/// The kind, size and maxval of a frame.
-#[derive(Clone, Copy)]
-pub struct Shape {
-    pub kind: Kind,
-    pub width: u16,
-    pub height: u16,
-    pub maxval: u16,
-}
 
 /// The layout of a picture's rows among a caller's samples.
 #[derive(Clone, Copy)]
@@ -34,23 +26,23 @@ pub struct Rows {
 /// What is to be encoded, without the samples.
 #[derive(Clone, Copy)]
 pub struct Request {
-    pub shape: Shape,
+    pub form: Form,
     pub presets: Presets,
     pub rows: Rows,
 }
 
-/// Returns the shape of a form. Fails with the first of `Components`, `Side`, `TooManySamples` and `Maxval` that
-/// applies.
-pub fn shape_of(form: &JlsrecForm) -> Result<Shape, Refusal>
+/// Returns the form of the pictures that a `JlsrecForm` asks for. Fails with the first of `Components`, `Side`,
+/// `TooManySamples` and `Maxval` that applies.
+pub fn picture_form(form: &JlsrecForm) -> Result<Form, Refusal>
     ensures exactly { MatchResult result (λ _. form_refusal form.now ≡ None) (λ refused. form_refusal form.now ≡ Some refused) }
-    ensures kind { IfOk result (λ shape. shape.kind ≡ kind_of form.now.components) }
-    ensures width { IfOk result (λ shape. shape.width ≡ form.now.width) }
-    ensures height { IfOk result (λ shape. shape.height ≡ form.now.height) }
-    ensures maxval { IfOk result (λ shape. shape.maxval ≡ form.now.maxval) }
-    ensures some_width { IfOk result (λ shape. 0 < shape.width) }
-    ensures some_height { IfOk result (λ shape. 0 < shape.height) }
-    ensures some_maxval { IfOk result (λ shape. 0 < shape.maxval) }
-    ensures few { IfOk result (λ shape. sample_count shape.kind shape.width shape.height ≤ most_samples) }
+    ensures kind { IfOk result (λ asked. asked.kind ≡ kind_of form.now.components) }
+    ensures width { IfOk result (λ asked. asked.width ≡ form.now.width) }
+    ensures height { IfOk result (λ asked. asked.height ≡ form.now.height) }
+    ensures maxval { IfOk result (λ asked. asked.maxval ≡ form.now.maxval) }
+    ensures some_width { IfOk result (λ asked. 0 < asked.width) }
+    ensures some_height { IfOk result (λ asked. 0 < asked.height) }
+    ensures some_maxval { IfOk result (λ asked. 0 < asked.maxval) }
+    ensures few { IfOk result (λ asked. sample_count asked.kind asked.width asked.height ≤ most_samples) }
 {
     let kind = match form.components {
         1 => Kind::Gray,
@@ -63,18 +55,20 @@ pub fn shape_of(form: &JlsrecForm) -> Result<Shape, Refusal>
     let Some(height) = sixteen_bits(form.height) else {
         return Err(Refusal::Side);
     };
-    if u64::from(width) * u64::from(height) * u64::from(kind.components()) > MOST_SAMPLES {
-        return Err(Refusal::TooManySamples);
-    }
-    let Some(maxval) = sixteen_bits(form.maxval) else {
-        return Err(Refusal::Maxval);
-    };
-    Ok(Shape {
+    let mut asked = Form {
         kind,
         width,
         height,
-        maxval,
-    })
+        maxval: 0,
+    };
+    if asked.sample_count() > MOST_SAMPLES {
+        return Err(Refusal::TooManySamples);
+    }
+    asked.maxval = match sixteen_bits(form.maxval) {
+        Some(maxval) => maxval,
+        None => return Err(Refusal::Maxval),
+    };
+    Ok(asked)
 }
 
 /// Returns the number if it is 1 to 65535.
@@ -88,7 +82,7 @@ fn sixteen_bits(number: u32) -> Option<u16>
     }
 }
 
-/// Returns the request to encode `count` samples of at most `most`. Fails as `shape_of` does, else with the first of
+/// Returns the request to encode `count` samples of at most `most`. Fails as `picture_form` does, else with the first of
 /// `NotEightBits`, `Preset`, `Stride` and `TooFewSamples` that applies.
 pub fn request_of(
     most: u32,
@@ -100,18 +94,18 @@ pub fn request_of(
         (λ refused. request_refusal most form.now stride count ≡ Some refused) }
     ensures asked { IfOk result (λ request. IsRequest request form.now stride count) }
 {
-    let shape = shape_of(form)?;
-    if u32::from(shape.maxval) > most {
+    let asked = picture_form(form)?;
+    if u32::from(asked.maxval) > most {
         return Err(Refusal::NotEightBits);
     }
-    let presets = match presets_of(form, shape.maxval) {
+    let presets = match presets_of(form, asked.maxval) {
         Ok(presets) => presets,
         Err(fault) => return Err(Refusal::Preset(fault)),
     };
-    let row = usize::from(shape.width) * usize::from(shape.kind.components());
-    let rows = rows_of(row, stride, shape.height, count)?;
+    let row = usize::from(asked.width) * usize::from(asked.kind.components());
+    let rows = rows_of(row, stride, asked.height, count)?;
     Ok(Request {
-        shape,
+        form: asked,
         presets,
         rows,
     })
@@ -192,18 +186,15 @@ pub fn joined<T: Copy>(alloc: Global, rows: &Rows, samples: &[T]) -> Result<Vec<
 }
 
 /// Returns the samples of a picture whose rows have no gaps; `None` if they have.
-pub fn adjacent<'a, T>(request: &Request, samples: &'a [T]) -> Option<&'a [T]>
+pub fn adjacent<'a>(request: &Request, samples: Samples<'a>) -> Option<Samples<'a>>
     ensures { IfSome result (λ front. (request.now.rows.stride ≡ request.now.rows.row)
-        × (front.now ≡ take (sample_count request.now.shape.kind request.now.shape.width request.now.shape.height) samples.now)) }
+        × (numbers front ≡ take (sample_count request.now.form.kind request.now.form.width request.now.form.height) (numbers samples.entry))) }
 {
     if request.rows.stride != request.rows.row {
         return None;
     }
-    let shape = &request.shape;
-    let count = usize::from(shape.width)
-        * usize::from(shape.height)
-        * usize::from(shape.kind.components());
-    Some(front(samples, count))
+    let count = request.form.sample_count() as usize;
+    Some(samples.part(0, count.min(samples.len())))
 }
 
 /// Returns the first `count` items, or all if there are fewer.

@@ -84,7 +84,7 @@ defaults_codable legal maxval [] none = tt
 defaults_codable legal maxval (f ∷ frames) each = (
   record {
     frame = each.0;
-    legal = legal f.maxval each.0.some_maxval each.0.maxval;
+    legal = legal f.maxval each.0.formed.some_maxval each.0.formed.maxval;
     maxval = maxval f.maxval;
   },
   defaults_codable legal maxval frames each.1,

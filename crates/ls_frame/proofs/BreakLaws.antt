@@ -4,10 +4,10 @@ use Rattle.std.proofs.lemmas.Bool.{cond-false, or_parts, lt-leb, false_from_ne_t
 use Rattle.ls_frame.specs.declared.frame.Kind.{Kind}
 use Rattle.ls_frame.specs.declared.netpbm.NetpbmFault.{NetpbmFault}
 use Rattle.ls_frame.specs.declared.netpbm.NetpbmFault.TheVariants.{BadMagic, SizeOutOfRange, MaxvalOutOfRange, SampleTooLarge, Truncated}
-use Rattle.ls_frame.specs.Picture.{sample_count, most_samples, greatest}
+use Rattle.ls_frame.specs.Picture.{picture_of, sample_count, most_samples, greatest}
 use Rattle.ls_frame.specs.Netpbm.{is_white, is_digit, is_hash, blanks_bytes, Field, IsField, field_bytes, field_number, InRange, magic, Heading, heading_bytes, most_heading, is_wide}
 use Rattle.ls_frame.specs.Faults.{letter, kind_digit, gap_start, blank_or_digit, comment_text, digit_or_white, Start, gap, open_comment, digits, IsStart, start_bytes, start_due, Beginning, empty, one_letter, only_magic, in_width, in_height, in_maxval, IsBeginning, beginning_bytes, due, IsWidth, allows, BreaksOff, too_long, ends, refuses, StopsInHeading, BreaksWidth, BreaksHeight, BreaksMaxval, BeginsRaster, EndsInRaster, ExceedsMaxval}
-use Rattle.ls_frame.specs.View.Reading.{◌>>=◌, wanted, digits_at, gap_at, number_at, in_range, in_range_at, kind_of, magic_at, white_at, heading_at, with_front, samples_at, picture_of, image_at}
+use Rattle.ls_frame.specs.View.Reading.{◌>>=◌, wanted, digits_at, gap_at, number_at, in_range, in_range_at, kind_of, magic_at, white_at, heading_at, with_front, samples_at, image_at}
 use Rattle.ls_frame.proofs.StepLemmas.{gap_at-hash, digits_at-other, digits_at-fault, gap_at-other, gap_at-fault}
 use Rattle.ls_frame.proofs.TakeLemmas.{Takes, takes_as, takes_first, takes_second, StopsHere, no_byte, refused, StopsAfter, stops_seen}
 use Rattle.ls_frame.proofs.GapLaws.{comment_passes, gap_passes}

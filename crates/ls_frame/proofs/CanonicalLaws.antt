@@ -55,21 +55,21 @@ length-magic Color = refl
 heading_of-short : (f : Picture) → IsFrame f → length (heading_bytes (heading_of f)) ≤ most_heading
 heading_of-short f lawful =
     let magic_size = length-magic f.kind in
-    let width = length-number f.width lawful.width in
-    let height = length-number f.height lawful.height in
-    let maxval = length-number f.maxval lawful.maxval in
+    let width = length-number f.width lawful.formed.width in
+    let height = length-number f.height lawful.formed.height in
+    let maxval = length-number f.maxval lawful.formed.maxval in
     simp length-append (omega arith)
 
 heading_of-lawful : (f : Picture) → IsFrame f → IsHeading (heading_of f)
 heading_of-lawful f lawful = record {
-  width = field_of-lawful 10 f.width refl lawful.width;
-  height = field_of-lawful 32 f.height refl lawful.height;
-  maxval = field_of-lawful 10 f.maxval refl lawful.maxval;
+  width = field_of-lawful 10 f.width refl lawful.formed.width;
+  height = field_of-lawful 32 f.height refl lawful.formed.height;
+  maxval = field_of-lawful 10 f.maxval refl lawful.formed.maxval;
   last = refl;
-  width_range = field_of-range 10 f.width lawful.some_width lawful.width;
-  height_range = field_of-range 32 f.height lawful.some_height lawful.height;
-  few = rw (number-decimal f.width lawful.width, number-decimal f.height lawful.height) lawful.few;
-  maxval_range = field_of-range 10 f.maxval lawful.some_maxval lawful.maxval;
+  width_range = field_of-range 10 f.width lawful.formed.some_width lawful.formed.width;
+  height_range = field_of-range 32 f.height lawful.formed.some_height lawful.formed.height;
+  few = rw (number-decimal f.width lawful.formed.width, number-decimal f.height lawful.formed.height) lawful.formed.few;
+  maxval_range = field_of-range 10 f.maxval lawful.formed.some_maxval lawful.formed.maxval;
   short = heading_of-short f lawful;
 }
 
@@ -94,9 +94,9 @@ canonical-spells f lawful = record {
   whole = ap (λ h. h ++ raster_bytes (is_wide f.maxval) f.samples) (heading_of-bytes f);
   lawful = heading_of-lawful f lawful;
   kind = refl;
-  width = sym (number-decimal f.width lawful.width);
-  height = sym (number-decimal f.height lawful.height);
-  maxval = sym (number-decimal f.maxval lawful.maxval);
+  width = sym (number-decimal f.width lawful.formed.width);
+  height = sym (number-decimal f.height lawful.formed.height);
+  maxval = sym (number-decimal f.maxval lawful.formed.maxval);
   samples = raster_bytes-say (is_wide f.maxval) f.samples;
   frame = lawful;
 }
@@ -125,6 +125,6 @@ canonical-short f lawful =
       length-append heading raster,
       (heading_of-lawful f lawful).short,
       raster_bytes-few (is_wide f.maxval) f.samples,
-      lawful.count,
-      lawful.few,
+      lawful.formed.count,
+      lawful.formed.few,
     )

@@ -3,7 +3,7 @@ use Rattle.std.proofs.Common.{◌≡◌, ℕ, zero, suc, ◌<◌, ◌≤◌, ◌
 use Rattle.std.proofs.lemmas.Bool.{cond_both, or_from, leb-true, leb-false, eqb-true}
 use Rattle.ls_frame.specs.declared.frame.Kind.{Kind}
 use Rattle.ls_frame.specs.declared.frame.Kind.TheVariants.{Gray, Color}
-use Rattle.ls_frame.specs.declared.netpbm.header.Header.{Header}
+use Rattle.ls_frame.specs.declared.frame.Form.{Form}
 use Rattle.ls_frame.specs.declared.netpbm.NetpbmFault.{NetpbmFault}
 use Rattle.ls_frame.specs.declared.netpbm.NetpbmFault.TheVariants.{BadMagic, BadHeader, SizeOutOfRange, MaxvalOutOfRange}
 use Rattle.ls_frame.specs.Picture.{sample_count, most_samples}
@@ -16,22 +16,22 @@ use Rattle.ls_frame.proofs.NumberLaws.{InRangeRead, FieldFault, field_stops, out
 -- ---- the steps of a header, from the last back
 
 -- the maxval, and the header
-abbrev pub maxval_at : Kind → ℕ → ℕ → ℕ → List ℕ → Step Header
+abbrev pub maxval_at : Kind → ℕ → ℕ → ℕ → List ℕ → Step Form
 maxval_at kind width height allowed bytes =
     in_range_at MaxvalOutOfRange allowed bytes >>= λ maxval. Ok (record { kind = kind; width = width; height = height; maxval = maxval.0 }, maxval.1, maxval.2)
 
 -- the height and what follows
-abbrev pub height_at : Kind → ℕ → ℕ → List ℕ → Step Header
+abbrev pub height_at : Kind → ℕ → ℕ → List ℕ → Step Form
 height_at kind width allowed bytes =
     in_range_at SizeOutOfRange allowed bytes >>= λ height.
     wanted (leb (sample_count kind width height.0) most_samples) SizeOutOfRange >>= λ few. maxval_at kind width height.0 height.1 height.2
 
 -- the width and what follows
-abbrev pub width_at : Kind → ℕ → List ℕ → Step Header
+abbrev pub width_at : Kind → ℕ → List ℕ → Step Form
 width_at kind allowed bytes = in_range_at SizeOutOfRange allowed bytes >>= λ width. height_at kind width.0 width.1 width.2
 
 -- the white space after the magic, and what follows
-abbrev pub fields_at : Kind → ℕ → List ℕ → Step Header
+abbrev pub fields_at : Kind → ℕ → List ℕ → Step Form
 fields_at kind allowed bytes = white_at allowed bytes >>= λ first. width_at kind first.1 first.2
 
 -- a header is the magic and then these
@@ -42,7 +42,7 @@ heading_at-steps first allowed bytes = refl
 -- ---- what is taken, and how reading fails
 
 -- a header was taken, and its numbers are those that were read
-pub record HeadingRead (bytes : List ℕ) (found : Header × ℕ × List ℕ) : Type 0 where
+pub record HeadingRead (bytes : List ℕ) (found : Form × ℕ × List ℕ) : Type 0 where
   pub heading : Heading
   pub lawful : IsHeading heading
   pub kind : found.0.kind ≡ heading.kind

@@ -1,13 +1,13 @@
 -- Reading an image agrees with the grammar.
 use Rattle.std.proofs.Common.{◌≡◌, ℕ, ◌-◌, Bool, true, false, inl, inr, List, [], ◌∷◌, ◌++◌, Option, None, Some, MatchOption, MatchResult, Ok, Err, refl, sym, ap, ◌∙◌, append_assoc}
 use Rattle.std.proofs.lemmas.Result.{MatchResult-at_ok, MatchResult-at_err}
-use Rattle.ls_frame.specs.declared.netpbm.header.Header.{Header}
+use Rattle.ls_frame.specs.declared.frame.Form.{Form}
 use Rattle.ls_frame.specs.declared.netpbm.NetpbmFault.{NetpbmFault}
 use Rattle.ls_frame.specs.declared.netpbm.NetpbmFault.TheVariants.{BadMagic, BadHeader, HeaderTooLong, SizeOutOfRange, MaxvalOutOfRange, SampleTooLarge, Truncated, Io, NoMemory}
-use Rattle.ls_frame.specs.Picture.{Picture, sample_count, IsFrame}
+use Rattle.ls_frame.specs.Picture.{Picture, picture_of, form_of, sample_count, IsFrame}
 use Rattle.ls_frame.specs.Netpbm.{heading_bytes, most_heading, is_wide, IsImageOf, IsWholeHeading}
 use Rattle.ls_frame.specs.Faults.{Due, letter, kind_digit, gap_start, blank_or_digit, comment_text, digit_or_white, fault_at, BreaksOff, too_long, ends, refuses, StopsInHeading, BeginsRaster, EndsInRaster, ExceedsMaxval, Breaks}
-use Rattle.ls_frame.specs.View.Reading.{◌>>=◌, heading_at, samples_at, picture_of, raster_at, image_at}
+use Rattle.ls_frame.specs.View.Reading.{◌>>=◌, heading_at, samples_at, raster_at, image_at}
 use Rattle.ls_frame.specs.View.Laws.{ReadsSpellings, SpellingsAreRead, ReadsNothingAtEnd, FaultsBreak, BreaksAreFaults}
 use Rattle.ls_frame.proofs.TakeLemmas.{outcome_of_both}
 use Rattle.ls_frame.proofs.HeadingLaws.{HeadingRead, HeadingFault, in_heading, of_size, of_maxval, heading_outcome}
@@ -68,7 +68,7 @@ heading_breaks bytes fault (of_maxval maxval is) = rw is maxval
 -- ---- faults in the raster
 
 -- samples after a header begin its raster
-raster_begins : {bytes rest : List ℕ} (found : Header × ℕ × List ℕ) (read : HeadingRead bytes found)
+raster_begins : {bytes rest : List ℕ} (found : Form × ℕ × List ℕ) (read : HeadingRead bytes found)
     → RasterBegun (is_wide found.0.maxval) found.0.maxval (sample_count found.0.kind found.0.width found.0.height) found.2 rest → BeginsRaster bytes rest read.heading
 raster_begins {rest = rest} found read begun = record {
   raster = begun.raster;
@@ -81,7 +81,7 @@ raster_begins {rest = rest} found read begun = record {
 }
 
 -- bytes whose raster fails break the grammar with this fault
-raster_breaks : {bytes : List ℕ} {fault : NetpbmFault} (found : Header × ℕ × List ℕ) (read : HeadingRead bytes found)
+raster_breaks : {bytes : List ℕ} {fault : NetpbmFault} (found : Form × ℕ × List ℕ) (read : HeadingRead bytes found)
     → RasterFault (is_wide found.0.maxval) found.0.maxval (sample_count found.0.kind found.0.width found.0.height) found.2 fault → Breaks bytes fault
 raster_breaks {bytes = bytes} found read (ends_early rest begun short is) =
     let broken : EndsInRaster bytes = record { heading = read.heading; rest = rest; begins = raster_begins found read begun; ends = rw (← read.maxval) short } in
@@ -105,7 +105,7 @@ abbrev PictureRead : List ℕ → Picture × List ℕ → Type 0
 PictureRead bytes found = (front : List ℕ) × (bytes ≡ front ++ found.1) × IsImageOf front found.0
 
 -- the picture is a frame
-picture_frame : {bytes : List ℕ} (found : Header × ℕ × List ℕ) (samples rest : List ℕ) → HeadingRead bytes found
+picture_frame : {bytes : List ℕ} (found : Form × ℕ × List ℕ) (samples rest : List ℕ) → HeadingRead bytes found
     → RasterRead (is_wide found.0.maxval) found.0.maxval (sample_count found.0.kind found.0.width found.0.height) found.2 (samples, rest) → IsFrame (picture_of found.0 samples)
 picture_frame found samples rest read raster =
     let h = read.lawful in
@@ -113,19 +113,21 @@ picture_frame found samples rest read raster =
     let t = read.height in
     let m = read.maxval in
     record {
-      some_width = rw w h.width_range.some;
-      width = rw w h.width_range.most;
-      some_height = rw t h.height_range.some;
-      height = rw t h.height_range.most;
-      some_maxval = rw m h.maxval_range.some;
-      maxval = rw m h.maxval_range.most;
-      few = rw (read.kind, w, t) h.few;
-      count = raster.all;
+      formed = record {
+        some_width = rw w h.width_range.some;
+        width = rw w h.width_range.most;
+        some_height = rw t h.height_range.some;
+        height = rw t h.height_range.most;
+        some_maxval = rw m h.maxval_range.some;
+        maxval = rw m h.maxval_range.most;
+        few = rw (read.kind, w, t) h.few;
+        count = raster.all;
+      };
       each = raster.each;
     }
 
 -- a header and its raster are an image
-picture_read : {bytes : List ℕ} (found : Header × ℕ × List ℕ) (samples rest : List ℕ) → HeadingRead bytes found
+picture_read : {bytes : List ℕ} (found : Form × ℕ × List ℕ) (samples rest : List ℕ) → HeadingRead bytes found
     → RasterRead (is_wide found.0.maxval) found.0.maxval (sample_count found.0.kind found.0.width found.0.height) found.2 (samples, rest)
     → PictureRead bytes (picture_of found.0 samples, rest)
 picture_read found samples rest read raster = (
@@ -146,7 +148,7 @@ picture_read found samples rest read raster = (
 )
 
 -- after a header reading gives its raster, or the bytes break the grammar with the fault
-raster_outcome : (bytes : List ℕ) (found : Header × ℕ × List ℕ) → HeadingRead bytes found → MatchResult (raster_at found.0 found.2) (PictureRead bytes) (Breaks bytes)
+raster_outcome : (bytes : List ℕ) (found : Form × ℕ × List ℕ) → HeadingRead bytes found → MatchResult (raster_at found.0 found.2) (PictureRead bytes) (Breaks bytes)
 raster_outcome bytes found read =
     let wide : Bool = is_wide found.0.maxval in
     let count : ℕ = sample_count found.0.kind found.0.width found.0.height in
@@ -173,18 +175,14 @@ image_outcome (first ∷ bytes) =
 
 -- ---- each image of the grammar is read
 
--- a picture's header
-abbrev frame_header : Picture → Header
-frame_header f = record { kind = f.kind; width = f.width; height = f.height; maxval = f.maxval }
-
 -- the header of an image has the kind, size and maxval of its picture
-heading_says : (front : List ℕ) (f : Picture) (said : IsImageOf front f) → header_of said.heading ≡ frame_header f
+heading_says : (front : List ℕ) (f : Picture) (said : IsImageOf front f) → header_of said.heading ≡ form_of f
 heading_says front f said = rw (said.kind, said.width, said.height, said.maxval) refl
 
 -- ---- headers
 
 -- the bytes that are read for a header are a complete, legal one
-pub heading_read : (first : ℕ) (bytes : List ℕ) (found : Header × ℕ × List ℕ) → heading_at first (most_heading - 1) bytes ≡ Ok found
+pub heading_read : (first : ℕ) (bytes : List ℕ) (found : Form × ℕ × List ℕ) → heading_at first (most_heading - 1) bytes ≡ Ok found
     → (front : List ℕ) × (first ∷ bytes ≡ front ++ found.2) × IsWholeHeading front
 heading_read first bytes found read =
     let all : List ℕ = first ∷ bytes in
@@ -205,8 +203,8 @@ spellings_are_read front rest f said =
     ap (λ bs. bs ++ rest) said.whole ∙ append_assoc (heading_bytes said.heading) said.raster rest in
     after_heading (front ++ rest) (said.raster ++ rest) said.heading said.lawful whole
     ∙ ap (λ h. raster_at h (said.raster ++ rest) >>= λ found. Ok (Some found)) (heading_says front f said)
-    ∙ ap (λ r. (r >>= λ found. Ok (picture_of (frame_header f) found.0, found.1)) >>= λ found. Ok (Some found))
-    (raster_read (is_wide f.maxval) f.maxval (sample_count f.kind f.width f.height) f.samples said.raster rest said.samples said.frame.each said.frame.count)
+    ∙ ap (λ r. (r >>= λ found. Ok (picture_of (form_of f) found.0, found.1)) >>= λ found. Ok (Some found))
+    (raster_read (is_wide f.maxval) f.maxval (sample_count f.kind f.width f.height) f.samples said.raster rest said.samples said.frame.each said.frame.formed.count)
 
 pub reads_spellings : ReadsSpellings
 reads_spellings bytes rest f read = MatchResult-at_ok (ImageRead bytes) (Breaks bytes) (Some (f, rest)) read (image_outcome bytes)

@@ -46,17 +46,7 @@ none_above_greatest m xs h = not_found _ _ (le-ltb _ _ (within_greatest m xs 0 h
 
 -- a picture that is a frame unless a sample is over maxval is one if none is found
 pub whole_frame : (f : Picture) → IsFormed f → position (λ s. nat_lt f.maxval s) f.samples ≡ None → IsFrame f
-whole_frame f formed none = record {
-  some_width = formed.some_width;
-  width = formed.width;
-  some_height = formed.some_height;
-  height = formed.height;
-  some_maxval = formed.some_maxval;
-  maxval = formed.maxval;
-  few = formed.few;
-  count = formed.count;
-  each = none_above f.maxval f.samples none;
-}
+whole_frame f formed none = record { formed = formed; each = none_above f.maxval f.samples none }
 
 joined_and : (s e p : Bool) → (s && (e && p)) ≡ ((s && e) && p)
 joined_and true e p = refl

@@ -3,7 +3,7 @@ use Rattle.std.proofs.Common.{◌≡◌, ℕ, suc, ◌+◌, ◌-◌, Bool, true,
 use Rattle.std.proofs.lemmas.Bool.{lt-ltb, le-leb, false_from_ne_true, both_ways}
 use Rattle.ls_frame.specs.declared.frame.Kind.{Kind}
 use Rattle.ls_frame.specs.declared.frame.Kind.TheVariants.{Gray, Color}
-use Rattle.ls_frame.specs.declared.netpbm.header.Header.{Header}
+use Rattle.ls_frame.specs.declared.frame.Form.{Form}
 use Rattle.ls_frame.specs.declared.netpbm.NetpbmFault.{NetpbmFault}
 use Rattle.ls_frame.specs.declared.netpbm.NetpbmFault.TheVariants.{SizeOutOfRange, MaxvalOutOfRange}
 use Rattle.ls_frame.specs.Picture.{sample_count, most_samples, greatest}
@@ -159,7 +159,7 @@ in_maxval_at kind w h m white first allowed left bytes rest all size lawful take
 -- ---- complete headers
 
 -- the kind, size and maxval of a heading
-abbrev pub header_of : Heading → Header
+abbrev pub header_of : Heading → Form
 header_of h = record { kind = h.kind; width = field_number h.width; height = field_number h.height; maxval = field_number h.maxval }
 
 -- a header is read

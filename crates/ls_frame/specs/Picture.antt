@@ -4,6 +4,7 @@ use Rattle.std.specs.List.{AllByRecursion}
 use lib.Pointwise.{pointwise}
 use Rattle.ls_frame.specs.declared.frame.Kind.{Kind}
 use Rattle.ls_frame.specs.declared.frame.Kind.TheVariants.{Gray, Color}
+use Rattle.ls_frame.specs.declared.frame.Form.{Form}
 use Rattle.ls_frame.specs.declared.frame.FrameFault.{FrameFault}
 use Rattle.ls_frame.specs.declared.frame.FrameFault.TheVariants.{ZeroSize, TooManySamples, WrongCount, ZeroMaxval, SampleTooLarge}
 
@@ -14,6 +15,13 @@ pub record Picture : Type 0 where
   pub height : ℕ
   pub maxval : ℕ
   pub samples : List ℕ
+
+-- the picture of this form with these samples; below, the form of a picture
+abbrev pub picture_of : Form → List ℕ → Picture
+picture_of form samples = record { kind = form.kind; width = form.width; height = form.height; maxval = form.maxval; samples = samples }
+
+abbrev pub form_of : Picture → Form
+form_of f = record { kind = f.kind; width = f.width; height = f.height; maxval = f.maxval }
 
 -- the number of samples per pixel
 abbrev pub components : Kind → ℕ
@@ -44,14 +52,7 @@ pub record IsFormed (f : Picture) : Type 0 where
 
 -- A frame: a picture with at least one sample and not too many, as many as its size needs, each at most maxval.
 pub record IsFrame (f : Picture) : Type 0 where
-  pub some_width : 0 < f.width
-  pub width : f.width ≤ greatest
-  pub some_height : 0 < f.height
-  pub height : f.height ≤ greatest
-  pub some_maxval : 0 < f.maxval
-  pub maxval : f.maxval ≤ greatest
-  pub few : sample_count f.kind f.width f.height ≤ most_samples
-  pub count : length f.samples ≡ sample_count f.kind f.width f.height
+  pub formed : IsFormed f
   pub each : AllByRecursion (λ sample. sample ≤ f.maxval) f.samples
 
 -- why a picture isn't a frame: the first of these faults that it has

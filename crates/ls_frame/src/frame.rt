@@ -1,6 +1,6 @@
 //! Frames: pictures within the limits of this recorder.
-ghost use Rattle.std.specs.Prelude.{◌≡◌, ◌<◌, ◌↔◌, IsTrue, None, Some, IfOk, IfErr, MatchResult};
-ghost use Rattle.ls_frame.specs.Picture.{frame_fault, sample_count};
+ghost use Rattle.std.specs.Prelude.{◌≡◌, ◌<◌, ◌↔◌, ℕ, List, length, IsTrue, None, Some, IfOk, IfErr, MatchResult};
+ghost use Rattle.ls_frame.specs.Picture.{IsFormed, picture_of, form_of, frame_fault, sample_count};
 ghost use Rattle.ls_frame.specs.View.Numbers.{numbers};
 
 use crate::samples::{Samples, are_same};
@@ -31,6 +31,50 @@ impl Kind {
     }
 }
 
+/// The form of a picture: kind, size in pixels, greatest sample value.
+#[derive(Clone, Copy, Debug, PartialEq, Eq)]
+pub struct Form {
+    pub kind: Kind,
+    /// Pixels in a row.
+    pub width: u16,
+    /// Rows.
+    pub height: u16,
+    pub maxval: u16,
+}
+
+impl Form {
+    /// The number of samples of a picture of this form, in all components together.
+    pub fn sample_count(self) -> u64
+        ensures { result ≡ sample_count self.kind self.width self.height }
+    {
+        u64::from(self.width) * u64::from(self.height) * u64::from(self.kind.components())
+    }
+
+    /// Checks whether a picture of this form with this number of samples is a frame, whatever the samples are; if
+    /// only their values can keep it from being one, this passes. Otherwise returns the first fault in `FrameFault`'s
+    /// order.
+    pub fn check(self, samples: usize) -> Result<(), FrameFault>
+        ensures exactly { (items : List ℕ) → length items ≡ samples → MatchResult result
+            (λ _. IsFormed (picture_of self items))
+            (λ fault. (IsFormed (picture_of self items) → ⊥) × (frame_fault (picture_of self items) ≡ Some fault)) }
+    {
+        if self.width == 0 || self.height == 0 {
+            return Err(FrameFault::ZeroSize);
+        }
+        let count = self.sample_count();
+        if count > MOST_SAMPLES {
+            return Err(FrameFault::TooManySamples);
+        }
+        if samples as u64 != count {
+            return Err(FrameFault::WrongCount);
+        }
+        if self.maxval == 0 {
+            return Err(FrameFault::ZeroMaxval);
+        }
+        Ok(())
+    }
+}
+
 /// Why a picture isn't a frame. `Frame::new` checks in this order.
 #[derive(Clone, Copy, Debug, Drop, PartialEq, Eq, Error)]
 pub enum FrameFault {
@@ -52,28 +96,18 @@ pub enum FrameFault {
 /// Samples are ordered from the top row down, from left to right in a row, and by component in a pixel.
 #[derive(Debug, Drop)]
 pub struct Frame {
-    kind: Kind,
-    width: u16,
-    height: u16,
-    maxval: u16,
+    form: Form,
     samples: Vec<u16>,
 }
 
 impl Model for Frame {
-    ghost use Rattle.ls_frame.specs.Picture.{Picture, IsFrame};
+    ghost use Rattle.ls_frame.specs.Picture.{Picture, IsFrame, picture_of};
 
     ghost Value = { Picture };
 
-    ghost view = { λ f. record { kind = f.kind; width = f.width; height = f.height; maxval = f.maxval; samples = f.samples.items } };
+    ghost view = { λ f. picture_of f.form f.samples.items };
 
-    ghost invariant = { λ f. IsFrame (record { kind = f.kind; width = f.width; height = f.height; maxval = f.maxval; samples = f.samples.items }) };
-}
-
-/// The number of samples of a picture of this kind and size, in all components together.
-pub(crate) fn sample_count(kind: Kind, width: u16, height: u16) -> u64
-    ensures { result ≡ sample_count kind width height }
-{
-    u64::from(width) * u64::from(height) * u64::from(kind.components())
+    ghost invariant = { λ f. IsFrame (picture_of f.form f.samples.items) };
 }
 
 impl Frame {
@@ -101,36 +135,32 @@ impl Frame {
             (λ refused. frame_fault picture ≡ Some refused.0) }
         ensures returned { IfErr result (λ refused. refused.1 ≡ samples) }
     {
-        match FrameView::new(kind, width, height, maxval, Samples::Words(&samples)) {
-            Ok(_) => Ok(Frame::from_parts(kind, width, height, maxval, samples)),
+        let form = Form {
+            kind,
+            width,
+            height,
+            maxval,
+        };
+        match FrameView::new(form, Samples::Words(&samples)) {
+            Ok(_) => Ok(Frame::from_parts(form, samples)),
             Err(fault) => Err((fault, samples)),
         }
     }
 
     /// Makes a frame without checks. Requires parts that `Frame::new` accepts.
-    pub fn from_parts(kind: Kind, width: u16, height: u16, maxval: u16, samples: Vec<u16>) -> Frame
-        requires { let picture : Picture = record {
-          kind = kind;
-          width = width;
-          height = height;
-          maxval = maxval;
-          samples = samples.items;
-        } in IsFrame picture }
-        ensures { let picture : Picture = record {
-          kind = kind;
-          width = width;
-          height = height;
-          maxval = maxval;
-          samples = samples.items;
-        } in result ≡ picture }
+    pub fn from_parts(form: Form, samples: Vec<u16>) -> Frame
+        requires { IsFrame (picture_of form samples.items) }
+        ensures { result ≡ picture_of form samples.items }
     {
-        Frame {
-            kind,
-            width,
-            height,
-            maxval,
-            samples,
-        }
+        Frame { form, samples }
+    }
+
+    /// Kind, size and maxval.
+    pub fn form(&self) -> Form
+        ensures value { result ≡ form_of self.now }
+        ensures lawful { IsFrame self.now }
+    {
+        self.form
     }
 
     /// Gray or colour.
@@ -138,7 +168,7 @@ impl Frame {
         ensures value { result ≡ self.now.kind }
         ensures lawful { IsFrame self.now }
     {
-        self.kind
+        self.form.kind
     }
 
     /// Pixels in a row, 1 to 65535.
@@ -146,7 +176,7 @@ impl Frame {
         ensures value { result ≡ self.now.width }
         ensures lawful { IsFrame self.now }
     {
-        self.width
+        self.form.width
     }
 
     /// Rows, 1 to 65535.
@@ -154,7 +184,7 @@ impl Frame {
         ensures value { result ≡ self.now.height }
         ensures lawful { IsFrame self.now }
     {
-        self.height
+        self.form.height
     }
 
     /// The greatest value that a sample may have, 1 to 65535.
@@ -163,7 +193,7 @@ impl Frame {
         ensures some { 0 < result }
         ensures lawful { IsFrame self.now }
     {
-        self.maxval
+        self.form.maxval
     }
 
     /// The samples, from the top row down, from left to right in a row, by component in a pixel.
@@ -179,13 +209,7 @@ impl Frame {
         ensures { result ≡ self.now }
     {
         FrameView {
-            picture: PictureView::from_parts(
-                self.kind,
-                self.width,
-                self.height,
-                self.maxval,
-                Samples::Words(self.samples.as_slice()),
-            ),
+            picture: PictureView::from_parts(self.form, Samples::Words(self.samples.as_slice())),
         }
     }
 }
@@ -195,126 +219,50 @@ impl Frame {
 /// Samples are ordered as in a `Frame`.
 #[derive(Debug, Drop)]
 pub struct PictureView<'a> {
-    kind: Kind,
-    width: u16,
-    height: u16,
-    maxval: u16,
+    form: Form,
     samples: Samples<'a>,
 }
 
 impl<'a> Model for PictureView<'a> {
-    ghost use Rattle.ls_frame.specs.Picture.{Picture, IsFormed};
+    ghost use Rattle.ls_frame.specs.Picture.{Picture, IsFormed, picture_of};
     ghost use Rattle.ls_frame.specs.View.Numbers.{numbers};
 
     ghost Value = { Picture };
 
-    ghost view = { λ f. record { kind = f.kind; width = f.width; height = f.height; maxval = f.maxval; samples = numbers f.samples } };
+    ghost view = { λ f. picture_of f.form (numbers f.samples) };
 
-    ghost invariant = { λ f. IsFormed (record { kind = f.kind; width = f.width; height = f.height; maxval = f.maxval; samples = numbers f.samples }) };
+    ghost invariant = { λ f. IsFormed (picture_of f.form (numbers f.samples)) };
 }
 
 impl<'a> PictureView<'a> {
-    ghost use Rattle.ls_frame.specs.Picture.{Picture, IsFormed};
-
-    /// Makes a picture of this kind, size and maxval over these samples, whose values it doesn't check. If anything but
-    /// a sample over maxval keeps it from being a frame, returns the first fault in `FrameFault`'s order.
-    pub fn new(
-        kind: Kind,
-        width: u16,
-        height: u16,
-        maxval: u16,
-        samples: Samples<'a>,
-    ) -> Result<PictureView<'a>, FrameFault>
-        ensures exactly { let picture : Picture = record {
-          kind = kind;
-          width = width;
-          height = height;
-          maxval = maxval;
-          samples = numbers samples.entry;
-        } in
+    /// Makes a picture of this form over these samples, whose values it doesn't check. If anything but a sample over
+    /// maxval keeps it from being a frame, returns the first fault in `FrameFault`'s order.
+    pub fn new(form: Form, samples: Samples<'a>) -> Result<PictureView<'a>, FrameFault>
+        ensures exactly { let picture = picture_of form (numbers samples.entry) in
             MatchResult result
             (λ f. IsFormed picture × (f ≡ picture))
             (λ fault. (IsFormed picture → ⊥) × (frame_fault picture ≡ Some fault)) }
     {
-        if width == 0 || height == 0 {
-            return Err(FrameFault::ZeroSize);
+        match form.check(samples.len()) {
+            Ok(()) => Ok(PictureView::from_parts(form, samples)),
+            Err(fault) => Err(fault),
         }
-        let count = sample_count(kind, width, height);
-        if count > MOST_SAMPLES {
-            return Err(FrameFault::TooManySamples);
-        }
-        if samples.len() as u64 != count {
-            return Err(FrameFault::WrongCount);
-        }
-        if maxval == 0 {
-            return Err(FrameFault::ZeroMaxval);
-        }
-        Ok(PictureView::from_parts(kind, width, height, maxval, samples))
     }
 
     /// Makes a picture without checks. Requires parts that `PictureView::new` accepts.
-    pub fn from_parts(
-        kind: Kind,
-        width: u16,
-        height: u16,
-        maxval: u16,
-        samples: Samples<'a>,
-    ) -> PictureView<'a>
-        requires { let picture : Picture = record {
-          kind = kind;
-          width = width;
-          height = height;
-          maxval = maxval;
-          samples = numbers samples;
-        } in IsFormed picture }
-        ensures { let picture : Picture = record {
-          kind = kind;
-          width = width;
-          height = height;
-          maxval = maxval;
-          samples = numbers samples.entry;
-        } in result ≡ picture }
+    pub fn from_parts(form: Form, samples: Samples<'a>) -> PictureView<'a>
+        requires { IsFormed (picture_of form (numbers samples)) }
+        ensures { result ≡ picture_of form (numbers samples.entry) }
     {
-        PictureView {
-            kind,
-            width,
-            height,
-            maxval,
-            samples,
-        }
+        PictureView { form, samples }
     }
 
-    /// Gray or colour.
-    pub fn kind(&self) -> Kind
-        ensures value { result ≡ self.now.kind }
+    /// Kind, size, and the greatest value that a sample of a frame may have. Samples of this picture may be over it.
+    pub fn form(&self) -> Form
+        ensures value { result ≡ form_of self.now }
         ensures lawful { IsFormed self.now }
     {
-        self.kind
-    }
-
-    /// Pixels in a row, 1 to 65535.
-    pub fn width(&self) -> u16
-        ensures value { result ≡ self.now.width }
-        ensures lawful { IsFormed self.now }
-    {
-        self.width
-    }
-
-    /// Rows, 1 to 65535.
-    pub fn height(&self) -> u16
-        ensures value { result ≡ self.now.height }
-        ensures lawful { IsFormed self.now }
-    {
-        self.height
-    }
-
-    /// The greatest value that a sample of a frame may have, 1 to 65535. Samples of this picture may be over it.
-    pub fn maxval(&self) -> u16
-        ensures value { result ≡ self.now.maxval }
-        ensures some { 0 < result }
-        ensures lawful { IsFormed self.now }
-    {
-        self.maxval
+        self.form
     }
 
     /// The samples, ordered as in a `Frame`.
@@ -343,70 +291,33 @@ impl<'a> Model for FrameView<'a> {
 }
 
 impl<'a> FrameView<'a> {
-    ghost use Rattle.ls_frame.specs.Picture.{Picture, IsFrame};
+    ghost use Rattle.ls_frame.specs.Picture.{IsFrame};
 
-    /// Makes a frame of this kind, size and maxval over these samples. Accepts exactly what `Frame::new` accepts;
-    /// otherwise returns the first fault in `FrameFault`'s order.
-    pub fn new(
-        kind: Kind,
-        width: u16,
-        height: u16,
-        maxval: u16,
-        samples: Samples<'a>,
-    ) -> Result<FrameView<'a>, FrameFault>
-        ensures exactly { let picture : Picture = record {
-          kind = kind;
-          width = width;
-          height = height;
-          maxval = maxval;
-          samples = numbers samples.entry;
-        } in
+    /// Makes a frame of this form over these samples. Accepts exactly what `Frame::new` accepts; otherwise returns the
+    /// first fault in `FrameFault`'s order.
+    pub fn new(form: Form, samples: Samples<'a>) -> Result<FrameView<'a>, FrameFault>
+        ensures exactly { let picture = picture_of form (numbers samples.entry) in
             MatchResult result
             (λ f. (frame_fault picture ≡ None) × (f ≡ picture))
             (λ fault. frame_fault picture ≡ Some fault) }
         ensures lawful { IfOk result (λ f. IsFrame f) }
     {
-        let picture = match PictureView::new(kind, width, height, maxval, samples) {
+        let picture = match PictureView::new(form, samples) {
             Ok(picture) => picture,
             Err(fault) => return Err(fault),
         };
-        match samples.first_above(maxval) {
+        match samples.first_above(form.maxval) {
             Some(place) => Err(FrameFault::SampleTooLarge(place)),
             None => Ok(FrameView { picture }),
         }
     }
 
-    /// Gray or colour.
-    pub fn kind(&self) -> Kind
-        ensures value { result ≡ self.now.kind }
+    /// Kind, size and maxval.
+    pub fn form(&self) -> Form
+        ensures value { result ≡ form_of self.now }
         ensures lawful { IsFrame self.now }
     {
-        self.picture.kind
-    }
-
-    /// Pixels in a row, 1 to 65535.
-    pub fn width(&self) -> u16
-        ensures value { result ≡ self.now.width }
-        ensures lawful { IsFrame self.now }
-    {
-        self.picture.width
-    }
-
-    /// Rows, 1 to 65535.
-    pub fn height(&self) -> u16
-        ensures value { result ≡ self.now.height }
-        ensures lawful { IsFrame self.now }
-    {
-        self.picture.height
-    }
-
-    /// The greatest value that a sample may have, 1 to 65535.
-    pub fn maxval(&self) -> u16
-        ensures value { result ≡ self.now.maxval }
-        ensures some { 0 < result }
-        ensures lawful { IsFrame self.now }
-    {
-        self.picture.maxval
+        self.picture.form
     }
 
     /// The samples, ordered as in a `Frame`.
@@ -438,10 +349,6 @@ impl PartialEq for Frame {
         ensures value { result ≡ same_picture self.now other.now }
         ensures same { IsTrue result ↔ (self.now ≡ other.now) }
     {
-        self.kind == other.kind
-            && self.width == other.width
-            && self.height == other.height
-            && self.maxval == other.maxval
-            && are_same(&self.samples, &other.samples)
+        self.form == other.form && are_same(&self.samples, &other.samples)
     }
 }

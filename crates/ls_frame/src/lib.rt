@@ -51,7 +51,7 @@ pub mod tuning;
 
 pub use buffered::Buffered;
 pub use device::{Counted, Failed, Feed, FeedFault, Outlet};
-pub use frame::{Frame, FrameFault, FrameView, Kind, PictureView};
+pub use frame::{Form, Frame, FrameFault, FrameView, Kind, PictureView};
 pub use memory::keep_blocks;
 pub use netpbm::{NetpbmFault, first_frame, next_frame, write_frame};
 pub use output::{WriteFault, lay, write_bytes};

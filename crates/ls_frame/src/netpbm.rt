@@ -76,15 +76,9 @@ fn read_image<R: Feed>(alloc: Global, reader: &mut R) -> Result<Option<Frame>, N
         Ok(_) => {}
     }
     let mut allowed = HEADER_BYTES - 1;
-    let header = read_header(reader, &mut allowed, first[0])?;
-    let samples = read_raster(alloc, reader, header)?;
-    Ok(Some(Frame::from_parts(
-        header.kind,
-        header.width,
-        header.height,
-        header.maxval,
-        samples,
-    )))
+    let form = read_header(reader, &mut allowed, first[0])?;
+    let samples = read_raster(alloc, reader, form)?;
+    Ok(Some(Frame::from_parts(form, samples)))
 }
 
 /// Reads one image and not a byte after it. Returns `None` exactly at the end of input.

@@ -1,7 +1,7 @@
 //! Borrowed samples of 8 or 16 bits, and slots that samples are stored in.
-ghost use Rattle.std.specs.Prelude.{◌≡◌, ◌==◌, ℕ, ◌+◌, ◌<◌, ◌≤◌, List, length, slice_index, take, drop, nat_lt, position, fold, max, set};
+ghost use Rattle.std.specs.Prelude.{◌≡◌, ◌==◌, ℕ, ◌+◌, ◌<◌, ◌≤◌, ◌++◌, List, refl, length, slice_index, take, drop, nat_lt, position, fold, max, set};
 ghost use lib.Pointwise.{pointwise};
-ghost use Rattle.ls_frame.specs.View.Numbers.{numbers};
+ghost use Rattle.ls_frame.specs.View.Numbers.{numbers, most_of};
 
 /// Borrowed samples in sequence, of 8 bits each (`Bytes`) or of 16 (`Words`).
 #[derive(Clone, Copy, Debug, Drop)]
@@ -18,6 +18,16 @@ impl<'a> Samples<'a> {
         match self {
             Samples::Bytes(bytes) => bytes.len(),
             Samples::Words(words) => words.len(),
+        }
+    }
+
+    /// The greatest value that samples of this size can have: 255 or 65535.
+    pub fn most(self) -> u16
+        ensures { result ≡ most_of self.entry }
+    {
+        match self {
+            Samples::Bytes(_) => u16::from(u8::MAX),
+            Samples::Words(_) => u16::MAX,
         }
     }
 
@@ -51,6 +61,10 @@ pub trait Place {
     /// The greatest number that a slot can store.
     ghost most: { ℕ };
 
+    /// The greatest number that a slot can store: 255 or 65535.
+    fn greatest() -> u16
+        ensures { result ≡ most };
+
     /// Stores a sample in the slot with index `place`. Requires that this slot exists, and that it can store the
     /// sample: a slot of 8 bits stores 255 at most.
     fn put(places: &mut [Self], place: usize, sample: u16)
@@ -62,12 +76,20 @@ pub trait Place {
     fn clear(places: &mut [Self])
         ensures zeros { (k : ℕ) → k < length (numbers places.new) → slice_index (numbers places.new) k ≡ 0 }
         ensures len { length (numbers places.new) ≡ length (numbers places.old) };
+
+    ghost one_each: { (places : List Self) → length (numbers places) ≡ length places };
+
+    ghost in_parts: { (front rest : List Self) → numbers (front ++ rest) ≡ numbers front ++ numbers rest };
 }
 
 impl Place for u8 {
     ghost numbers = { λ places. places };
 
     ghost most = { 255 };
+
+    fn greatest() -> u16 {
+        u16::from(u8::MAX)
+    }
 
     #[inline(always)]
     fn put(places: &mut [u8], place: usize, sample: u16) {
@@ -77,12 +99,20 @@ impl Place for u8 {
     fn clear(places: &mut [u8]) {
         clear_bytes(places);
     }
+
+    ghost one_each = { λ _. refl };
+
+    ghost in_parts = { λ _ _. refl };
 }
 
 impl Place for u16 {
     ghost numbers = { λ places. places };
 
     ghost most = { 65535 };
+
+    fn greatest() -> u16 {
+        u16::MAX
+    }
 
     #[inline(always)]
     fn put(places: &mut [u16], place: usize, sample: u16) {
@@ -92,6 +122,10 @@ impl Place for u16 {
     fn clear(places: &mut [u16]) {
         clear_words(places);
     }
+
+    ghost one_each = { λ _. refl };
+
+    ghost in_parts = { λ _ _. refl };
 }
 
 /// The index of the first byte over `maxval`, if there is one.

@@ -1,4 +1,4 @@
-use crate::testing::{Parts, check, check_items, check_samples, frame_of, parts_of};
+use crate::testing::{Parts, check, check_items, check_samples, form_of, frame_of, parts_of};
 use ls_frame::{Frame, FrameFault, FrameView, Kind, PictureView, Samples};
 use std::alloc::{AllocError, Global};
 use std::process::Abort;
@@ -47,10 +47,11 @@ fn check_refused(rt: &impl Abort, alloc: Global, i: usize, refused: &Refused<'_>
 /// Checks that parts make neither a view nor a picture, with the same fault, but do make a picture if the fault is a
 /// sample over maxval.
 fn check_view_refused(rt: &impl Abort, i: usize, refused: &Refused<'_>) {
-    let ((kind, width, height, maxval, samples), want) = *refused;
-    let made = FrameView::new(kind, width, height, maxval, Samples::Words(samples));
+    let (parts, want) = *refused;
+    let (form, samples) = (form_of(&parts), Samples::Words(parts.4));
+    let made = FrameView::new(form, samples);
     check(rt, "a view's fault", i, &made.err(), &Some(want));
-    let made = PictureView::new(kind, width, height, maxval, Samples::Words(samples));
+    let made = PictureView::new(form, samples);
     let want = match want {
         FrameFault::SampleTooLarge(_) => None,
         fault => Some(fault),
@@ -75,22 +76,15 @@ const FRAMES: &[Parts<'static>] = &[
 /// Checks that a frame and its view have these parts.
 fn check_parts(rt: &impl Abort, i: usize, frame: &Frame, parts: &Parts<'_>) {
     check(rt, "the parts", i, &parts_of(frame), parts);
-    let (kind, width, height, maxval, samples) = *parts;
+    let form = form_of(parts);
+    let samples = parts.4;
     let view = frame.view();
-    let got = (view.kind(), view.width(), view.height(), view.maxval());
-    let want = (kind, width, height, maxval);
-    check(rt, "the view's kind, size and maxval", i, &got, &want);
+    check(rt, "the frame's form", i, &frame.form(), &form);
+    check(rt, "the view's form", i, &view.form(), &form);
     let want = Samples::Words(samples);
     check_samples(rt, "its samples", i, view.samples(), want);
     let picture = view.picture();
-    let got = (
-        picture.kind(),
-        picture.width(),
-        picture.height(),
-        picture.maxval(),
-    );
-    let want = (kind, width, height, maxval);
-    check(rt, "the picture's kind, size and maxval", i, &got, &want);
+    check(rt, "the picture's form", i, &picture.form(), &form);
     let want = Samples::Words(samples);
     check_samples(rt, "the picture's samples", i, picture.samples(), want);
 }

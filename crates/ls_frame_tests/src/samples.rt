@@ -1,4 +1,4 @@
-use crate::testing::{check, check_samples};
+use crate::testing::{check, check_samples, form_of};
 use ls_frame::{FrameFault, FrameView, Kind, Place, Samples};
 use std::process::Abort;
 
@@ -18,7 +18,8 @@ const ROWS: &[Row<'static>] = &[
 fn check_row(rt: &impl Abort, i: usize, row: &Row<'_>) {
     let (maxval, bytes, want) = *row;
     let width = u16::try_from(bytes.len()).unwrap_or(0);
-    let made = FrameView::new(Kind::Gray, width, 1, maxval, Samples::Bytes(bytes));
+    let form = form_of(&(Kind::Gray, width, 1, maxval, &[]));
+    let made = FrameView::new(form, Samples::Bytes(bytes));
     if let Ok(view) = &made {
         let want = Samples::Bytes(bytes);
         check_samples(rt, "the bytes of a view", i, view.samples(), want);

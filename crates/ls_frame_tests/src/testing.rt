@@ -2,7 +2,7 @@
 ghost use Rattle.std.specs.Prelude.{◌≤◌};
 ghost use Rattle.ls_frame_tests.specs.declared.testing.TheConstants.{ROOM};
 
-use ls_frame::{Failed, Feed, FeedFault, Frame, Kind, PresetFault, Presets, Samples};
+use ls_frame::{Failed, Feed, FeedFault, Form, Frame, Kind, PresetFault, Presets, Samples};
 use std::alloc::{AllocError, Global};
 use std::fmt::Debug;
 use std::io;
@@ -57,6 +57,17 @@ pub fn parts_of(frame: &Frame) -> Parts<'_> {
         frame.maxval(),
         frame.samples(),
     )
+}
+
+/// Returns the form of a frame's parts.
+pub fn form_of(parts: &Parts<'_>) -> Form {
+    let (kind, width, height, maxval, _) = *parts;
+    Form {
+        kind,
+        width,
+        height,
+        maxval,
+    }
 }
 
 /// Makes a frame of these parts.

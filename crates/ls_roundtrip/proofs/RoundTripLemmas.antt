@@ -75,7 +75,7 @@ tuned_codable legal tuning bytes (f ∷ frames) film given =
     let maxval = tuned_maxval tuning f.maxval in (
       record {
         frame = film.3.frame;
-        legal = legal (tuned tuning f.maxval) (omega (arith, maxval, film.3.frame.maxval)) (none_at_fault (tuned tuning f.maxval) given.0.1);
+        legal = legal (tuned tuning f.maxval) (omega (arith, maxval, film.3.frame.formed.maxval)) (none_at_fault (tuned tuning f.maxval) given.0.1);
         maxval = maxval;
       },
       tuned_codable legal tuning film.1 frames film.4 given.1,
@@ -124,7 +124,7 @@ module _ (maxval : (maxval : ℕ) → (default_parameters maxval).maxval ≡ max
       let maxval = tuned_maxval tuning f.maxval in (
         record {
           frame = film.3.frame;
-          legal = legal (tuned tuning f.maxval) (omega (arith, maxval, film.3.frame.maxval)) (none_at_fault (tuned tuning f.maxval) given.0.1);
+          legal = legal (tuned tuning f.maxval) (omega (arith, maxval, film.3.frame.formed.maxval)) (none_at_fault (tuned tuning f.maxval) given.0.1);
           maxval = maxval;
         },
         front_codable tuning film.1 frames more film.4 given.1,

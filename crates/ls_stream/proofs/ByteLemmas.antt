@@ -69,8 +69,8 @@ header_by Color precision height width few high wide = (
 
 header_are : (f : Picture) → IsFrame f → AreBytes (segment StartOfFrame (header_contents (written_header f)))
 header_are f frame =
-    header_by f.kind (bpp_of f.maxval) f.height f.width (omega (arith, ceil_log2-least (f.maxval + 1) 16 (omega (arith, frame.maxval))))
-    (omega (arith, frame.height)) (omega (arith, frame.width))
+    header_by f.kind (bpp_of f.maxval) f.height f.width (omega (arith, ceil_log2-least (f.maxval + 1) 16 (omega (arith, frame.formed.maxval))))
+    (omega (arith, frame.formed.height)) (omega (arith, frame.formed.width))
 
 presets_by : (p : Parameters) → AreTwoByteFields p → (test : Bool) → AreBytes (miscellaneous_bytes (cond test (presets 0 p ∷ []) []))
 unfolding presets_contents

@@ -32,14 +32,16 @@ are_bytes (byte ∷ bytes) h = let each = and_parts (ltb byte 256) (all_bytes by
 
 frame : IsFrame lone_zero
 frame = record {
-  some_width = omega arith;
-  width = omega arith;
-  some_height = omega arith;
-  height = omega arith;
-  some_maxval = omega arith;
-  maxval = omega arith;
-  few = omega arith;
-  count = refl;
+  formed = record {
+    some_width = omega arith;
+    width = omega arith;
+    some_height = omega arith;
+    height = omega arith;
+    some_maxval = omega arith;
+    maxval = omega arith;
+    few = omega arith;
+    count = refl;
+  };
   each = (omega arith, tt);
 }
 

@@ -100,7 +100,7 @@ sample_of_plane : (f : Picture) (component k : ℕ) → IsFrame f → k < f.heig
     → get_or (plane_of f component).samples k 0 ≡ get_or f.samples (k * components f.kind + component) 0
 sample_of_plane f component k frame h =
     let turned : f.width * f.height ≡ f.height * f.width = omega arith in
-    component_at f.width f.height (components f.kind) component k f.samples (some_components f.kind) (frame.count ∙ ap (λ n. n * components f.kind) turned) h
+    component_at f.width f.height (components f.kind) component k f.samples (some_components f.kind) (frame.formed.count ∙ ap (λ n. n * components f.kind) turned) h
 
 same_samples : (f g : Picture) → IsFrame f → IsFrame g → f.kind ≡ g.kind → f.width ≡ g.width → f.height ≡ g.height
     → ((i : ℕ) → i < components f.kind → plane_of f i ≡ plane_of g i) → f.samples ≡ g.samples
@@ -108,9 +108,9 @@ same_samples f g frame frame' kinds widths heights planes =
     let count : ℕ = components f.kind in
     let counts : count ≡ components g.kind = ap components kinds in
     let some : 0 < count = omega (arith, some_components f.kind) in
-    let places : length f.samples ≡ f.height * f.width * count = frame.count ∙ (let turned : f.width * f.height ≡ f.height * f.width = omega arith in ap (λ n. n * count) turned) in
+    let places : length f.samples ≡ f.height * f.width * count = frame.formed.count ∙ (let turned : f.width * f.height ≡ f.height * f.width = omega arith in ap (λ n. n * count) turned) in
     let lengths : length f.samples ≡ length g.samples =
-    frame.count ∙ ap (λ w. w * f.height * count) widths ∙ ap (λ h. g.width * h * count) heights ∙ ap (λ n. g.width * g.height * n) counts ∙ sym frame'.count in
+    frame.formed.count ∙ ap (λ w. w * f.height * count) widths ∙ ap (λ h. g.width * h * count) heights ∙ ap (λ n. g.width * g.height * n) counts ∙ sym frame'.formed.count in
     same_number_lists f.samples g.samples lengths
     (λ k h.
     let split : k / count * count + k % count ≡ k = div-add-mod' k count in
@@ -146,7 +146,7 @@ one_frame f g o frame frame' legal is is' =
     let planes : (i : ℕ) → i < components f.kind → plane_of f i ≡ plane_of g i = λ i h.
     let first : 0 + i ≡ i = omega arith in
     subst (λ n. plane_of f n ≡ plane_of g n) first
-    (same_planes o.parameters f g o.header.width o.header.height 0 i o.scans legal (omega (arith, is.width, frame.some_width))
+    (same_planes o.parameters f g o.header.width o.header.height 0 i o.scans legal (omega (arith, is.width, frame.formed.some_width))
     (λ k. plane_is f o.parameters.maxval o.header.width o.header.height k frame is.maxval is.width is.height)
     (λ k. plane_is g o.parameters.maxval o.header.width o.header.height k frame' is'.maxval is'.width is'.height)
     is.coded is'.coded (omega (arith, is.count))) in
@@ -159,4 +159,4 @@ one_frame_each legal bytes f g first second =
     let same : one.0 ≡ two.0 = (one_outline one.0 two.0 [] [] (bytes ++ []) one.1 two.1).0 in
     let faultless : preset_fault one.0.parameters ≡ None =
     outline_faultless bytes [] one.0 first.are_bytes (ap outline_at (sym (append-nil bytes)) ∙ one.1) in
-    one_frame f g one.0 first.frame second.frame (legal one.0.parameters (omega (arith, one.2.maxval, first.frame.maxval)) faultless) one.2 (subst (IsOutlineOf g) (sym same) two.2)
+    one_frame f g one.0 first.frame second.frame (legal one.0.parameters (omega (arith, one.2.maxval, first.frame.formed.maxval)) faultless) one.2 (subst (IsOutlineOf g) (sym same) two.2)

@@ -22,18 +22,6 @@ use Rattle.ls_stream.specs.Components.{component_of, component_plane, plane_of}
 use Rattle.ls_stream.specs.View.Shapes.{IsShapeOf}
 use Rattle.ls_stream.proofs.CodedLemmas.{plane_from, parameters_of}
 
-pub formed : (f : Picture) → IsFrame f → IsFormed f
-formed f frame = record {
-  some_width = frame.some_width;
-  width = frame.width;
-  some_height = frame.some_height;
-  height = frame.height;
-  some_maxval = frame.some_maxval;
-  maxval = frame.maxval;
-  few = frame.few;
-  count = frame.count;
-}
-
 -- each sample is at most maxval, and one past the end reads as 0
 small_at : (maxval : ℕ) (samples : List ℕ) → AllByRecursion (λ sample. sample ≤ maxval) samples → (k : ℕ) → get_or samples k 0 ≤ maxval
 small_at maxval samples each k =

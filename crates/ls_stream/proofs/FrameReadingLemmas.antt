@@ -28,7 +28,7 @@ use Rattle.ls_stream.specs.View.FirstFaults.{BreaksData, IsPlaneData}
 use Rattle.ls_stream.specs.View.Reading.{◌>>=◌, Take, Gives, opening_at, next_scan_at, end_at}
 use Rattle.ls_stream.specs.View.Outlines.{scans_at, outline_at, ids_in, data_at, after_data, ScansStop, Outline, AreDataOf, IsOutlineOf, of_all, outline_of}
 use Rattle.ls_stream.specs.View.Decoding.{scan_in, AreScansOf, NoScans, picture}
-use Rattle.ls_stream.proofs.FrameLemmas.{formed, samples_small, none_found, some_components, plane_length, plane_small}
+use Rattle.ls_stream.proofs.FrameLemmas.{samples_small, none_found, some_components, plane_length, plane_small}
 use Rattle.ls_stream.proofs.ScanReadingLemmas.{component_at, is_sample_plane}
 use Rattle.ls_stream.proofs.StepLemmas.{step_ok, step_is, same_ok}
 
@@ -333,7 +333,7 @@ turned a b = omega arith
 pub plane_is : (f : Picture) (maxval width height i : ℕ) → IsFrame f → maxval ≡ f.maxval → width ≡ f.width → height ≡ f.height → IsSamplePlane maxval width height (plane_of f i)
 plane_is f maxval width height i frame e g h = record {
   width_is = sym g;
-  count = plane_length f (formed f frame) i ∙ turned f.width f.height ∙ ap (λ n. n * f.width) (sym h) ∙ ap (λ n. height * n) (sym g);
+  count = plane_length f frame.formed i ∙ turned f.width f.height ∙ ap (λ n. n * f.width) (sym h) ∙ ap (λ n. height * n) (sym g);
   small = λ k. omega (arith, plane_small f frame i k, e);
 }
 
@@ -536,7 +536,7 @@ same_picture f g a b c d e =
 
 frame_count : (f : Picture) (width height : ℕ) (kind : Kind) → IsFrame f → f.width ≡ width → f.height ≡ height → f.kind ≡ kind → length f.samples ≡ height * width * components kind
 frame_count f width height kind frame a b c =
-    frame.count ∙ ap (λ n. n * components f.kind) (turned f.width f.height) ∙ ap (λ k. f.height * f.width * components k) c ∙ ap (λ w. f.height * w * components kind) a ∙ ap (λ h. h * width * components kind) b
+    frame.formed.count ∙ ap (λ n. n * components f.kind) (turned f.width f.height) ∙ ap (λ k. f.height * f.width * components k) c ∙ ap (λ w. f.height * w * components kind) a ∙ ap (λ h. h * width * components kind) b
 
 pub only_frame : (bytes : List ℕ) (f : Picture) (header : FrameHeader) (p : Parameters) (opened rest : List ℕ) → IsPutTogether bytes f header p opened rest → IsFrame f
     → (o : Outline) (left : List ℕ) (g : Picture) → outline_at bytes ≡ Ok (o, left) → IsFrame g → IsOutlineOf g o → f ≡ g
@@ -581,24 +581,26 @@ pub is_frame : (header : FrameHeader) (p : Parameters) (samples : List ℕ) → 
     → sample_count header.kind header.width header.height ≤ most_samples → length samples ≡ header.height * header.width * components header.kind
     → ((k : ℕ) → get_or samples k 0 ≤ p.maxval) → IsFrame (picture header p.maxval samples)
 is_frame header p samples some_width width some_height height legal few count small = record {
-  some_width = some_width;
-  width = width;
-  some_height = some_height;
-  height = height;
-  some_maxval = legal.some_maxval;
-  maxval = legal.maxval;
-  few = few;
-  count = count ∙ ap (λ n. n * components header.kind) (turned header.height header.width);
+  formed = record {
+    some_width = some_width;
+    width = width;
+    some_height = some_height;
+    height = height;
+    some_maxval = legal.some_maxval;
+    maxval = legal.maxval;
+    few = few;
+    count = count ∙ ap (λ n. n * components header.kind) (turned header.height header.width);
+  };
   each = each_small p.maxval samples small;
 }
 
 pub no_fault : (f : Picture) → IsFrame f → frame_fault f ≡ None
 no_fault f frame =
-    let size : (eqb f.width 0 || eqb f.height 0) ≡ false = rw (ne_eqb f.width 0 (λ e. absurd (omega (arith, frame.some_width))), ne_eqb f.height 0 (λ e. absurd (omega (arith, frame.some_height)))) refl in
+    let size : (eqb f.width 0 || eqb f.height 0) ≡ false = rw (ne_eqb f.width 0 (λ e. absurd (omega (arith, frame.formed.some_width))), ne_eqb f.height 0 (λ e. absurd (omega (arith, frame.formed.some_height)))) refl in
     cond-false _ _ _ size
-    ∙ cond-false _ _ _ (le-ltb most_samples (sample_count f.kind f.width f.height) frame.few)
-    ∙ cond-false _ _ _ (ap not (eq-eqb (length f.samples) (sample_count f.kind f.width f.height) frame.count))
-    ∙ cond-false _ _ _ (ne_eqb f.maxval 0 (λ e. absurd (omega (arith, frame.some_maxval))))
+    ∙ cond-false _ _ _ (le-ltb most_samples (sample_count f.kind f.width f.height) frame.formed.few)
+    ∙ cond-false _ _ _ (ap not (eq-eqb (length f.samples) (sample_count f.kind f.width f.height) frame.formed.count))
+    ∙ cond-false _ _ _ (ne_eqb f.maxval 0 (λ e. absurd (omega (arith, frame.formed.some_maxval))))
     ∙ ap (option_map SampleTooLarge) (none_found f.maxval f.samples (samples_small f frame))
 
 -- ---- the codestream at the front of bytes

@@ -314,8 +314,8 @@ again_by Color precision height width (a ∷ b ∷ c ∷ d ∷ cs) some_bits bit
 
 pub header_again : (f : Picture) (header : Header) → IsFrame f → IsHeaderOf f header → (h : FrameHeader) × HeaderSays f.kind header h
 header_again f header frame says =
-    again_by f.kind header.precision header.height header.width header.components says.some_bits says.bits (rw says.height frame.some_height) (rw says.width frame.some_width)
-    (rw (says.height, says.width) frame.few) says.count says.apart
+    again_by f.kind header.precision header.height header.width header.components says.some_bits says.bits (rw says.height frame.formed.some_height) (rw says.width frame.formed.some_width)
+    (rw (says.height, says.width) frame.formed.few) says.count says.apart
 
 components_length : (cs : List Component) → length (flat_map component_bytes cs) ≡ 3 * length cs
 components_length [] = refl

@@ -14,7 +14,7 @@ use Rattle.ls_stream.specs.Components.{plane_of}
 use Rattle.ls_stream.specs.Grammar.{presets, miscellaneous_bytes}
 use Rattle.ls_stream.specs.Layout.{written_component, written_header, needs_presets, written_presets, presets_length, codestream, scan_of, scans_up_to, scan_bound, bound}
 use Rattle.ls_stream.proofs.CostLemmas.{plane_bits_short}
-use Rattle.ls_stream.proofs.FrameLemmas.{formed, plane_length, plane_small, few_components}
+use Rattle.ls_stream.proofs.FrameLemmas.{plane_length, plane_small, few_components}
 use Rattle.ls_stream.proofs.LayoutLemmas.{stuffed_short, codestream_is, room_is}
 
 most_by : (test : Bool) → cond test 15 0 ≤ 15
@@ -45,8 +45,8 @@ unfolding scan_contents
 scan_length f p component frame legal same =
     let bits = plane_bits p (plane_of f component) in
     let few : length bits ≤ limit_of p.maxval * length (plane_of f component).samples =
-    plane_bits_short p (plane_of f component) legal frame.some_width (λ k. omega (arith, plane_small f frame component k)) in
-    let most : length bits ≤ limit_of p.maxval * (f.width * f.height) = omega (arith, ap (λ n. limit_of p.maxval * n) (plane_length f (formed f frame) component)) in
+    plane_bits_short p (plane_of f component) legal frame.formed.some_width (λ k. omega (arith, plane_small f frame component k)) in
+    let most : length bits ≤ limit_of p.maxval * (f.width * f.height) = omega (arith, ap (λ n. limit_of p.maxval * n) (plane_length f frame.formed component)) in
     omega (arith, stuffed_short [] (stuff bits) bits (limit_of p.maxval * (f.width * f.height)) refl most)
 
 scans_length : (f : Picture) (p : Parameters) (from count : ℕ) → IsFrame f → IsLegal p → p.maxval ≡ f.maxval → length (flat_map (scan_of f p) (range_with_len from count)) ≤ count * (10 + scan_bound f p)

@@ -32,7 +32,7 @@ apart_by Color = ((λ e. absurd (omega arith), (λ e. absurd (omega arith), tt))
 header_of : (f : Picture) → IsFrame f → IsHeaderOf f (written_header f)
 header_of f frame = record {
   some_bits = omega arith;
-  bits = omega (arith, ceil_log2-least (f.maxval + 1) 16 (omega (arith, frame.maxval)));
+  bits = omega (arith, ceil_log2-least (f.maxval + 1) 16 (omega (arith, frame.formed.maxval)));
   height = refl;
   width = refl;
   count = length-map-range_with_len written_component 0 (components f.kind);
@@ -173,7 +173,7 @@ unfolding codestream
 spells kept f p frame legal same = record {
   frame = frame;
   are_bytes = codestream_bytes_are f p frame (fields p legal);
-  short = omega (arith, within_bound f p frame legal same, bound_small f p frame.few legal);
+  short = omega (arith, within_bound f p frame legal same, bound_small f p frame.formed.few legal);
   codestream = layout f p;
   spelled = refl;
   parameters = p;

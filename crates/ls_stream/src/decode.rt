@@ -6,7 +6,7 @@ mod scan;
 
 ghost use Rattle.std.specs.Prelude.{◌≡◌, ◌≢◌, ◌⊎◌, ◌+◌, ◌-◌, ◌*◌, ◌^◌, ◌<◌, ◌≤◌, ◌++◌, ℕ, List, [], length, take, drop, slice_index, Result, Ok, IfOk, IfErr, MatchResult};
 ghost use Rattle.ls_bits.specs.Data.{stop_at};
-ghost use Rattle.ls_frame.specs.Picture.{Picture, IsFrame, components, sample_count, most_samples};
+ghost use Rattle.ls_frame.specs.Picture.{Picture, IsFrame, picture_of, components, sample_count, most_samples};
 ghost use Rattle.ls_stream.specs.Planes.{Plane, IsSamplePlane};
 ghost use Rattle.ls_stream.specs.Components.{component_plane};
 ghost use Rattle.ls_stream.specs.Grammar.{IsCoded, Spells, most_bytes};
@@ -24,7 +24,7 @@ use crate::segments::read::FrameHeader;
 use crate::shape::Shape;
 use ls_bits::{CodeFault, Stop, data_of};
 use ls_coding::Regions;
-use ls_frame::{Frame, Kind, Place, Presets};
+use ls_frame::{Form, Frame, Place, Presets};
 use std::alloc::Global;
 use std::marker::Model;
 
@@ -63,7 +63,7 @@ pub fn decode_frame(alloc: Global, bytes: &[u8]) -> Result<Decoded, StreamFault>
         Err(fault) => return Err(fault),
     };
     let (Ok(mut lines), Ok(regions), Ok(mut samples)) = (
-        Lines::new(alloc, opening.width()),
+        Lines::new(alloc, opening.form().width),
         Regions::new(alloc, opening.presets()),
         vec![in alloc; 0u16; opening.sample_count()],
     ) else {
@@ -103,7 +103,7 @@ impl<'a> Model for Opening<'a> {
 }
 
 impl<'a> Opening<'a> {
-    ghost use Rattle.ls_stream.specs.View.Openings.{SaysSo, IsOfForm, IsOutlineFrom, picture_of};
+    ghost use Rattle.ls_stream.specs.View.Openings.{SaysSo, IsOfForm, IsOutlineFrom, opened_form};
 
     /// Reads the opening at the front of bytes. It decodes no sample, and allocates nothing.
     ///
@@ -138,27 +138,19 @@ impl<'a> Opening<'a> {
         self.header.precision
     }
 
-    /// Gray or colour.
-    pub fn kind(&self) -> Kind
-        ensures { result ≡ self.now.kind }
+    /// The form of the frame: each number is 1 to 65535.
+    pub fn form(&self) -> Form
+        ensures value { result ≡ opened_form self.now }
+        ensures some_width { 0 < result.width }
+        ensures some_height { 0 < result.height }
+        ensures few { sample_count result.kind result.width result.height ≤ most_samples }
     {
-        self.header.kind
-    }
-
-    /// Pixels in a row, 1 to 65535.
-    pub fn width(&self) -> u16
-        ensures value { result ≡ self.now.width }
-        ensures some { 0 < result }
-    {
-        self.header.width
-    }
-
-    /// Rows, 1 to 65535.
-    pub fn height(&self) -> u16
-        ensures value { result ≡ self.now.height }
-        ensures some { 0 < result }
-    {
-        self.header.height
+        Form {
+            kind: self.header.kind,
+            width: self.header.width,
+            height: self.header.height,
+            maxval: self.presets.maxval(),
+        }
     }
 
     /// The parameters with which the frame is coded. Their maxval is the frame's.
@@ -173,8 +165,7 @@ impl<'a> Opening<'a> {
         ensures value { result ≡ sample_count self.now.kind self.now.width self.now.height }
         ensures few { result ≤ most_samples }
     {
-        let shape = shape_of(&self.header);
-        shape.width * shape.height * shape.components
+        self.form().sample_count() as usize
     }
 
     /// Decodes the frame into `samples`: row by row from the top, pixel by pixel, component by component. Returns the
@@ -195,9 +186,9 @@ impl<'a> Opening<'a> {
         requires fits { self.now.parameters.maxval ≤ S.most }
         requires samples { length (S.numbers samples.old) ≡ sample_count self.now.kind self.now.width self.now.height }
         requires small { (k : ℕ) → slice_index (S.numbers samples.old) k ≤ self.now.parameters.maxval }
-        ensures ok { IfOk result (λ used. (used ≤ length self.now.bytes) × Spells (take used self.now.bytes) (picture_of self.now (S.numbers samples.new))) }
+        ensures ok { IfOk result (λ used. (used ≤ length self.now.bytes) × Spells (take used self.now.bytes) (picture_of (opened_form self.now) (S.numbers samples.new))) }
         ensures complete { (front rest : List ℕ) (f : Picture) → self.now.bytes ≡ front ++ rest → Spells front f
-            → MatchResult result (λ used. (picture_of self.now (S.numbers samples.new) ≡ f) × (used ≡ length front)) (λ fault. ⊥) }
+            → MatchResult result (λ used. (picture_of (opened_form self.now) (S.numbers samples.new) ≡ f) × (used ≡ length front)) (λ fault. ⊥) }
         ensures first { IfErr result (λ fault. IsFirstFault self.now.bytes fault) }
         ensures memory { IfErr result (λ fault. fault ≢ StreamFault.NoMemory) }
     {
@@ -230,16 +221,10 @@ impl<'a> Opening<'a> {
     /// Makes the frame of this form from its samples, which must be as many as the form has, and none over maxval. They
     /// aren't checked.
     pub fn frame_of(&self, samples: Vec<u16>) -> Frame
-        requires { IsFrame (picture_of self.now samples.items) }
-        ensures { result ≡ picture_of self.now samples.items }
+        requires { IsFrame (picture_of (opened_form self.now) samples.items) }
+        ensures { result ≡ picture_of (opened_form self.now) samples.items }
     {
-        Frame::from_parts(
-            self.header.kind,
-            self.header.width,
-            self.header.height,
-            self.presets.maxval(),
-            samples,
-        )
+        Frame::from_parts(self.form(), samples)
     }
 }
 

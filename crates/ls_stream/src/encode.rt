@@ -43,28 +43,14 @@ pub fn encode_with(alloc: Global, frame: &Frame, presets: &Presets) -> Result<Ve
     ensures short { IfOk result (λ bytes. length bytes.items < 2 ^ 32) }
     ensures capacity { IfOk result (λ bytes. vec_capacity bytes ≡ bound frame.now presets.now) }
 {
-    encode_view(alloc, &frame.view(), presets)
-}
-
-/// As `encode_with`, for a frame whose samples are in the caller's memory.
-pub fn encode_view(
-    alloc: Global,
-    frame: &FrameView,
-    presets: &Presets,
-) -> Result<Vec<u8>, AllocError>
-    requires maxval { presets.now.maxval ≡ frame.now.maxval }
-    ensures bytes { IfOk result (λ bytes. bytes.items ≡ codestream frame.now presets.now) }
-    ensures short { IfOk result (λ bytes. length bytes.items < 2 ^ 32) }
-    ensures capacity { IfOk result (λ bytes. vec_capacity bytes ≡ bound frame.now presets.now) }
-{
-    match encode_picture(alloc, frame.picture(), presets)? {
+    match encode_picture(alloc, frame.view().picture(), presets)? {
         Some(bytes) => Ok(bytes),
         None => unreachable!(),
     }
 }
 
-/// As `encode_view`, for a picture that may not be a frame: `None` exactly if a sample is over maxval. Each row is
-/// checked when it is coded, so that the samples are fetched from memory once.
+/// As `encode_with`, for a picture in the caller's memory that may not be a frame: `None` exactly if a sample is over
+/// maxval. Each row is checked when it is coded, so that the samples are fetched from memory once.
 pub fn encode_picture(
     alloc: Global,
     picture: &PictureView,
@@ -78,7 +64,7 @@ pub fn encode_picture(
 {
     let capacity = picture_bound(picture, presets) as usize;
     let mut bytes = Vec::with_capacity(alloc, capacity)?;
-    let mut lines = Lines::new(alloc, picture.width())?;
+    let mut lines = Lines::new(alloc, picture.form().width)?;
     if put_codestream(picture, presets, &mut lines, &mut bytes) {
         Ok(Some(bytes))
     } else {
@@ -107,7 +93,7 @@ pub fn encode_within(frame: &Frame, presets: &Presets, lines: &mut Lines, bytes:
 /// change.
 ///
 /// It requires parameters of the frame's maxval, lines at least as wide as the frame, and a slice of at least
-/// `view_bound` bytes. It allocates nothing and cannot fail.
+/// `picture_bound` bytes. It allocates nothing and cannot fail.
 pub fn encode_into(
     frame: &FrameView,
     presets: &Presets,
@@ -163,28 +149,18 @@ pub fn code_bound(frame: &Frame, presets: &Presets) -> u64
     ensures enough { length (codestream frame.now presets.now) ≤ result }
     ensures small { result < 2 ^ 32 }
 {
-    view_bound(&frame.view(), presets)
+    picture_bound(frame.view().picture(), presets)
 }
 
-/// As `code_bound`, for a frame whose samples are in the caller's memory.
-pub fn view_bound(frame: &FrameView, presets: &Presets) -> u64
-    requires maxval { presets.now.maxval ≡ frame.now.maxval }
-    ensures value { result ≡ bound frame.now presets.now }
-    ensures enough { length (codestream frame.now presets.now) ≤ result }
-    ensures small { result < 2 ^ 32 }
-{
-    picture_bound(frame.picture(), presets)
-}
-
-/// As `view_bound`, for a picture: the bound on the bytes of its codestream if it is a frame.
+/// As `code_bound`, for a picture in the caller's memory: the bound on the bytes of its codestream if it is a frame.
 pub fn picture_bound(picture: &PictureView, presets: &Presets) -> u64
     requires maxval { presets.now.maxval ≡ picture.now.maxval }
     ensures value { result ≡ bound picture.now presets.now }
     ensures enough { IsFrame picture.now → length (codestream picture.now presets.now) ≤ result }
     ensures small { result < 2 ^ 32 }
 {
-    prove!(presets.maxval() == picture.maxval());
-    let count = u64::from(picture.kind().components());
+    prove!(presets.maxval() == picture.form().maxval);
+    let count = u64::from(picture.form().kind.components());
     headers_length(picture, presets) + count * scan_bound(picture, presets)
 }
 
@@ -195,7 +171,7 @@ fn headers_length(picture: &PictureView, presets: &Presets) -> u64
     ensures value { result ≡ headers_length picture.now presets.now }
     ensures small { result ≤ 68 }
 {
-    let count = u64::from(picture.kind().components());
+    let count = u64::from(picture.form().kind.components());
     2 + (10 + 3 * count) + presets_length(presets) + 10 * count + 2
 }
 
@@ -205,7 +181,8 @@ fn scan_bound(picture: &PictureView, presets: &Presets) -> u64
     ensures value { result ≡ scan_bound picture.now presets.now }
     ensures small { result ≤ 2 ^ 42 }
 {
-    let samples = u64::from(picture.width()) * u64::from(picture.height());
+    let form = picture.form();
+    let samples = u64::from(form.width) * u64::from(form.height);
     u64::from(presets.limit()) * samples / 7 + 1
 }
 
@@ -230,7 +207,7 @@ fn put_scans<R: Room>(
     ensures grown { R.Grown bytes.old bytes.new }
     ensures lines { lines.new ≡ lines.old }
 {
-    for component in 0..picture.kind().components() {
+    for component in 0..picture.form().kind.components() {
         put_scan_header(bytes, component + 1);
         if !put_scan(picture, presets, lines, bytes, usize::from(component)) {
             return false;

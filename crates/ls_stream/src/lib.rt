@@ -43,8 +43,8 @@ mod shape;
 pub use buffers::Lines;
 pub use decode::{Decoded, Opening, decode_frame};
 pub use encode::{
-    code_bound, encode_frame, encode_into, encode_picture, encode_view, encode_with, encode_within,
-    picture_bound, view_bound,
+    code_bound, encode_frame, encode_into, encode_picture, encode_with, encode_within,
+    picture_bound,
 };
 pub use faults::{StreamFault, What};
 pub use ls_coding::Regions;

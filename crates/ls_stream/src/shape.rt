@@ -16,9 +16,10 @@ pub struct Shape {
 pub fn shape_of(picture: &PictureView) -> Shape
     ensures { IsShapeOf picture.now result }
 {
+    let form = picture.form();
     Shape {
-        width: usize::from(picture.width()),
-        height: usize::from(picture.height()),
-        components: usize::from(picture.kind().components()),
+        width: usize::from(form.width),
+        height: usize::from(form.height),
+        components: usize::from(form.kind.components()),
     }
 }

@@ -62,8 +62,8 @@ fn check_samples_of(
     samples: &[u16],
     want: Answer<'_>,
 ) {
-    let (kind, width, height) = (opening.kind(), opening.width(), opening.height());
-    let parts = (kind, width, height, opening.presets().maxval(), samples);
+    let form = opening.form();
+    let parts = (form.kind, form.width, form.height, form.maxval, samples);
     let got = match used {
         Ok(used) => Ok((parts, used)),
         Err(fault) => Err(fault),
@@ -73,7 +73,7 @@ fn check_samples_of(
 
 /// Decodes an opening's frame to samples of 16 bits.
 fn opened_to_words(alloc: Global, opening: &Opening<'_>) -> Result<Opened<u16>, AllocError> {
-    let mut lines = Lines::new(alloc, opening.width())?;
+    let mut lines = Lines::new(alloc, opening.form().width)?;
     let regions = Regions::new(alloc, opening.presets())?;
     let mut samples = vec![in alloc; 0u16; opening.sample_count()]?;
     let used = opening.decode(&mut lines, &regions, &mut samples);
@@ -97,7 +97,7 @@ fn check_opened_to_words(
 fn opened_to_bytes(alloc: Global, opening: &Opening<'_>) -> Result<Opened<u8>, AllocError>
     requires { opening.now.parameters.maxval ≤ 255 }
 {
-    let mut lines = Lines::new(alloc, opening.width())?;
+    let mut lines = Lines::new(alloc, opening.form().width)?;
     let regions = Regions::new(alloc, opening.presets())?;
     let mut samples = vec![in alloc; 0u8; opening.sample_count()]?;
     let used = opening.decode(&mut lines, &regions, &mut samples);

@@ -5,10 +5,10 @@ use crate::testing::{
     Chance, PICTURES, Parts, Picture, Shape, Sum, check_bytes, check_number, check_sum,
     drawn_frame, encode_tuned, frame_of, frame_of_parts, longest_line,
 };
-use ls_frame::{Frame, Kind, PictureView, Presets, Samples};
+use ls_frame::{Form, Frame, Kind, PictureView, Presets, Samples};
 use ls_stream::{
-    Lines, code_bound, encode_frame, encode_into, encode_picture, encode_view, encode_with,
-    encode_within, picture_bound, view_bound,
+    Lines, code_bound, encode_frame, encode_into, encode_picture, encode_with, encode_within,
+    picture_bound,
 };
 use std::alloc::{AllocError, Global};
 use std::process::Abort;
@@ -63,8 +63,6 @@ fn check_codestream(
     let explicit = encode_with(alloc, &frame, &presets)?;
     check_bytes(rt, "explicit", &explicit, want);
     let view = frame.view();
-    let viewed = encode_view(alloc, &view, &presets)?;
-    check_bytes(rt, "of a view", &viewed, want);
     let pictured = encode_picture(alloc, view.picture(), &presets)?;
     let pictured = pictured.unwrap_or(Vec::new(alloc));
     check_bytes(rt, "of a picture", &pictured, want);
@@ -99,9 +97,15 @@ fn check_sample_over_maxval(
         *sample = 8;
     }
     for (maxval, codestreams) in [(7, 0), (8, 1)] {
-        let made = PictureView::new(kind, width, height, maxval, Samples::Words(&samples));
+        let form = Form {
+            kind,
+            width,
+            height,
+            maxval,
+        };
+        let made = PictureView::new(form, Samples::Words(&samples));
         let picture = made.expect(rt, "a picture");
-        let presets = Presets::default_of(picture.maxval());
+        let presets = Presets::default_of(maxval);
         let coded = encode_picture(alloc, &picture, &presets)?;
         let coded = u64::from(coded.is_some());
         check_number(rt, "codestreams", coded, codestreams);
@@ -189,8 +193,8 @@ fn encoded_into_a_slice(
 ) -> Result<(Vec<u8>, usize), AllocError> {
     let presets = Presets::default_of(frame.maxval());
     let view = frame.view();
-    let room = view_bound(&view, &presets) as usize;
-    check_number(rt, "bound of a view", room as u64, bound);
+    let room = picture_bound(view.picture(), &presets) as usize;
+    check_number(rt, "bound of its picture", room as u64, bound);
     let mut bytes = vec![in alloc; 0x5Au8; room + 1]?;
     let mut lines = Lines::new(alloc, frame.width())?;
     let count = encode_into(&view, &presets, &mut lines, &mut bytes);

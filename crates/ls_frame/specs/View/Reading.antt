@@ -3,10 +3,10 @@ use Rattle.std.specs.Prelude.{◌≡◌, ℕ, zero, suc, ◌+◌, ◌-◌, ◌*�
 use Rattle.std.specs.List.{list_all}
 use Rattle.ls_frame.specs.declared.frame.Kind.{Kind}
 use Rattle.ls_frame.specs.declared.frame.Kind.TheVariants.{Gray, Color}
-use Rattle.ls_frame.specs.declared.netpbm.header.Header.{Header}
+use Rattle.ls_frame.specs.declared.frame.Form.{Form}
 use Rattle.ls_frame.specs.declared.netpbm.NetpbmFault.{NetpbmFault}
 use Rattle.ls_frame.specs.declared.netpbm.NetpbmFault.TheVariants.{BadMagic, BadHeader, HeaderTooLong, SizeOutOfRange, MaxvalOutOfRange, SampleTooLarge, Truncated}
-use Rattle.ls_frame.specs.Picture.{Picture, sample_count, most_samples, greatest}
+use Rattle.ls_frame.specs.Picture.{Picture, picture_of, sample_count, most_samples, greatest}
 use Rattle.ls_frame.specs.Netpbm.{is_white, is_line_end, is_digit, is_hash, most_heading, is_wide}
 use Rattle.ls_frame.specs.Faults.{blames_bytes, blames_device}
 use Rattle.ls_frame.specs.View.Known.{known}
@@ -89,7 +89,7 @@ white_at allowed bytes = do
   Ok (tt, first.1, first.2)
 
 -- the header after its first byte
-unfoldable pub heading_at : ℕ → ℕ → List ℕ → Step Header
+unfoldable pub heading_at : ℕ → ℕ → List ℕ → Step Form
 heading_at first allowed bytes = do
   kind ← magic_at first allowed bytes
   gap ← white_at kind.1 kind.2
@@ -148,10 +148,7 @@ samples_at wide maxval (suc count) bytes = do
 
 -- ---- the image
 
-abbrev pub picture_of : Header → List ℕ → Picture
-picture_of h samples = record { kind = h.kind; width = h.width; height = h.height; maxval = h.maxval; samples = samples }
-
-abbrev pub raster_at : Header → List ℕ → Take Picture
+abbrev pub raster_at : Form → List ℕ → Take Picture
 raster_at h bytes = samples_at (is_wide h.maxval) h.maxval (sample_count h.kind h.width h.height) bytes
     >>= λ found. Ok (picture_of h found.0, found.1)
 

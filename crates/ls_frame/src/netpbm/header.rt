@@ -9,19 +9,10 @@ ghost use Rattle.ls_frame.specs.Faults.{blames_device, failed_device};
 
 use super::NetpbmFault;
 use crate::device::Feed;
-use crate::frame::{Kind, MOST_SAMPLES, sample_count};
+use crate::frame::{Form, Kind, MOST_SAMPLES};
 
 /// The maximum length of a header, in bytes.
 pub(super) const HEADER_BYTES: u32 = 65_536;
-
-/// The contents of a header: a kind, and a size and a maxval within their ranges.
-#[derive(Clone, Copy)]
-pub(super) struct Header {
-    pub kind: Kind,
-    pub width: u16,
-    pub height: u16,
-    pub maxval: u16,
-}
 
 /// The value that all numbers over 65535 are read as.
 const TOO_LARGE: u32 = 65536;
@@ -185,33 +176,35 @@ fn read_white<R: Feed>(reader: &mut R, allowed: &mut u32) -> Result<(), NetpbmFa
     }
 }
 
-/// Reads the header after its first byte, which is `first`. It may have `allowed` more bytes.
+/// Reads the header after its first byte, which is `first`, and returns the form that it says, with a size and a maxval
+/// within their ranges. It may have `allowed` more bytes.
 #[tactic(auto, unfolding(crate::specs::View::Reading::heading_at))]
 pub(super) fn read_header<R: Feed>(
     reader: &mut R,
     allowed: &mut u32,
     first: u8,
-) -> Result<Header, NetpbmFault>
+) -> Result<Form, NetpbmFault>
     ensures bytes { GivesStep (R.remaining reader.old) (R.remaining reader.new) allowed.new result
         (heading_at first allowed.old (known (R.remaining reader.old))) }
-    ensures width { IfOk result (λ h. 0 < h.width) }
-    ensures height { IfOk result (λ h. 0 < h.height) }
-    ensures maxval { IfOk result (λ h. 0 < h.maxval) }
-    ensures few { IfOk result (λ h. sample_count h.kind h.width h.height ≤ most_samples) }
+    ensures width { IfOk result (λ form. 0 < form.width) }
+    ensures height { IfOk result (λ form. 0 < form.height) }
+    ensures maxval { IfOk result (λ form. 0 < form.maxval) }
+    ensures few { IfOk result (λ form. sample_count form.kind form.width form.height ≤ most_samples) }
     ensures failures { R.failed_reads reader.new ≡ count_after (failed_device result) (R.failed_reads reader.old) }
 {
     let kind = read_magic(reader, allowed, first)?;
     read_white(reader, allowed)?;
     let width = read_in_range(reader, allowed, NetpbmFault::SizeOutOfRange)?;
     let height = read_in_range(reader, allowed, NetpbmFault::SizeOutOfRange)?;
-    if sample_count(kind, width, height) > MOST_SAMPLES {
-        return Err(NetpbmFault::SizeOutOfRange);
-    }
-    let maxval = read_in_range(reader, allowed, NetpbmFault::MaxvalOutOfRange)?;
-    Ok(Header {
+    let mut form = Form {
         kind,
         width,
         height,
-        maxval,
-    })
+        maxval: 0,
+    };
+    if form.sample_count() > MOST_SAMPLES {
+        return Err(NetpbmFault::SizeOutOfRange);
+    }
+    form.maxval = read_in_range(reader, allowed, NetpbmFault::MaxvalOutOfRange)?;
+    Ok(form)
 }

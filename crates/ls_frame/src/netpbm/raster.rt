@@ -8,9 +8,8 @@ ghost use Rattle.ls_frame.specs.View.Known.{known};
 ghost use Rattle.ls_frame.specs.View.Reading.{samples_of, begun_of, byte_count, are_within, samples_at, GivesTake};
 
 use super::NetpbmFault;
-use super::header::Header;
 use crate::device::Feed;
-use crate::frame::sample_count;
+use crate::frame::Form;
 use byteorder::{BigEndian, ByteOrder};
 use std::alloc::Global;
 
@@ -168,27 +167,27 @@ fn read_samples<R: Feed>(
     Ok(())
 }
 
-/// Reads the raster of an image with this header, which has at most 2^28 samples. Memory is allocated before the first
+/// Reads the raster of an image of this form, which has at most 2^28 samples. Memory is allocated before the first
 /// byte is read: after `NoMemory` no byte of the raster has been read.
 pub(super) fn read_raster<R: Feed>(
     alloc: Global,
     reader: &mut R,
-    header: Header,
+    form: Form,
 ) -> Result<Vec<u16>, NetpbmFault>
-    requires { sample_count header.kind header.width header.height ≤ 2 ^ 28 }
+    requires { sample_count form.kind form.width form.height ≤ 2 ^ 28 }
     ensures bytes { GivesTake (λ samples. samples.items) (R.remaining reader.old) (R.remaining reader.new) result
-        (samples_at (is_wide header.maxval) header.maxval (sample_count header.kind header.width header.height)
+        (samples_at (is_wide form.maxval) form.maxval (sample_count form.kind form.width form.height)
         (known (R.remaining reader.old))) }
-    ensures count { IfOk result (λ samples. length samples.items ≡ sample_count header.kind header.width header.height) }
-    ensures within { IfOk result (λ samples. are_within header.maxval samples.items ≡ true) }
+    ensures count { IfOk result (λ samples. length samples.items ≡ sample_count form.kind form.width form.height) }
+    ensures within { IfOk result (λ samples. are_within form.maxval samples.items ≡ true) }
     ensures memory { IfErr result (λ fault. fault ≡ NetpbmFault.NoMemory → reader.new ≡ reader.old) }
     ensures failures { R.failed_reads reader.new ≡ count_after (failed_device result) (R.failed_reads reader.old) }
 {
-    let count = sample_count(header.kind, header.width, header.height) as usize;
-    let wide = is_wide(header.maxval);
+    let count = form.sample_count() as usize;
+    let wide = is_wide(form.maxval);
     let mut samples = Vec::with_capacity(alloc, count)?;
     let mut chunk = vec![in alloc; 0u8; byte_count(wide, count).min(CHUNK)]?;
-    read_samples(reader, &mut chunk, &mut samples, wide, header.maxval, count)?;
+    read_samples(reader, &mut chunk, &mut samples, wide, form.maxval, count)?;
     Ok(samples)
 }
 

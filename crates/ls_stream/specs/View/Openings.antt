@@ -1,6 +1,7 @@
 -- An opening that was read: the part of a codestream before the data of its first scan.
 use Rattle.std.specs.Prelude.{◌≡◌, ℕ, ◌<◌, ◌≤◌, List, take, slice_index, Ok}
 use Rattle.ls_frame.specs.declared.frame.Kind.{Kind}
+use Rattle.ls_frame.specs.declared.frame.Form.{Form}
 use Rattle.ls_frame.specs.Picture.{Picture, components, sample_count, most_samples}
 use Rattle.ls_frame.specs.Parameters.{Parameters}
 use Rattle.ls_bits.specs.Bits.{AreBytes}
@@ -46,15 +47,9 @@ pub record IsOfForm (opened : Opened) (f : Picture) : Type 0 where
   pub height : f.height ≡ opened.height
   pub maxval : f.maxval ≡ opened.parameters.maxval
 
--- the picture of the form of an opening, with these samples
-abbrev pub picture_of : Opened → List ℕ → Picture
-picture_of opened samples = record {
-  kind = opened.kind;
-  width = opened.width;
-  height = opened.height;
-  maxval = opened.parameters.maxval;
-  samples = samples;
-}
+-- the form of an opening's frame
+abbrev pub opened_form : Opened → Form
+opened_form opened = record { kind = opened.kind; width = opened.width; height = opened.height; maxval = opened.parameters.maxval }
 
 -- an outline whose headers agree with an opening
 pub record IsOutlineFrom (opened : Opened) (o : Outline) : Type 0 where

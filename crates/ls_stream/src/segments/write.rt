@@ -39,12 +39,13 @@ pub fn put_frame_header<R: Room>(bytes: &mut R, picture: &PictureView)
     ensures capacity { R.capacity bytes.new ≡ R.capacity bytes.old }
     ensures grown { R.Grown bytes.old bytes.new }
 {
-    let count = picture.kind().components();
+    let form = picture.form();
+    let count = form.kind.components();
     put_marker(bytes, Marker::StartOfFrame);
     put_field(bytes, 8 + 3 * u16::from(count));
-    bytes.put_byte(precision(picture));
-    put_field(bytes, picture.height());
-    put_field(bytes, picture.width());
+    bytes.put_byte(precision(form.maxval));
+    put_field(bytes, form.height);
+    put_field(bytes, form.width);
     bytes.put_byte(count);
     put_components(bytes, count);
 }
@@ -101,11 +102,12 @@ fn put_field<R: Room>(bytes: &mut R, field: u16)
     bytes.put_byte(two[1]);
 }
 
-/// P: the bits per sample of a picture.
-fn precision(picture: &PictureView) -> u8
-    ensures { result ≡ bpp_of picture.now.maxval }
+/// P: the bits per sample of a picture with this maxval.
+fn precision(maxval: u16) -> u8
+    requires { 0 < maxval }
+    ensures { result ≡ bpp_of maxval }
 {
-    Presets::default_of(picture.maxval()).bpp() as u8
+    Presets::default_of(maxval).bpp() as u8
 }
 
 /// Appends the fields of this number of components: identifiers from 1 on, sampling factors 1, and quantization table

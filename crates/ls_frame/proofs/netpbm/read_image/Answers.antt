@@ -8,30 +8,32 @@ use Rattle.ls_frame.proofs.netpbm.read_image.Goals as goal
 
 pub from_parts-requires : goal.from_parts-requires
 from_parts-requires g c = record {
-  some_width = c.in_ok-header.ensures.width;
-  width = omega arith;
-  some_height = c.in_ok-header.ensures.height;
-  height = omega arith;
-  some_maxval = c.in_ok-header.ensures.maxval;
-  maxval = omega arith;
-  few = c.in_ok-header.ensures.few;
-  count = c.in_ok-samples.ensures.count;
-  each = within-each c.in_ok-header.header.maxval c.in_ok-samples.samples.items c.in_ok-samples.ensures.within;
+  formed = record {
+    some_width = c.in_ok-form.ensures.width;
+    width = omega arith;
+    some_height = c.in_ok-form.ensures.height;
+    height = omega arith;
+    some_maxval = c.in_ok-form.ensures.maxval;
+    maxval = omega arith;
+    few = c.in_ok-form.ensures.few;
+    count = c.in_ok-samples.ensures.count;
+  };
+  each = within-each c.in_ok-form.form.maxval c.in_ok-samples.samples.items c.in_ok-samples.ensures.within;
 }
 
-pub returns-in_err-header-clause-memory : goal.returns-in_err-header-clause-memory
-returns-in_err-header-clause-memory g c =
+pub returns-in_err-form-clause-memory : goal.returns-in_err-form-clause-memory
+returns-in_err-form-clause-memory g c =
     let p = err_from_is_err_and c.from_residual.result c.from_residual.ensures.1 in
     rw (p.1, p.2) (λ memory told.
     let left = known-consumed _ _ _ told c.in-Ok.ensures.bytes.0 in
-    absurd (heading_needs_no_memory _ _ (c.in_err-header.ensures.bytes left.0 (rw memory refl) ∙ ap Err memory)))
+    absurd (heading_needs_no_memory _ _ (c.in_err-form.ensures.bytes left.0 (rw memory refl) ∙ ap Err memory)))
 
 pub returns-in_err-samples-clause-memory : goal.returns-in_err-samples-clause-memory
 returns-in_err-samples-clause-memory g c =
     let p = err_from_is_err_and c.from_residual-in_err-samples.result c.from_residual-in_err-samples.ensures.1 in
     rw (p.1, p.2) (λ memory told.
     let left = known-consumed _ _ _ told c.in-Ok.ensures.bytes.0 in
-    let read = c.in_ok-header.ensures.bytes left.0 in
+    let read = c.in_ok-form.ensures.bytes left.0 in
     let header = heading_read _ _ _ read.1 in
     let untouched = c.in_err-samples.ensures.memory memory in (
       rw untouched read.0,

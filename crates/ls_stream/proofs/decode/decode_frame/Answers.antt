@@ -1,7 +1,8 @@
 use Rattle.std.proofs.Common.{◌≡◌, ◌≤◌, length, take, inr, sym, ap, subst, ◌∙◌, arith}
 use Rattle.ls_stream.specs.Grammar.{Spells}
 use Rattle.ls_stream.specs.View.Outlines.{IsFirstFault}
-use Rattle.ls_stream.specs.View.Openings.{picture_of}
+use Rattle.ls_frame.specs.Picture.{picture_of}
+use Rattle.ls_stream.specs.View.Openings.{opened_form}
 use Rattle.ls_stream.proofs.FrameReadingLemmas.{written_back}
 use Rattle.ls_stream.proofs.decode.decode_frame.Goals as goal
 
@@ -18,9 +19,9 @@ pub returns-in-Err-decode-clause-complete : goal.returns-in-Err-decode-clause-co
 returns-in-Err-decode-clause-complete c front rest f e spelled = absurd (c.in-Err-decode.ensures.complete front rest f (c.in-Ok.ensures.bytes ∙ e) spelled)
 
 -- the frame is that of the samples that were decoded
-frame_is : (c : goal.After-drop-lines-inside-3) → picture_of c.in-Ok.opening c.decode.new.samples ≡ c.frame_of.result
+frame_is : (c : goal.After-drop-lines-inside-3) → picture_of (opened_form c.in-Ok.opening) c.decode.new.samples ≡ c.frame_of.result
 frame_is c =
-    sym (c.frame_of.ensures ∙ ap (λ samples. picture_of c.in-Ok.opening samples)
+    sym (c.frame_of.ensures ∙ ap (λ samples. picture_of (opened_form c.in-Ok.opening) samples)
     (written_back c.in-Ok-Ok-Ok.samples.len c.decode.new.samples c.in-Ok-Ok-Ok.samples.items (omega (arith, c.decode.auto.samples, c.deref_mut.ensures.len))))
 
 pub returns-clause-ok : goal.returns-clause-ok

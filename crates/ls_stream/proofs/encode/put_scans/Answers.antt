@@ -1,4 +1,5 @@
 use Rattle.std.proofs.Common.{◌≡◌, ◌+◌, ◌-◌, ◌++◌, ap, refl, sym, append-nil, ◌∙◌, arith, rules}
+use Rattle.ls_frame.specs.declared.frame.Form.{Form}
 use Rattle.ls_frame.specs.Picture.{components}
 use Rattle.ls_bits.specs.Stuffing.{stuff}
 use Rattle.ls_stream.specs.Planes.{plane_bits}
@@ -17,7 +18,7 @@ loop-component-init g c = record {
   capacity = refl;
   grown = g.met.R.Room.grown_not _;
   lines = refl;
-  count = c.components-component-end.ensures ∙ ap components c.kind.ensures.value;
+  count = c.components-component-end.ensures ∙ ap (λ (form : Form). components form.kind) c.form.ensures.value;
 }
 
 pub put_scan-requires-clause-room : goal.put_scan-requires-clause-room
@@ -50,7 +51,7 @@ loop-component-preserved g c = record {
 
 pub returns-clause-within : goal.returns-clause-within
 returns-clause-within g c answer =
-    frame_of_planes c.args.picture.now c.kind.ensures.lawful (λ component inside. c.loop-component.invariant.within component (omega (arith, inside, c.loop-component.invariant.count)))
+    frame_of_planes c.args.picture.now c.form.ensures.lawful (λ component inside. c.loop-component.invariant.within component (omega (arith, inside, c.loop-component.invariant.count)))
 
 pub returns-then-not-put_scan-clause-room : goal.returns-then-not-put_scan-clause-room
 returns-then-not-put_scan-clause-room g c =

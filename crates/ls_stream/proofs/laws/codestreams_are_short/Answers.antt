@@ -5,4 +5,4 @@ pub returns-clause-bound : goal.returns-clause-bound
 returns-clause-bound c = within_bound
 
 pub returns-clause-small : goal.returns-clause-small
-returns-clause-small c f p frame = bound_small f p frame.few
+returns-clause-small c f p frame = bound_small f p frame.formed.few
