@@ -3,11 +3,13 @@ use Rattle.std.proofs.Common.{◌≡◌, ◌<◌, ◌≤◌, ◌+◌, ℕ, suc, 
 use Rattle.std.specs.Prelude.{IfNone, OnErr, slice_index_or}
 use Rattle.std.specs.List.{AllZip}
 use Rattle.std.proofs.lemmas.List.{at_drop_more, at_drop_all}
+use Rattle.std.proofs.lemmas.Slice.Zip.{AllZip-long}
 use Rattle.ls_film.specs.Film.{most_frames}
 use Rattle.ls_frame.specs.View.Devices.{count_after}
 use Rattle.ls_frame.specs.View.Known.{Gave}
 use Rattle.ls_archive.specs.declared.checking.CheckFault.{CheckFault}
 use Rattle.ls_archive.specs.declared.checking.CheckFault.TheVariants as fault
+use Rattle.ls_archive.specs.declared.checking.Checked.{Checked}
 use Rattle.ls_archive.specs.declared.checking.Damage.{Damage}
 use Rattle.ls_archive.specs.declared.checking.Finding.{Finding}
 use Rattle.ls_archive.specs.declared.checking.IndexLine.{IndexLine}
@@ -18,7 +20,7 @@ use Rattle.ls_archive.specs.declared.checking.batches.Job.{Job}
 use Rattle.ls_archive.specs.declared.checking.batches.SoFar.{SoFar}
 use Rattle.ls_archive.specs.View.Checking.{Line, IsLine, IsGood, IsDamage}
 use Rattle.ls_archive.specs.View.Checks.{GaveAtMost, IsFound, HasLooked, HasChecked, IsChecked, Stops, Anything}
-use Rattle.ls_archive.specs.View.Batches.{Place, line_of, IsTaken, AreTaken, ComesAfter, IsBatch, IsLookedAt, IsLooked, AreLooked, HasCheckedTo, LeadsOn, LeadsSomewhere, HasReadBeyond}
+use Rattle.ls_archive.specs.View.Batches.{Place, line_of, IsTaken, AreTaken, ComesAfter, IsBatch, IsLookedAt, IsLooked, AreLooked, HasCheckedTo, LeadsOn, LeadsSomewhere, HasReadBeyond, HasReadBatches, fails_index, fails_recording}
 use Rattle.ls_film.proofs.AheadLemmas.{lent-back}
 use Rattle.ls_archive.proofs.CheckLemmas.{checked-more, checked-end, stops-after, stops-next-line, stops-reading}
 
@@ -181,6 +183,30 @@ module _ (index recording : Option (List ℕ)) (found : Option (List Finding)) w
 -- ---- reads that failed
 
 -- if an allocation failed, a read that came after it may have failed too
-pub reads-beyond : (failed : Bool) (old new : ℕ) → new ≡ count_after failed old → HasReadBeyond false old new (Err fault.NoMemory)
-reads-beyond true old new is = inr (refl, is)
-reads-beyond false old new is = inl is
+pub reads-beyond : (most : ℕ) (failed : Bool) (old new : ℕ) → new ≡ count_after failed old → (failed ≡ true → 1 < most) → HasReadBatches most false old new (Err fault.NoMemory)
+reads-beyond most true old new is several = inr (several refl, inr (refl, is))
+reads-beyond most false old new is several = inl is
+
+-- no read fails after a batch that isn't the last
+pub more-reads-no-index : (after : After) → fails_index after ≡ true → after ≡ More → ⊥
+more-reads-no-index More failed is = let clash : ⊥ = cc in clash
+more-reads-no-index (End more) failed is = let clash : ⊥ = cc in clash
+more-reads-no-index (Fault why) failed is = let clash : ⊥ = cc in clash
+
+pub more-reads-no-recording : (after : After) → fails_recording after ≡ true → after ≡ More → ⊥
+more-reads-no-recording More failed is = let clash : ⊥ = cc in clash
+more-reads-no-recording (End more) failed is = let clash : ⊥ = cc in clash
+more-reads-no-recording (Fault why) failed is = let clash : ⊥ = cc in clash
+
+-- the last batch has fewer jobs than were asked for; so if it has any, they may be several
+pub several-jobs : (jobs jobs' : List Job) (asked most : ℕ) → length jobs < asked → AllZip IsLookedAt jobs jobs' → 0 < length jobs' → asked ≤ most → 1 < most
+several-jobs jobs jobs' asked most fewer looked some few = omega (arith, fewer, AllZip-long IsLookedAt jobs jobs' looked, some, few)
+
+-- with one job a batch there is no such read
+pub reads-alone : (blamed : Bool) (old new : ℕ) (result : Result Checked CheckFault) → HasReadBatches 1 blamed old new result → new ≡ count_after blamed old
+reads-alone blamed old new result (inl is) = is
+reads-alone blamed old new result (inr several) = let no : ⊥ = omega (arith, several.0) in absurd no
+
+pub reads-several : (most : ℕ) (blamed : Bool) (old new : ℕ) (result : Result Checked CheckFault) → HasReadBatches most blamed old new result → HasReadBeyond blamed old new result
+reads-several most blamed old new result (inl is) = inl is
+reads-several most blamed old new result (inr several) = several.1

@@ -1,5 +1,5 @@
 -- The headers of the next codestream, and what they say of all that a reader had left.
-use Rattle.std.proofs.Common.{◌≡◌, ◌+◌, ◌-◌, ◌≤◌, ltb, ℕ, List, [], ◌∷◌, ◌++◌, length, take, drop, inl, Option, Ok, Err, refl, sym, ap, ◌∙◌, arith, append-nil, length-append, length-drop}
+use Rattle.std.proofs.Common.{◌≡◌, ◌+◌, ◌-◌, ◌≤◌, ltb, ℕ, List, [], ◌∷◌, ◌++◌, length, take, drop, inl, inr, Option, Ok, Err, refl, sym, ap, subst, ◌∙◌, arith, append-nil, length-append, length-drop}
 use Rattle.std.proofs.lemmas.Bool.{cond-false, le-ltb}
 use Rattle.std.proofs.lemmas.List.{take_all, drop_all}
 use Rattle.ls_frame.specs.Picture.{Picture}
@@ -12,6 +12,8 @@ use Rattle.ls_stream.specs.View.Outlines.{Outline, past_most, of_all, outline_at
 use Rattle.ls_stream.specs.View.Extents.{Left, IsNext, extent_at, with_left}
 use Rattle.ls_stream.proofs.StepLemmas.{same_ok}
 use Rattle.ls_stream.proofs.ExtentLaws.{outlines_have_extents}
+use Rattle.ls_film.specs.View.Codestreams.{IsUntaken}
+use Rattle.ls_film.specs.declared.codestreams.Unread.TheVariants.{Stream}
 use Rattle.ls_archive.specs.declared.entry.Headers.{Headers}
 use Rattle.ls_archive.specs.View.Entries.{GaveEntry, BreaksBy, HasBytes, entry_of, HasHeaders}
 use Rattle.ls_archive.specs.View.Indexing.{StopsNext, index_fault}
@@ -109,3 +111,10 @@ stops_by read n stream.TooLarge some breaks = (refl, (λ is. let clash : ⊥ = c
 stops_by read n (stream.BadCode component) some breaks = (refl, (λ is. let clash : ⊥ = cc in clash), breaks)
 stops_by read n (stream.LeftoverBits component) some breaks = (refl, (λ is. let clash : ⊥ = cc in clash), breaks)
 stops_by read n stream.NoMemory some breaks = some
+
+-- and for a codestream that can't be taken
+pub stops_untaken : (read : Option (List ℕ)) (n : ℕ) (fault : StreamFault) → IsUntaken (Stream fault) read → StopsNext read n (index_fault n fault)
+stops_untaken read n fault (inl memory) = subst (λ f. StopsNext read n (index_fault n f)) (sym memory.0) memory.1
+stops_untaken read n fault (inr large) =
+    subst (λ f. StopsNext read n (index_fault n f)) (sym large.0)
+    (refl, (λ is. let clash : ⊥ = cc in clash), (λ told. let is = large.1 told in (is.0, inr (refl, is.1))))

@@ -13,15 +13,18 @@ ghost use Rattle.ls_stream.specs.Grammar.{Spells, most_bytes};
 ghost use Rattle.ls_archive.specs.View.Checking.{Line, beginning, AreNumbers, EndsColumn, IsSum, sum_at_end, AreColumns, IsLine, HasLine, IsGood, IsDamage};
 ghost use Rattle.ls_archive.specs.Index.{line};
 ghost use Rattle.ls_archive.specs.View.Checks.{FindsMore, GaveAtMost, IsOneLine, IsFrontLine, IsFound, HasLooked, HasChecked, IsChecked, StopsNextLine, StopsReading, Stops, failed_index, failed_recording};
+ghost use Rattle.ls_archive.specs.View.Batches.{HasReadBeyond, HasReadBatches};
 ghost use Rattle.ls_archive.specs.declared.checking.Finding.{Finding};
 
 mod batches;
+mod looking;
 
 use crate::entry::Indexed;
 use crate::index::line;
-pub use batches::check_by;
+use batches::{After, SoFar, take, tell_all};
 use hex::{FromHex, encode_to_slice};
 use itoa::Buffer;
+use looking::{Alone, ByThreads, Looking};
 use ls_film::MOST_FRAMES;
 use ls_frame::{Feed, FeedFault};
 use ls_stream::laws::outlines_follow_the_grammar;
@@ -29,6 +32,7 @@ use ls_stream::{StreamFault, decode_frame};
 use memchr::memchr;
 use std::alloc::{AllocError, Global};
 use std::str::from_utf8;
+use std::thread::Threads;
 use thiserror::Error;
 
 /// What is wrong with the bytes at the offset of a line of the index.
@@ -158,23 +162,70 @@ pub fn check<I: Feed, R: Feed, F: Findings>(
     ensures index_reads { I.failed_reads index.new ≡ count_after (failed_index result) (I.failed_reads index.old) }
     ensures reads { R.failed_reads recording.new ≡ count_after (failed_recording result) (R.failed_reads recording.old) }
 {
-    let mut offset = 0;
-    let mut damaged = 0;
-    for number in 0..MOST_FRAMES {
-        let Some(line) = next_line(alloc, index, number, offset)? else {
-            let more = has_more(alloc, recording)?;
-            return Ok(Checked {
-                frames: number,
-                damaged,
-                bytes: offset,
-                more,
-            });
-        };
-        let bytes = take_bytes(alloc, recording, line.size as usize)?;
-        damaged += look_at(alloc, number, offset, &line, bytes, findings)?;
-        offset += u64::from(line.size);
+    check_all::<Alone, I, R, F>(alloc, &Alone, index, recording, findings)
+}
+
+/// As `check`, with at most `workers` threads that look at the codestreams side by side.
+///
+/// Twice as many lines as workers are taken off the index at once, with the bytes of their codestreams; what is wrong
+/// with these is reported, in order, before the next are taken. If no thread can be made, the calling one looks at all
+/// of them; no workers count as one. The findings, the result and the fault are as `check` says, whatever the threads
+/// do. If an allocation fails, a read after what it was for may have failed too.
+pub fn check_by<Rt: Threads + Sync, I: Feed, R: Feed, F: Findings>(
+    rt: &Rt,
+    alloc: Global,
+    workers: usize,
+    index: &mut I,
+    recording: &mut R,
+    findings: &mut F,
+) -> Result<Checked, CheckFault>
+    ensures checked { IfOk result (IsChecked (I.remaining index.old) (R.remaining recording.old) (F.found findings.old) (F.found findings.new)) }
+    ensures stops { IfErr result (Stops (I.remaining index.old) (R.remaining recording.old) (F.found findings.old) (F.found findings.new)) }
+    ensures index_reads { HasReadBeyond (failed_index result) (I.failed_reads index.old) (I.failed_reads index.new) result }
+    ensures reads { HasReadBeyond (failed_recording result) (R.failed_reads recording.old) (R.failed_reads recording.new) result }
+{
+    let threads = ByThreads { rt, workers };
+    check_all::<ByThreads<'_, Rt>, I, R, F>(alloc, &threads, index, recording, findings)
+}
+
+/// Checks a recording by its index, batch by batch, whoever looks at the codestreams.
+fn check_all<L: Looking, I: Feed, R: Feed, F: Findings>(
+    alloc: Global,
+    looking: &L,
+    index: &mut I,
+    recording: &mut R,
+    findings: &mut F,
+) -> Result<Checked, CheckFault>
+    requires { L.may_run }
+    ensures checked { IfOk result (IsChecked (I.remaining index.old) (R.remaining recording.old) (F.found findings.old) (F.found findings.new)) }
+    ensures stops { IfErr result (Stops (I.remaining index.old) (R.remaining recording.old) (F.found findings.old) (F.found findings.new)) }
+    ensures index_reads { HasReadBatches L.most (failed_index result) (I.failed_reads index.old) (I.failed_reads index.new) result }
+    ensures reads { HasReadBatches L.most (failed_recording result) (R.failed_reads recording.old) (R.failed_reads recording.new) result }
+{
+    let mut so_far = SoFar {
+        number: 0,
+        offset: 0,
+        damaged: 0,
+    };
+    while so_far.number < MOST_FRAMES {
+        let most = looking.batch().min(MOST_FRAMES - so_far.number);
+        let mut batch = take(alloc, index, recording, so_far, most);
+        looking.look_at_all(alloc, &mut batch.jobs);
+        so_far = tell_all(&batch.jobs, so_far, findings)?;
+        match batch.after {
+            After::More => {}
+            After::End(more) => {
+                return Ok(Checked {
+                    frames: so_far.number,
+                    damaged: so_far.damaged,
+                    bytes: so_far.offset,
+                    more,
+                });
+            }
+            After::Fault(fault) => return Err(fault),
+        }
     }
-    end_at_most(alloc, index, recording, offset, damaged)
+    end_at_most(alloc, index, recording, so_far.offset, so_far.damaged)
 }
 
 /// Ends a check after the most lines that an index may have: fails with `TooMany` if another line follows.
@@ -421,24 +472,6 @@ fn has_more<R: Feed>(alloc: Global, reader: &mut R) -> Result<bool, CheckFault>
 {
     let bytes = take_bytes(alloc, reader, 1)?;
     Ok(!bytes.is_empty())
-}
-
-/// Looks at the bytes at the offset of a line's codestream, reports what is wrong with them, and returns the number of
-/// damaged codestreams: 1 or 0.
-fn look_at<F: Findings>(
-    alloc: Global,
-    number: u64,
-    offset: u64,
-    line: &IndexLine,
-    bytes: Vec<u8>,
-    findings: &mut F,
-) -> Result<u64, AllocError>
-    ensures looked { IfOk result (HasLooked number offset (record { text = line.now.text.items; size = line.now.size; sum = line.now.sum }) bytes.items
-        (F.found findings.old) (F.found findings.new)) }
-    ensures none { OnErr result (F.found findings.new ≡ F.found findings.old) }
-{
-    let damage = damage_of(alloc, number, offset, line, bytes)?;
-    tell_damage(number, offset, line, damage, findings)
 }
 
 /// Reports what is wrong with the bytes at the offset of a line's codestream, if anything is, and returns the number of

@@ -10,9 +10,10 @@ ghost use Rattle.ls_archive.specs.View.Entries.{IsEntry, GaveEntry, HasHeaders};
 ghost use Rattle.ls_archive.specs.View.Indexing.{StopsNext, failed_reader};
 
 use crate::faults::IndexFault;
+use ls_film::codestreams::{Unread, take_codestream};
 use ls_frame::{Feed, Kind, Presets};
 use ls_stream::laws::outlines_follow_the_grammar;
-use ls_stream::{NextFault, Opening, StreamFault, next_stream};
+use ls_stream::{Opening, StreamFault};
 use std::alloc::Global;
 use std::marker::Model;
 use std::mem::replace;
@@ -66,14 +67,11 @@ impl Indexed {
         ensures stops { IfErr result (StopsNext (R.remaining reader.old) number) }
         ensures failures { R.failed_reads reader.new ≡ count_after (failed_reader result) (R.failed_reads reader.old) }
     {
-        let bytes = match next_stream(alloc, reader) {
+        let bytes = match take_codestream(alloc, reader) {
             Ok(Some(bytes)) => bytes,
             Ok(None) => return Ok(None),
-            Err(NextFault::TooLarge) => {
-                return Err(IndexFault::Stream(number, StreamFault::TooLarge));
-            }
-            Err(NextFault::Io) => return Err(IndexFault::Io(number)),
-            Err(NextFault::NoMemory) => return Err(IndexFault::NoMemory),
+            Err(Unread::Stream(fault)) => return Err(IndexFault::of(number, fault)),
+            Err(Unread::Io) => return Err(IndexFault::Io(number)),
         };
         match headers_of(&bytes) {
             Ok(headers) => Ok(Some(Indexed { bytes, headers })),

@@ -29,8 +29,9 @@
 //!
 //! In reading order: `faults` (why writing an index, or a comparison, stopped), `index` (the lines), `entry` (a
 //! codestream, and what its headers say), `following` (an index that is written with its recording), `checking` (a
-//! recording and its index, by several threads in its `batches`), `places` (codestreams that stand elsewhere than the
-//! index says), `verifying` (a film and its recording), `laws`.
+//! recording and its index: lines are taken in its `batches`, and one thread or several look at their codestreams, in
+//! its `looking`), `places` (codestreams that stand elsewhere than the index says), `verifying` (a film and its
+//! recording), `laws`.
 #![tactic(auto)]
 
 pub mod checking;

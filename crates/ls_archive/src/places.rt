@@ -9,11 +9,11 @@ ghost use Rattle.ls_archive.specs.View.Places.{GaveStanding, IsSmall};
 use crate::checking::{CheckFault, next_line};
 use crate::entry::Indexed;
 use ls_film::MOST_FRAMES;
+use ls_film::codestreams::take_codestream;
 use ls_frame::{Buffered, Feed};
 use ls_salvage::faults::ReadFault;
 use ls_salvage::parts::pass_gap;
 use ls_salvage::starts::MOST_PLACE;
-use ls_stream::{NextFault, next_stream};
 use sha2::{Digest, Sha256};
 use std::alloc::{AllocError, Global};
 use std::collections::HashMap;
@@ -122,12 +122,10 @@ fn next_standing<R: Feed>(
     ensures standing { IfOk result (λ next. IfSome next (GaveStanding (left_in R.remaining reader.old) (left_in R.remaining reader.new))) }
     ensures failures { R.failed_reads (inner_reader reader.new) ≡ count_after (failed_read result) (R.failed_reads (inner_reader reader.old)) }
 {
-    let mut bytes = match next_stream(alloc, reader) {
+    let mut bytes = match take_codestream(alloc, reader) {
         Ok(Some(bytes)) => bytes,
         Ok(None) => return Ok(None),
-        Err(NextFault::TooLarge) => return Err(ReadFault::NoEnd),
-        Err(NextFault::Io) => return Err(ReadFault::Io),
-        Err(NextFault::NoMemory) => return Err(ReadFault::NoMemory),
+        Err(fault) => return Err(ReadFault::of(fault)),
     };
     match Indexed::take(alloc, &mut bytes) {
         Some(indexed) => Ok(Some(Standing::Codestream(indexed))),

@@ -5,22 +5,17 @@ use Rattle.std.proofs.KnownBytes.{Appends-nil}
 use Rattle.std.proofs.lemmas.List.{length_push, length-append, length-drop, take_at, drop_at}
 use Rattle.ls_frame.specs.Picture.{Picture}
 use Rattle.ls_frame.specs.View.Known.{Tells, Gave, known}
-use Rattle.ls_stream.specs.declared.next.NextFault.{NextFault}
-use Rattle.ls_stream.specs.declared.next.NextFault.TheVariants as next_fault
-use Rattle.ls_stream.specs.declared.faults.StreamFault.TheVariants as stream
-use Rattle.ls_stream.specs.Grammar.{Spells, most_bytes}
+use Rattle.ls_stream.specs.Grammar.{Spells}
 use Rattle.ls_stream.specs.View.Extents.{IsNext}
 use Rattle.std.specs.Io.KnownBytes.{Appends}
 use Rattle.ls_film.specs.Showing.{show}
 use Rattle.ls_stream.proofs.ExtentLaws.{next_is}
 use Rattle.ls_film.specs.Film.{most_frames, IsFilm}
-use Rattle.ls_film.specs.View.Codestreams.{BreaksBy}
 use Rattle.ls_film.specs.View.Engine.{Completes, HasRun}
 use Rattle.ls_film.specs.View.Playing.{Stops}
-use Rattle.ls_film.specs.View.Parts.{joined, ArePassed, GavePassed, ShowsNext, ShowsPart, EndsEarly, StopsPassing, LacksPart, StopsShowing, IsShortOf, IsNoneOfStreams, later, unpassed}
+use Rattle.ls_film.specs.View.Parts.{joined, ArePassed, GavePassed, ShowsNext, ShowsPart, EndsEarly, StopsPassing, LacksPart, StopsShowing, IsShortOf, IsNoneOfStreams, later}
 use Rattle.ls_film.specs.declared.playing.PlayFault.{PlayFault}
 use Rattle.ls_film.specs.declared.playing.PlayFault.TheVariants.{Stream, Io, Output, NoMemory, TooMuch}
-use Rattle.ls_film.proofs.NextLemmas.{gave_some, gave_most, too_large}
 use Rattle.ls_film.proofs.OneFilmLemmas.{more_frames, no_frames}
 use Rattle.ls_film.proofs.RecordedLemmas.{some_bytes, no_break}
 use Rattle.ls_film.proofs.FilmLemmas.{GaveFrames-none}
@@ -54,26 +49,6 @@ passed-more read mid new n codestream passed next = λ told.
         passed_more streams one.1 (known new) before one.3.1,
       ),
     )
-
--- a fault of the next one
-pub stops-passing : (read mid new : Option (List ℕ)) (m count : ℕ) (fault : NextFault) → m < count → GavePassed read mid m
-    → (fault ≡ next_fault.TooLarge → Tells mid → BreaksBy stream.TooLarge (known mid)) → StopsPassing read count (unpassed m fault)
-stops-passing read mid new m count next_fault.TooLarge before passed large = record { m = m; before = before; mid = mid; passed = passed; fault_is = inl (refl, large refl) }
-stops-passing read mid new m count next_fault.Io before passed large = record { m = m; before = before; mid = mid; passed = passed; fault_is = inr (inl refl) }
-stops-passing read mid new m count next_fault.NoMemory before passed large = record { m = m; before = before; mid = mid; passed = passed; fault_is = inr (inr refl) }
-
--- bytes that are too large for a codestream begin with none of a frame
-pub too-large-breaks : (mid new : Option (List ℕ)) (fault : NextFault) → fault ≡ next_fault.TooLarge
-    → (fault ≡ next_fault.TooLarge → Gave mid new (λ bytes. length bytes ≡ most_bytes))
-    → (Tells mid → (front rest : List ℕ) (f : Picture) → known mid ≡ front ++ rest → Spells front f → (fault ≡ next_fault.Io) ⊎ (fault ≡ next_fault.NoMemory))
-    → Tells mid → BreaksBy stream.TooLarge (known mid)
-too-large-breaks mid new fault is large complete told = (
-  record {
-    some = gave_some mid new _ (large is) (λ bytes all. omega (arith, all)) told;
-    none = λ front rest f split spells. too_large (subst (λ (x : NextFault). (x ≡ next_fault.Io) ⊎ (x ≡ next_fault.NoMemory)) is (complete told front rest f split spells));
-  },
-  inr (refl, gave_most mid new (large is) told),
-)
 
 -- ---- what is shown
 

@@ -164,8 +164,7 @@ fn next_ahead<T: Made + Send + Drop, Rt: Threads + Sync, R: Feed>(
     ensures end { IfOk result (λ next. IfNone next (failed_after ahead.new.after ≡ false)) }
 {
     if ahead.is_spent() {
-        let workers = workers.max(1).min(MOST_WORKERS);
-        let mut taken = take(alloc, reader, 2 * workers);
+        let mut taken = take(alloc, reader, batch_for(workers));
         work_on::<T, Rt>(rt, alloc, workers, &mut taken);
         *ahead = taken;
     }
@@ -247,7 +246,6 @@ fn work_on<T: Made + Send + Drop, Rt: Threads + Sync>(
     workers: usize,
     ahead: &mut Ahead<T>,
 )
-    requires { 0 < workers }
     ensures made { AllByRecursion (IsMade T.made) ahead.new.jobs.items }
     ensures same { codestreams_of ahead.new.jobs.items ≡ codestreams_of ahead.old.jobs.items }
     ensures after { ahead.new.after ≡ ahead.old.after }
@@ -284,23 +282,36 @@ fn work<T: Made + Drop>(alloc: Global, job: &mut Job<T>)
     job.made = made_of::<T>(alloc, &job.bytes);
 }
 
-/// The number of threads that jobs justify: at most that of the workers.
-fn threads_for<T>(jobs: &[Job<T>], workers: usize) -> usize
-    requires { 0 < workers }
-    ensures { (0 < result) × (result ≤ workers) }
+/// What a thread works on: the bytes of a codestream.
+pub trait Task {
+    /// The number of these bytes.
+    fn size(&self) -> usize;
+}
+
+impl<T> Task for Job<T> {
+    fn size(&self) -> usize {
+        self.bytes.len()
+    }
+}
+
+/// The number of codestreams that are taken at once for this number of workers: two for each.
+///
+/// No workers count as one, and more than 4,294,967,296 as that number.
+pub fn batch_for(workers: usize) -> usize
+    ensures some { 0 < result }
+    ensures few { result ≤ 2 ^ 33 }
+{
+    2 * workers.max(1).min(MOST_WORKERS)
+}
+
+/// The number of threads that jobs justify by their bytes: at most that of the workers, of which none count as one.
+pub fn threads_for<W: Task>(jobs: &[W], workers: usize) -> usize
+    ensures some { 0 < result }
+    ensures few { 0 < workers → result ≤ workers }
 {
     let mut bytes = 0usize;
     for job in jobs {
-        bytes = bytes.saturating_add(job.bytes.len());
+        bytes = bytes.saturating_add(job.size());
     }
-    threads_worth(bytes, workers)
-}
-
-/// The number of threads that this number of bytes of codestreams justifies where they are to be decoded: at most that
-/// of the workers, of which it requires at least one.
-pub fn threads_worth(bytes: usize, workers: usize) -> usize
-    requires { 0 < workers }
-    ensures { (0 < result) × (result ≤ workers) }
-{
-    workers.min(1 + bytes / BYTES_A_THREAD)
+    workers.max(1).min(1 + bytes / BYTES_A_THREAD)
 }

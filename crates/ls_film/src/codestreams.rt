@@ -5,7 +5,7 @@ ghost use Rattle.ls_frame.specs.View.Devices.{count_after};
 ghost use Rattle.ls_frame.specs.View.Known.{WasAtEnd};
 ghost use Rattle.ls_stream.specs.Grammar.{Spells};
 ghost use Rattle.ls_film.specs.declared.codestreams.Unread.{Unread};
-ghost use Rattle.ls_film.specs.View.Codestreams.{IsTaken, IsMadeOf, IsUnmade, is_io, unread_of, IsUnread};
+ghost use Rattle.ls_film.specs.View.Codestreams.{IsTaken, IsMadeOf, IsUnmade, is_io, unread_of, IsUnread, IsUntaken};
 ghost use Rattle.ls_film.specs.View.Steps.{failed_input};
 
 use crate::engine::{Images, Made};
@@ -36,10 +36,13 @@ impl Unread {
 }
 
 /// Takes the bytes of the next codestream off a reader, and not a byte more; `None` exactly at the end.
+///
+/// Its fault is `Io`, or `TooLarge` or `NoMemory` of a codestream.
 pub fn take_codestream<R: Feed>(alloc: Global, reader: &mut R) -> Result<Option<Vec<u8>>, Unread>
     ensures taken { IfOk result (λ next. IfSome next (λ bytes. IsTaken (R.remaining reader.old) (R.remaining reader.new) bytes.items)) }
     ensures end { IfOk result (λ next. IfNone next (WasAtEnd (R.remaining reader.old) (R.remaining reader.new))) }
     ensures stops { IfErr result (λ fault. IsUnread fault (R.remaining reader.old)) }
+    ensures untaken { IfErr result (λ fault. IsUntaken fault (R.remaining reader.old)) }
     ensures failures { R.failed_reads reader.new ≡ count_after (failed_input is_io result) (R.failed_reads reader.old) }
 {
     match next_stream(alloc, reader) {

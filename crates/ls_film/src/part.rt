@@ -7,16 +7,15 @@ ghost use Rattle.ls_stream.specs.Grammar.{Spells, most_bytes};
 ghost use Rattle.ls_stream.specs.View.Extents.{failed_feed};
 ghost use Rattle.ls_film.specs.Film.{most_frames, IsFilm};
 ghost use Rattle.ls_film.specs.Showing.{show};
-ghost use Rattle.ls_film.specs.View.Parts.{GavePassed, ShowsNext, ShowsPart, StopsPassing, StopsPart, IsPartOf, unpassed, failed_play, failed_show, failed_reader, failed_writer};
+ghost use Rattle.ls_film.specs.View.Parts.{GavePassed, ShowsNext, ShowsPart, StopsPassing, StopsPart, IsPartOf, failed_play, failed_show, failed_reader, failed_writer};
 ghost use Rattle.ls_film.specs.View.Playing.{Stops};
 
-use crate::codestreams::OneByOne;
-use crate::engine::{Run, write_at_most, write_text};
+use crate::codestreams::{OneByOne, Unread, take_codestream};
+use crate::engine::{Run, Stopped, write_at_most, write_text};
 use crate::faults::MOST_FRAMES;
 use crate::playing::{Image, ImageText, PlayFault};
 use ls_frame::{Feed, Outlet};
 use ls_stream::laws::{no_codestream_begins_another, one_frame_each};
-use ls_stream::{NextFault, StreamFault, next_stream};
 use std::alloc::Global;
 use thiserror::Error;
 
@@ -141,7 +140,7 @@ fn pass_streams<R: Feed>(alloc: Global, reader: &mut R, count: u64) -> Result<Ru
     ensures failures { R.failed_reads reader.new ≡ count_after (failed_play result) (R.failed_reads reader.old) }
 {
     for number in 0..count {
-        match next_stream(alloc, reader) {
+        match take_codestream(alloc, reader) {
             Ok(Some(_)) => {}
             Ok(None) => {
                 return Ok(Run {
@@ -149,22 +148,12 @@ fn pass_streams<R: Feed>(alloc: Global, reader: &mut R, count: u64) -> Result<Ru
                     ended: true,
                 });
             }
-            Err(fault) => return Err(unpassed(number, fault)),
+            Err(Unread::Io) => return Err(PlayFault::Io(0)),
+            Err(fault) => return Err(PlayFault::of(Stopped::Input(number, fault))),
         }
     }
     Ok(Run {
         frames: count,
         ended: false,
     })
-}
-
-/// Converts a fault of the codestream of this number, one of those that are passed over.
-fn unpassed(number: u64, fault: NextFault) -> PlayFault
-    ensures { result ≡ unpassed number fault }
-{
-    match fault {
-        NextFault::TooLarge => PlayFault::Stream(number, StreamFault::TooLarge),
-        NextFault::Io => PlayFault::Io(0),
-        NextFault::NoMemory => PlayFault::NoMemory,
-    }
 }

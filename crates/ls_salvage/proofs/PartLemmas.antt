@@ -1,18 +1,22 @@
 -- The next part of a recording: combining the reading of its bytes, their decoding and the search for the next start.
-use Rattle.std.proofs.Common.{Some, None, true, false, ◌≡◌, ◌⊎◌, inl, inr, ◌<◌, ◌≤◌, ◌+◌, ◌↔◌, ℕ, List, [], ◌∷◌, ◌++◌, length, take, drop, Option, refl, sym, ap, subst, ◌∙◌, arith, append_assoc, append-nil}
+use Rattle.std.proofs.Common.{Some, None, Bool, true, false, cond, ◌≡◌, ◌⊎◌, inl, inr, ◌<◌, ◌+◌, ◌↔◌, ℕ, List, [], ◌∷◌, ◌++◌, length, take, drop, Option, refl, sym, ap, subst, ◌∙◌, arith, append_assoc, append-nil}
 use Rattle.std.proofs.lemmas.List.{length-append, length-take, take-append-drop, drop_at}
 use Rattle.std.specs.Io.KnownBytes.{prepend_known}
 use Rattle.ls_bits.specs.Bits.{AreBytes}
 use Rattle.ls_frame.specs.Picture.{Picture}
 use Rattle.ls_frame.specs.View.Known.{Tells, Gave, known}
-use Rattle.ls_stream.specs.Grammar.{Spells, most_bytes}
+use Rattle.ls_stream.specs.Grammar.{Spells}
 use Rattle.ls_stream.specs.View.Outlines.{IsFirstFault}
 use Rattle.ls_stream.specs.declared.faults.StreamFault.{StreamFault}
 use Rattle.ls_stream.specs.declared.faults.StreamFault.TheVariants as stream
-use Rattle.ls_stream.specs.declared.next.NextFault.TheVariants as next_fault
+use Rattle.ls_film.specs.View.Codestreams.{IsUntaken, is_io as unread_is_io}
+use Rattle.ls_film.specs.declared.codestreams.Unread.{Unread}
+use Rattle.ls_film.specs.declared.codestreams.Unread.TheVariants as unread
 use Rattle.ls_salvage.specs.Starts.{to_start, to_next}
 use Rattle.ls_salvage.specs.View.Salvaged.{FailsBy}
-use Rattle.ls_salvage.specs.View.Parts.{is_refusal, HasPassed, HasNoEnd}
+use Rattle.ls_salvage.specs.View.Parts.{HasPassed, HasNoEnd}
+use Rattle.ls_salvage.specs.View.Ends.{is_refusal, read_fault, is_io}
+use Rattle.ls_salvage.specs.declared.faults.ReadFault.TheVariants as read_faults
 use Rattle.ls_salvage.specs.View.Skipping.{HasSkipped}
 use Rattle.ls_salvage.proofs.SalvageLemmas.{some_bytes}
 
@@ -68,19 +72,29 @@ pub gave_bytes : (read read' : Option (List ℕ)) (bytes items : List ℕ) (P : 
 gave_bytes read read' bytes items P gives some is = λ told.
     let gave = gives told in (gave.0, gave.1, gave.2, (sym (is ∙ gave.3.0), some gave.1 gave.3.1))
 
--- the fault TooLarge is neither that of a failed read nor that of a failed allocation
-too_large : (next_fault.TooLarge ≡ next_fault.Io) ⊎ (next_fault.TooLarge ≡ next_fault.NoMemory) → ⊥
-too_large (inl e) = let clash : ⊥ = cc in absurd clash
-too_large (inr e) = let clash : ⊥ = cc in absurd clash
+-- ---- a codestream that can't be taken
 
-pub no_end : (read read' : Option (List ℕ)) → Gave read read' (λ bytes. length bytes ≡ most_bytes)
-    → (Tells read → (front rest : List ℕ) (f : Picture) → known read ≡ front ++ rest → Spells front f
-    → (next_fault.TooLarge ≡ next_fault.Io) ⊎ (next_fault.TooLarge ≡ next_fault.NoMemory))
-    → Tells read → HasNoEnd (known read)
-no_end read read' gives whole told =
-    let gave = gives told in
-    let most : most_bytes ≤ length (known read) = omega (arith, ap length gave.2, length-append gave.1 (known read'), gave.3) in
-    (record { some = omega (arith, most); none = λ front rest f split spells. too_large (whole told front rest f split spells) }, most)
+pub no_end : (fault : Unread) (read : Option (List ℕ)) → IsUntaken fault read → read_fault fault ≡ read_faults.NoEnd → Tells read → HasNoEnd (known read)
+no_end (unread.Stream fault) read (inl memory) is told = let no : ⊥ = cc in absurd no
+no_end (unread.Stream fault) read (inr large) is told = large.1 told
+no_end unread.Io read untaken is told = let no : ⊥ = cc in absurd no
+
+not_too_much : (refused : Bool) → cond refused read_faults.NoMemory read_faults.NoEnd ≡ read_faults.TooMuch → ⊥
+not_too_much true is = let no : ⊥ = cc in absurd no
+not_too_much false is = let no : ⊥ = cc in absurd no
+
+pub few : (fault : Unread) → read_fault fault ≡ read_faults.TooMuch → ⊥
+few (unread.Stream fault) is = not_too_much (is_refusal fault) is
+few unread.Io is = let no : ⊥ = cc in absurd no
+
+not_io : (refused : Bool) → is_io (cond refused read_faults.NoMemory read_faults.NoEnd) ≡ false
+not_io true = refl
+not_io false = refl
+
+-- a failed read stays one
+pub same_io : (fault : Unread) → unread_is_io fault ≡ is_io (read_fault fault)
+same_io (unread.Stream fault) = sym (not_io (is_refusal fault))
+same_io unread.Io = refl
 
 -- ---- a gap
 

@@ -1,7 +1,9 @@
 //! The reasons why the reading of a recording stopped, and why its salvage did.
 ghost use Rattle.std.specs.Prelude.{◌≡◌, ℕ};
-ghost use Rattle.ls_salvage.specs.View.Ends.{salvage_fault};
+ghost use Rattle.ls_salvage.specs.View.Ends.{is_refusal, read_fault, salvage_fault};
 
+use ls_film::codestreams::Unread;
+use ls_stream::StreamFault;
 use std::alloc::AllocError;
 use thiserror::Error;
 
@@ -16,6 +18,19 @@ pub enum ReadFault {
     NoEnd,
     /// No start was found in 2^62 bytes or more, and the search gave up.
     TooMuch,
+}
+
+impl ReadFault {
+    /// Converts the reason why a codestream can't be taken.
+    pub fn of(fault: Unread) -> ReadFault
+        ensures { result ≡ read_fault fault }
+    {
+        match fault {
+            Unread::Io => ReadFault::Io,
+            Unread::Stream(fault) if is_refusal(fault) => ReadFault::NoMemory,
+            Unread::Stream(_) => ReadFault::NoEnd,
+        }
+    }
 }
 
 impl From<AllocError> for ReadFault {
@@ -76,5 +91,15 @@ impl SalvageFault {
             ReadFault::NoEnd => SalvageFault::NoEnd,
             ReadFault::TooMuch => SalvageFault::TooMuch,
         }
+    }
+}
+
+/// Whether an allocation failed, which is no fault of the bytes.
+pub(crate) fn is_refusal(fault: StreamFault) -> bool
+    ensures { result ≡ is_refusal fault }
+{
+    match fault {
+        StreamFault::NoMemory => true,
+        _ => false,
     }
 }

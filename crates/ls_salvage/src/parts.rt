@@ -5,12 +5,13 @@ ghost use Rattle.ls_frame.specs.View.Devices.{count_after};
 ghost use Rattle.ls_frame.specs.View.Known.{Tells, WasAtEnd, known};
 ghost use Rattle.ls_salvage.specs.Salvage.{size_of};
 ghost use Rattle.ls_salvage.specs.View.Ends.{most_place, failed_read};
-ghost use Rattle.ls_salvage.specs.View.Parts.{IsFound, is_refusal, HasPassed, part_of, GavePart, IsLawful, HasNoEnd, HasLongGap};
+ghost use Rattle.ls_salvage.specs.View.Parts.{IsFound, HasPassed, part_of, GavePart, IsLawful, HasNoEnd, HasLongGap};
 
-use crate::faults::ReadFault;
+use crate::faults::{ReadFault, is_refusal};
 use crate::starts::skip_to_start;
+use ls_film::codestreams::take_codestream;
 use ls_frame::{Buffered, Feed, Frame};
-use ls_stream::{NextFault, StreamFault, decode_frame, next_stream};
+use ls_stream::{StreamFault, decode_frame};
 use std::alloc::Global;
 
 /// A frame or a fault, found where a codestream should begin.
@@ -73,29 +74,15 @@ fn find_next<R: Feed>(alloc: Global, reader: &mut R) -> Result<Option<Found>, Re
     ensures few { IfErr result (λ fault. fault ≢ ReadFault.TooMuch) }
     ensures failures { R.failed_reads reader.new ≡ count_after (failed_read result) (R.failed_reads reader.old) }
 {
-    let mut bytes = match next_stream(alloc, reader) {
+    let bytes = match take_codestream(alloc, reader) {
         Ok(Some(bytes)) => bytes,
         Ok(None) => return Ok(None),
-        Err(NextFault::TooLarge) => return Err(ReadFault::NoEnd),
-        Err(NextFault::Io) => return Err(ReadFault::Io),
-        Err(NextFault::NoMemory) => return Err(ReadFault::NoMemory),
+        Err(fault) => return Err(ReadFault::of(fault)),
     };
-    // So the frame's memory can begin right after the codestream, and not after unused capacity.
-    bytes.shrink_to_fit();
     match decode_frame(alloc, &bytes) {
         Ok(decoded) => Ok(Some(Found::Frame(decoded.frame, bytes.len() as u64))),
         Err(fault) if is_refusal(fault) => Err(ReadFault::NoMemory),
         Err(fault) => Ok(Some(Found::Fault(fault, bytes))),
-    }
-}
-
-/// Whether an allocation failed, which is no fault of the bytes.
-fn is_refusal(fault: StreamFault) -> bool
-    ensures { result ≡ is_refusal fault }
-{
-    match fault {
-        StreamFault::NoMemory => true,
-        _ => false,
     }
 }
 

@@ -1,4 +1,4 @@
--- A check by an index whose codestreams are looked at by several threads: lines that are taken at once, and what is found for them.
+-- A check by an index, batch by batch: lines that are taken at once, and what is found for them, whoever looks at their codestreams.
 use Rattle.std.specs.Prelude.{◌≡◌, ◌⊎◌, ◌↔◌, ℕ, ◌+◌, ◌<◌, Bool, true, false, IsTrue, List, [], ◌∷◌, length, Option, Result, Err, IfOk}
 use Rattle.ls_frame.specs.View.Devices.{count_after}
 use Rattle.ls_frame.specs.View.Known.{Tells, Gave, WasAtEnd, known}
@@ -119,3 +119,7 @@ fails_recording (Fault fault) = blames_recording fault
 -- allocation was for.
 abbrev pub HasReadBeyond : Bool → ℕ → ℕ → Result Checked CheckFault → Type 0
 HasReadBeyond blamed failed failed' result = (failed' ≡ count_after blamed failed) ⊎ ((result ≡ Err fault.NoMemory) × (failed' ≡ count_after true failed))
+
+-- the same of batches that have at most this many jobs: with one there is no such read
+abbrev pub HasReadBatches : ℕ → Bool → ℕ → ℕ → Result Checked CheckFault → Type 0
+HasReadBatches most blamed failed failed' result = (failed' ≡ count_after blamed failed) ⊎ ((1 < most) × HasReadBeyond blamed failed failed' result)

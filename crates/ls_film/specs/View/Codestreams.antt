@@ -8,8 +8,8 @@ use Rattle.ls_stream.specs.declared.faults.StreamFault.TheVariants as stream
 use Rattle.ls_stream.specs.declared.next.NextFault.{NextFault}
 use Rattle.ls_stream.specs.declared.next.NextFault.TheVariants as next_fault
 use Rattle.ls_stream.specs.Grammar.{Spells, most_bytes}
-use Rattle.ls_stream.specs.View.Extents.{IsNext}
-use Rattle.ls_stream.specs.View.Outlines.{IsFirstFault}
+use Rattle.ls_stream.specs.View.Extents.{IsNext, with_left}
+use Rattle.ls_stream.specs.View.Outlines.{outline_of, IsFirstFault}
 use Rattle.ls_film.specs.declared.codestreams.Unread.{Unread}
 use Rattle.ls_film.specs.declared.codestreams.Unread.TheVariants.{Stream, Io}
 
@@ -35,6 +35,12 @@ abbrev pub IsUnread : Unread → Option (List ℕ) → Type 0
 IsUnread (Stream fault) read = ((fault ≡ stream.NoMemory) × HadBytes read) ⊎ (Tells read → BreaksBy fault (known read))
 IsUnread Io read = Unit {0}
 
+-- The same of a codestream that can't be taken: the bytes that were left are too many for one, and begin with none.
+abbrev pub IsUntaken : Unread → Option (List ℕ) → Type 0
+IsUntaken (Stream fault) read =
+    ((fault ≡ stream.NoMemory) × HadBytes read) ⊎ ((fault ≡ stream.TooLarge) × (Tells read → BeginsWithNone (known read) × (most_bytes ≤ length (known read))))
+IsUntaken Io read = Unit {0}
+
 abbrev pub is_io : Unread → Bool
 is_io (Stream fault) = false
 is_io Io = true
@@ -48,10 +54,11 @@ unread_of next_fault.NoMemory = Stream stream.NoMemory
 -- ---- what is taken and made
 
 -- These bytes are the next codestream of a reader, which gave exactly them: where a codestream of a frame begins what it had left,
--- they are that one, and else they have the first fault of all that was left.
+-- they are that one, and else they have the first fault of all that was left. What their headers say is what all that was left says.
 pub record IsTaken (read read' : Option (List ℕ)) (bytes : List ℕ) : Type 0 where
   pub gave : Gave read read' (λ taken. (bytes ≡ taken) × IsNext taken (known read'))
   pub complete : Tells read → (front rest : List ℕ) (f : Picture) → known read ≡ front ++ rest → Spells front f → bytes ≡ front
+  pub outline : Tells read → outline_of (known read) ≡ with_left (known read') (outline_of bytes)
   pub fault : Tells read → AreBytes (known read) → (fault : StreamFault) → IsFirstFault bytes fault ↔ IsFirstFault (known read) fault
 
 -- It was made of a frame whose codestream the bytes begin with. Of which frame it is made is said by a parameter.

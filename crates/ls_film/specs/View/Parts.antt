@@ -5,8 +5,6 @@ use Rattle.std.specs.List.{AllByRecursion}
 use Rattle.ls_frame.specs.Picture.{Picture, IsFrame}
 use Rattle.ls_frame.specs.View.Known.{Tells, Gave, known}
 use Rattle.ls_stream.specs.declared.faults.StreamFault.TheVariants as stream
-use Rattle.ls_stream.specs.declared.next.NextFault.{NextFault}
-use Rattle.ls_stream.specs.declared.next.NextFault.TheVariants as next_fault
 use Rattle.ls_stream.specs.Grammar.{Spells}
 use Rattle.ls_stream.specs.View.Extents.{IsNext}
 use Rattle.ls_film.specs.declared.part.PartFault.{PartFault}
@@ -41,12 +39,6 @@ pub record StopsPassing (read : Option (List ℕ)) (first : ℕ) (fault : PlayFa
   pub mid : Option (List ℕ)
   pub passed : GavePassed read mid m
   pub fault_is : ((fault ≡ Stream m stream.TooLarge) × (Tells mid → BreaksBy stream.TooLarge (known mid))) ⊎ (fault ≡ Io 0) ⊎ (fault ≡ NoMemory)
-
--- the fault of playing for a fault of codestream m, one of those that are passed over
-abbrev pub unpassed : ℕ → NextFault → PlayFault
-unpassed m next_fault.TooLarge = Stream m stream.TooLarge
-unpassed m next_fault.Io = Io 0
-unpassed m next_fault.NoMemory = NoMemory
 
 -- ---- the part
 

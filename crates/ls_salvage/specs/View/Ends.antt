@@ -1,5 +1,9 @@
 -- When reading gives up, and whose device failed.
-use Rattle.std.specs.Prelude.{ℕ, ◌^◌, Bool, true, false, Result, Ok, Err}
+use Rattle.std.specs.Prelude.{if◌then◌else◌, ℕ, ◌^◌, Bool, true, false, Result, Ok, Err}
+use Rattle.ls_stream.specs.declared.faults.StreamFault.{StreamFault}
+use Rattle.ls_stream.specs.declared.faults.StreamFault.TheVariants as stream
+use Rattle.ls_film.specs.declared.codestreams.Unread.{Unread}
+use Rattle.ls_film.specs.declared.codestreams.Unread.TheVariants as unread
 use Rattle.ls_salvage.specs.declared.faults.ReadFault.{ReadFault}
 use Rattle.ls_salvage.specs.declared.faults.ReadFault.TheVariants as read
 use Rattle.ls_salvage.specs.declared.faults.SalvageFault.{SalvageFault}
@@ -8,6 +12,23 @@ use Rattle.ls_salvage.specs.declared.faults.SalvageFault.TheVariants.{Io, Output
 -- after this many bytes the search for a start gives up; after parts of this many bytes a salvage does
 abbrev pub most_place : ℕ
 most_place = 2 ^ 62
+
+-- whether an allocation failed, which is no fault of the bytes
+abbrev pub is_refusal : StreamFault → Bool
+is_refusal stream.Truncated = false
+is_refusal stream.NotSoi = false
+is_refusal stream.BadSegment = false
+is_refusal (stream.Unsupported what) = false
+is_refusal (stream.BadPresets fault) = false
+is_refusal stream.TooLarge = false
+is_refusal (stream.BadCode component) = false
+is_refusal (stream.LeftoverBits component) = false
+is_refusal stream.NoMemory = true
+
+-- the fault of reading for the reason why a codestream can't be taken: it is too large, or a read or an allocation failed
+abbrev pub read_fault : Unread → ReadFault
+read_fault unread.Io = read.Io
+read_fault (unread.Stream fault) = if is_refusal fault then read.NoMemory else read.NoEnd
 
 -- the fault of a salvage for a fault of reading, after this many frames
 abbrev pub salvage_fault : ℕ → ReadFault → SalvageFault

@@ -1,8 +1,7 @@
 -- The next part of a recording, as the code returns it.
-use Rattle.std.specs.Prelude.{◌≡◌, ◌≢◌, ℕ, ◌<◌, ◌≤◌, ◌^◌, Bool, true, false, List, [], ◌∷◌, length, drop, Option}
+use Rattle.std.specs.Prelude.{◌≡◌, ◌≢◌, ℕ, ◌<◌, ◌≤◌, ◌^◌, List, [], ◌∷◌, length, drop, Option}
 use Rattle.ls_frame.specs.Picture.{IsFrame}
 use Rattle.ls_frame.specs.View.Known.{Tells, Gave, known}
-use Rattle.ls_stream.specs.declared.faults.StreamFault.{StreamFault}
 use Rattle.ls_stream.specs.declared.faults.StreamFault.TheVariants as stream
 use Rattle.ls_stream.specs.Grammar.{Spells, most_bytes}
 use Rattle.ls_film.specs.View.Codestreams.{BeginsWithNone}
@@ -14,18 +13,6 @@ use Rattle.ls_salvage.specs.Starts.{to_next}
 use Rattle.ls_salvage.specs.View.Ends.{most_place}
 use Rattle.ls_salvage.specs.Salvage.{Part, frame, gap}
 use Rattle.ls_salvage.specs.View.Salvaged.{FailsBy, AreParts}
-
--- whether an allocation failed, which is no fault of the bytes
-abbrev pub is_refusal : StreamFault → Bool
-is_refusal stream.Truncated = false
-is_refusal stream.NotSoi = false
-is_refusal stream.BadSegment = false
-is_refusal (stream.Unsupported what) = false
-is_refusal (stream.BadPresets fault) = false
-is_refusal stream.TooLarge = false
-is_refusal (stream.BadCode component) = false
-is_refusal (stream.LeftoverBits component) = false
-is_refusal stream.NoMemory = true
 
 -- What was found where a codestream should begin: a frame, whose codestream of `count` bytes was read; or a fault, and the bytes that were read.
 abbrev pub IsFound : Option (List ℕ) → Option (List ℕ) → Found → Type 0

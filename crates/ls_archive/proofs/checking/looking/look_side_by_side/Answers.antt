@@ -3,7 +3,7 @@ use Rattle.std.specs.Prelude.{slice_index_or}
 use Rattle.ls_archive.specs.declared.checking.batches.Job.{Job}
 use Rattle.ls_archive.specs.View.Batches.{IsLookedAt}
 use Rattle.ls_archive.proofs.BatchLemmas.{each-looked, looked-whole}
-use Rattle.ls_archive.proofs.checking.batches.look_at_all.Goals as goal
+use Rattle.ls_archive.proofs.checking.looking.look_side_by_side.Goals as goal
 
 pub returns : goal.returns
 returns g c =

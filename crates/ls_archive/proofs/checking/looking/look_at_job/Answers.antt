@@ -1,7 +1,7 @@
 use Rattle.std.proofs.Common.{refl}
 use Rattle.ls_archive.specs.View.Batches.{line_of}
 use Rattle.ls_archive.proofs.BatchLemmas.{found-of}
-use Rattle.ls_archive.proofs.checking.batches.look_at_job.Goals as goal
+use Rattle.ls_archive.proofs.checking.looking.look_at_job.Goals as goal
 
 pub returns : goal.returns
 returns c =

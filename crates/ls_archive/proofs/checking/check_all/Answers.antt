@@ -3,9 +3,9 @@ use Rattle.std.specs.List.{AllZip}
 use Rattle.std.proofs.lemmas.Result.{err_from_is_err_and}
 use Rattle.ls_film.specs.Film.{most_frames}
 use Rattle.ls_archive.specs.View.Batches.{IsLookedAt}
-use Rattle.ls_archive.proofs.BatchLemmas.{told-batch, stops-batch, reads-beyond, more-comes, end-comes, fault-comes}
+use Rattle.ls_archive.proofs.BatchLemmas.{told-batch, stops-batch, reads-beyond, several-jobs, more-reads-no-index, more-reads-no-recording, more-comes, end-comes, fault-comes}
 use Rattle.ls_archive.proofs.CheckLemmas.{checked-none}
-use Rattle.ls_archive.proofs.checking.batches.check_by.Goals as goal
+use Rattle.ls_archive.proofs.checking.check_all.Goals as goal
 
 pub loop-so_far-init : goal.loop-so_far-init
 loop-so_far-init g c = record { so_far = checked-none _ _ _; few = omega arith; bounded = omega arith; damaged = omega arith; index_reads = refl; reads = refl }
@@ -94,7 +94,9 @@ returns-clause-stops g c =
 pub returns-in_err-so_far-clause-index_reads : goal.returns-in_err-so_far-clause-index_reads
 returns-in_err-so_far-clause-index_reads g c =
     let p = err_from_is_err_and c.from_residual.result c.from_residual.ensures.1 in
-    rw (p.1, p.2) (reads-beyond _ _ _ (rw c.loop-so_far.invariant.index_reads at c.take-batch.ensures.index_reads))
+    let looked = subst (AllZip IsLookedAt c.take-batch.result.jobs.items) (sym c.deref.ensures.value) c.look_at_all.ensures in
+    rw (p.1, p.2) (reads-beyond g.L.Looking.most _ _ _ (rw c.loop-so_far.invariant.index_reads at c.take-batch.ensures.index_reads)
+    (λ failed. several-jobs c.take-batch.result.jobs.items c.deref.result.now c.min-most.result g.L.Looking.most (c.take-batch.ensures.lacks (more-reads-no-index c.take-batch.result.after failed)) looked c.in_err-so_far.ensures.some (omega (arith, c.min-most.ensures, c.batch.ensures.few))))
 
 pub returns-in-End-clause-index_reads : goal.returns-in-End-clause-index_reads
 returns-in-End-clause-index_reads g c = inl (rw (c.in-End.is, c.loop-so_far.invariant.index_reads) at c.take-batch.ensures.index_reads)
@@ -108,7 +110,9 @@ returns-clause-index_reads g c = inl (rw c.loop-so_far.invariant.index_reads at 
 pub returns-in_err-so_far-clause-reads : goal.returns-in_err-so_far-clause-reads
 returns-in_err-so_far-clause-reads g c =
     let p = err_from_is_err_and c.from_residual.result c.from_residual.ensures.1 in
-    rw (p.1, p.2) (reads-beyond _ _ _ (rw c.loop-so_far.invariant.reads at c.take-batch.ensures.reads))
+    let looked = subst (AllZip IsLookedAt c.take-batch.result.jobs.items) (sym c.deref.ensures.value) c.look_at_all.ensures in
+    rw (p.1, p.2) (reads-beyond g.L.Looking.most _ _ _ (rw c.loop-so_far.invariant.reads at c.take-batch.ensures.reads)
+    (λ failed. several-jobs c.take-batch.result.jobs.items c.deref.result.now c.min-most.result g.L.Looking.most (c.take-batch.ensures.lacks (more-reads-no-recording c.take-batch.result.after failed)) looked c.in_err-so_far.ensures.some (omega (arith, c.min-most.ensures, c.batch.ensures.few))))
 
 pub returns-in-End-clause-reads : goal.returns-in-End-clause-reads
 returns-in-End-clause-reads g c = inl (rw (c.in-End.is, c.loop-so_far.invariant.reads) at c.take-batch.ensures.reads)

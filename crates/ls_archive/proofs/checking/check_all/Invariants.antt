@@ -1,7 +1,7 @@
 use Rattle.std.proofs.Common.{◌≡◌, ◌≤◌, ◌-◌, ◌*◌, ◌^◌}
 use Rattle.ls_film.specs.Film.{most_frames}
 use Rattle.ls_archive.specs.View.Checks.{HasChecked}
-use Rattle.ls_archive.proofs.checking.batches.check_by.Given as goal
+use Rattle.ls_archive.proofs.checking.check_all.Given as goal
 
 -- the lines so far, and what was found for them
 abbrev pub invariant-loop-so_far : goal.invariant-loop-so_far
