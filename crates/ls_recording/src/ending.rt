@@ -2,7 +2,6 @@
 pub mod report;
 mod table;
 
-use crate::film::Film;
 use crate::recording::{FilmTrack, Recorded};
 use crate::watching::Watch;
 use ls_archive::{Follower, IndexFault};
@@ -11,8 +10,9 @@ use ls_console::{
     Cause, Console, DONE, EndedIndex, FAILED, Shown, cause_of_input, explain, no_memory,
     say_index_end, say_unsynced, write_text,
 };
-use ls_files::{Keeper, Makes, Opens, Targets};
+use ls_files::{Makes, Opens, Targets};
 use ls_frame::{Counted, Failed, Outlet};
+use ls_opening::Film;
 use ls_recorder::{LaneFault, Track};
 use std::alloc::{AllocError, Global};
 use std::io::Write;
@@ -23,7 +23,7 @@ use std::time::Clock;
 pub fn end_films<'a, R, O, E>(
     alloc: Global,
     watch: &Watch<'_, R>,
-    films: &mut [Film<'_, Keeper<O>>],
+    films: &mut [Film<'_, O>],
     recorded: Recorded<'a, O>,
     console: &mut Console<'_, E>,
 ) -> Result<Vec<Targets<'a, O>>, u8>
@@ -52,7 +52,7 @@ where
 fn end_tracks<'a, R, O, E>(
     alloc: Global,
     watch: &Watch<'_, R>,
-    films: &mut [Film<'_, Keeper<O>>],
+    films: &mut [Film<'_, O>],
     tracks: Vec<FilmTrack<'a, O>>,
     console: &mut Console<'_, E>,
 ) -> Result<Vec<Targets<'a, O>>, AllocError>
@@ -75,7 +75,7 @@ where
 /// Says the number of frames of each whole recording, unless that was said. Returns the status of all.
 pub fn say_counts<O, W, E>(
     alloc: Global,
-    films: &[Film<'_, Keeper<O>>],
+    films: &[Film<'_, O>],
     output: &mut Counted<W>,
     console: &mut Console<'_, E>,
 ) -> u8
@@ -128,7 +128,7 @@ fn is_told(told: &[bool], film: usize) -> bool {
 /// Settles a film's files, if they aren't settled yet, and says why it stopped, if it did and that wasn't said.
 /// Returns its files.
 fn say_end<'a, O, E>(
-    film: &mut Film<'_, Keeper<O>>,
+    film: &mut Film<'_, O>,
     track: FilmTrack<'a, O>,
     written: u64,
     was_told: bool,
@@ -145,7 +145,7 @@ where
         writer,
         result,
     } = track;
-    let synced = film.settle(result, written);
+    let synced = film.settle(result.is_err(), written);
     let (writer, follower, broken) = writer.into_parts();
     let failure = writer.last_failure();
     let recording = writer.into_inner();

@@ -12,11 +12,7 @@
 #![tactic(auto)]
 
 mod ending;
-mod film;
-mod names;
-mod opening;
 mod recording;
-mod refusal;
 mod watching;
 
 pub use recording::record_films;

@@ -1,14 +1,13 @@
 //! The command `record`: opens the films, records them, and says how each ended.
 use crate::ending::report::{table_of, write_report};
 use crate::ending::{end_films, release, say_counts};
-use crate::names::names_once;
-use crate::opening::{Devices, Opened, Writer, open_films};
 use crate::watching::Watch;
 use crate::watching::progress::Teller;
 use ls_command::Recording as Asked;
 use ls_console::{Console, Reader, no_memory};
 use ls_files::Makes;
 use ls_frame::{Counted, Outlet};
+use ls_opening::{Devices, Opened, Writer, names_once, open_films};
 use ls_recorder::{RecordFault, Recording as Tracks, Track, record};
 use std::io::Write;
 use std::rt::Files;

@@ -3,10 +3,10 @@
 use super::Watch;
 use super::pace::{Pace, line_of};
 use crate::ending::say_count;
-use crate::film::Film;
 use ls_console::{Console, Shown};
-use ls_files::{Keeper, Makes};
+use ls_files::Makes;
 use ls_frame::{Counted, Outlet};
+use ls_opening::Film;
 use std::alloc::{AllocError, Global};
 use std::io::Write;
 use std::sync::Wait;
@@ -23,7 +23,7 @@ pub struct Teller<'s, 'a, 'e, R, O: Makes, W, E> {
     pub watch: &'s Watch<'s, R>,
     /// The films' names.
     pub files: &'s [&'s str],
-    pub films: &'s mut [Film<'a, Keeper<O>>],
+    pub films: &'s mut [Film<'a, O>],
     pub output: &'s mut Counted<W>,
     pub console: &'s mut Console<'e, E>,
     /// Whether progress is said.
@@ -94,7 +94,7 @@ fn longest_wait(is_telling: bool) -> Duration {
 
 /// Settles the files of each film that has ended since, and removes earlier files that the recordings of the others
 /// have replaced.
-fn settle_ended<R, O>(watch: &Watch<'_, R>, films: &mut [Film<'_, Keeper<O>>])
+fn settle_ended<R, O>(watch: &Watch<'_, R>, films: &mut [Film<'_, O>])
 where
     R: Clock,
     O: Makes + Copy + Drop,
@@ -103,7 +103,7 @@ where
         let written = watch.written(number);
         match watch.ended(number) {
             Some(result) => {
-                let _synced = film.settle(result, written);
+                let _synced = film.settle(result.is_err(), written);
             }
             None => film.replace(written),
         }
@@ -114,7 +114,7 @@ where
 fn tell_counts<R, O, W, E>(
     alloc: Global,
     watch: &Watch<'_, R>,
-    films: &mut [Film<'_, Keeper<O>>],
+    films: &mut [Film<'_, O>],
     output: &mut Counted<W>,
     console: &mut Console<'_, E>,
 )
