@@ -27,9 +27,9 @@ const MOST_WIDTH: usize = 1000;
 fn main(rt: HostRuntime) -> ExitCode {
     let _taken = take_closed(&rt);
     let mut output = Counted::new(rt.stdout());
-    let mut errors = Counted::new(rt.stderr());
     let is_terminal = rt.stderr().is_terminal();
-    let mut console = Console::new(rt.alloc(), &mut errors, is_terminal, columns(&rt));
+    let errors = Counted::new(rt.stderr());
+    let mut console = Console::new(rt.alloc(), errors, is_terminal, columns(&rt));
     ExitCode::from(program::start(&rt, Opener::new(&rt), &mut output, &mut console))
 }
 

@@ -25,7 +25,7 @@ pub fn start<R, O, W, E>(
     rt: &R,
     opener: O,
     output: &mut Counted<W>,
-    console: &mut Console<'_, E>,
+    console: &mut Console<E>,
 ) -> u8
 where
     R: Env + Eprint + Files + AllocGlobal + Clock + Threads + Wait + Sync,
@@ -56,7 +56,7 @@ pub fn run<R, O, W, E>(
     opener: O,
     words: &[String],
     output: &mut Counted<W>,
-    console: &mut Console<'_, E>,
+    console: &mut Console<E>,
 ) -> u8
 where
     R: Eprint + Files + AllocGlobal + Clock + Threads + Wait + Sync,
@@ -151,7 +151,7 @@ fn part_of(frames: Frames) -> Part {
 fn answer<W: Write, E: Outlet>(
     other: Answer,
     output: &mut Counted<W>,
-    console: &mut Console<'_, E>,
+    console: &mut Console<E>,
 ) -> u8 {
     match other {
         Answer::Shown(text) => write_text(text.as_bytes(), output, console),

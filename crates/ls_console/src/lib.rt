@@ -10,7 +10,7 @@
 //! use std::rt::Files;
 //!
 //! /// Opens a film, or says why it can't; answers the status.
-//! pub fn try_film<R, E>(rt: &R, file: &str, console: &mut Console<'_, E>) -> u8
+//! pub fn try_film<R, E>(rt: &R, file: &str, console: &mut Console<E>) -> u8
 //! where
 //!     R: Eprint + Files + AllocGlobal,
 //!     E: Outlet,

@@ -27,7 +27,7 @@ pub enum Cause {
 pub fn open_film<'a, R, E>(
     rt: &'a R,
     file: &'a str,
-    console: &mut Console<'_, E>,
+    console: &mut Console<E>,
 ) -> Result<Reader<'a, Opener<'a, R>>, u8>
 where
     R: Eprint + Files + AllocGlobal,
@@ -47,7 +47,7 @@ pub fn buffered<'a, O, E>(
     alloc: Global,
     file: &str,
     source: Source<'a, O>,
-    console: &mut Console<'_, E>,
+    console: &mut Console<E>,
 ) -> Result<Reader<'a, O>, u8>
 where
     O: Opens + Drop,
@@ -78,7 +78,7 @@ pub fn explain<O, E>(
     cause: Cause,
     reader: &Reader<'_, O>,
     written: Option<Failed>,
-    console: &mut Console<'_, E>,
+    console: &mut Console<E>,
 )
 where
     O: Opens,

@@ -61,7 +61,7 @@ impl<'a, O: Makes + Copy + Drop> Film<'a, O> {
     pub fn make<E: Outlet>(
         &mut self,
         alloc: Global,
-        console: &mut Console<'_, E>,
+        console: &mut Console<E>,
     ) -> Result<Targets<'a, O>, Refusal<'a>> {
         let names = self.names;
         let index = if names.is_indexed {
@@ -155,7 +155,7 @@ fn unmade_of<'a>(names: &'a Names<'a>, unmade: Unmade) -> Refusal<'a> {
 }
 
 /// Says that the file at `path` was renamed, if it was and reasons are on.
-fn mention<E: Outlet>(path: &str, renamed: Option<&str>, console: &mut Console<'_, E>) {
+fn mention<E: Outlet>(path: &str, renamed: Option<&str>, console: &mut Console<E>) {
     if let Some(name) = renamed {
         console.mention(path, name);
     }

@@ -15,7 +15,7 @@
 //!     rt: &R,
 //!     opener: O,
 //!     asked: &Recording<'a>,
-//!     console: &mut Console<'_, E>,
+//!     console: &mut Console<E>,
 //! ) -> Result<usize, Refusal<'a>>
 //! where
 //!     R: Files + AllocGlobal + Wait,

@@ -42,7 +42,7 @@ pub fn open_films<'a, R, O, E>(
     opener: O,
     asked: &Asked<'a>,
     names: &'a [Names<'a>],
-    console: &mut Console<'_, E>,
+    console: &mut Console<E>,
 ) -> Result<Opened<'a, O>, Refusal<'a>>
 where
     R: Files + AllocGlobal + Wait,
@@ -123,7 +123,7 @@ where
     fn make_files<E: Outlet>(
         &self,
         sources: &[Source<'a, O>],
-        console: &mut Console<'_, E>,
+        console: &mut Console<E>,
     ) -> Result<Made<'a, O>, Refusal<'a>> {
         let folders = self.lock_folders()?;
         let claimed = self.claim(sources)?;
@@ -226,7 +226,7 @@ where
 fn make_claimed<'a, O, E>(
     alloc: Global,
     claimed: Claimed<'a, O>,
-    console: &mut Console<'_, E>,
+    console: &mut Console<E>,
 ) -> Result<Made<'a, O>, Refusal<'a>>
 where
     O: Makes + Copy + Drop,
@@ -249,7 +249,7 @@ where
 fn make_report<'a, O, E>(
     alloc: Global,
     claimed: ClaimedReport<'a, O>,
-    console: &mut Console<'_, E>,
+    console: &mut Console<E>,
 ) -> Result<MadeFile<'a, O>, Refusal<'a>>
 where
     O: Makes + Copy + Drop,
@@ -265,7 +265,7 @@ where
 fn make_recordings<'a, O, E>(
     alloc: Global,
     films: &mut [Film<'a, O>],
-    console: &mut Console<'_, E>,
+    console: &mut Console<E>,
 ) -> Result<Vec<Writer<'a, O>>, Refusal<'a>>
 where
     O: Makes + Copy + Drop,
@@ -291,7 +291,7 @@ fn readers_of<'a, O, E>(
     alloc: Global,
     names: &'a [Names<'a>],
     sources: Vec<Source<'a, O>>,
-    console: &mut Console<'_, E>,
+    console: &mut Console<E>,
 ) -> Result<Vec<Reader<'a, O>>, Refusal<'a>>
 where
     O: Opens + Copy,
@@ -309,7 +309,7 @@ fn reader_of<'a, O, E>(
     alloc: Global,
     names: &'a Names<'a>,
     mut source: Source<'a, O>,
-    console: &mut Console<'_, E>,
+    console: &mut Console<E>,
 ) -> Result<Reader<'a, O>, Refusal<'a>>
 where
     O: Opens + Copy,

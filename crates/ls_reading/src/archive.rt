@@ -22,7 +22,7 @@ pub fn index<R, W, E>(
     file: &str,
     sums: bool,
     output: &mut Counted<W>,
-    console: &mut Console<'_, E>,
+    console: &mut Console<E>,
 ) -> u8
 where
     R: Eprint + Files + AllocGlobal,
@@ -61,7 +61,7 @@ pub fn check_recording<R, W, E>(
     index: Option<&str>,
     workers: u8,
     output: &mut Counted<W>,
-    console: &mut Console<'_, E>,
+    console: &mut Console<E>,
 ) -> u8
 where
     R: Eprint + Files + AllocGlobal + Threads + Sync,
@@ -91,7 +91,7 @@ fn check_with<R, L, E>(
     index: &str,
     workers: u8,
     lines: &mut L,
-    console: &mut Console<'_, E>,
+    console: &mut Console<E>,
 ) -> u8
 where
     R: Eprint + Files + AllocGlobal + Threads + Sync,
@@ -142,7 +142,7 @@ fn find_moved<R, E>(
     file: &str,
     findings: &[Finding],
     end: u64,
-    console: &mut Console<'_, E>,
+    console: &mut Console<E>,
 ) -> Result<Vec<Option<u64>>, u8>
 where
     R: Eprint + Files + AllocGlobal,
@@ -187,7 +187,7 @@ pub fn find_all<R, E>(
     file: &str,
     wanted: &[Wanted],
     end: u64,
-    console: &mut Console<'_, E>,
+    console: &mut Console<E>,
 ) -> Result<Vec<Option<u64>>, u8>
 where
     R: Eprint + Files + AllocGlobal,
@@ -244,7 +244,7 @@ fn is_of_index(fault: CheckFault) -> bool {
 }
 
 /// Looks for what can't be decoded in a recording, and says that no index is named.
-fn check_alone<R, L, E>(rt: &R, file: &str, lines: &mut L, console: &mut Console<'_, E>) -> u8
+fn check_alone<R, L, E>(rt: &R, file: &str, lines: &mut L, console: &mut Console<E>) -> u8
 where
     R: Eprint + Files + AllocGlobal,
     L: Outlet,
@@ -290,7 +290,7 @@ pub fn verify_files<R, E>(
     film: &str,
     recording: &str,
     workers: u8,
-    console: &mut Console<'_, E>,
+    console: &mut Console<E>,
 ) -> u8
 where
     R: Eprint + Files + AllocGlobal + Threads + Sync,
@@ -328,7 +328,7 @@ fn verify_lent<Rt: Threads + Sync, F: Feed, R: Feed>(
 }
 
 /// Says how a recording differs from its film, if it does, and returns the status.
-fn say_verdict<E: Outlet>(recording: &str, verdict: Verdict, console: &mut Console<'_, E>) -> u8 {
+fn say_verdict<E: Outlet>(recording: &str, verdict: Verdict, console: &mut Console<E>) -> u8 {
     let recording = Shown(recording);
     match verdict {
         Verdict::Same(_frames) => return DONE,
@@ -350,7 +350,7 @@ fn say_difference<E: Outlet>(
     recording: Shown<'_>,
     number: u64,
     difference: Difference,
-    console: &mut Console<'_, E>,
+    console: &mut Console<E>,
 ) {
     match difference {
         Difference::Kinds(film, own) => {
@@ -410,7 +410,7 @@ impl<'l, L: Outlet> Report<'l, L> {
         checked: Checked,
         findings: &[Finding],
         places: &[Option<u64>],
-        console: &mut Console<'_, E>,
+        console: &mut Console<E>,
     ) -> u8 {
         match self.write_all(findings, places) {
             Ok(moved) => self.end(file, checked, moved, console),
@@ -422,7 +422,7 @@ impl<'l, L: Outlet> Report<'l, L> {
     fn tell_all<E: Outlet>(
         &mut self,
         findings: &[Finding],
-        console: &mut Console<'_, E>,
+        console: &mut Console<E>,
     ) -> Option<u8> {
         match self.write_all(findings, &[]) {
             Ok(_moved) => None,
@@ -471,7 +471,7 @@ impl<'l, L: Outlet> Report<'l, L> {
         file: &str,
         checked: Checked,
         moved: u64,
-        console: &mut Console<'_, E>,
+        console: &mut Console<E>,
     ) -> u8 {
         match self.write_end(file, checked, moved) {
             Ok(()) if checked.damaged == 0 && !checked.more => DONE,

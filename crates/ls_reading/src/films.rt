@@ -15,7 +15,7 @@ pub fn list<R, W, E>(
     rt: &R,
     file: &str,
     output: &mut Counted<W>,
-    console: &mut Console<'_, E>,
+    console: &mut Console<E>,
 ) -> u8
 where
     R: Eprint + Files + AllocGlobal,
@@ -51,7 +51,7 @@ pub fn code<R, W, E>(
     rt: &R,
     file: &str,
     output: &mut Counted<W>,
-    console: &mut Console<'_, E>,
+    console: &mut Console<E>,
 ) -> u8
 where
     R: Eprint + Files + AllocGlobal,
@@ -81,7 +81,7 @@ pub fn code_with_index<R, W, E>(
     file: &str,
     index: &str,
     output: &mut Counted<W>,
-    console: &mut Console<'_, E>,
+    console: &mut Console<E>,
 ) -> u8
 where
     R: Eprint + Files + AllocGlobal,

@@ -17,7 +17,7 @@ pub fn make_index<'a, R, E>(
     path: &'a str,
     file: &str,
     film: &Reader<'_, Opener<'_, R>>,
-    console: &mut Console<'_, E>,
+    console: &mut Console<E>,
 ) -> Result<IndexFile<'a, Opener<'a, R>>, u8>
 where
     R: Eprint + Files + AllocGlobal,

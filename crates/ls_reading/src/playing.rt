@@ -17,7 +17,7 @@ pub fn show<R, W, E>(
     part: Option<Part>,
     workers: u8,
     output: &mut Counted<W>,
-    console: &mut Console<'_, E>,
+    console: &mut Console<E>,
 ) -> u8
 where
     R: Eprint + Files + AllocGlobal + Threads + Sync,
@@ -77,7 +77,7 @@ pub fn show_whole<R, W, E>(
     file: &str,
     index: Option<&str>,
     output: &mut Counted<W>,
-    console: &mut Console<'_, E>,
+    console: &mut Console<E>,
 ) -> u8
 where
     R: Eprint + Files + AllocGlobal,
@@ -130,16 +130,16 @@ fn play_whole<R: Feed, W: Outlet, G: Gaps>(
 
 /// Reports the gaps of a file on standard error.
 #[derive(Drop)]
-struct SaidGaps<'f, 'c, 'e, E> {
+struct SaidGaps<'f, 'c, E> {
     file: &'f str,
-    console: &'c mut Console<'e, E>,
+    console: &'c mut Console<E>,
     /// The number of gaps reported so far.
     gaps: u64,
     /// The recorded frames, if an index gives them.
     recorded: Option<Recorded>,
 }
 
-impl<'f, 'c, 'e, E: Outlet> Gaps for SaidGaps<'f, 'c, 'e, E> {
+impl<'f, 'c, E: Outlet> Gaps for SaidGaps<'f, 'c, E> {
     ghost use Rattle.std.specs.Prelude.{None};
 
     ghost told = { λ _. None };

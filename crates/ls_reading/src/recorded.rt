@@ -29,7 +29,7 @@ impl Recorded {
         rt: &R,
         file: &str,
         index: &str,
-        console: &mut Console<'_, E>,
+        console: &mut Console<E>,
     ) -> Result<Recorded, u8>
     where
         R: Eprint + Files + AllocGlobal,
@@ -161,7 +161,7 @@ impl Recorded {
     }
 
     /// Says which frames are lost, and whether any is.
-    pub fn say_lost<E: Outlet>(&self, file: &str, console: &mut Console<'_, E>) -> bool {
+    pub fn say_lost<E: Outlet>(&self, file: &str, console: &mut Console<E>) -> bool {
         let mut any = false;
         // The number of lost frames just before this one, in a row.
         let mut run: usize = 0;
@@ -180,7 +180,7 @@ impl Recorded {
 }
 
 /// Says that the `run` frames before the one of this number are lost, if `run` isn't 0.
-fn say_run<E: Outlet>(file: &str, number: usize, run: usize, console: &mut Console<'_, E>) {
+fn say_run<E: Outlet>(file: &str, number: usize, run: usize, console: &mut Console<E>) {
     if run == 0 {
         return;
     }
@@ -197,7 +197,7 @@ fn say_run<E: Outlet>(file: &str, number: usize, run: usize, console: &mut Conso
 }
 
 /// Reads the lines of an index with sums. On failure says what is wrong and returns the status.
-fn lines_of<R, E>(rt: &R, index: &str, console: &mut Console<'_, E>) -> Result<Vec<Wanted>, u8>
+fn lines_of<R, E>(rt: &R, index: &str, console: &mut Console<E>) -> Result<Vec<Wanted>, u8>
 where
     R: Eprint + Files + AllocGlobal,
     E: Outlet,

@@ -15,7 +15,7 @@ pub fn replay_file<R, W, E>(
     capacity: u32,
     file: &str,
     output: &mut Counted<W>,
-    console: &mut Console<'_, E>,
+    console: &mut Console<E>,
 ) -> u8
 where
     R: Eprint + Files + AllocGlobal,
@@ -35,7 +35,7 @@ fn replies_to<R, E>(
     sources: u8,
     capacity: u32,
     file: &str,
-    console: &mut Console<'_, E>,
+    console: &mut Console<E>,
 ) -> Result<Vec<Reply>, u8>
 where
     R: Eprint + Files + AllocGlobal,
@@ -62,7 +62,7 @@ where
 }
 
 /// Reads the bytes of a steps file. On failure says why and returns the status.
-fn read_steps_text<R, E>(rt: &R, file: &str, console: &mut Console<'_, E>) -> Result<Vec<u8>, u8>
+fn read_steps_text<R, E>(rt: &R, file: &str, console: &mut Console<E>) -> Result<Vec<u8>, u8>
 where
     R: Eprint + Files + AllocGlobal,
     E: Outlet,
@@ -90,7 +90,7 @@ fn write_replies<W, E>(
     file: &str,
     replies: &[Reply],
     output: &mut Counted<W>,
-    console: &mut Console<'_, E>,
+    console: &mut Console<E>,
 ) -> u8
 where
     W: Write,

@@ -25,7 +25,7 @@ pub fn end_films<'a, R, O, E>(
     watch: &Watch<'_, R>,
     films: &mut [Film<'_, O>],
     recorded: Recorded<'a, O>,
-    console: &mut Console<'_, E>,
+    console: &mut Console<E>,
 ) -> Result<Vec<Targets<'a, O>>, u8>
 where
     R: Clock,
@@ -54,7 +54,7 @@ fn end_tracks<'a, R, O, E>(
     watch: &Watch<'_, R>,
     films: &mut [Film<'_, O>],
     tracks: Vec<FilmTrack<'a, O>>,
-    console: &mut Console<'_, E>,
+    console: &mut Console<E>,
 ) -> Result<Vec<Targets<'a, O>>, AllocError>
 where
     R: Clock,
@@ -77,7 +77,7 @@ pub fn say_counts<O, W, E>(
     alloc: Global,
     films: &[Film<'_, O>],
     output: &mut Counted<W>,
-    console: &mut Console<'_, E>,
+    console: &mut Console<E>,
 ) -> u8
 where
     O: Makes,
@@ -132,7 +132,7 @@ fn say_end<'a, O, E>(
     track: FilmTrack<'a, O>,
     written: u64,
     was_told: bool,
-    console: &mut Console<'_, E>,
+    console: &mut Console<E>,
 ) -> Targets<'a, O>
 where
     O: Makes + Copy + Drop,
@@ -208,7 +208,7 @@ pub fn say_count<W: Write, E: Outlet>(
     file: &str,
     frames: u64,
     output: &mut Counted<W>,
-    console: &mut Console<'_, E>,
+    console: &mut Console<E>,
 ) -> u8 {
     let file = Shown(file);
     match format!(in alloc; "{file}: {frames} frames\n") {

@@ -32,7 +32,7 @@ pub fn record_films<R, O, W, E>(
     opener: O,
     asked: Asked<'_>,
     output: &mut Counted<W>,
-    console: &mut Console<'_, E>,
+    console: &mut Console<E>,
 ) -> u8
 where
     R: Files + AllocGlobal + Clock + Threads + Wait + Sync,
@@ -60,7 +60,7 @@ fn record_opened<'a, R, O, W, E>(
     asked: &'a Asked<'a>,
     opened: Opened<'a, O>,
     output: &mut Counted<W>,
-    console: &mut Console<'_, E>,
+    console: &mut Console<E>,
 ) -> u8
 where
     R: AllocGlobal + Clock + Threads + Wait + Sync,

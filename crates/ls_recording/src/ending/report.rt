@@ -13,7 +13,7 @@ use std::time::Clock;
 pub fn write_report<O, E>(
     report: MadeFile<'_, O>,
     table: Result<String, AllocError>,
-    console: &mut Console<'_, E>,
+    console: &mut Console<E>,
 ) -> u8
 where
     O: Makes + Copy + Drop,

@@ -17,7 +17,7 @@ const DUE: u64 = 450_000_000;
 
 /// Watches films while they are recorded, and says their progress, if that is wanted.
 #[derive(Drop)]
-pub struct Teller<'s, 'a, 'e, R, O: Makes, W, E> {
+pub struct Teller<'s, 'a, R, O: Makes, W, E> {
     pub rt: &'s R,
     pub alloc: Global,
     pub watch: &'s Watch<'s, R>,
@@ -25,12 +25,12 @@ pub struct Teller<'s, 'a, 'e, R, O: Makes, W, E> {
     pub files: &'s [&'s str],
     pub films: &'s mut [Film<'a, O>],
     pub output: &'s mut Counted<W>,
-    pub console: &'s mut Console<'e, E>,
+    pub console: &'s mut Console<E>,
     /// Whether progress is said.
     pub is_telling: bool,
 }
 
-impl<'s, 'a, 'e, R, O, W, E> Teller<'s, 'a, 'e, R, O, W, E>
+impl<'s, 'a, R, O, W, E> Teller<'s, 'a, R, O, W, E>
 where
     R: Wait + Clock,
     O: Makes + Copy + Drop,
@@ -116,7 +116,7 @@ fn tell_counts<R, O, W, E>(
     watch: &Watch<'_, R>,
     films: &mut [Film<'_, O>],
     output: &mut Counted<W>,
-    console: &mut Console<'_, E>,
+    console: &mut Console<E>,
 )
 where
     R: Clock,
@@ -148,7 +148,7 @@ fn paces_for(alloc: Global, films: usize) -> Result<Vec<Pace>, AllocError> {
 fn tell_news<R: Clock, E: Outlet>(
     watch: &Watch<'_, R>,
     files: &[&str],
-    console: &mut Console<'_, E>,
+    console: &mut Console<E>,
 ) {
     for (film, file) in files.iter().enumerate() {
         if let Some(fault) = watch.news(film) {
@@ -167,7 +167,7 @@ fn tell_paces<R: Clock, E: Outlet>(
     paces: &mut Vec<Pace>,
     now: u64,
     time: u64,
-    console: &mut Console<'_, E>,
+    console: &mut Console<E>,
 ) -> Result<(), AllocError> {
     for (film, (file, pace)) in files.iter().zip(paces.iter_mut()).enumerate() {
         let Some(seen) = watch.seen(film) else {
@@ -188,7 +188,7 @@ fn show_line<E: Outlet>(
     files: &[&str],
     paces: &[Pace],
     lines: usize,
-    console: &mut Console<'_, E>,
+    console: &mut Console<E>,
 ) -> Result<(), AllocError> {
     let line = line_of(alloc, files, paces, lines, console.columns())?;
     console.show(&line);
