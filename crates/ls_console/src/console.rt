@@ -30,12 +30,7 @@ pub struct Console<E> {
 
 impl<E: Outlet> Console<E> {
     /// A console on `errors`, which is a terminal or isn't; a progress line has `columns` characters there.
-    pub fn new(
-        alloc: Global,
-        errors: E,
-        is_terminal: bool,
-        columns: usize,
-    ) -> Console<E> {
+    pub fn new(alloc: Global, errors: E, is_terminal: bool, columns: usize) -> Console<E> {
         Console {
             alloc,
             errors,

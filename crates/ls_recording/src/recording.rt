@@ -4,13 +4,12 @@ use crate::ending::{end_films, release, say_counts};
 use crate::watching::Watch;
 use crate::watching::progress::Teller;
 use ls_command::Recording as Asked;
-use ls_console::{Console, Reader, no_memory};
+use ls_console::{Host, Program, Reader, no_memory};
 use ls_files::Makes;
-use ls_frame::{Counted, Outlet};
+use ls_frame::Outlet;
 use ls_opening::{Devices, Opened, Writer, names_once, open_films};
 use ls_recorder::{RecordFault, Recording as Tracks, Track, record};
 use std::io::Write;
-use std::rt::Files;
 use std::sync::Wait;
 use std::thread;
 use std::thread::Threads;
@@ -27,48 +26,44 @@ pub type Recorded<'a, O> = Result<
 
 /// Records the films that are asked for, says how each ended, and returns the status. On a terminal progress is always
 /// shown.
-pub fn record_films<R, O, W, E>(
-    rt: &R,
-    opener: O,
-    asked: Asked<'_>,
-    output: &mut Counted<W>,
-    console: &mut Console<E>,
-) -> u8
+pub fn record_films<R, O, W, E>(program: Program<'_, R, W, E>, opener: O, asked: Asked<'_>) -> u8
 where
-    R: Files + AllocGlobal + Clock + Threads + Wait + Sync,
+    R: Host + Clock + Threads + Wait + Sync,
     O: Makes<File = R::File> + Copy + Send,
     R::File: Send,
     W: Write + Send,
     E: Outlet + Send,
 {
-    let alloc = rt.alloc();
-    let names = match names_once(alloc, &asked, console.columns()) {
+    let columns = program.console.columns();
+    let names = match names_once(program.rt.alloc(), &asked, columns) {
         Ok(names) => names,
-        Err(refusal) => return refusal.say(console),
+        Err(refusal) => return refusal.say(program.console),
     };
-    let opened = match open_films(rt, opener, &asked, &names, console) {
-        Ok(opened) => opened,
-        Err(refusal) => return refusal.say(console),
-    };
-    record_opened(rt, &asked, opened, output, console)
+    match open_films(program.rt, opener, &asked, &names, program.console) {
+        Ok(opened) => record_opened(program, &asked, opened),
+        Err(refusal) => refusal.say(program.console),
+    }
 }
 
 /// Records films whose files are open, while another thread watches them, says how each ended, and returns the status.
 /// If no thread can be started to watch, the films' files are settled at the end.
 fn record_opened<'a, R, O, W, E>(
-    rt: &R,
+    program: Program<'_, R, W, E>,
     asked: &'a Asked<'a>,
     opened: Opened<'a, O>,
-    output: &mut Counted<W>,
-    console: &mut Console<E>,
 ) -> u8
 where
-    R: AllocGlobal + Clock + Threads + Wait + Sync,
+    R: Host + Clock + Threads + Wait + Sync,
     O: Makes + Copy + Send,
     O::File: Send,
     W: Write + Send,
     E: Outlet + Send,
 {
+    let Program {
+        rt,
+        output,
+        console,
+    } = program;
     let alloc = rt.alloc();
     let Opened {
         mut films,

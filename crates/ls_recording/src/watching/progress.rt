@@ -145,11 +145,7 @@ fn paces_for(alloc: Global, films: usize) -> Result<Vec<Pace>, AllocError> {
 }
 
 /// Says why each film stopped that has stopped since.
-fn tell_news<R: Clock, E: Outlet>(
-    watch: &Watch<'_, R>,
-    files: &[&str],
-    console: &mut Console<E>,
-) {
+fn tell_news<R: Clock, E: Outlet>(watch: &Watch<'_, R>, files: &[&str], console: &mut Console<E>) {
     for (film, file) in files.iter().enumerate() {
         if let Some(fault) = watch.news(film) {
             let file = Shown(file);
