@@ -10,7 +10,7 @@ use ls_console::{
     Cause, Console, DONE, EndedIndex, FAILED, Shown, cause_of_input, explain, no_memory,
     say_index_end, say_unsynced, write_text,
 };
-use ls_files::{Makes, Opens, Targets};
+use ls_files::{Makes, Opens, Target, Targets};
 use ls_frame::{Counted, Failed, Outlet};
 use ls_opening::Film;
 use ls_recorder::{LaneFault, Track};
@@ -138,51 +138,64 @@ where
     O: Makes + Copy + Drop,
     E: Outlet,
 {
-    let names = film.names;
-    let file = names.file;
     let Track {
         reader,
         writer,
         result,
     } = track;
+    let names = film.names;
+    let file = names.file;
     let synced = film.settle(result.is_err(), written);
     let (writer, follower, broken) = writer.into_parts();
-    let failure = writer.last_failure();
+    if let Err(fault) = result {
+        if !was_told {
+            let shown = Shown(file);
+            console.say(format_args!("{shown}: {fault}"));
+        }
+        match cause_of(fault) {
+            Cause::Writing => console.blame_writing(file, writer.last_failure(), Some(written)),
+            cause => explain(file, cause, &reader, None, console),
+        }
+    }
     let recording = writer.into_inner();
     match (result, synced.recording) {
         (Ok(frames), Ok(())) => film.frames = Some(frames),
         (Ok(_), Err(failure)) => say_unsynced(file, &recording, failure, console),
-        (Err(fault), _) => {
-            if !was_told {
-                let shown = Shown(file);
-                console.say(format_args!("{shown}: {fault}"));
-            }
-            match cause_of(fault) {
-                Cause::Writing => console.blame_writing(file, failure, Some(written)),
-                cause => explain(file, cause, &reader, None, console),
-            }
-        }
+        (Err(_), _) => {}
     }
     if let Some(name) = film.left_over() {
         console.mention(names.recording.as_str(), name);
     }
     let index = match follower {
-        Some(follower) => {
-            let broken = broken.map(|fault| (fault, cause_of_index(fault)));
-            let index = follower.into_inner();
-            let EndedIndex { is_whole, target } = say_index_end(
-                names.index.as_str(),
-                index,
-                synced.index,
-                broken,
-                console,
-            );
-            film.is_index_broken = !is_whole;
-            Some(target)
-        }
+        Some(follower) => Some(end_index(film, follower, synced.index, broken, console)),
         None => None,
     };
     Targets { recording, index }
+}
+
+/// Says why the index of a film isn't whole, if it isn't, and returns its file.
+fn end_index<'a, O, E>(
+    film: &mut Film<'_, O>,
+    follower: Follower<Counted<Target<'a, O>>>,
+    synced: Result<(), Failed>,
+    broken: Option<IndexFault>,
+    console: &mut Console<E>,
+) -> Target<'a, O>
+where
+    O: Makes + Copy + Drop,
+    E: Outlet,
+{
+    let broken = broken.map(|fault| (fault, cause_of_index(fault)));
+    let path = film.names.index.as_str();
+    let EndedIndex { is_whole, target } = say_index_end(
+        path,
+        follower.into_inner(),
+        synced,
+        broken,
+        console,
+    );
+    film.is_index_broken = !is_whole;
+    target
 }
 
 /// The cause of an index's fault.

@@ -4,10 +4,10 @@ use crate::ending::{end_films, release, say_counts};
 use crate::watching::Watch;
 use crate::watching::progress::Teller;
 use ls_command::Recording as Asked;
-use ls_console::{Host, Program, Reader, no_memory};
+use ls_console::{Console, Host, Program, Reader, no_memory};
 use ls_files::Makes;
 use ls_frame::Outlet;
-use ls_opening::{Devices, Opened, Writer, names_once, open_films};
+use ls_opening::{Devices, Film, Opened, Writer, names_once, open_films};
 use ls_recorder::{RecordFault, Recording as Tracks, Track, record};
 use std::io::Write;
 use std::sync::Wait;
@@ -45,8 +45,7 @@ where
     }
 }
 
-/// Records films whose files are open, while another thread watches them, says how each ended, and returns the status.
-/// If no thread can be started to watch, the films' files are settled at the end.
+/// Records films whose files are open, says how each ended, writes the report, and returns the status.
 fn record_opened<'a, R, O, W, E>(
     program: Program<'_, R, W, E>,
     asked: &'a Asked<'a>,
@@ -64,25 +63,68 @@ where
         output,
         console,
     } = program;
-    let alloc = rt.alloc();
     let Opened {
-        mut films,
+        films,
         devices,
         report,
     } = opened;
-    let is_telling = asked.progress || console.is_terminal();
-    let Ok(watch) = Watch::new(rt, alloc, films.len(), is_telling || report.is_some()) else {
+    let is_timed = is_telling(asked, console) || report.is_some();
+    let Ok(watch) = Watch::new(rt, rt.alloc(), films.len(), is_timed) else {
         return no_memory(console);
     };
-    let teller = Teller {
+    let program = Program {
         rt,
-        alloc,
-        watch: &watch,
-        files: &asked.files,
-        films: &mut films,
+        output,
+        console: &mut *console,
+    };
+    // The films' files are unlocked before the report is written, which may wait for what reads it.
+    let status = record_watched(program, asked, &watch, films, devices);
+    match report {
+        Some(report) => {
+            let table = table_of(rt.alloc(), &watch, &asked.files, asked.workers);
+            status.max(write_report(report, table, console))
+        }
+        None => status,
+    }
+}
+
+/// Whether progress is said.
+fn is_telling<E: Outlet>(asked: &Asked<'_>, console: &Console<E>) -> bool {
+    asked.progress || console.is_terminal()
+}
+
+/// Records films while another thread watches them, says how each ended, and returns the status. If no thread can be
+/// started to watch, the films' files are settled at the end.
+fn record_watched<'a, R, O, W, E>(
+    program: Program<'_, R, W, E>,
+    asked: &Asked<'_>,
+    watch: &Watch<'_, R>,
+    mut films: Vec<Film<'a, O>>,
+    devices: Vec<Devices<'a, O>>,
+) -> u8
+where
+    R: Host + Clock + Threads + Wait + Sync,
+    O: Makes + Copy + Send,
+    O::File: Send,
+    W: Write + Send,
+    E: Outlet + Send,
+{
+    let Program {
+        rt,
         output,
         console,
-        is_telling,
+    } = program;
+    let alloc = rt.alloc();
+    let teller = Teller {
+        is_telling: is_telling(asked, console),
+        program: Program {
+            rt,
+            output: &mut *output,
+            console: &mut *console,
+        },
+        watch,
+        files: &asked.files,
+        films: &mut films,
     };
     let (workers, capacity, window) = (asked.workers, asked.capacity, asked.window);
     // The first of the two is called in a thread of its own, or else after the second: then it has nothing left to do.
@@ -90,26 +132,17 @@ where
         rt,
         move || teller.tell(),
         || {
-            let recorded = record(rt, alloc, devices, workers, capacity, window, &watch);
+            let recorded = record(rt, alloc, devices, workers, capacity, window, watch);
             watch.end();
             recorded
         },
     );
-    let status = match end_films(alloc, &watch, &mut films, recorded, console) {
+    match end_films(alloc, watch, &mut films, recorded, console) {
         Ok(files) => {
             let status = say_counts(alloc, &films, output, console);
             release(files);
             status
         }
         Err(status) => status,
-    };
-    // The films' files are unlocked before the report is written, which may wait for what reads it.
-    drop(films);
-    match report {
-        Some(report) => {
-            let table = table_of(alloc, &watch, &asked.files, workers);
-            status.max(write_report(report, table, console))
-        }
-        None => status,
     }
 }
