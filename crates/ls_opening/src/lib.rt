@@ -3,29 +3,26 @@
 //!
 //! ```
 //! use ls_command::Recording;
-//! use ls_console::Console;
-//! use ls_files::Makes;
+//! use ls_console::{Console, Host};
+//! use ls_files::{Locks, Opener};
 //! use ls_frame::Outlet;
-//! use ls_opening::{Refusal, names_once, open_films};
-//! use std::rt::Files;
+//! use ls_opening::{names_once, open_films};
 //! use std::sync::Wait;
 //!
-//! /// The number of films that can be recorded, or why none can.
-//! pub fn opened<'a, R, O, E>(
-//!     rt: &R,
-//!     opener: O,
-//!     asked: &Recording<'a>,
-//!     console: &mut Console<E>,
-//! ) -> Result<usize, Refusal<'a>>
+//! /// Opens films and makes their files; the number of films, or the status once it is said why none is recorded.
+//! pub fn try_films<R, E>(rt: &R, asked: &Recording<'_>, console: &mut Console<E>) -> Result<usize, u8>
 //! where
-//!     R: Files + AllocGlobal + Wait,
-//!     O: Makes<File = R::File> + Copy + Drop,
+//!     R: Host + Wait,
+//!     R::File: Locks,
 //!     E: Outlet,
 //! {
-//!     let names = names_once(rt.alloc(), asked, console.columns())?;
-//!     match open_films(rt, opener, asked, &names, console) {
+//!     let names = match names_once(rt.alloc(), asked, console.columns()) {
+//!         Ok(names) => names,
+//!         Err(refusal) => return Err(refusal.say(console)),
+//!     };
+//!     match open_films(rt, Opener::new(rt), asked, &names, console) {
 //!         Ok(opened) => Ok(opened.films.len()),
-//!         Err(_) => Err(Refusal::Said(1)),
+//!         Err(refusal) => Err(refusal.say(console)),
 //!     }
 //! }
 //! ```
