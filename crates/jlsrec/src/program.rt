@@ -81,11 +81,9 @@ where
                 Request::Play {
                     file,
                     frames,
-                    salvage,
                     workers,
-                    ..
-                } if !salvage => show(program, file, frames.map(part_of), workers),
-                Request::Play { file, index, .. } => show_whole(program, file, index),
+                } => show(program, file, frames.map(part_of), workers),
+                Request::Salvage { file, index } => show_whole(program, file, index),
                 Request::Index { file, sums } => index(program, file, sums),
                 Request::Check {
                     file,
