@@ -4,10 +4,10 @@ use crate::ending::{end_films, release, say_counts};
 use crate::watching::Watch;
 use crate::watching::progress::Teller;
 use ls_command::Recording as Asked;
-use ls_console::{Console, Host, Program, Reader, no_memory};
+use ls_console::{Host, Program, Reader, no_memory};
 use ls_files::Makes;
 use ls_frame::Outlet;
-use ls_opening::{Devices, Film, Opened, Writer, names_once, open_films};
+use ls_opening::{Devices, Opened, Writer, names_once, open_films};
 use ls_recorder::{RecordFault, Recording as Tracks, Track, record};
 use std::io::Write;
 use std::sync::Wait;
@@ -64,21 +64,37 @@ where
         console,
     } = program;
     let Opened {
-        films,
+        mut films,
         devices,
         report,
     } = opened;
-    let is_timed = is_telling(asked, console) || report.is_some();
+    let is_telling = asked.progress || console.is_terminal();
+    let is_timed = is_telling || report.is_some();
     let Ok(watch) = Watch::new(rt, rt.alloc(), films.len(), is_timed) else {
         return no_memory(console);
     };
-    let program = Program {
-        rt,
-        output,
-        console: &mut *console,
+    let teller = Teller {
+        program: Program {
+            rt,
+            output: &mut *output,
+            console: &mut *console,
+        },
+        watch: &watch,
+        files: &asked.files,
+        films: &mut films,
+        is_telling,
+    };
+    let recorded = record_watched(rt, asked, &watch, teller, devices);
+    let status = match end_films(rt.alloc(), &watch, &mut films, recorded, console) {
+        Ok(files) => {
+            let status = say_counts(rt.alloc(), &films, output, console);
+            release(files);
+            status
+        }
+        Err(status) => status,
     };
     // The films' files are unlocked before the report is written, which may wait for what reads it.
-    let status = record_watched(program, asked, &watch, films, devices);
+    drop(films);
     match report {
         Some(report) => {
             let table = table_of(rt.alloc(), &watch, &asked.files, asked.workers);
@@ -88,44 +104,22 @@ where
     }
 }
 
-/// Whether progress is said.
-fn is_telling<E: Outlet>(asked: &Asked<'_>, console: &Console<E>) -> bool {
-    asked.progress || console.is_terminal()
-}
-
-/// Records films while another thread watches them, says how each ended, and returns the status. If no thread can be
-/// started to watch, the films' files are settled at the end.
+/// Records films while another thread watches them. If no thread can be started to watch, nobody does.
 fn record_watched<'a, R, O, W, E>(
-    program: Program<'_, R, W, E>,
+    rt: &R,
     asked: &Asked<'_>,
     watch: &Watch<'_, R>,
-    mut films: Vec<Film<'a, O>>,
+    teller: Teller<'_, 'a, R, O, W, E>,
     devices: Vec<Devices<'a, O>>,
-) -> u8
+) -> Recorded<'a, O>
 where
-    R: Host + Clock + Threads + Wait + Sync,
+    R: AllocGlobal + Clock + Threads + Wait + Sync,
     O: Makes + Copy + Send,
     O::File: Send,
     W: Write + Send,
     E: Outlet + Send,
 {
-    let Program {
-        rt,
-        output,
-        console,
-    } = program;
     let alloc = rt.alloc();
-    let teller = Teller {
-        is_telling: is_telling(asked, console),
-        program: Program {
-            rt,
-            output: &mut *output,
-            console: &mut *console,
-        },
-        watch,
-        files: &asked.files,
-        films: &mut films,
-    };
     let (workers, capacity, window) = (asked.workers, asked.capacity, asked.window);
     // The first of the two is called in a thread of its own, or else after the second: then it has nothing left to do.
     let ((), recorded) = thread::join(
@@ -137,12 +131,5 @@ where
             recorded
         },
     );
-    match end_films(alloc, watch, &mut films, recorded, console) {
-        Ok(files) => {
-            let status = say_counts(alloc, &films, output, console);
-            release(files);
-            status
-        }
-        Err(status) => status,
-    }
+    recorded
 }
