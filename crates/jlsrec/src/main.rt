@@ -10,9 +10,10 @@ mod program;
 mod streams;
 mod words;
 
-use ls_console::{COLUMNS, Console};
+use ls_console::{COLUMNS, Console, Program};
 use ls_files::Opener;
 use ls_frame::Counted;
+use program::start;
 use std::env;
 use std::io::IsTerminal;
 use std::process::ExitCode;
@@ -27,10 +28,15 @@ const MOST_WIDTH: usize = 1000;
 fn main(rt: HostRuntime) -> ExitCode {
     let _taken = take_closed(&rt);
     let mut output = Counted::new(rt.stdout());
-    let mut errors = Counted::new(rt.stderr());
     let is_terminal = rt.stderr().is_terminal();
-    let mut console = Console::new(rt.alloc(), &mut errors, is_terminal, columns(&rt));
-    ExitCode::from(program::start(&rt, Opener::new(&rt), &mut output, &mut console))
+    let errors = Counted::new(rt.stderr());
+    let mut console = Console::new(rt.alloc(), errors, is_terminal, columns(&rt));
+    let program = Program {
+        rt: &rt,
+        output: &mut output,
+        console: &mut console,
+    };
+    ExitCode::from(start(program, Opener::new(&rt)))
 }
 
 /// The number of characters in a progress line: one less than the terminal's width, which is in the environment's

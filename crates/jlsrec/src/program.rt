@@ -1,7 +1,9 @@
 //! The whole program over its words, its files and its two streams.
 use crate::words::{fault_of_words, words};
 use ls_command::{Answer, Frames, Request, misuse, read_words};
-use ls_console::{Console, Escaped, USAGE, finish, is_shown_plain, no_memory, write_text};
+use ls_console::{
+    Console, Escaped, Host, Program, USAGE, finish, is_shown_plain, no_memory, write_text,
+};
 use ls_files::{Locks, Makes};
 use ls_film::Part;
 use ls_frame::{Counted, Outlet, keep_blocks};
@@ -13,7 +15,7 @@ use ls_recording::record_films;
 use std::alloc::{AllocError, Global};
 use std::io;
 use std::io::Write;
-use std::rt::{Env, Files};
+use std::rt::Env;
 use std::sync::Wait;
 use std::thread::Threads;
 use std::time::Clock;
@@ -21,89 +23,93 @@ use std::time::Clock;
 /// Reads the words, runs the program and flushes its output.
 ///
 /// The opener opens the files of the same runtime; lanes open pipes with it, in their threads.
-pub fn start<R, O, W, E>(
-    rt: &R,
-    opener: O,
-    output: &mut Counted<W>,
-    console: &mut Console<'_, E>,
-) -> u8
+pub fn start<R, O, W, E>(program: Program<'_, R, W, E>, opener: O) -> u8
 where
-    R: Env + Eprint + Files + AllocGlobal + Clock + Threads + Wait + Sync,
+    R: Env + Host + Clock + Threads + Wait + Sync,
     O: Makes<File = R::File> + Copy + Send,
     R::File: Send + Locks,
     W: Write + Send,
     E: Outlet + Send,
 {
-    let alloc = rt.alloc();
+    let Program {
+        rt,
+        output,
+        console,
+    } = program;
     let status = match words(rt) {
-        Ok(words) => run(rt, opener, &words, output, console),
+        Ok(words) => {
+            let program = Program {
+                rt,
+                output: &mut *output,
+                console: &mut *console,
+            };
+            run(program, opener, &words)
+        }
         Err(fault) if fault.kind() == io::ErrorKind::OutOfMemory => no_memory(console),
         Err(_) => match fault_of_words(rt) {
-            Ok(fault) => answer(misuse(alloc, &fault), output, console),
+            Ok(fault) => answer(misuse(rt.alloc(), &fault), output, console),
             Err(AllocError) => no_memory(console),
         },
     };
     finish(status, output, console)
 }
 
-/// Runs the program over the words after its name: writes to `output` what goes to standard output, says on the
+/// Runs the program over the words after its name: writes to its output what goes to standard output, says on the
 /// console what goes to standard error, and returns the status.
 ///
-/// `code` writes each codestream to `output` itself, and `play` each image, so nothing is held back. `list`, `index`,
+/// `code` writes each codestream to the output itself, and `play` each image, so nothing is held back. `list`, `index`,
 /// `check` and `replay` write through a buffer, which is flushed at the end.
-pub fn run<R, O, W, E>(
-    rt: &R,
-    opener: O,
-    words: &[String],
-    output: &mut Counted<W>,
-    console: &mut Console<'_, E>,
-) -> u8
+fn run<R, O, W, E>(program: Program<'_, R, W, E>, opener: O, words: &[String]) -> u8
 where
-    R: Eprint + Files + AllocGlobal + Clock + Threads + Wait + Sync,
+    R: Host + Clock + Threads + Wait + Sync,
     O: Makes<File = R::File> + Copy + Send,
     R::File: Send + Locks,
     W: Write + Send,
     E: Outlet + Send,
 {
-    let alloc = rt.alloc();
+    let alloc = program.rt.alloc();
     keep_blocks(alloc);
     match read_words(alloc, words) {
         Ok((request, reasons)) => {
-            console.tell_reasons(reasons);
+            program.console.tell_reasons(reasons);
             match request {
-                Request::List { file } => list(rt, file, output, console),
+                Request::List { file } => list(program, file),
                 Request::Code { file, index } => match index {
-                    Some(index) => code_with_index(rt, file, index, output, console),
-                    None => code(rt, file, output, console),
+                    Some(index) => code_with_index(program, file, index),
+                    None => code(program, file),
                 },
                 Request::Play {
                     file,
                     frames,
-                    salvage,
                     workers,
-                    ..
-                } if !salvage => show(rt, file, frames.map(part_of), workers, output, console),
-                Request::Play { file, index, .. } => show_whole(rt, file, index, output, console),
-                Request::Index { file, sums } => index(rt, file, sums, output, console),
+                } => show(program, file, frames.map(part_of), workers),
+                Request::Salvage { file, index } => show_whole(program, file, index),
+                Request::Index { file, sums } => index(program, file, sums),
                 Request::Check {
                     file,
                     index,
                     workers,
-                } => check_recording(rt, file, index, workers, output, console),
+                } => check_recording(program, file, index, workers),
                 Request::Verify {
                     film,
                     recording,
                     workers,
-                } => verify_files(rt, film, recording, workers, console),
-                Request::Record(asked) => record_films(rt, opener, asked, output, console),
+                } => verify_files(program, film, recording, workers),
+                Request::Record(asked) => record_films(program, opener, asked),
                 Request::Replay {
                     sources,
                     capacity,
                     file,
-                } => replay_file(rt, sources, capacity, file, output, console),
+                } => replay_file(program, sources, capacity, file),
             }
         }
-        Err(other) => answer(printable(alloc, words, other), output, console),
+        Err(other) => {
+            answer(
+                printable(alloc, words, other),
+                program.output,
+                program.console,
+            )
+        }
     }
 }
 
@@ -151,7 +157,7 @@ fn part_of(frames: Frames) -> Part {
 fn answer<W: Write, E: Outlet>(
     other: Answer,
     output: &mut Counted<W>,
-    console: &mut Console<'_, E>,
+    console: &mut Console<E>,
 ) -> u8 {
     match other {
         Answer::Shown(text) => write_text(text.as_bytes(), output, console),

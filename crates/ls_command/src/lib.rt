@@ -38,7 +38,7 @@ use texts::{
     PLAYERS_WANTED, SALVAGE_WANTED, TOO_MANY_FILMS,
 };
 
-/// A request, one variant for each command.
+/// A request, one variant for each command, but two for `play`.
 #[derive(Drop)]
 pub enum Request<'a> {
     /// List the frames of a film.
@@ -50,15 +50,18 @@ pub enum Request<'a> {
         file: &'a str,
         index: Option<&'a str>,
     },
-    /// Play a recording: all frames, or some; or past damage.
+    /// Play a recording: all frames, or some.
     Play {
         file: &'a str,
         frames: Option<Frames>,
-        salvage: bool,
-        /// The recording's index, which gives the frame numbers of gaps past damage.
-        index: Option<&'a str>,
-        /// The number of workers that decode; one if only some frames are played, or past damage.
+        /// The number of workers that decode; one if only some frames are played.
         workers: u8,
+    },
+    /// Play the intact frames of a recording, past damage.
+    Salvage {
+        file: &'a str,
+        /// The recording's index, which gives the frame numbers of gaps.
+        index: Option<&'a str>,
     },
     /// List the codestreams of a recording, with their sums or without.
     Index {
@@ -272,15 +275,17 @@ fn play_request<'a>(alloc: Global, words: &ArgMatches<'a>) -> Result<Option<Requ
     if workers > 1 && (frames.is_some() || salvage) {
         return Err(usage_fault(command_named(alloc, "play"), PLAYERS_WANTED));
     }
-    Ok(
-        words.get_str("FILE").map(|file| Request::Play {
-            file,
-            frames,
-            salvage,
-            index,
-            workers,
-        }),
-    )
+    let Some(file) = words.get_str("FILE") else {
+        return Ok(None);
+    };
+    if salvage {
+        return Ok(Some(Request::Salvage { file, index }));
+    }
+    Ok(Some(Request::Play {
+        file,
+        frames,
+        workers,
+    }))
 }
 
 /// The request of `index`, from its matched words.

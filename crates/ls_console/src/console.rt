@@ -14,9 +14,9 @@ const STANDARD_INPUT: &str = "; - is a file's name, and standard input is /dev/s
 
 /// Standard error, and how detailed its messages are.
 #[derive(Drop)]
-pub struct Console<'e, E> {
+pub struct Console<E> {
     alloc: Global,
-    errors: &'e mut E,
+    errors: E,
     /// Whether it is a terminal.
     is_terminal: bool,
     /// The number of characters in a progress line.
@@ -28,14 +28,9 @@ pub struct Console<'e, E> {
     is_shown: bool,
 }
 
-impl<'e, E: Outlet> Console<'e, E> {
+impl<E: Outlet> Console<E> {
     /// A console on `errors`, which is a terminal or isn't; a progress line has `columns` characters there.
-    pub fn new(
-        alloc: Global,
-        errors: &'e mut E,
-        is_terminal: bool,
-        columns: usize,
-    ) -> Console<'e, E> {
+    pub fn new(alloc: Global, errors: E, is_terminal: bool, columns: usize) -> Console<E> {
         Console {
             alloc,
             errors,
@@ -76,7 +71,7 @@ impl<'e, E: Outlet> Console<'e, E> {
     /// Clears the progress line, then writes a text as it is. A failure is ignored.
     pub fn write(&mut self, text: &[u8]) {
         self.clear();
-        let _refused = write_bytes(self.errors, text);
+        let _refused = write_bytes(&mut self.errors, text);
     }
 
     /// Shows a progress line over the one before, cut to the number of columns. For a terminal only.
@@ -86,7 +81,7 @@ impl<'e, E: Outlet> Console<'e, E> {
             let filled = cut.as_str().left().width(self.columns);
             if let Ok(text) = format!(in self.alloc; "\r{filled}") {
                 self.is_shown = true;
-                let _refused = write_bytes(self.errors, text.as_bytes());
+                let _refused = write_bytes(&mut self.errors, text.as_bytes());
             }
         }
     }
@@ -96,7 +91,7 @@ impl<'e, E: Outlet> Console<'e, E> {
         if self.is_shown {
             self.is_shown = false;
             if let Ok(text) = cleared(self.alloc, self.columns) {
-                let _refused = write_bytes(self.errors, text.as_bytes());
+                let _refused = write_bytes(&mut self.errors, text.as_bytes());
             }
         }
     }

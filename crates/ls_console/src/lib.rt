@@ -1,20 +1,16 @@
 //! The program's messages about its files and devices, and the statuses that it exits with.
 //!
-//! What it hands on: a `Console` writes messages on standard error, and a progress line on a terminal. A `Reader`
-//! reads a film or a recording, and the `Cause` of a fault decides what more is said of it. `DONE`, `FAILED` and
-//! `USAGE` are the statuses; `Shown` makes a file name printable.
+//! What it hands on: a `Console` writes messages on standard error, and a progress line on a terminal. A `Program` is
+//! what each command works with: its runtime, which is a `Host`, standard output and the console. A `Reader` reads a
+//! film or a recording, and the `Cause` of a fault decides what more is said of it. `DONE`, `FAILED` and `USAGE` are
+//! the statuses; `Shown` makes a file name printable.
 //!
 //! ```
-//! use ls_console::{Console, DONE, open_film};
+//! use ls_console::{Console, DONE, Host, open_film};
 //! use ls_frame::Outlet;
-//! use std::rt::Files;
 //!
 //! /// Opens a film, or says why it can't; answers the status.
-//! pub fn try_film<R, E>(rt: &R, file: &str, console: &mut Console<'_, E>) -> u8
-//! where
-//!     R: Eprint + Files + AllocGlobal,
-//!     E: Outlet,
-//! {
+//! pub fn try_film<R: Host, E: Outlet>(rt: &R, file: &str, console: &mut Console<E>) -> u8 {
 //!     match open_film(rt, file, console) {
 //!         Ok(_film) => DONE,
 //!         Err(status) => status,
@@ -23,13 +19,14 @@
 //! ```
 //!
 //! In reading order: `shown` (file names and other words), `console` (standard error), `output` (standard output, and
-//! the statuses), `reader` (reads films and recordings, and finds the cause of a fault), `written` (makes a
-//! file, and says how one that was written ended). No contract says what is said; the tests of the whole program show
-//! it.
+//! the statuses), `program` (what each command works with), `reader` (reads films and recordings, and finds the cause
+//! of a fault), `written` (makes a file, and says how one that was written ended). No contract says what is said; the
+//! tests of the whole program show it.
 #![tactic(auto)]
 
 mod console;
 mod output;
+mod program;
 mod reader;
 mod shown;
 mod written;
@@ -38,6 +35,7 @@ pub use console::{COLUMNS, Console, cleared};
 pub use output::{
     DONE, FAILED, USAGE, finish, finish_lines, misused, no_memory, say_unwritten, write_text,
 };
+pub use program::{Host, Program};
 pub use reader::{Cause, Reader, buffered, cause_of_input, explain, open_film};
 pub use shown::{Escaped, Shown, ShownBytes, is_shown_plain};
 pub use written::{EndedIndex, MadeFile, make_file, say_index_end, say_unmade, say_unsynced};

@@ -14,7 +14,7 @@ pub const USAGE: u8 = 2;
 pub fn write_text<W: Write, E: Outlet>(
     text: &[u8],
     output: &mut Counted<W>,
-    console: &mut Console<'_, E>,
+    console: &mut Console<E>,
 ) -> u8 {
     match write_bytes(output, text) {
         Ok(()) => DONE,
@@ -27,7 +27,7 @@ pub fn write_text<W: Write, E: Outlet>(
 pub fn finish<W: Write, E: Outlet>(
     status: u8,
     output: &mut Counted<W>,
-    console: &mut Console<'_, E>,
+    console: &mut Console<E>,
 ) -> u8 {
     if Outlet::failures(output) > 0 {
         return status;
@@ -42,7 +42,7 @@ pub fn finish<W: Write, E: Outlet>(
 pub fn finish_lines<W: Write, E: Outlet>(
     status: u8,
     mut lines: Counted<BufWriter<&mut Counted<W>>>,
-    console: &mut Console<'_, E>,
+    console: &mut Console<E>,
 ) -> u8 {
     let status = finish(status, &mut lines, console);
     // A buffer that is dropped would write again what couldn't be written.
@@ -51,20 +51,20 @@ pub fn finish_lines<W: Write, E: Outlet>(
 }
 
 /// Says that standard output failed, and returns the status.
-pub fn say_unwritten<E: Outlet>(failure: Option<Failed>, console: &mut Console<'_, E>) -> u8 {
+pub fn say_unwritten<E: Outlet>(failure: Option<Failed>, console: &mut Console<E>) -> u8 {
     console.say("output failed");
     console.blame("standard output", failure);
     FAILED
 }
 
 /// Says that memory ran out, and returns the status.
-pub fn no_memory<E: Outlet>(console: &mut Console<'_, E>) -> u8 {
+pub fn no_memory<E: Outlet>(console: &mut Console<E>) -> u8 {
     console.say_no_memory();
     FAILED
 }
 
 /// Says a usage fault that `clap` doesn't find, and returns the status. Allocates nothing.
-pub fn misused<E: Outlet>(console: &mut Console<'_, E>, line: &[u8]) -> u8 {
+pub fn misused<E: Outlet>(console: &mut Console<E>, line: &[u8]) -> u8 {
     console.write(line);
     USAGE
 }

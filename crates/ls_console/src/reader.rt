@@ -1,11 +1,11 @@
 //! Reads films and recordings from files, and says why one can't be read.
 use crate::console::Console;
 use crate::output::FAILED;
+use crate::program::Host;
 use crate::shown::Shown;
 use ls_files::{Opener, Opens, Source, likeness_of};
 use ls_frame::{Buffered, Counted, Failed, NetpbmFault, Outlet};
 use std::alloc::Global;
-use std::rt::Files;
 
 /// The reader of a film or a recording.
 pub type Reader<'a, O> = Buffered<Counted<Source<'a, O>>>;
@@ -24,15 +24,11 @@ pub enum Cause {
 
 /// Opens a film or a recording; if it is a named pipe, waits until something writes to it. On failure says why and
 /// returns the status.
-pub fn open_film<'a, R, E>(
+pub fn open_film<'a, R: Host, E: Outlet>(
     rt: &'a R,
     file: &'a str,
-    console: &mut Console<'_, E>,
-) -> Result<Reader<'a, Opener<'a, R>>, u8>
-where
-    R: Eprint + Files + AllocGlobal,
-    E: Outlet,
-{
+    console: &mut Console<E>,
+) -> Result<Reader<'a, Opener<'a, R>>, u8> {
     match Source::open(Opener::new(rt), file) {
         Ok(source) => buffered(rt.alloc(), file, source, console),
         Err(fault) => {
@@ -47,7 +43,7 @@ pub fn buffered<'a, O, E>(
     alloc: Global,
     file: &str,
     source: Source<'a, O>,
-    console: &mut Console<'_, E>,
+    console: &mut Console<E>,
 ) -> Result<Reader<'a, O>, u8>
 where
     O: Opens + Drop,
@@ -78,7 +74,7 @@ pub fn explain<O, E>(
     cause: Cause,
     reader: &Reader<'_, O>,
     written: Option<Failed>,
-    console: &mut Console<'_, E>,
+    console: &mut Console<E>,
 )
 where
     O: Opens,

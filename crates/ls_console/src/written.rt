@@ -23,7 +23,7 @@ pub fn make_file<'a, O, E>(
     alloc: Global,
     path: &'a str,
     mut keeper: Keeper<O>,
-    console: &mut Console<'_, E>,
+    console: &mut Console<E>,
 ) -> Result<MadeFile<'a, O>, u8>
 where
     O: Makes + Copy + Drop,
@@ -58,7 +58,7 @@ pub fn say_index_end<'a, O, X, E>(
     index: Counted<Target<'a, O>>,
     synced: Result<(), Failed>,
     broken: Option<(X, Cause)>,
-    console: &mut Console<'_, E>,
+    console: &mut Console<E>,
 ) -> EndedIndex<'a, O>
 where
     O: Opens,
@@ -90,7 +90,7 @@ pub fn say_unsynced<O, E>(
     path: &str,
     target: &Target<'_, O>,
     failure: Failed,
-    console: &mut Console<'_, E>,
+    console: &mut Console<E>,
 )
 where
     O: Opens,
@@ -103,7 +103,7 @@ where
 }
 
 /// Says why a file can't be made, and returns the status.
-pub fn say_unmade<E: Outlet>(path: &str, fault: io::Error, console: &mut Console<'_, E>) -> u8 {
+pub fn say_unmade<E: Outlet>(path: &str, fault: io::Error, console: &mut Console<E>) -> u8 {
     if fault.kind() == io::ErrorKind::WouldBlock {
         let shown = Shown(path);
         console.say(format_args!("{shown}: another program is recording it"));

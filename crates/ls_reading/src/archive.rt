@@ -5,7 +5,8 @@ use ls_archive::{
     check, check_by, find_places, verify, verify_by, write_index,
 };
 use ls_console::{
-    Cause, Console, DONE, FAILED, Shown, explain, finish_lines, no_memory, open_film, say_unwritten,
+    Cause, Console, DONE, FAILED, Host, Program, Shown, explain, finish_lines, no_memory,
+    open_film, say_unwritten,
 };
 use ls_frame::{Buffered, Counted, Feed, Kind, Outlet, write_bytes};
 use ls_salvage::{Gap, Gaps, NoText, SalvageFault, Salvaged, salvage};
@@ -17,18 +18,17 @@ use std::rt::Files;
 use std::thread::Threads;
 
 /// Writes the index of a recording.
-pub fn index<R, W, E>(
-    rt: &R,
-    file: &str,
-    sums: bool,
-    output: &mut Counted<W>,
-    console: &mut Console<'_, E>,
-) -> u8
+pub fn index<R, W, E>(program: Program<'_, R, W, E>, file: &str, sums: bool) -> u8
 where
-    R: Eprint + Files + AllocGlobal,
+    R: Host,
     W: Write,
     E: Outlet,
 {
+    let Program {
+        rt,
+        output,
+        console,
+    } = program;
     let Ok(buffered) = BufWriter::new(rt.alloc(), output) else {
         return no_memory(console);
     };
@@ -56,25 +56,33 @@ fn index_to<R: Feed, L: Outlet>(
 /// Looks for damage in a recording, by its index if one is named, and then with this number of workers that decode.
 /// Writes a line for each finding, through a buffer.
 pub fn check_recording<R, W, E>(
-    rt: &R,
+    program: Program<'_, R, W, E>,
     file: &str,
     index: Option<&str>,
     workers: u8,
-    output: &mut Counted<W>,
-    console: &mut Console<'_, E>,
 ) -> u8
 where
-    R: Eprint + Files + AllocGlobal + Threads + Sync,
+    R: Host + Threads + Sync,
     W: Write,
     E: Outlet,
 {
+    let Program {
+        rt,
+        output,
+        console,
+    } = program;
     let Ok(buffered) = BufWriter::new(rt.alloc(), output) else {
         return no_memory(console);
     };
     let mut lines = Counted::new(buffered);
+    let lined = Program {
+        rt,
+        output: &mut lines,
+        console: &mut *console,
+    };
     let status = match index {
-        Some(index) => check_with(rt, file, index, workers, &mut lines, console),
-        None => check_alone(rt, file, &mut lines, console),
+        Some(index) => check_with(lined, file, index, workers),
+        None => check_alone(lined, file),
     };
     let status = if Outlet::failures(&lines) > 0 {
         say_unwritten(lines.last_failure(), console)
@@ -85,19 +93,17 @@ where
 }
 
 /// Looks for damage in a recording by its index, with this number of workers that decode.
-fn check_with<R, L, E>(
-    rt: &R,
-    file: &str,
-    index: &str,
-    workers: u8,
-    lines: &mut L,
-    console: &mut Console<'_, E>,
-) -> u8
+fn check_with<R, W, E>(program: Program<'_, R, W, E>, file: &str, index: &str, workers: u8) -> u8
 where
-    R: Eprint + Files + AllocGlobal + Threads + Sync,
-    L: Outlet,
+    R: Host + Threads + Sync,
+    W: Write,
     E: Outlet,
 {
+    let Program {
+        rt,
+        output,
+        console,
+    } = program;
     let mut recording = match open_film(rt, file, console) {
         Ok(recording) => recording,
         Err(status) => return status,
@@ -107,18 +113,11 @@ where
         Err(status) => return status,
     };
     let mut findings: Vec<Finding> = Vec::new(rt.alloc());
-    let result = check_lent(
-        rt,
-        rt.alloc(),
-        workers,
-        &mut wanted,
-        &mut recording,
-        &mut findings,
-    );
-    let mut report = Report::new(rt.alloc(), lines);
+    let result = check_lent(rt, workers, &mut wanted, &mut recording, &mut findings);
+    let mut report = Report::new(rt.alloc(), file, output);
     let fault = match result {
         Ok(checked) => match find_moved(rt, file, &findings, checked.bytes, console) {
-            Ok(places) => return report.end_by(file, checked, &findings, &places, console),
+            Ok(places) => return report.end_by(checked, &findings, &places, console),
             Err(status) => {
                 return report.tell_all(&findings, console).unwrap_or(status);
             }
@@ -137,17 +136,13 @@ where
 /// Looks elsewhere in the recording for the codestreams that were found to be damaged: one place or none for each.
 /// Empty if none has a sum, or the recording can't be read once more. `end` is the offset at which the last one
 /// should end. On failure says why and returns the status.
-fn find_moved<R, E>(
+fn find_moved<R: Host, E: Outlet>(
     rt: &R,
     file: &str,
     findings: &[Finding],
     end: u64,
-    console: &mut Console<'_, E>,
-) -> Result<Vec<Option<u64>>, u8>
-where
-    R: Eprint + Files + AllocGlobal,
-    E: Outlet,
-{
+    console: &mut Console<E>,
+) -> Result<Vec<Option<u64>>, u8> {
     if findings.iter().all(|finding| finding.sum.is_none()) || !is_read_anew(rt, file) {
         return Ok(Vec::new(rt.alloc()));
     }
@@ -182,17 +177,13 @@ fn wanted_of(alloc: Global, findings: &[Finding]) -> Result<Vec<Wanted>, AllocEr
 
 /// Looks for codestreams in a recording: one place or none for each in `wanted`. On failure says why and returns the
 /// status.
-pub fn find_all<R, E>(
+pub fn find_all<R: Host, E: Outlet>(
     rt: &R,
     file: &str,
     wanted: &[Wanted],
     end: u64,
-    console: &mut Console<'_, E>,
-) -> Result<Vec<Option<u64>>, u8>
-where
-    R: Eprint + Files + AllocGlobal,
-    E: Outlet,
-{
+    console: &mut Console<E>,
+) -> Result<Vec<Option<u64>>, u8> {
     let mut recording = open_film(rt, file, console)?;
     match find_lent(rt.alloc(), &mut recording, wanted, end) {
         Ok(places) => Ok(places),
@@ -219,15 +210,14 @@ pub fn is_read_anew<R: Files>(rt: &R, file: &str) -> bool {
 }
 
 /// Looks for damage in a recording by its index, over any readers, with this number of workers that decode.
-fn check_lent<Rt: Threads + Sync, I: Feed, R: Feed, F: Findings>(
+fn check_lent<Rt: AllocGlobal + Threads + Sync, I: Feed, R: Feed, F: Findings>(
     rt: &Rt,
-    alloc: Global,
     workers: u8,
     index: &mut I,
     recording: &mut R,
     findings: &mut F,
 ) -> Result<Checked, CheckFault> {
-    let workers = usize::from(workers);
+    let (alloc, workers) = (rt.alloc(), usize::from(workers));
     if workers > 1 {
         check_by(rt, alloc, workers, index, recording, findings)
     } else {
@@ -244,17 +234,17 @@ fn is_of_index(fault: CheckFault) -> bool {
 }
 
 /// Looks for what can't be decoded in a recording, and says that no index is named.
-fn check_alone<R, L, E>(rt: &R, file: &str, lines: &mut L, console: &mut Console<'_, E>) -> u8
-where
-    R: Eprint + Files + AllocGlobal,
-    L: Outlet,
-    E: Outlet,
-{
+fn check_alone<R: Host, W: Write, E: Outlet>(program: Program<'_, R, W, E>, file: &str) -> u8 {
+    let Program {
+        rt,
+        output,
+        console,
+    } = program;
     let mut recording = match open_film(rt, file, console) {
         Ok(recording) => recording,
         Err(status) => return status,
     };
-    let mut report = Report::new(rt.alloc(), lines);
+    let mut report = Report::new(rt.alloc(), file, output);
     match decode_only(rt.alloc(), &mut recording, &mut report) {
         Ok(salvaged) => {
             let shown = Shown(file);
@@ -268,7 +258,7 @@ where
                 bytes: 0,
                 more: false,
             };
-            report.end(file, checked, 0, console)
+            report.end(checked, 0, console)
         }
         Err(fault) => conclude(file, Err(fault), &recording, None, console),
     }
@@ -285,17 +275,18 @@ fn decode_only<R: Feed, G: Gaps>(
 }
 
 /// Compares a recording, decoded by this number of workers, with its film, and says where they differ.
-pub fn verify_files<R, E>(
-    rt: &R,
+pub fn verify_files<R, W, E>(
+    program: Program<'_, R, W, E>,
     film: &str,
     recording: &str,
     workers: u8,
-    console: &mut Console<'_, E>,
 ) -> u8
 where
-    R: Eprint + Files + AllocGlobal + Threads + Sync,
+    R: Host + Threads + Sync,
+    W: Write,
     E: Outlet,
 {
+    let Program { rt, console, .. } = program;
     let mut images = match open_film(rt, film, console) {
         Ok(images) => images,
         Err(status) => return status,
@@ -328,7 +319,7 @@ fn verify_lent<Rt: Threads + Sync, F: Feed, R: Feed>(
 }
 
 /// Says how a recording differs from its film, if it does, and returns the status.
-fn say_verdict<E: Outlet>(recording: &str, verdict: Verdict, console: &mut Console<'_, E>) -> u8 {
+fn say_verdict<E: Outlet>(recording: &str, verdict: Verdict, console: &mut Console<E>) -> u8 {
     let recording = Shown(recording);
     match verdict {
         Verdict::Same(_frames) => return DONE,
@@ -350,7 +341,7 @@ fn say_difference<E: Outlet>(
     recording: Shown<'_>,
     number: u64,
     difference: Difference,
-    console: &mut Console<'_, E>,
+    console: &mut Console<E>,
 ) {
     match difference {
         Difference::Kinds(film, own) => {
@@ -381,15 +372,18 @@ fn kind_text(kind: Kind) -> &'static str {
 #[derive(Drop)]
 struct Report<'l, L> {
     alloc: Global,
+    /// The recording's name.
+    file: &'l str,
     lines: &'l mut L,
     /// The number of gaps reported so far.
     gaps: u64,
 }
 
 impl<'l, L: Outlet> Report<'l, L> {
-    fn new(alloc: Global, lines: &'l mut L) -> Report<'l, L> {
+    fn new(alloc: Global, file: &'l str, lines: &'l mut L) -> Report<'l, L> {
         Report {
             alloc,
+            file,
             lines,
             gaps: 0,
         }
@@ -406,14 +400,13 @@ impl<'l, L: Outlet> Report<'l, L> {
     /// the totals. Returns the status.
     fn end_by<E: Outlet>(
         &mut self,
-        file: &str,
         checked: Checked,
         findings: &[Finding],
         places: &[Option<u64>],
-        console: &mut Console<'_, E>,
+        console: &mut Console<E>,
     ) -> u8 {
         match self.write_all(findings, places) {
-            Ok(moved) => self.end(file, checked, moved, console),
+            Ok(moved) => self.end(checked, moved, console),
             Err(AllocError) => no_memory(console),
         }
     }
@@ -422,7 +415,7 @@ impl<'l, L: Outlet> Report<'l, L> {
     fn tell_all<E: Outlet>(
         &mut self,
         findings: &[Finding],
-        console: &mut Console<'_, E>,
+        console: &mut Console<E>,
     ) -> Option<u8> {
         match self.write_all(findings, &[]) {
             Ok(_moved) => None,
@@ -466,22 +459,16 @@ impl<'l, L: Outlet> Report<'l, L> {
     }
 
     /// Writes the totals of a check; `moved` of the damaged codestreams were found elsewhere. Returns the status.
-    fn end<E: Outlet>(
-        &mut self,
-        file: &str,
-        checked: Checked,
-        moved: u64,
-        console: &mut Console<'_, E>,
-    ) -> u8 {
-        match self.write_end(file, checked, moved) {
+    fn end<E: Outlet>(&mut self, checked: Checked, moved: u64, console: &mut Console<E>) -> u8 {
+        match self.write_end(checked, moved) {
             Ok(()) if checked.damaged == 0 && !checked.more => DONE,
             Ok(()) => FAILED,
             Err(AllocError) => no_memory(console),
         }
     }
 
-    fn write_end(&mut self, file: &str, checked: Checked, moved: u64) -> Result<(), AllocError> {
-        let file = Shown(file);
+    fn write_end(&mut self, checked: Checked, moved: u64) -> Result<(), AllocError> {
+        let file = Shown(self.file);
         let frames = checked.frames;
         let damaged = checked.damaged.saturating_sub(moved);
         if checked.more {

@@ -92,7 +92,7 @@ pub fn conclude<O, X, E>(
     outcome: Result<u64, X>,
     reader: &Reader<'_, O>,
     written: Option<Failed>,
-    console: &mut Console<'_, E>,
+    console: &mut Console<E>,
 ) -> u8
 where
     O: Opens,

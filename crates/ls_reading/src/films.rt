@@ -1,27 +1,23 @@
 //! The commands `list` and `code`, the latter with an index of its codestreams or without.
 use crate::cause::{Caused, conclude};
-use crate::indexing::{IndexFile, make_index};
+use crate::indexing::make_index;
 use ls_archive::{Follower, IndexFault, Indexing};
-use ls_console::{Console, FAILED, finish_lines, no_memory, open_film, say_index_end};
+use ls_console::{
+    FAILED, Host, MadeFile, Program, finish_lines, no_memory, open_film, say_index_end,
+};
 use ls_files::Locks;
 use ls_film::{FilmFault, code_film, list_film};
 use ls_frame::{Counted, Failed, Feed, Outlet};
 use std::alloc::Global;
 use std::io::{BufWriter, Write};
-use std::rt::Files;
 
 /// Lists a film, through a buffer.
-pub fn list<R, W, E>(
-    rt: &R,
-    file: &str,
-    output: &mut Counted<W>,
-    console: &mut Console<'_, E>,
-) -> u8
-where
-    R: Eprint + Files + AllocGlobal,
-    W: Write,
-    E: Outlet,
-{
+pub fn list<R: Host, W: Write, E: Outlet>(program: Program<'_, R, W, E>, file: &str) -> u8 {
+    let Program {
+        rt,
+        output,
+        console,
+    } = program;
     let Ok(buffered) = BufWriter::new(rt.alloc(), output) else {
         return no_memory(console);
     };
@@ -47,17 +43,12 @@ fn list_to<R: Feed, W: Outlet>(
 }
 
 /// Codes a film.
-pub fn code<R, W, E>(
-    rt: &R,
-    file: &str,
-    output: &mut Counted<W>,
-    console: &mut Console<'_, E>,
-) -> u8
-where
-    R: Eprint + Files + AllocGlobal,
-    W: Write,
-    E: Outlet,
-{
+pub fn code<R: Host, W: Write, E: Outlet>(program: Program<'_, R, W, E>, file: &str) -> u8 {
+    let Program {
+        rt,
+        output,
+        console,
+    } = program;
     let mut film = match open_film(rt, file, console) {
         Ok(film) => film,
         Err(status) => return status,
@@ -76,27 +67,31 @@ fn code_to<R: Feed, W: Outlet>(
 }
 
 /// Codes a film, and writes the index of its codestreams to a file.
-pub fn code_with_index<R, W, E>(
-    rt: &R,
-    file: &str,
-    index: &str,
-    output: &mut Counted<W>,
-    console: &mut Console<'_, E>,
-) -> u8
+pub fn code_with_index<R, W, E>(program: Program<'_, R, W, E>, file: &str, index: &str) -> u8
 where
-    R: Eprint + Files + AllocGlobal,
+    R: Host,
     R::File: Locks,
     W: Write,
     E: Outlet,
 {
+    let Program {
+        rt,
+        output,
+        console,
+    } = program;
     let mut film = match open_film(rt, file, console) {
         Ok(film) => film,
         Err(status) => return status,
     };
-    let IndexFile { target, mut keeper } = match make_index(rt, index, file, &film, console) {
+    let made = match make_index(rt, index, file, &film, console) {
         Ok(made) => made,
         Err(status) => return status,
     };
+    let MadeFile {
+        target,
+        mut keeper,
+        ..
+    } = made;
     let follower = Follower::new(rt.alloc(), Counted::new(target));
     let (result, follower, broken) = code_followed(rt.alloc(), &mut film, &mut *output, follower);
     let status = conclude(file, result, &film, output.last_failure(), console);

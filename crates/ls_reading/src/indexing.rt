@@ -1,15 +1,7 @@
 //! The file of an index that is written together with its recording.
-use ls_console::{Console, Reader, Shown, USAGE, say_unmade};
-use ls_files::{Keeper, Locks, Makes, Opener, Place, Target};
+use ls_console::{Console, Host, MadeFile, Reader, Shown, USAGE, make_file, say_unmade};
+use ls_files::{Keeper, Locks, Opener, Place};
 use ls_frame::Outlet;
-use std::rt::Files;
-
-/// The file of an index, and its keeper.
-#[derive(Drop)]
-pub struct IndexFile<'a, O: Makes> {
-    pub target: Target<'a, O>,
-    pub keeper: Keeper<O>,
-}
 
 /// Makes the file for the index of a film's codestreams. On failure says why and returns the status.
 pub fn make_index<'a, R, E>(
@@ -17,10 +9,10 @@ pub fn make_index<'a, R, E>(
     path: &'a str,
     file: &str,
     film: &Reader<'_, Opener<'_, R>>,
-    console: &mut Console<'_, E>,
-) -> Result<IndexFile<'a, Opener<'a, R>>, u8>
+    console: &mut Console<E>,
+) -> Result<MadeFile<'a, Opener<'a, R>>, u8>
 where
-    R: Eprint + Files + AllocGlobal,
+    R: Host,
     R::File: Locks,
     E: Outlet,
 {
@@ -33,18 +25,8 @@ where
         return Err(USAGE);
     }
     let alloc = rt.alloc();
-    let mut keeper = match Keeper::claim(alloc, Opener::new(rt), &place, None, false) {
-        Ok(keeper) => keeper,
-        Err(unmade) => return Err(say_unmade(path, unmade.fault, console)),
-    };
-    match keeper.make(alloc, path, None) {
-        Ok(targets) => {
-            if let Some(renamed) = keeper.renamed() {
-                console.mention(path, renamed);
-            }
-            let target = targets.recording;
-            Ok(IndexFile { target, keeper })
-        }
+    match Keeper::claim(alloc, Opener::new(rt), &place, None, false) {
+        Ok(keeper) => make_file(alloc, path, keeper, console),
         Err(unmade) => Err(say_unmade(path, unmade.fault, console)),
     }
 }

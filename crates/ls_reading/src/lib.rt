@@ -5,6 +5,18 @@
 //! runs an engine of the crates below over them, says on the console what stopped it, and returns the status that the
 //! program exits with.
 //!
+//! ```
+//! use ls_console::{Host, Program};
+//! use ls_frame::Outlet;
+//! use ls_reading::list;
+//! use std::io::Write;
+//!
+//! /// Lists a film, and answers the status.
+//! pub fn list_film<R: Host, W: Write, E: Outlet>(program: Program<'_, R, W, E>) -> u8 {
+//!     list(program, "film.pgm")
+//! }
+//! ```
+//!
 //! In reading order: `cause` (the causes of faults), `films` (`list` and `code`), `indexing` (the file of an index
 //! that is written together with its recording), `playing` (`play`), `recorded` (the recorded numbers of gaps, and
 //! lost frames), `archive` (`index`, `check` and `verify`), `replaying` (`replay`). No contract says what is written

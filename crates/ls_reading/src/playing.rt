@@ -1,29 +1,31 @@
 //! The command `play`: all of a recording, a part of it, or the intact frames of a damaged one.
 use crate::cause::conclude;
 use crate::recorded::Recorded;
-use ls_console::{Cause, Console, DONE, FAILED, Shown, explain, open_film};
+use ls_console::{Cause, Console, DONE, FAILED, Host, Program, Shown, explain, open_film};
 use ls_film::{MOST_FRAMES, Part, PartFault, play, play_by, play_part};
-use ls_frame::{Buffered, Counted, Feed, Outlet};
+use ls_frame::{Buffered, Feed, Outlet};
 use ls_salvage::{Gap, Gaps, ImageText, SalvageFault, Salvaged, salvage};
 use std::alloc::{AllocError, Global};
 use std::io::Write;
-use std::rt::Files;
 use std::thread::Threads;
 
 /// Plays a recording with this number of workers, or the part of it that is asked for.
 pub fn show<R, W, E>(
-    rt: &R,
+    program: Program<'_, R, W, E>,
     file: &str,
     part: Option<Part>,
     workers: u8,
-    output: &mut Counted<W>,
-    console: &mut Console<'_, E>,
 ) -> u8
 where
-    R: Eprint + Files + AllocGlobal + Threads + Sync,
+    R: Host + Threads + Sync,
     W: Write,
     E: Outlet,
 {
+    let Program {
+        rt,
+        output,
+        console,
+    } = program;
     let mut recording = match open_film(rt, file, console) {
         Ok(recording) => recording,
         Err(status) => return status,
@@ -72,18 +74,17 @@ fn play_frames<R: Feed, W: Outlet>(
 
 /// Plays the intact frames of a recording, and reports the gaps between them. With an index, gaps have the recorded
 /// frame numbers, and lost frames are reported too.
-pub fn show_whole<R, W, E>(
-    rt: &R,
-    file: &str,
-    index: Option<&str>,
-    output: &mut Counted<W>,
-    console: &mut Console<'_, E>,
-) -> u8
+pub fn show_whole<R, W, E>(program: Program<'_, R, W, E>, file: &str, index: Option<&str>) -> u8
 where
-    R: Eprint + Files + AllocGlobal,
+    R: Host,
     W: Write,
     E: Outlet,
 {
+    let Program {
+        rt,
+        output,
+        console,
+    } = program;
     let recorded = match index {
         Some(index) => match Recorded::find(rt, file, index, console) {
             Ok(recorded) => Some(recorded),
@@ -130,16 +131,16 @@ fn play_whole<R: Feed, W: Outlet, G: Gaps>(
 
 /// Reports the gaps of a file on standard error.
 #[derive(Drop)]
-struct SaidGaps<'f, 'c, 'e, E> {
+struct SaidGaps<'f, 'c, E> {
     file: &'f str,
-    console: &'c mut Console<'e, E>,
+    console: &'c mut Console<E>,
     /// The number of gaps reported so far.
     gaps: u64,
     /// The recorded frames, if an index gives them.
     recorded: Option<Recorded>,
 }
 
-impl<'f, 'c, 'e, E: Outlet> Gaps for SaidGaps<'f, 'c, 'e, E> {
+impl<'f, 'c, E: Outlet> Gaps for SaidGaps<'f, 'c, E> {
     ghost use Rattle.std.specs.Prelude.{None};
 
     ghost told = { λ _. None };

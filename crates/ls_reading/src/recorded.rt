@@ -2,11 +2,10 @@
 use crate::archive::{find_all, is_read_anew};
 use crate::cause::conclude;
 use ls_archive::{CheckFault, Wanted, read_index};
-use ls_console::{Console, FAILED, Shown, no_memory, open_film};
+use ls_console::{Console, FAILED, Host, Shown, no_memory, open_film};
 use ls_frame::{Feed, Outlet};
 use ls_salvage::Gap;
 use std::alloc::{AllocError, Global};
-use std::rt::Files;
 
 /// The recorded frames, and where they are in the recording now.
 #[derive(Drop)]
@@ -25,16 +24,12 @@ pub struct Recorded {
 
 impl Recorded {
     /// Finds the frames of an index in a recording. On failure says why and returns the status.
-    pub fn find<R, E>(
+    pub fn find<R: Host, E: Outlet>(
         rt: &R,
         file: &str,
         index: &str,
-        console: &mut Console<'_, E>,
-    ) -> Result<Recorded, u8>
-    where
-        R: Eprint + Files + AllocGlobal,
-        E: Outlet,
-    {
+        console: &mut Console<E>,
+    ) -> Result<Recorded, u8> {
         if !is_read_anew(rt, file) {
             let shown = Shown(file);
             console.say(format_args!("{shown}: can't be read twice, as --index asks for"));
@@ -161,7 +156,7 @@ impl Recorded {
     }
 
     /// Says which frames are lost, and whether any is.
-    pub fn say_lost<E: Outlet>(&self, file: &str, console: &mut Console<'_, E>) -> bool {
+    pub fn say_lost<E: Outlet>(&self, file: &str, console: &mut Console<E>) -> bool {
         let mut any = false;
         // The number of lost frames just before this one, in a row.
         let mut run: usize = 0;
@@ -180,7 +175,7 @@ impl Recorded {
 }
 
 /// Says that the `run` frames before the one of this number are lost, if `run` isn't 0.
-fn say_run<E: Outlet>(file: &str, number: usize, run: usize, console: &mut Console<'_, E>) {
+fn say_run<E: Outlet>(file: &str, number: usize, run: usize, console: &mut Console<E>) {
     if run == 0 {
         return;
     }
@@ -197,11 +192,11 @@ fn say_run<E: Outlet>(file: &str, number: usize, run: usize, console: &mut Conso
 }
 
 /// Reads the lines of an index with sums. On failure says what is wrong and returns the status.
-fn lines_of<R, E>(rt: &R, index: &str, console: &mut Console<'_, E>) -> Result<Vec<Wanted>, u8>
-where
-    R: Eprint + Files + AllocGlobal,
-    E: Outlet,
-{
+fn lines_of<R: Host, E: Outlet>(
+    rt: &R,
+    index: &str,
+    console: &mut Console<E>,
+) -> Result<Vec<Wanted>, u8> {
     let mut reader = open_film(rt, index, console)?;
     let lines = match read_lent(rt.alloc(), &mut reader) {
         Ok(lines) => lines,

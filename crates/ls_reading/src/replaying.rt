@@ -1,27 +1,24 @@
 //! The command `replay`: a queue's replies to the steps of a file.
-use ls_console::{Console, DONE, FAILED, Shown, finish_lines, misused, no_memory};
+use ls_console::{Console, DONE, FAILED, Host, Program, Shown, finish_lines, misused, no_memory};
 use ls_files::{Opener, Source};
 use ls_frame::{Counted, Outlet};
 use ls_queue::{QueueFault, Reply, replay};
 use ls_replay::{print_replies, read_steps, read_text};
 use std::alloc::Global;
 use std::io::{BufWriter, Write};
-use std::rt::Files;
 
 /// Writes the replies of a queue to the steps of a file, and returns the status.
-pub fn replay_file<R, W, E>(
-    rt: &R,
+pub fn replay_file<R: Host, W: Write, E: Outlet>(
+    program: Program<'_, R, W, E>,
     sources: u8,
     capacity: u32,
     file: &str,
-    output: &mut Counted<W>,
-    console: &mut Console<'_, E>,
-) -> u8
-where
-    R: Eprint + Files + AllocGlobal,
-    W: Write,
-    E: Outlet,
-{
+) -> u8 {
+    let Program {
+        rt,
+        output,
+        console,
+    } = program;
     match replies_to(rt, sources, capacity, file, console) {
         Ok(replies) => write_replies(rt.alloc(), file, &replies, output, console),
         Err(status) => status,
@@ -30,17 +27,13 @@ where
 
 /// The replies to the steps of a file. On failure says why and returns the status. The file is read before the
 /// numbers are checked.
-fn replies_to<R, E>(
+fn replies_to<R: Host, E: Outlet>(
     rt: &R,
     sources: u8,
     capacity: u32,
     file: &str,
-    console: &mut Console<'_, E>,
-) -> Result<Vec<Reply>, u8>
-where
-    R: Eprint + Files + AllocGlobal,
-    E: Outlet,
-{
+    console: &mut Console<E>,
+) -> Result<Vec<Reply>, u8> {
     let alloc = rt.alloc();
     let text = read_steps_text(rt, file, console)?;
     let steps = match read_steps(alloc, &text) {
@@ -62,11 +55,11 @@ where
 }
 
 /// Reads the bytes of a steps file. On failure says why and returns the status.
-fn read_steps_text<R, E>(rt: &R, file: &str, console: &mut Console<'_, E>) -> Result<Vec<u8>, u8>
-where
-    R: Eprint + Files + AllocGlobal,
-    E: Outlet,
-{
+fn read_steps_text<R: Host, E: Outlet>(
+    rt: &R,
+    file: &str,
+    console: &mut Console<E>,
+) -> Result<Vec<u8>, u8> {
     let mut reader = match Source::open(Opener::new(rt), file) {
         Ok(source) => Counted::new(source),
         Err(fault) => {
@@ -90,7 +83,7 @@ fn write_replies<W, E>(
     file: &str,
     replies: &[Reply],
     output: &mut Counted<W>,
-    console: &mut Console<'_, E>,
+    console: &mut Console<E>,
 ) -> u8
 where
     W: Write,

@@ -2,7 +2,6 @@
 pub mod report;
 mod table;
 
-use crate::film::Film;
 use crate::recording::{FilmTrack, Recorded};
 use crate::watching::Watch;
 use ls_archive::{Follower, IndexFault};
@@ -11,8 +10,9 @@ use ls_console::{
     Cause, Console, DONE, EndedIndex, FAILED, Shown, cause_of_input, explain, no_memory,
     say_index_end, say_unsynced, write_text,
 };
-use ls_files::{Keeper, Makes, Opens, Targets};
+use ls_files::{Makes, Opens, Target, Targets};
 use ls_frame::{Counted, Failed, Outlet};
+use ls_opening::Film;
 use ls_recorder::{LaneFault, Track};
 use std::alloc::{AllocError, Global};
 use std::io::Write;
@@ -23,9 +23,9 @@ use std::time::Clock;
 pub fn end_films<'a, R, O, E>(
     alloc: Global,
     watch: &Watch<'_, R>,
-    films: &mut [Film<'_, Keeper<O>>],
+    films: &mut [Film<'_, O>],
     recorded: Recorded<'a, O>,
-    console: &mut Console<'_, E>,
+    console: &mut Console<E>,
 ) -> Result<Vec<Targets<'a, O>>, u8>
 where
     R: Clock,
@@ -52,9 +52,9 @@ where
 fn end_tracks<'a, R, O, E>(
     alloc: Global,
     watch: &Watch<'_, R>,
-    films: &mut [Film<'_, Keeper<O>>],
+    films: &mut [Film<'_, O>],
     tracks: Vec<FilmTrack<'a, O>>,
-    console: &mut Console<'_, E>,
+    console: &mut Console<E>,
 ) -> Result<Vec<Targets<'a, O>>, AllocError>
 where
     R: Clock,
@@ -75,9 +75,9 @@ where
 /// Says the number of frames of each whole recording, unless that was said. Returns the status of all.
 pub fn say_counts<O, W, E>(
     alloc: Global,
-    films: &[Film<'_, Keeper<O>>],
+    films: &[Film<'_, O>],
     output: &mut Counted<W>,
-    console: &mut Console<'_, E>,
+    console: &mut Console<E>,
 ) -> u8
 where
     O: Makes,
@@ -128,61 +128,74 @@ fn is_told(told: &[bool], film: usize) -> bool {
 /// Settles a film's files, if they aren't settled yet, and says why it stopped, if it did and that wasn't said.
 /// Returns its files.
 fn say_end<'a, O, E>(
-    film: &mut Film<'_, Keeper<O>>,
+    film: &mut Film<'_, O>,
     track: FilmTrack<'a, O>,
     written: u64,
     was_told: bool,
-    console: &mut Console<'_, E>,
+    console: &mut Console<E>,
 ) -> Targets<'a, O>
 where
     O: Makes + Copy + Drop,
     E: Outlet,
 {
-    let names = film.names;
-    let file = names.file;
     let Track {
         reader,
         writer,
         result,
     } = track;
-    let synced = film.settle(result, written);
+    let names = film.names;
+    let file = names.file;
+    let synced = film.settle(result.is_err(), written);
     let (writer, follower, broken) = writer.into_parts();
-    let failure = writer.last_failure();
+    if let Err(fault) = result {
+        if !was_told {
+            let shown = Shown(file);
+            console.say(format_args!("{shown}: {fault}"));
+        }
+        match cause_of(fault) {
+            Cause::Writing => console.blame_writing(file, writer.last_failure(), Some(written)),
+            cause => explain(file, cause, &reader, None, console),
+        }
+    }
     let recording = writer.into_inner();
     match (result, synced.recording) {
         (Ok(frames), Ok(())) => film.frames = Some(frames),
         (Ok(_), Err(failure)) => say_unsynced(file, &recording, failure, console),
-        (Err(fault), _) => {
-            if !was_told {
-                let shown = Shown(file);
-                console.say(format_args!("{shown}: {fault}"));
-            }
-            match cause_of(fault) {
-                Cause::Writing => console.blame_writing(file, failure, Some(written)),
-                cause => explain(file, cause, &reader, None, console),
-            }
-        }
+        (Err(_), _) => {}
     }
     if let Some(name) = film.left_over() {
         console.mention(names.recording.as_str(), name);
     }
     let index = match follower {
-        Some(follower) => {
-            let broken = broken.map(|fault| (fault, cause_of_index(fault)));
-            let index = follower.into_inner();
-            let EndedIndex { is_whole, target } = say_index_end(
-                names.index.as_str(),
-                index,
-                synced.index,
-                broken,
-                console,
-            );
-            film.is_index_broken = !is_whole;
-            Some(target)
-        }
+        Some(follower) => Some(end_index(film, follower, synced.index, broken, console)),
         None => None,
     };
     Targets { recording, index }
+}
+
+/// Says why the index of a film isn't whole, if it isn't, and returns its file.
+fn end_index<'a, O, E>(
+    film: &mut Film<'_, O>,
+    follower: Follower<Counted<Target<'a, O>>>,
+    synced: Result<(), Failed>,
+    broken: Option<IndexFault>,
+    console: &mut Console<E>,
+) -> Target<'a, O>
+where
+    O: Makes + Copy + Drop,
+    E: Outlet,
+{
+    let broken = broken.map(|fault| (fault, cause_of_index(fault)));
+    let path = film.names.index.as_str();
+    let EndedIndex { is_whole, target } = say_index_end(
+        path,
+        follower.into_inner(),
+        synced,
+        broken,
+        console,
+    );
+    film.is_index_broken = !is_whole;
+    target
 }
 
 /// The cause of an index's fault.
@@ -208,7 +221,7 @@ pub fn say_count<W: Write, E: Outlet>(
     file: &str,
     frames: u64,
     output: &mut Counted<W>,
-    console: &mut Console<'_, E>,
+    console: &mut Console<E>,
 ) -> u8 {
     let file = Shown(file);
     match format!(in alloc; "{file}: {frames} frames\n") {

@@ -1,22 +1,43 @@
-//! The command `record`: opens films, records them side by side and watches them meanwhile, and says how each ended.
+//! The command `record`: records films side by side and watches them meanwhile, and says how each ended.
 //!
 //! What it hands on: `record_films`, which returns the status that the program exits with. The recording itself is
-//! done by `ls_recorder::record`; this crate makes and settles the files, and writes progress, results and the
-//! report.
+//! done by `ls_recorder::record`, and the films and their files are opened by `ls_opening`; this crate writes progress,
+//! results and the report.
 //!
-//! In reading order: `recording` (the command), `names` (the names of films and of the files made for them), `film` (a
-//! film, from its opening to its end), `opening` (opens the films and makes the files of their recordings), `refusal`
-//! (why no film is recorded), `watching` (counts and times of films while they are recorded, their files settled as
-//! each ends, and progress), `ending` (says how each film ended, and writes the report). No contract says what is
-//! said; the tests of the whole program show it.
+//! ```
+//! use ls_command::{Request, read_words};
+//! use ls_console::{Host, Program, USAGE};
+//! use ls_files::{Locks, Opener};
+//! use ls_frame::Outlet;
+//! use ls_recording::record_films;
+//! use std::io::Write;
+//! use std::sync::Wait;
+//! use std::thread::Threads;
+//! use std::time::Clock;
+//!
+//! /// Records the films that words ask for, and answers the status.
+//! pub fn record<R, W, E>(program: Program<'_, R, W, E>, words: &[String]) -> u8
+//! where
+//!     R: Host + Clock + Threads + Wait + Sync,
+//!     R::File: Send + Locks,
+//!     W: Write + Send,
+//!     E: Outlet + Send,
+//! {
+//!     let rt = program.rt;
+//!     match read_words(rt.alloc(), words) {
+//!         Ok((Request::Record(asked), _reasons)) => record_films(program, Opener::new(rt), asked),
+//!         _ => USAGE,
+//!     }
+//! }
+//! ```
+//!
+//! In reading order: `recording` (the command), `watching` (counts and times of films while they are recorded, their
+//! files settled as each ends, and progress), `ending` (says how each film ended, and writes the report). No contract
+//! says what is said; the tests of the whole program show it.
 #![tactic(auto)]
 
 mod ending;
-mod film;
-mod names;
-mod opening;
 mod recording;
-mod refusal;
 mod watching;
 
 pub use recording::record_films;

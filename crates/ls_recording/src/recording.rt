@@ -1,17 +1,15 @@
 //! The command `record`: opens the films, records them, and says how each ended.
 use crate::ending::report::{table_of, write_report};
 use crate::ending::{end_films, release, say_counts};
-use crate::names::names_once;
-use crate::opening::{Devices, Opened, Writer, open_films};
 use crate::watching::Watch;
 use crate::watching::progress::Teller;
 use ls_command::Recording as Asked;
-use ls_console::{Console, Reader, no_memory};
+use ls_console::{Host, Program, Reader, no_memory};
 use ls_files::Makes;
-use ls_frame::{Counted, Outlet};
+use ls_frame::Outlet;
+use ls_opening::{Devices, Opened, Writer, names_once, open_films};
 use ls_recorder::{RecordFault, Recording as Tracks, Track, record};
 use std::io::Write;
-use std::rt::Files;
 use std::sync::Wait;
 use std::thread;
 use std::thread::Threads;
@@ -28,82 +26,68 @@ pub type Recorded<'a, O> = Result<
 
 /// Records the films that are asked for, says how each ended, and returns the status. On a terminal progress is always
 /// shown.
-pub fn record_films<R, O, W, E>(
-    rt: &R,
-    opener: O,
-    asked: Asked<'_>,
-    output: &mut Counted<W>,
-    console: &mut Console<'_, E>,
-) -> u8
+pub fn record_films<R, O, W, E>(program: Program<'_, R, W, E>, opener: O, asked: Asked<'_>) -> u8
 where
-    R: Files + AllocGlobal + Clock + Threads + Wait + Sync,
+    R: Host + Clock + Threads + Wait + Sync,
     O: Makes<File = R::File> + Copy + Send,
     R::File: Send,
     W: Write + Send,
     E: Outlet + Send,
 {
-    let alloc = rt.alloc();
-    let names = match names_once(alloc, &asked, console.columns()) {
+    let columns = program.console.columns();
+    let names = match names_once(program.rt.alloc(), &asked, columns) {
         Ok(names) => names,
-        Err(refusal) => return refusal.say(console),
+        Err(refusal) => return refusal.say(program.console),
     };
-    let opened = match open_films(rt, opener, &asked, &names, console) {
-        Ok(opened) => opened,
-        Err(refusal) => return refusal.say(console),
-    };
-    record_opened(rt, &asked, opened, output, console)
+    match open_films(program.rt, opener, &asked, &names, program.console) {
+        Ok(opened) => record_opened(program, &asked, opened),
+        Err(refusal) => refusal.say(program.console),
+    }
 }
 
-/// Records films whose files are open, while another thread watches them, says how each ended, and returns the status.
-/// If no thread can be started to watch, the films' files are settled at the end.
+/// Records films whose files are open, says how each ended, writes the report, and returns the status.
 fn record_opened<'a, R, O, W, E>(
-    rt: &R,
+    program: Program<'_, R, W, E>,
     asked: &'a Asked<'a>,
     opened: Opened<'a, O>,
-    output: &mut Counted<W>,
-    console: &mut Console<'_, E>,
 ) -> u8
 where
-    R: AllocGlobal + Clock + Threads + Wait + Sync,
+    R: Host + Clock + Threads + Wait + Sync,
     O: Makes + Copy + Send,
     O::File: Send,
     W: Write + Send,
     E: Outlet + Send,
 {
-    let alloc = rt.alloc();
+    let Program {
+        rt,
+        output,
+        console,
+    } = program;
     let Opened {
         mut films,
         devices,
         report,
     } = opened;
     let is_telling = asked.progress || console.is_terminal();
-    let Ok(watch) = Watch::new(rt, alloc, films.len(), is_telling || report.is_some()) else {
+    let is_timed = is_telling || report.is_some();
+    let Ok(watch) = Watch::new(rt, rt.alloc(), films.len(), is_timed) else {
         return no_memory(console);
     };
     let teller = Teller {
-        rt,
-        alloc,
+        program: Program {
+            rt,
+            output: &mut *output,
+            console: &mut *console,
+        },
         watch: &watch,
         files: &asked.files,
         films: &mut films,
-        output,
-        console,
         is_telling,
     };
-    let (workers, capacity, window) = (asked.workers, asked.capacity, asked.window);
-    // The first of the two is called in a thread of its own, or else after the second: then it has nothing left to do.
-    let ((), recorded) = thread::join(
-        rt,
-        move || teller.tell(),
-        || {
-            let recorded = record(rt, alloc, devices, workers, capacity, window, &watch);
-            watch.end();
-            recorded
-        },
-    );
-    let status = match end_films(alloc, &watch, &mut films, recorded, console) {
+    let recorded = record_watched(rt, asked, &watch, teller, devices);
+    let status = match end_films(rt.alloc(), &watch, &mut films, recorded, console) {
         Ok(files) => {
-            let status = say_counts(alloc, &films, output, console);
+            let status = say_counts(rt.alloc(), &films, output, console);
             release(files);
             status
         }
@@ -113,9 +97,39 @@ where
     drop(films);
     match report {
         Some(report) => {
-            let table = table_of(alloc, &watch, &asked.files, workers);
+            let table = table_of(rt.alloc(), &watch, &asked.files, asked.workers);
             status.max(write_report(report, table, console))
         }
         None => status,
     }
+}
+
+/// Records films while another thread watches them. If no thread can be started to watch, nobody does.
+fn record_watched<'a, R, O, W, E>(
+    rt: &R,
+    asked: &Asked<'_>,
+    watch: &Watch<'_, R>,
+    teller: Teller<'_, 'a, R, O, W, E>,
+    devices: Vec<Devices<'a, O>>,
+) -> Recorded<'a, O>
+where
+    R: AllocGlobal + Clock + Threads + Wait + Sync,
+    O: Makes + Copy + Send,
+    O::File: Send,
+    W: Write + Send,
+    E: Outlet + Send,
+{
+    let alloc = rt.alloc();
+    let (workers, capacity, window) = (asked.workers, asked.capacity, asked.window);
+    // The first of the two is called in a thread of its own, or else after the second: then it has nothing left to do.
+    let ((), recorded) = thread::join(
+        rt,
+        move || teller.tell(),
+        || {
+            let recorded = record(rt, alloc, devices, workers, capacity, window, watch);
+            watch.end();
+            recorded
+        },
+    );
+    recorded
 }

@@ -1,6 +1,7 @@
 //! Watches a recording while it goes on: a gate that counts and takes times, so that each film's files are settled
 //! when it ends, and for progress and a report.
 mod film;
+mod line;
 mod pace;
 pub mod progress;
 pub mod seen;

@@ -1,10 +1,10 @@
 //! The report of a recording: a table of how each film went, and how busy the workers were.
 use super::table::{add_film, add_workers, head};
-use crate::film::failed_of;
 use crate::watching::Watch;
 use ls_console::{Console, DONE, FAILED, MadeFile, Shown};
 use ls_files::Makes;
 use ls_frame::{Counted, Outlet, write_bytes};
+use ls_opening::failed_of;
 use std::alloc::{AllocError, Global};
 use std::time::Clock;
 
@@ -13,7 +13,7 @@ use std::time::Clock;
 pub fn write_report<O, E>(
     report: MadeFile<'_, O>,
     table: Result<String, AllocError>,
-    console: &mut Console<'_, E>,
+    console: &mut Console<E>,
 ) -> u8
 where
     O: Makes + Copy + Drop,

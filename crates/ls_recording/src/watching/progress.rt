@@ -1,12 +1,13 @@
 //! The thread that watches a recording: it settles each film's files as soon as the film ends, and says progress on
 //! standard error: on a terminal in a progress line, elsewhere as lines.
 use super::Watch;
-use super::pace::{Pace, line_of};
+use super::line::line_of;
+use super::pace::Pace;
 use crate::ending::say_count;
-use crate::film::Film;
-use ls_console::{Console, Shown};
-use ls_files::{Keeper, Makes};
+use ls_console::{Console, Program, Shown};
+use ls_files::Makes;
 use ls_frame::{Counted, Outlet};
+use ls_opening::Film;
 use std::alloc::{AllocError, Global};
 use std::io::Write;
 use std::sync::Wait;
@@ -17,22 +18,19 @@ const DUE: u64 = 450_000_000;
 
 /// Watches films while they are recorded, and says their progress, if that is wanted.
 #[derive(Drop)]
-pub struct Teller<'s, 'a, 'e, R, O: Makes, W, E> {
-    pub rt: &'s R,
-    pub alloc: Global,
+pub struct Teller<'s, 'a, R, O: Makes, W, E> {
+    pub program: Program<'s, R, W, E>,
     pub watch: &'s Watch<'s, R>,
     /// The films' names.
     pub files: &'s [&'s str],
-    pub films: &'s mut [Film<'a, Keeper<O>>],
-    pub output: &'s mut Counted<W>,
-    pub console: &'s mut Console<'e, E>,
+    pub films: &'s mut [Film<'a, O>],
     /// Whether progress is said.
     pub is_telling: bool,
 }
 
-impl<'s, 'a, 'e, R, O, W, E> Teller<'s, 'a, 'e, R, O, W, E>
+impl<'s, 'a, R, O, W, E> Teller<'s, 'a, R, O, W, E>
 where
-    R: Wait + Clock,
+    R: AllocGlobal + Clock + Wait,
     O: Makes + Copy + Drop,
     W: Write,
     E: Outlet,
@@ -43,43 +41,114 @@ where
     /// If memory runs out at the beginning, does nothing; later, what it ran out for isn't said that time.
     pub fn tell(self) {
         let Teller {
-            rt,
-            alloc,
+            program,
             watch,
             files,
             films,
-            output,
-            console,
             is_telling,
         } = self;
-        let Ok(mut paces) = paces_for(alloc, files.len()) else {
+        let Program {
+            rt,
+            output,
+            console,
+        } = program;
+        let alloc = rt.alloc();
+        let Ok(mut progress) = Progress::new(alloc, files, watch.now()) else {
             return;
         };
-        let mut said = watch.now();
-        let mut lines: usize = 0;
         for _ in rt.forever() {
             watch.wait(longest_wait(is_telling));
             if watch.is_over() {
                 break;
             }
             settle_ended(watch, films);
-            if !is_telling {
-                continue;
-            }
-            tell_news(watch, files, console);
-            tell_counts(alloc, watch, films, output, console);
-            let now = watch.now();
-            let time = now.saturating_sub(said);
-            if time >= DUE {
-                let _refused = tell_paces(alloc, watch, files, &mut paces, now, time, console);
-                if console.is_terminal() {
-                    let _refused = show_line(alloc, files, &paces, lines, console);
-                }
-                lines = lines.wrapping_add(1);
-                said = now;
+            if is_telling {
+                tell_news(watch, files, console);
+                tell_counts(alloc, watch, films, output, console);
+                progress.tell(watch, console);
             }
         }
         console.clear();
+    }
+}
+
+/// The progress of all films, as it was said last.
+#[derive(Drop)]
+struct Progress<'s> {
+    alloc: Global,
+    /// The films' names.
+    files: &'s [&'s str],
+    paces: Vec<Pace>,
+    /// When it was said last.
+    said: u64,
+    /// The number of lines that were shown before.
+    lines: usize,
+}
+
+impl<'s> Progress<'s> {
+    /// The progress before the first look, which is at the time `now`.
+    fn new(alloc: Global, files: &'s [&'s str], now: u64) -> Result<Progress<'s>, AllocError> {
+        let mut paces = Vec::new(alloc);
+        for _file in files {
+            paces.push(Pace::new(alloc))?;
+        }
+        Ok(Progress {
+            alloc,
+            files,
+            paces,
+            said: now,
+            lines: 0,
+        })
+    }
+
+    /// Says how far each film is, if that is due: on a terminal in a line, elsewhere of each film whose progress in
+    /// words has changed.
+    fn tell<R: Clock, E: Outlet>(&mut self, watch: &Watch<'_, R>, console: &mut Console<E>) {
+        let now = watch.now();
+        let time = now.saturating_sub(self.said);
+        if time >= DUE {
+            let _refused = self.look(watch, now, time, console);
+            if console.is_terminal() {
+                let _refused = self.show_line(console);
+            }
+            self.lines = self.lines.wrapping_add(1);
+            self.said = now;
+        }
+    }
+
+    /// Looks at the progress of each film, `time` nanoseconds after the last look. Where there is no terminal, says it
+    /// if its words have changed.
+    fn look<R: Clock, E: Outlet>(
+        &mut self,
+        watch: &Watch<'_, R>,
+        now: u64,
+        time: u64,
+        console: &mut Console<E>,
+    ) -> Result<(), AllocError> {
+        for (film, (file, pace)) in self.files.iter().zip(self.paces.iter_mut()).enumerate() {
+            let Some(seen) = watch.seen(film) else {
+                continue;
+            };
+            let has_news = pace.step(self.alloc, &seen, now, time)?;
+            if has_news && !console.is_terminal() {
+                let (file, text) = (Shown(file), pace.text());
+                console.say(format_args!("{file}: {text}"));
+            }
+        }
+        Ok(())
+    }
+
+    /// Shows the progress of all films in a line.
+    fn show_line<E: Outlet>(&self, console: &mut Console<E>) -> Result<(), AllocError> {
+        let line = line_of(
+            self.alloc,
+            self.files,
+            &self.paces,
+            self.lines,
+            console.columns(),
+        )?;
+        console.show(&line);
+        Ok(())
     }
 }
 
@@ -94,7 +163,7 @@ fn longest_wait(is_telling: bool) -> Duration {
 
 /// Settles the files of each film that has ended since, and removes earlier files that the recordings of the others
 /// have replaced.
-fn settle_ended<R, O>(watch: &Watch<'_, R>, films: &mut [Film<'_, Keeper<O>>])
+fn settle_ended<R, O>(watch: &Watch<'_, R>, films: &mut [Film<'_, O>])
 where
     R: Clock,
     O: Makes + Copy + Drop,
@@ -103,7 +172,7 @@ where
         let written = watch.written(number);
         match watch.ended(number) {
             Some(result) => {
-                let _synced = film.settle(result, written);
+                let _synced = film.settle(result.is_err(), written);
             }
             None => film.replace(written),
         }
@@ -114,9 +183,9 @@ where
 fn tell_counts<R, O, W, E>(
     alloc: Global,
     watch: &Watch<'_, R>,
-    films: &mut [Film<'_, Keeper<O>>],
+    films: &mut [Film<'_, O>],
     output: &mut Counted<W>,
-    console: &mut Console<'_, E>,
+    console: &mut Console<E>,
 )
 where
     R: Clock,
@@ -136,61 +205,12 @@ where
     }
 }
 
-fn paces_for(alloc: Global, films: usize) -> Result<Vec<Pace>, AllocError> {
-    let mut paces = Vec::new(alloc);
-    for _film in 0..films {
-        paces.push(Pace::new(alloc))?;
-    }
-    Ok(paces)
-}
-
 /// Says why each film stopped that has stopped since.
-fn tell_news<R: Clock, E: Outlet>(
-    watch: &Watch<'_, R>,
-    files: &[&str],
-    console: &mut Console<'_, E>,
-) {
+fn tell_news<R: Clock, E: Outlet>(watch: &Watch<'_, R>, files: &[&str], console: &mut Console<E>) {
     for (film, file) in files.iter().enumerate() {
         if let Some(fault) = watch.news(film) {
             let file = Shown(file);
             console.say(format_args!("{file}: {fault}"));
         }
     }
-}
-
-/// Looks at the progress of each film, `time` nanoseconds after the last look. Where there is no terminal, says it if
-/// its words have changed.
-fn tell_paces<R: Clock, E: Outlet>(
-    alloc: Global,
-    watch: &Watch<'_, R>,
-    files: &[&str],
-    paces: &mut Vec<Pace>,
-    now: u64,
-    time: u64,
-    console: &mut Console<'_, E>,
-) -> Result<(), AllocError> {
-    for (film, (file, pace)) in files.iter().zip(paces.iter_mut()).enumerate() {
-        let Some(seen) = watch.seen(film) else {
-            continue;
-        };
-        let has_news = pace.step(alloc, &seen, now, time)?;
-        if has_news && !console.is_terminal() {
-            let (file, text) = (Shown(file), pace.text());
-            console.say(format_args!("{file}: {text}"));
-        }
-    }
-    Ok(())
-}
-
-/// Shows the progress of all films in a line, after `lines` lines before.
-fn show_line<E: Outlet>(
-    alloc: Global,
-    files: &[&str],
-    paces: &[Pace],
-    lines: usize,
-    console: &mut Console<'_, E>,
-) -> Result<(), AllocError> {
-    let line = line_of(alloc, files, paces, lines, console.columns())?;
-    console.show(&line);
-    Ok(())
 }

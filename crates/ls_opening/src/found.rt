@@ -1,10 +1,40 @@
-//! Which files of the films are duplicates, whatever they are called.
-use crate::film::Film;
-use ls_files::Place;
+//! Where films and the places of their files are, and which of them are duplicates, whatever they are called.
+use crate::names::Names;
+use ls_files::{Identity, Place, Spot};
+use std::rt::Files;
+
+/// A film that was found, before anything is locked.
+#[derive(Clone, Copy)]
+pub struct Found<'a> {
+    pub names: &'a Names<'a>,
+    /// The film's file, and the folder and name at which it is.
+    identity: Option<Identity>,
+    spot: Option<Spot<'a>>,
+    /// The places of its recording and of the index of that.
+    pub place: Place<'a>,
+    pub index: Place<'a>,
+}
+
+impl<'a> Found<'a> {
+    /// The film of this identity: looks at where it is, and at the places of its recording and index.
+    pub fn look<R: Files + AllocGlobal>(
+        rt: &R,
+        names: &'a Names<'a>,
+        identity: Option<Identity>,
+    ) -> Found<'a> {
+        Found {
+            names,
+            identity,
+            spot: Spot::of(rt, names.file),
+            place: Place::of(rt, names.recording.as_str()),
+            index: Place::of(rt, names.index.as_str()),
+        }
+    }
+}
 
 /// The first film whose recording or index would be the same file as another's, or that is another's recording or an
 /// index, or into which a recording or an index would be written.
-pub fn written_twice<'a>(films: &[Film<'a, ()>], replace: bool) -> Option<&'a str> {
+pub fn written_twice<'a>(films: &[Found<'a>], replace: bool) -> Option<&'a str> {
     for (place, film) in films.iter().enumerate() {
         for (other, one) in films.iter().enumerate() {
             if is_overwritten(film, one, replace)
@@ -19,7 +49,7 @@ pub fn written_twice<'a>(films: &[Film<'a, ()>], replace: bool) -> Option<&'a st
 }
 
 /// Whether the recording of `other` would be written into this film.
-fn is_overwritten(film: &Film<'_, ()>, other: &Film<'_, ()>, replace: bool) -> bool {
+fn is_overwritten(film: &Found<'_>, other: &Found<'_>, replace: bool) -> bool {
     match film.identity {
         Some(identity) => other.place.would_write_into(identity, replace),
         None => false,
@@ -28,26 +58,26 @@ fn is_overwritten(film: &Film<'_, ()>, other: &Film<'_, ()>, replace: bool) -> b
 
 /// Whether two films have the same recording or the same index, or the first is where the other's recording is to be
 /// made.
-fn are_one(film: &Film<'_, ()>, other: &Film<'_, ()>) -> bool {
+fn are_one(film: &Found<'_>, other: &Found<'_>) -> bool {
     film.place.is_one_with(&other.place)
         || (film.spot.is_some() && film.spot == other.place.spot())
         || (other.names.is_indexed && has_index_at(film, &other.index))
 }
 
 /// Whether a film's index is to be made at this place.
-pub fn has_index_at(film: &Film<'_, ()>, place: &Place<'_>) -> bool {
+pub fn has_index_at(film: &Found<'_>, place: &Place<'_>) -> bool {
     film.names.is_indexed && film.index.is_one_with(place)
 }
 
 /// Whether the index of `other` would be the same file as this film's recording, is where the film is, or would be
 /// written into the film.
-fn meets_index(film: &Film<'_, ()>, other: &Film<'_, ()>, replace: bool) -> bool {
+fn meets_index(film: &Found<'_>, other: &Found<'_>, replace: bool) -> bool {
     other.names.is_indexed && is_met(film, &other.index, replace)
 }
 
 /// Whether a report or an index would be the same file as a film's recording, is where the film is, or would be
 /// written into the film.
-pub fn is_met(film: &Film<'_, ()>, place: &Place<'_>, replace: bool) -> bool {
+pub fn is_met(film: &Found<'_>, place: &Place<'_>, replace: bool) -> bool {
     film.place.is_one_with(place)
         || (film.spot.is_some() && film.spot == place.spot())
         || film
@@ -58,18 +88,18 @@ pub fn is_met(film: &Film<'_, ()>, place: &Place<'_>, replace: bool) -> bool {
 /// Whether a film's index is claimed with its recording: if one is made; and if none is, so that an existing one is
 /// renamed with the recording, unless the recording is written into a pipe, a device or an open file, or the index is
 /// one of the films or the report.
-pub fn has_index(film: &Film<'_, ()>, films: &[Film<'_, ()>], report: Option<&Place<'_>>) -> bool {
+pub fn has_index(film: &Found<'_>, films: &[Found<'_>], report: Option<&Place<'_>>) -> bool {
     film.names.is_indexed || !(film.place.is_written_into() || is_given(&film.index, films, report))
 }
 
 /// Whether the file at a place is one of the films or the report.
-fn is_given(place: &Place<'_>, films: &[Film<'_, ()>], report: Option<&Place<'_>>) -> bool {
+fn is_given(place: &Place<'_>, films: &[Found<'_>], report: Option<&Place<'_>>) -> bool {
     films.iter().any(|film| is_at(film, place))
         || report.is_some_and(|report| report.is_one_with(place))
 }
 
 /// Whether a film is at a place.
-fn is_at(film: &Film<'_, ()>, place: &Place<'_>) -> bool {
+fn is_at(film: &Found<'_>, place: &Place<'_>) -> bool {
     (film.spot.is_some() && film.spot == place.spot())
         || (film.identity.is_some() && film.identity == place.identity())
 }

@@ -1,25 +1,18 @@
 //! A film that is recorded, from the opening of its file until its recording has ended.
+use crate::found::Found;
 use crate::names::Names;
 use crate::refusal::Refusal;
 use ls_console::Console;
-use ls_files::{Identity, Keeper, Makes, Place, Spot, Targets, Unmade};
+use ls_files::{Keeper, Makes, Targets, Unmade};
 use ls_frame::{Failed, Outlet};
-use ls_recorder::LaneFault;
 use std::alloc::Global;
 use std::io;
-use std::rt::Files;
 
-/// A film. `K` is `Keeper`, which holds the files that are made for it; or `()` until existing files are locked.
+/// A film, and the files that are made for it.
 #[derive(Drop)]
-pub struct Film<'a, K> {
+pub struct Film<'a, O: Makes> {
     pub names: &'a Names<'a>,
-    /// The film's file, and the folder and name at which it is.
-    pub identity: Option<Identity>,
-    pub spot: Option<Spot<'a>>,
-    /// The places of its recording and of the index of that.
-    pub place: Place<'a>,
-    pub index: Place<'a>,
-    keeper: K,
+    keeper: Keeper<O>,
     /// Whether the recording and its index are on the disk, once the film has ended.
     synced: Option<Synced>,
     /// The failure to sync the recording while it went on. (The system says so only once.)
@@ -39,44 +32,20 @@ pub struct Synced {
     pub index: Result<(), Failed>,
 }
 
-impl<'a> Film<'a, ()> {
-    /// The film of this identity: looks at where it is, and at the places of its recording and index.
-    pub fn look<R: Files + AllocGlobal>(
-        rt: &R,
-        names: &'a Names<'a>,
-        identity: Option<Identity>,
-    ) -> Film<'a, ()> {
-        Film {
-            names,
-            identity,
-            spot: Spot::of(rt, names.file),
-            place: Place::of(rt, names.recording.as_str()),
-            index: Place::of(rt, names.index.as_str()),
-            keeper: (),
-            synced: None,
-            unsynced: None,
-            frames: None,
-            is_index_broken: false,
-            is_told: false,
-        }
-    }
-
+impl<'a, O: Makes + Copy + Drop> Film<'a, O> {
     /// Locks existing files at the place of its recording, and at that of the index if `has_index`.
-    pub fn claim<O: Makes + Copy + Drop>(
-        &self,
+    pub fn claim(
         alloc: Global,
         opener: O,
+        found: &Found<'a>,
         has_index: bool,
         replace: bool,
-    ) -> Result<Film<'a, Keeper<O>>, Refusal<'a>> {
-        let index = if has_index { Some(&self.index) } else { None };
-        match Keeper::claim(alloc, opener, &self.place, index, replace) {
+    ) -> Result<Film<'a, O>, Refusal<'a>> {
+        let names = found.names;
+        let index = if has_index { Some(&found.index) } else { None };
+        match Keeper::claim(alloc, opener, &found.place, index, replace) {
             Ok(keeper) => Ok(Film {
-                names: self.names,
-                identity: self.identity,
-                spot: self.spot,
-                place: self.place,
-                index: self.index,
+                names,
                 keeper,
                 synced: None,
                 unsynced: None,
@@ -84,17 +53,15 @@ impl<'a> Film<'a, ()> {
                 is_index_broken: false,
                 is_told: false,
             }),
-            Err(unmade) => Err(unmade_of(self.names, unmade)),
+            Err(unmade) => Err(unmade_of(names, unmade)),
         }
     }
-}
 
-impl<'a, O: Makes + Copy + Drop> Film<'a, Keeper<O>> {
     /// Makes the files of its recording, and says what was renamed for them.
     pub fn make<E: Outlet>(
         &mut self,
         alloc: Global,
-        console: &mut Console<'_, E>,
+        console: &mut Console<E>,
     ) -> Result<Targets<'a, O>, Refusal<'a>> {
         let names = self.names;
         let index = if names.is_indexed {
@@ -122,14 +89,15 @@ impl<'a, O: Makes + Copy + Drop> Film<'a, Keeper<O>> {
         }
     }
 
-    /// Settles the files of a film that has ended with this outcome and this number of codestreams: syncs them, and
-    /// removes earlier files that are to be replaced; or, if it stopped before anything was recorded, removes the new
-    /// files and gives earlier ones their names back. Returns whether they are on the disk, as at the first call.
-    pub fn settle(&mut self, outcome: Result<u64, LaneFault>, written: u64) -> Synced {
+    /// Settles the files of a film that has ended, with a fault or without, and with this number of codestreams: syncs
+    /// them, and removes earlier files that are to be replaced; or, if it stopped before anything was recorded, removes
+    /// the new files and gives earlier ones their names back. Returns whether they are on the disk, as at the first
+    /// call.
+    pub fn settle(&mut self, has_stopped: bool, written: u64) -> Synced {
         match self.synced {
             Some(synced) => synced,
             None => {
-                if outcome.is_err() {
+                if has_stopped {
                     self.give_back();
                 }
                 let synced = Synced {
@@ -187,7 +155,7 @@ fn unmade_of<'a>(names: &'a Names<'a>, unmade: Unmade) -> Refusal<'a> {
 }
 
 /// Says that the file at `path` was renamed, if it was and reasons are on.
-fn mention<E: Outlet>(path: &str, renamed: Option<&str>, console: &mut Console<'_, E>) {
+fn mention<E: Outlet>(path: &str, renamed: Option<&str>, console: &mut Console<E>) {
     if let Some(name) = renamed {
         console.mention(path, name);
     }

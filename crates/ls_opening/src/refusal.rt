@@ -33,7 +33,7 @@ impl<T: Drop> From<AllocFailed<T>> for Refusal<'_> {
 
 impl Refusal<'_> {
     /// Says the reason, unless that was done, and returns the status.
-    pub fn say<E: Outlet>(self, console: &mut Console<'_, E>) -> u8 {
+    pub fn say<E: Outlet>(self, console: &mut Console<E>) -> u8 {
         match self {
             Refusal::NoMemory => no_memory(console),
             Refusal::Twice(name) => {

@@ -1,0 +1,17 @@
+//! What each command works with.
+use crate::console::Console;
+use ls_frame::Counted;
+use std::rt::Files;
+
+/// A runtime with all that reading takes: files, memory and standard error.
+pub trait Host: Eprint + Files + AllocGlobal {}
+
+impl<R: Eprint + Files + AllocGlobal> Host for R {}
+
+/// What a command works with: the runtime, standard output and the console.
+#[derive(Drop)]
+pub struct Program<'p, R, W, E> {
+    pub rt: &'p R,
+    pub output: &'p mut Counted<W>,
+    pub console: &'p mut Console<E>,
+}

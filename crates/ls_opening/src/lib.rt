@@ -1,0 +1,45 @@
+//! What the command `record` does before the first frame is read: it finds the names of the recordings, opens the
+//! films, and locks and makes the files, unless one is a duplicate.
+//!
+//! ```
+//! use ls_command::Recording;
+//! use ls_console::{Console, Host};
+//! use ls_files::{Locks, Opener};
+//! use ls_frame::Outlet;
+//! use ls_opening::{names_once, open_films};
+//! use std::sync::Wait;
+//!
+//! /// Opens films and makes their files; the number of films, or the status once it is said why none is recorded.
+//! pub fn try_films<R, E>(rt: &R, asked: &Recording<'_>, console: &mut Console<E>) -> Result<usize, u8>
+//! where
+//!     R: Host + Wait,
+//!     R::File: Locks,
+//!     E: Outlet,
+//! {
+//!     let names = match names_once(rt.alloc(), asked, console.columns()) {
+//!         Ok(names) => names,
+//!         Err(refusal) => return Err(refusal.say(console)),
+//!     };
+//!     match open_films(rt, Opener::new(rt), asked, &names, console) {
+//!         Ok(opened) => Ok(opened.films.len()),
+//!         Err(refusal) => Err(refusal.say(console)),
+//!     }
+//! }
+//! ```
+//!
+//! In reading order: `names` (the names of films and of the files made for them), `found` (where a film and the places
+//! of its files are, and which are duplicates), `opening` (opens the films and makes the files), `film` (a film's
+//! files, from their opening until its recording has ended), `refusal` (why no film is recorded). No contract says
+//! what is said; the tests of the whole program show it.
+#![tactic(auto)]
+
+mod film;
+mod found;
+mod names;
+mod opening;
+mod refusal;
+
+pub use film::{Film, Synced, failed_of};
+pub use names::{Names, names_once};
+pub use opening::{Devices, Opened, Writer, open_films};
+pub use refusal::Refusal;

@@ -1,0 +1,341 @@
+//! Opens the films of `record`, and makes the files for their recordings, for the indexes of those and for a report,
+//! of which none may be a duplicate.
+use crate::film::Film;
+use crate::found::{Found, has_index, has_index_at, is_met, written_twice};
+use crate::names::Names;
+use crate::refusal::Refusal;
+use ls_archive::{Follower, Indexing};
+use ls_command::Recording as Asked;
+use ls_console::{Console, MadeFile, Reader, Shown, buffered, make_file};
+use ls_files::{Folders, Keeper, Makes, Opens, Place, Source, Target, Targets};
+use ls_frame::{Counted, Outlet, Tuning};
+use std::alloc::{AllocError, Global};
+use std::rt::Files;
+use std::sync::Wait;
+use std::thread::Parker;
+use std::time::Duration;
+
+/// The writer of a film's codestreams: to the file of its recording, and to that of their index, if there is one.
+pub type Writer<'a, O> = Indexing<Counted<Target<'a, O>>, Counted<Target<'a, O>>>;
+
+/// What a film's lane is given: its reader, its writer and its coding parameters.
+pub type Devices<'a, O> = (Reader<'a, O>, Writer<'a, O>, Tuning);
+
+/// The films, what the lane of each is given, and the file of the report, if there is to be one.
+#[derive(Drop)]
+pub struct Opened<'a, O: Makes> {
+    pub films: Vec<Film<'a, O>>,
+    pub devices: Vec<Devices<'a, O>>,
+    pub report: Option<MadeFile<'a, O>>,
+}
+
+/// The number of times that a folder which another program has locked is tried, and the milliseconds between them: a
+/// second in all.
+const TRIES: u32 = 100;
+
+const PAUSE: u64 = 10;
+
+/// Opens each film but the named pipes. Only then, if no file is a duplicate or is being made by another program,
+/// makes the files of the report and of each recording.
+pub fn open_films<'a, R, O, E>(
+    rt: &R,
+    opener: O,
+    asked: &Asked<'a>,
+    names: &'a [Names<'a>],
+    console: &mut Console<E>,
+) -> Result<Opened<'a, O>, Refusal<'a>>
+where
+    R: Files + AllocGlobal + Wait,
+    O: Makes<File = R::File> + Copy + Drop,
+    E: Outlet,
+{
+    let alloc = rt.alloc();
+    let opening = Opening {
+        rt,
+        opener,
+        asked,
+        names,
+    };
+    let sources = opening.open_sources()?;
+    let Made {
+        films,
+        writers,
+        report,
+    } = opening.make_files(&sources, console)?;
+    let readers = readers_of(alloc, names, sources, console)?;
+    let devices = devices_of(alloc, readers, writers, asked.tuning)?;
+    Ok(Opened {
+        films,
+        devices,
+        report,
+    })
+}
+
+/// The opening of films: the runtime and its opener, what is asked for, and the films' names.
+#[derive(Drop)]
+struct Opening<'o, 'a, R, O> {
+    rt: &'o R,
+    opener: O,
+    asked: &'o Asked<'a>,
+    names: &'a [Names<'a>],
+}
+
+/// The films and the report, once every lock is taken and before anything is changed.
+#[derive(Drop)]
+struct Claimed<'a, O: Makes> {
+    films: Vec<Film<'a, O>>,
+    report: Option<ClaimedReport<'a, O>>,
+}
+
+/// The report's path, and the keeper that has claimed its place.
+#[derive(Drop)]
+struct ClaimedReport<'a, O: Makes> {
+    path: &'a str,
+    keeper: Keeper<O>,
+}
+
+/// The films, the writer of each recording, and the file of the report, if there is to be one.
+#[derive(Drop)]
+struct Made<'a, O: Makes> {
+    films: Vec<Film<'a, O>>,
+    writers: Vec<Writer<'a, O>>,
+    report: Option<MadeFile<'a, O>>,
+}
+
+impl<'o, 'a, R, O> Opening<'o, 'a, R, O>
+where
+    R: Files + AllocGlobal + Wait,
+    O: Makes<File = R::File> + Copy + Drop,
+{
+    /// Opens the films' files.
+    fn open_sources(&self) -> Result<Vec<Source<'a, O>>, Refusal<'a>> {
+        let mut sources = Vec::new(self.rt.alloc());
+        for film in self.names {
+            match Source::of(self.rt, self.opener, film.file) {
+                Ok(source) => sources.push(source)?,
+                Err(fault) => return Err(Refusal::Unopened(film.file, fault)),
+            }
+        }
+        Ok(sources)
+    }
+
+    /// Makes the files of the report and of each recording. Their folders are locked meanwhile.
+    fn make_files<E: Outlet>(
+        &self,
+        sources: &[Source<'a, O>],
+        console: &mut Console<E>,
+    ) -> Result<Made<'a, O>, Refusal<'a>> {
+        let folders = self.lock_folders()?;
+        let claimed = self.claim(sources)?;
+        let made = make_claimed(self.rt.alloc(), claimed, console);
+        drop(folders);
+        made
+    }
+
+    /// Locks the folders in which files are to be made, so that programs that begin at once make theirs one after the
+    /// other. A folder that another program keeps locked is skipped: the locks of its files still show which of them
+    /// are in use.
+    fn lock_folders(&self) -> Result<Folders<O::File>, AllocError> {
+        let mut folders = Folders::new(self.rt.alloc());
+        for film in self.names {
+            self.lock_folder(film.recording.as_str(), &mut folders)?;
+        }
+        if let Some(report) = self.asked.report {
+            self.lock_folder(report, &mut folders)?;
+        }
+        Ok(folders)
+    }
+
+    /// Locks the folder of a path likewise.
+    fn lock_folder(&self, path: &str, folders: &mut Folders<O::File>) -> Result<(), AllocError> {
+        let pause = Parker::new();
+        for _try in 0..TRIES {
+            if folders.lock(&self.opener, path)? {
+                break;
+            }
+            pause.park_timeout(self.rt, Duration::from_millis(PAUSE));
+        }
+        Ok(())
+    }
+
+    /// Locks existing files at the places of the report, of recordings and of their indexes, unless one is a
+    /// duplicate.
+    fn claim(&self, sources: &[Source<'a, O>]) -> Result<Claimed<'a, O>, Refusal<'a>> {
+        let found = self.look_at(sources)?;
+        let place = self.report_place(&found)?;
+        let report = match &place {
+            Some(place) => Some(self.claim_report(place)?),
+            None => None,
+        };
+        let films = self.claim_films(&found, place.as_ref())?;
+        Ok(Claimed { films, report })
+    }
+
+    /// Looks at the films' files, and at the places of their recordings. Refused if one is a duplicate.
+    fn look_at(&self, sources: &[Source<'a, O>]) -> Result<Vec<Found<'a>>, Refusal<'a>> {
+        let mut films = Vec::new(self.rt.alloc());
+        for (names, source) in self.names.iter().zip(sources) {
+            films.push(Found::look(self.rt, names, source.identity()))?;
+        }
+        match written_twice(&films, self.asked.replace) {
+            Some(file) => Err(Refusal::Twice(file)),
+            None => Ok(films),
+        }
+    }
+
+    /// The place of the report, if there is to be one. Refused if it is a duplicate.
+    fn report_place(&self, films: &[Found<'a>]) -> Result<Option<Place<'a>>, Refusal<'a>> {
+        let Some(path) = self.asked.report else {
+            return Ok(None);
+        };
+        let place = Place::of(self.rt, path);
+        let replace = self.asked.replace;
+        if films.iter().any(|film| is_met(film, &place, replace) || has_index_at(film, &place)) {
+            return Err(Refusal::Twice(path));
+        }
+        Ok(Some(place))
+    }
+
+    /// Locks an existing file at the report's place.
+    fn claim_report(&self, place: &Place<'a>) -> Result<ClaimedReport<'a, O>, Refusal<'a>> {
+        let path = place.path();
+        let alloc = self.rt.alloc();
+        match Keeper::claim(alloc, self.opener, place, None, self.asked.replace) {
+            Ok(keeper) => Ok(ClaimedReport { path, keeper }),
+            Err(unmade) => Err(Refusal::Unmade(path, unmade.fault)),
+        }
+    }
+
+    /// Locks existing files at the places of recordings and their indexes.
+    fn claim_films(
+        &self,
+        found: &[Found<'a>],
+        report: Option<&Place<'_>>,
+    ) -> Result<Vec<Film<'a, O>>, Refusal<'a>> {
+        let alloc = self.rt.alloc();
+        let mut films = Vec::new(alloc);
+        for film in found {
+            let has_index = has_index(film, found, report);
+            films.push(Film::claim(alloc, self.opener, film, has_index, self.asked.replace)?)?;
+        }
+        Ok(films)
+    }
+}
+
+/// Makes the files of the report and of each recording, whose places are claimed.
+fn make_claimed<'a, O, E>(
+    alloc: Global,
+    claimed: Claimed<'a, O>,
+    console: &mut Console<E>,
+) -> Result<Made<'a, O>, Refusal<'a>>
+where
+    O: Makes + Copy + Drop,
+    E: Outlet,
+{
+    let Claimed { mut films, report } = claimed;
+    let report = match report {
+        Some(claimed) => Some(make_report(alloc, claimed, console)?),
+        None => None,
+    };
+    let writers = make_recordings(alloc, &mut films, console)?;
+    Ok(Made {
+        films,
+        writers,
+        report,
+    })
+}
+
+/// Makes the file of the report.
+fn make_report<'a, O, E>(
+    alloc: Global,
+    claimed: ClaimedReport<'a, O>,
+    console: &mut Console<E>,
+) -> Result<MadeFile<'a, O>, Refusal<'a>>
+where
+    O: Makes + Copy + Drop,
+    E: Outlet,
+{
+    match make_file(alloc, claimed.path, claimed.keeper, console) {
+        Ok(made) => Ok(made),
+        Err(status) => Err(Refusal::Said(status)),
+    }
+}
+
+/// Makes the file of each recording, and that of its index if it is to have one, and returns their writers.
+fn make_recordings<'a, O, E>(
+    alloc: Global,
+    films: &mut [Film<'a, O>],
+    console: &mut Console<E>,
+) -> Result<Vec<Writer<'a, O>>, Refusal<'a>>
+where
+    O: Makes + Copy + Drop,
+    E: Outlet,
+{
+    let mut writers = Vec::new(alloc);
+    for film in films.iter_mut() {
+        let targets = film.make(alloc, console)?;
+        writers.push(writer_of(alloc, targets))?;
+    }
+    Ok(writers)
+}
+
+/// The writer to the files of a recording.
+fn writer_of<'a, O: Opens + Drop>(alloc: Global, targets: Targets<'a, O>) -> Writer<'a, O> {
+    let Targets { recording, index } = targets;
+    let follower = index.map(|target| Follower::new(alloc, Counted::new(target)));
+    Indexing::new(Counted::new(recording), follower)
+}
+
+/// The readers of the films.
+fn readers_of<'a, O, E>(
+    alloc: Global,
+    names: &'a [Names<'a>],
+    sources: Vec<Source<'a, O>>,
+    console: &mut Console<E>,
+) -> Result<Vec<Reader<'a, O>>, Refusal<'a>>
+where
+    O: Opens + Copy,
+    E: Outlet,
+{
+    let mut readers = Vec::new(alloc);
+    for (film, source) in names.iter().zip(sources) {
+        readers.push(reader_of(alloc, film, source, console)?)?;
+    }
+    Ok(readers)
+}
+
+/// The reader of a film, with a buffer. On a terminal, says if its pipe is waited for.
+fn reader_of<'a, O, E>(
+    alloc: Global,
+    names: &'a Names<'a>,
+    mut source: Source<'a, O>,
+    console: &mut Console<E>,
+) -> Result<Reader<'a, O>, Refusal<'a>>
+where
+    O: Opens + Copy,
+    E: Outlet,
+{
+    if source.is_awaited() && console.is_terminal() {
+        source.announce(names.notice.as_str());
+        let file = Shown(names.file);
+        console.say(format_args!("{file}: waiting for what writes to it"));
+    }
+    match buffered(alloc, names.file, source, console) {
+        Ok(reader) => Ok(reader),
+        Err(status) => Err(Refusal::Said(status)),
+    }
+}
+
+/// What each film's lane is given. The tuning is that of all films.
+fn devices_of<'a, O: Opens + Copy>(
+    alloc: Global,
+    readers: Vec<Reader<'a, O>>,
+    writers: Vec<Writer<'a, O>>,
+    tuning: Tuning,
+) -> Result<Vec<Devices<'a, O>>, AllocError> {
+    let mut devices = Vec::new(alloc);
+    for (reader, writer) in readers.into_iter().zip(writers) {
+        devices.push((reader, writer, tuning))?;
+    }
+    Ok(devices)
+}
