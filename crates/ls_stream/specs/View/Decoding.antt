@@ -2,7 +2,8 @@
 use Rattle.std.specs.Prelude.{◌≡◌, ◌⊎◌, ◌↔◌, ℕ, ◌+◌, ◌-◌, ◌*◌, ◌<◌, ◌≤◌, Bool, true, false, List, [], ◌++◌, length, slice_index, slice_index_or, pos}
 use Rattle.ls_frame.specs.Parameters.{Parameters}
 use Rattle.ls_coding.specs.View.SignedContexts.{half_context}
-use Rattle.ls_coding.specs.View.States.{Coding}
+use Rattle.ls_coding.specs.Runs.{run_of, run_bits}
+use Rattle.ls_coding.specs.View.States.{Coding, run_after}
 use Rattle.ls_frame.specs.Picture.{Picture}
 use Rattle.ls_stream.specs.declared.segments.read.FrameHeader.{FrameHeader}
 use Rattle.ls_bits.specs.View.Plain.{Placed}
@@ -12,6 +13,7 @@ use Rattle.ls_bits.specs.declared.source.CodeFault.{CodeFault}
 use Rattle.ls_bits.specs.declared.source.CodeFault.TheVariants.{OutOfBits, NotCanonical}
 use Rattle.ls_stream.specs.declared.faults.StreamFault.{StreamFault}
 use Rattle.ls_stream.specs.declared.faults.StreamFault.TheVariants as stream
+use Rattle.ls_stream.specs.declared.decode.decoder.FoundRun.{FoundRun}
 use Rattle.ls_stream.specs.declared.decode.row.Above.{Above}
 use Rattle.ls_stream.specs.declared.decode.row.FromAbove.{FromAbove}
 use Rattle.ls_stream.specs.declared.decode.scan.ScanFault.{ScanFault}
@@ -20,7 +22,7 @@ use Rattle.ls_stream.specs.View.FirstFaults.{BreakInPlane, HaveLeftoverBits}
 use Rattle.ls_stream.specs.Planes.{Plane, IsSamplePlane, at, left, Span, row_from, rows_from}
 use Rattle.ls_stream.specs.Components.{component_plane}
 use Rattle.ls_stream.specs.Grammar.{IsCoded}
-use Rattle.ls_stream.specs.View.BitFaults.{BreaksSpans}
+use Rattle.ls_stream.specs.View.BitFaults.{BreaksSpans, BreaksRun}
 use Rattle.ls_stream.specs.View.Coded.{bits_from}
 use Rattle.ls_stream.specs.View.LineBuffers.{HoldsLine, ArePadded}
 
@@ -144,10 +146,31 @@ from_above block place = record {
 abbrev pub AreAbove : Parameters → ℕ → ℕ → List ℕ → Above → Type 0
 AreAbove p start end above block = (j : ℕ) → start ≤ j → j < end → IsAbove p above j (from_above block (j - start))
 
+-- a scan that is being read: the state of its coding, the bits that are left, and their source
+pub record Unread : Type 0 where
+  pub state : Coding
+  pub bits : List Bool
+  pub source : Placed
+
 -- a run of `count` samples, with `left` in the line: it has all of them if it ends with the line, and fewer if a sample interrupts it
 pub record EndsInLine (left count : ℕ) (interrupted : Bool) : Type 0 where
   pub full : interrupted ≡ false → count ≡ left
   pub short : interrupted ≡ true → count < left
+
+-- A run is read, with `left` samples in the line: its bits are before those that are left, and no other run's are.
+pub record ReadsRun (left : ℕ) (old new : Unread) (run : FoundRun) : Type 0 where
+  pub within : EndsInLine left run.count run.interrupted
+  pub bits : old.bits ≡ run_bits old.state.run_index (run_of run.count run.interrupted) ++ new.bits
+  pub state : new.state ≡ run_after old.state (run_of run.count run.interrupted)
+  pub only : (count : ℕ) (interrupted : Bool) (rest : List Bool) → EndsInLine left count interrupted
+      → old.bits ≡ run_bits old.state.run_index (run_of count interrupted) ++ rest
+      → (count ≡ run.count) × (interrupted ≡ run.interrupted) × (rest ≡ new.bits)
+
+-- no run can be read: the bits begin with those of none, and break with this fault
+pub record ReadsNoRun (left : ℕ) (old : Unread) (fault : CodeFault) : Type 0 where
+  pub none : (count : ℕ) (interrupted : Bool) (rest : List Bool) → EndsInLine left count interrupted
+      → old.bits ≡ run_bits old.state.run_index (run_of count interrupted) ++ rest → ⊥
+  pub breaks : BreaksRun old.state.run_index left old.bits fault
 
 -- what the fault of a scan means for its bits
 abbrev pub ScanBreaks : Parameters → ℕ → ℕ → List Bool → ScanFault → Type 0
@@ -166,12 +189,6 @@ code_fault component stop NotCanonical = stream.BadCode component
 abbrev pub fault_in : ℕ → Stop → ScanFault → StreamFault
 fault_in component stop (Code fault) = code_fault component stop fault
 fault_in component stop LeftoverBits = stream.LeftoverBits component
-
--- a scan that is being read: the state of its coding, the bits that are left, and their source
-pub record Unread : Type 0 where
-  pub state : Coding
-  pub bits : List Bool
-  pub source : Placed
 
 -- ---- in a frame
 

@@ -10,8 +10,8 @@ ghost use Rattle.ls_coding.specs.Interruptions.{ri_type_of, interruption_error};
 ghost use Rattle.ls_coding.specs.Runs.{run_of, run_bits};
 ghost use Rattle.ls_coding.specs.Events.{golomb_bits};
 ghost use Rattle.ls_coding.specs.View.States.{state_of, context_in, regular_error_in, regular_word_in, interruption_word_in, regular_after, run_after, interruption_after};
-ghost use Rattle.ls_stream.specs.View.BitFaults.{BreaksSample, BreaksInterruption, BreaksRun};
-ghost use Rattle.ls_stream.specs.View.Decoding.{EndsInLine};
+ghost use Rattle.ls_stream.specs.View.BitFaults.{BreaksSample, BreaksInterruption};
+ghost use Rattle.ls_stream.specs.View.Decoding.{ReadsRun, ReadsNoRun};
 
 use ls_bits::{BitPlace, BitSource, CodeFault};
 use ls_coding::{Neighbours, Regions, State, SureZeros, whole_context};
@@ -173,16 +173,8 @@ impl<'a, 'b> Decoder<'a, 'b> {
     pub fn decode_run(&mut self, left: u32) -> Result<FoundRun, CodeFault>
         requires some { 0 < left }
         requires uninterrupted { self.old.state.interrupted ≡ false }
-        ensures within { IfOk result (λ run. EndsInLine left run.count run.interrupted) }
-        ensures bits { IfOk result (λ run. self.old.bits
-            ≡ run_bits self.old.state.run_index (run_of run.count run.interrupted) ++ self.new.bits) }
-        ensures state { IfOk result (λ run. self.new.state ≡ run_after self.old.state (run_of run.count run.interrupted)) }
-        ensures only { IfOk result (λ run. (count : ℕ) (interrupted : Bool) (rest : List Bool) → EndsInLine left count interrupted
-            → self.old.bits ≡ run_bits self.old.state.run_index (run_of count interrupted) ++ rest
-            → (count ≡ run.count) × (interrupted ≡ run.interrupted) × (rest ≡ self.new.bits)) }
-        ensures none { IfErr result (λ fault. (count : ℕ) (interrupted : Bool) (rest : List Bool) → EndsInLine left count interrupted
-            → self.old.bits ≡ run_bits self.old.state.run_index (run_of count interrupted) ++ rest → ⊥) }
-        ensures fault { IfErr result (λ fault. BreaksRun self.old.state.run_index left self.old.bits fault) }
+        ensures run { IfOk result (ReadsRun left self.old self.new) }
+        ensures stops { IfErr result (ReadsNoRun left self.old) }
     {
         if let Some(count) = self.decode_short_run(left) {
             return Ok(FoundRun {
@@ -218,16 +210,8 @@ impl<'a, 'b> Decoder<'a, 'b> {
     fn decode_any_run(&mut self, left: u32) -> Result<FoundRun, CodeFault>
         requires some { 0 < left }
         requires uninterrupted { self.old.state.interrupted ≡ false }
-        ensures within { IfOk result (λ run. EndsInLine left run.count run.interrupted) }
-        ensures bits { IfOk result (λ run. self.old.bits
-            ≡ run_bits self.old.state.run_index (run_of run.count run.interrupted) ++ self.new.bits) }
-        ensures state { IfOk result (λ run. self.new.state ≡ run_after self.old.state (run_of run.count run.interrupted)) }
-        ensures only { IfOk result (λ run. (count : ℕ) (interrupted : Bool) (rest : List Bool) → EndsInLine left count interrupted
-            → self.old.bits ≡ run_bits self.old.state.run_index (run_of count interrupted) ++ rest
-            → (count ≡ run.count) × (interrupted ≡ run.interrupted) × (rest ≡ self.new.bits)) }
-        ensures none { IfErr result (λ fault. (count : ℕ) (interrupted : Bool) (rest : List Bool) → EndsInLine left count interrupted
-            → self.old.bits ≡ run_bits self.old.state.run_index (run_of count interrupted) ++ rest → ⊥) }
-        ensures fault { IfErr result (λ fault. BreaksRun self.old.state.run_index left self.old.bits fault) }
+        ensures run { IfOk result (ReadsRun left self.old self.new) }
+        ensures stops { IfErr result (ReadsNoRun left self.old) }
     {
         let mut count = 0;
         'ones: while self.source.bit()? == 1 {

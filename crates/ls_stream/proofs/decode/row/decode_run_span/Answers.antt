@@ -20,9 +20,9 @@ returns-in_err-run-clause-stops c =
     let fault = err_from_is_err_and c.from_residual.result c.from_residual.ensures.1 in
     rw (fault.1, fault.2) (record {
       none = no_run s.parameters.maxval c.args.width c.args.column c.args.above.now c.args.line.now s c.args.decoder.now.bits
-          c.requires.inside c.requires.run c.in_err-run.ensures.none;
+          c.requires.inside c.requires.run c.in_err-run.ensures.stops.none;
       breaks = run_malformed s.parameters.maxval c.args.width c.args.column c.args.above.now c.args.line.now s c.args.decoder.now.bits _
-          c.requires.inside c.requires.run c.requires.lines.line_small c.in_err-run.ensures.fault;
+          c.requires.inside c.requires.run c.requires.lines.line_small c.in_err-run.ensures.stops.breaks;
     })
 
 pub returns-then-not-run-clause-on : goal.returns-then-not-run-clause-on
@@ -36,16 +36,16 @@ returns-then-not-run-clause-on c =
     let column : ℕ = c.args.column in
     let count : ℕ = c.in_ok-run.run'.count in
     let whole : c.in_ok-run.run'.interrupted ≡ false = c.if-not-run.true in
-    let full : count ≡ c.args.width - column = c.in_ok-run.ensures.within.full whole in
+    let full : count ≡ c.args.width - column = c.in_ok-run.ensures.run.within.full whole in
     let few : column + count ≡ c.args.width = omega (arith, c.requires.inside) in
-    let bits_are : old ≡ run_bits s.run_index (run_of count false) ++ bits = subst (λ b. old ≡ run_bits s.run_index (run_of count b) ++ bits) whole c.in_ok-run.ensures.bits in
-    let after : c.decode_run.new.self.state ≡ run_after s (run_of count false) = subst (λ b. c.decode_run.new.self.state ≡ run_after s (run_of count b)) whole c.in_ok-run.ensures.state in
+    let bits_are : old ≡ run_bits s.run_index (run_of count false) ++ bits = subst (λ b. old ≡ run_bits s.run_index (run_of count b) ++ bits) whole c.in_ok-run.ensures.run.bits in
+    let after : c.decode_run.new.self.state ≡ run_after s (run_of count false) = subst (λ b. c.decode_run.new.self.state ≡ run_after s (run_of count b)) whole c.in_ok-run.ensures.run.state in
     let longer = longer_by_run column (column + count) line filled c.repeat_left.ensures in
     let parameters = ap (λ (t : Coding). t.parameters) after in
     record {
       same = run_read_to_end s.parameters.maxval c.args.width column count above line filled s c.decode_run.new.self.state old bits
           c.requires.inside few c.requires.run bits_are after
-          (subst (λ b. IsOnlyRun (c.args.width - column) s.run_index old count b bits) whole c.in_ok-run.ensures.only)
+          (subst (λ b. IsOnlyRun (c.args.width - column) s.run_index old count b bits) whole c.in_ok-run.ensures.run.only)
           longer c.repeat_left.ensures.inside;
       later = run_later_to_end s.parameters.maxval c.args.width column count above line filled s c.decode_run.new.self.state old bits
           c.requires.inside few c.requires.run bits_are after longer c.repeat_left.ensures.inside;
@@ -72,21 +72,21 @@ returns-in_err-line-clause-stops c =
     let column : ℕ = c.args.column in
     let count : ℕ = c.in_ok-run.run'.count in
     let interrupted : c.in_ok-run.run'.interrupted ≡ true = c.if-not-run.false in
-    let short : count < c.args.width - column = c.in_ok-run.ensures.within.short interrupted in
+    let short : count < c.args.width - column = c.in_ok-run.ensures.run.within.short interrupted in
     let inside : column + count < c.args.width = omega (arith, c.requires.inside) in
-    let after : c.decode_run.new.self.state ≡ run_after s (run_of count true) = subst (λ b. c.decode_run.new.self.state ≡ run_after s (run_of count b)) interrupted c.in_ok-run.ensures.state in
+    let after : c.decode_run.new.self.state ≡ run_after s (run_of count true) = subst (λ b. c.decode_run.new.self.state ≡ run_after s (run_of count b)) interrupted c.in_ok-run.ensures.run.state in
     let longer = longer_by_run column (column + count) line filled c.repeat_left.ensures in
     let fault = err_from_is_err_and c.from_residual-in_err-line.result c.from_residual-in_err-line.ensures.1 in
     rw (fault.1, fault.2) (record {
       none = no_break s.parameters.maxval c.args.width column count above line filled s old mid n
           c.requires.inside inside c.requires.run c.neighbours_in-around.ensures
-          (subst (λ b. IsOnlyRun (c.args.width - column) s.run_index old count b mid) interrupted c.in_ok-run.ensures.only)
+          (subst (λ b. IsOnlyRun (c.args.width - column) s.run_index old count b mid) interrupted c.in_ok-run.ensures.run.only)
           (subst (λ (t : Coding). (other : ℕ) (rest : List Bool) → Interrupts t.parameters.maxval n.a other
           → mid ≡ golomb_bits t.parameters (interruption_word_in t n other) ++ rest → ⊥) after c.in_err-line.ensures.none)
           longer c.repeat_left.ensures.inside;
       breaks = interruption_malformed s.parameters.maxval c.args.width column count above line filled s old mid n _
           c.requires.inside inside c.requires.run c.neighbours_in-around.ensures
-          (subst (λ b. old ≡ run_bits s.run_index (run_of count b) ++ mid) interrupted c.in_ok-run.ensures.bits)
+          (subst (λ b. old ≡ run_bits s.run_index (run_of count b) ++ mid) interrupted c.in_ok-run.ensures.run.bits)
           longer c.repeat_left.ensures.inside
           (small_repeated s.parameters.maxval column (column + count) line filled c.requires.lines.line_small c.repeat_left.ensures)
           (interruption_in c.decode_run.new.self.state (run_after s (run_of count true)) n mid _ after c.in_err-line.ensures.fault);
@@ -107,11 +107,11 @@ returns-clause-on c =
     let column : ℕ = c.args.column in
     let count : ℕ = c.in_ok-run.run'.count in
     let interrupted : c.in_ok-run.run'.interrupted ≡ true = c.if-not-run.false in
-    let short : count < c.args.width - column = c.in_ok-run.ensures.within.short interrupted in
+    let short : count < c.args.width - column = c.in_ok-run.ensures.run.within.short interrupted in
     let inside : column + count < c.args.width = omega (arith, c.requires.inside) in
     let place_in : column + count + 1 < length filled = omega (arith, c.requires.inside, c.repeat_left.ensures.whole, c.requires.lines.line_length) in
-    let bits_are : old ≡ run_bits s.run_index (run_of count true) ++ mid = subst (λ b. old ≡ run_bits s.run_index (run_of count b) ++ mid) interrupted c.in_ok-run.ensures.bits in
-    let after : c.decode_run.new.self.state ≡ run_after s (run_of count true) = subst (λ b. c.decode_run.new.self.state ≡ run_after s (run_of count b)) interrupted c.in_ok-run.ensures.state in
+    let bits_are : old ≡ run_bits s.run_index (run_of count true) ++ mid = subst (λ b. old ≡ run_bits s.run_index (run_of count b) ++ mid) interrupted c.in_ok-run.ensures.run.bits in
+    let after : c.decode_run.new.self.state ≡ run_after s (run_of count true) = subst (λ b. c.decode_run.new.self.state ≡ run_after s (run_of count b)) interrupted c.in_ok-run.ensures.run.state in
     let word_is : mid ≡ golomb_bits s.parameters (interruption_word_in (run_after s (run_of count true)) n x) ++ new =
     subst (λ (t : Coding). mid ≡ golomb_bits t.parameters (interruption_word_in t n x) ++ new) after c.in_ok-line.ensures.bits in
     let last : t ≡ interruption_after (run_after s (run_of count true)) (ri_type_of n) (interruption_error s.parameters n x) =
@@ -124,7 +124,7 @@ returns-clause-on c =
     record {
       same = run_read_to_break s.parameters.maxval c.args.width column count x above line filled _ s t old mid new n
           c.requires.inside inside c.requires.run c.neighbours_in-around.ensures bits_are word_is last
-          (subst (λ b. IsOnlyRun (c.args.width - column) s.run_index old count b mid) interrupted c.in_ok-run.ensures.only)
+          (subst (λ b. IsOnlyRun (c.args.width - column) s.run_index old count b mid) interrupted c.in_ok-run.ensures.run.only)
           (subst (λ (u : Coding). IsOnlyInterruption u.parameters.maxval u n mid x new) after c.in_ok-line.ensures.only)
           c.in_ok-line.ensures.interrupts.other by_run c.repeat_left.ensures.inside by_one there;
       later = run_later_to_break s.parameters.maxval c.args.width column count x above line filled _ s t old mid new n
