@@ -16,7 +16,7 @@ use Rattle.ls_archive.specs.declared.checking.IndexLine.{IndexLine}
 use Rattle.ls_archive.specs.declared.checking.batches.After.{After}
 use Rattle.ls_archive.specs.declared.checking.batches.After.TheVariants.{More, End, Fault}
 use Rattle.ls_archive.specs.declared.checking.batches.Batch.{Batch}
-use Rattle.ls_archive.specs.declared.checking.batches.Job.{Job}
+use Rattle.ls_archive.specs.declared.checking.batches.Listed.{Listed}
 use Rattle.ls_archive.specs.declared.checking.batches.SoFar.{SoFar}
 use Rattle.ls_archive.specs.View.Checking.{Line, IsLine, IsGood, IsDamage}
 use Rattle.ls_archive.specs.View.Checks.{GaveAtMost, IsFound, HasLooked, HasChecked, IsChecked, Stops, Anything}
@@ -27,14 +27,14 @@ use Rattle.ls_archive.proofs.CheckLemmas.{checked-more, checked-end, stops-after
 -- ---- lines that are taken
 
 -- one more
-pub taken-more : (at mid next : Place) (jobs : List Job) (job : Job) → AreTaken at mid jobs → IsTaken mid next job → AreTaken at next (jobs ++ job ∷ [])
+pub taken-more : (at mid next : Place) (jobs : List Listed) (job : Listed) → AreTaken at mid jobs → IsTaken mid next job → AreTaken at next (jobs ++ job ∷ [])
 taken-more at mid next [] job are is = (next, subst (λ p. IsTaken p next job) (sym are) is, refl)
 taken-more at mid next (first ∷ jobs) job are is = (are.0, are.1, taken-more are.0 mid next jobs job are.2 is)
 
 -- ---- what is found
 
 -- a job that was taken and looked at
-looked-one : (at next : Place) (job job' : Job) → IsTaken at next job → IsLookedAt job job' → IsLooked at next job'
+looked-one : (at next : Place) (job job' : Listed) → IsTaken at next job → IsLookedAt job job' → IsLooked at next job'
 looked-one at next job job' taken looked = record {
   number = looked.number ∙ taken.number;
   offset = looked.offset ∙ taken.offset;
@@ -47,7 +47,7 @@ looked-one at next job job' taken looked = record {
   next_offset = taken.next_offset ∙ ap (λ (line : IndexLine). at.offset + line.size) (sym looked.line);
 }
 
-pub all-looked : (at next : Place) (jobs jobs' : List Job) → AreTaken at next jobs → AllZip IsLookedAt jobs jobs' → AreLooked at next jobs'
+pub all-looked : (at next : Place) (jobs jobs' : List Listed) → AreTaken at next jobs → AllZip IsLookedAt jobs jobs' → AreLooked at next jobs'
 all-looked at next [] [] are looked = are
 all-looked at next [] (job' ∷ jobs') are looked = absurd looked
 all-looked at next (job ∷ jobs) [] are looked = absurd looked
@@ -55,23 +55,23 @@ all-looked at next (job ∷ jobs) (job' ∷ jobs') are looked =
     (are.0, looked-one at are.0 job job' are.1 looked.0, all-looked are.0 next jobs jobs' are.2 looked.1)
 
 -- each was looked at
-abbrev pub EachIsLookedAt : List Job → List Job → Type 0
-EachIsLookedAt jobs jobs' = (i : ℕ) (d : Job) → i < length jobs → IsLookedAt (slice_index_or jobs i d) (slice_index_or jobs' i d)
+abbrev pub EachIsLookedAt : List Listed → List Listed → Type 0
+EachIsLookedAt jobs jobs' = (i : ℕ) (d : Listed) → i < length jobs → IsLookedAt (slice_index_or jobs i d) (slice_index_or jobs' i d)
 
-later : (job job' : Job) (jobs jobs' : List Job) → EachIsLookedAt (job ∷ jobs) (job' ∷ jobs') → EachIsLookedAt jobs jobs'
+later : (job job' : Listed) (jobs jobs' : List Listed) → EachIsLookedAt (job ∷ jobs) (job' ∷ jobs') → EachIsLookedAt jobs jobs'
 later job job' jobs jobs' each i d lt = each (suc i) d (omega arith)
 
-pub each-looked : (jobs jobs' : List Job) → length jobs' ≡ length jobs → EachIsLookedAt jobs jobs' → AllZip IsLookedAt jobs jobs'
+pub each-looked : (jobs jobs' : List Listed) → length jobs' ≡ length jobs → EachIsLookedAt jobs jobs' → AllZip IsLookedAt jobs jobs'
 each-looked [] [] len each = tt
 each-looked [] (job' ∷ jobs') len each = let no : ⊥ = omega arith in absurd no
 each-looked (job ∷ jobs) [] len each = let no : ⊥ = omega arith in absurd no
 each-looked (job ∷ jobs) (job' ∷ jobs') len each = (each 0 job (omega arith), each-looked jobs jobs' (omega arith) (later job job' jobs jobs' each))
 
 -- jobs that were lent as a slice were looked at in place
-pub looked-whole : (jobs lent after : List Job) (len : ℕ) → lent ≡ jobs → length lent ≡ len → length after ≡ length lent → AllZip IsLookedAt lent after
+pub looked-whole : (jobs lent after : List Listed) (len : ℕ) → lent ≡ jobs → length lent ≡ len → length after ≡ length lent → AllZip IsLookedAt lent after
     → AllZip IsLookedAt jobs (take len (after ++ drop (length after) jobs))
 looked-whole jobs lent after len same size kept looked =
-    subst (AllZip IsLookedAt jobs) (sym (lent-back jobs lent after len same size kept)) (subst (λ (js : List Job). AllZip IsLookedAt js after) same looked)
+    subst (AllZip IsLookedAt jobs) (sym (lent-back jobs lent after len same size kept)) (subst (λ (js : List Listed). AllZip IsLookedAt js after) same looked)
 
 -- what was found
 found-is : (n offset : ℕ) (l : Line) (bytes : List ℕ) (found : Option Damage) → IfNone found (IsGood n offset l.text bytes) → IfSome found (λ damage. IsGood n offset l.text bytes → ⊥)
@@ -91,15 +91,15 @@ on-err (Ok x) holds = tt
 on-err (Err fault) holds = holds
 
 -- the next job
-pub looked-step : (at next : Place) (jobs : List Job) (i : ℕ) (job : Job) → i < length jobs → job ≡ get_or jobs i job → AreLooked at next (drop i jobs)
+pub looked-step : (at next : Place) (jobs : List Listed) (i : ℕ) (job : Listed) → i < length jobs → job ≡ get_or jobs i job → AreLooked at next (drop i jobs)
     → (mid : Place) × IsLooked at mid job × AreLooked mid next (drop (i + 1) jobs)
 looked-step at next jobs i job lt is are =
-    let split = subst (AreLooked at next) (at_drop_more (λ (js : List Job). js) jobs i job lt) are in
+    let split = subst (AreLooked at next) (at_drop_more (λ (js : List Listed). js) jobs i job lt) are in
     (split.0, subst (IsLooked at split.0) (sym is) split.1, split.2)
 
-module _ (told told' : Option (List Finding)) (so_far so_far' : SoFar) (jobs : List Job) where
+module _ (told told' : Option (List Finding)) (so_far so_far' : SoFar) (jobs : List Listed) where
   -- what was found for the next job was reported
-  pub leads-more : (told'' : Option (List Finding)) (done : SoFar) (i : ℕ) (job : Job) → LeadsOn told told' so_far so_far' jobs (drop i jobs) → i < length jobs → job ≡ get_or jobs i job
+  pub leads-more : (told'' : Option (List Finding)) (done : SoFar) (i : ℕ) (job : Listed) → LeadsOn told told' so_far so_far' jobs (drop i jobs) → i < length jobs → job ≡ get_or jobs i job
       → ((index recording : Option (List ℕ)) (found : Option (List Finding)) (at next : Place) → HasCheckedTo index recording found told' at so_far' → IsLooked at next job → HasCheckedTo index recording found told'' next done)
       → LeadsOn told told'' so_far done jobs (drop (i + 1) jobs)
   leads-more told'' done i job leads lt is one index recording found at next to are =
@@ -109,11 +109,11 @@ module _ (told told' : Option (List Finding)) (so_far so_far' : SoFar) (jobs : L
 
   -- for all of them
   pub leads-all : (i : ℕ) → LeadsOn told told' so_far so_far' jobs (drop i jobs) → length jobs ≤ i → LeadsOn told told' so_far so_far' jobs []
-  leads-all i leads all = subst (LeadsOn told told' so_far so_far' jobs) (at_drop_all (λ (js : List Job). js) jobs i all) leads
+  leads-all i leads all = subst (LeadsOn told told' so_far so_far' jobs) (at_drop_all (λ (js : List Listed). js) jobs i all) leads
 
 module _ (index recording : Option (List ℕ)) (found : Option (List Finding)) where
   -- what was found for one more job was reported
-  pub told-more : (told told' : Option (List Finding)) (at next : Place) (so_far done : SoFar) (job : Job) (d : ℕ) → HasCheckedTo index recording found told at so_far
+  pub told-more : (told told' : Option (List Finding)) (at next : Place) (so_far done : SoFar) (job : Listed) (d : ℕ) → HasCheckedTo index recording found told at so_far
       → (is : IsLooked at next job) → so_far.number < most_frames → HasLooked job.number job.offset (line_of job.line) is.bytes told told' d
       → done.number ≡ so_far.number + 1 → done.offset ≡ so_far.offset + job.line.size → done.damaged ≡ so_far.damaged + d → HasCheckedTo index recording found told' next done
   told-more told told' at next so_far done job d to is room looked number offset damaged =
@@ -133,7 +133,7 @@ module _ (index recording : Option (List ℕ)) (found : Option (List Finding)) w
       (at.number, stops-after index at.index recording at.recording found told told' at.number at.offset so_far.damaged Anything to.checked same (λ known. tt))
 
   -- for a batch
-  module _ (told told' : Option (List Finding)) (so_far : SoFar) (index0 recording0 index' recording' : Option (List ℕ)) (batch : Batch) (jobs' : List Job)
+  module _ (told told' : Option (List Finding)) (so_far : SoFar) (index0 recording0 index' recording' : Option (List ℕ)) (batch : Batch) (jobs' : List Listed)
       (checked : HasChecked index index0 recording recording0 found told so_far.number so_far.offset so_far.damaged)
       (is : IsBatch (record { index = index0; recording = recording0; number = so_far.number; offset = so_far.offset }) index' recording' batch) (looked : AllZip IsLookedAt batch.jobs.items jobs') where
     to-begun : HasCheckedTo index recording found told (record { index = index0; recording = recording0; number = so_far.number; offset = so_far.offset }) so_far
@@ -199,7 +199,7 @@ more-reads-no-recording (End more) failed is = let clash : ⊥ = cc in clash
 more-reads-no-recording (Fault why) failed is = let clash : ⊥ = cc in clash
 
 -- the last batch has fewer jobs than were asked for; so if it has any, they may be several
-pub several-jobs : (jobs jobs' : List Job) (asked most : ℕ) → length jobs < asked → AllZip IsLookedAt jobs jobs' → 0 < length jobs' → asked ≤ most → 1 < most
+pub several-jobs : (jobs jobs' : List Listed) (asked most : ℕ) → length jobs < asked → AllZip IsLookedAt jobs jobs' → 0 < length jobs' → asked ≤ most → 1 < most
 several-jobs jobs jobs' asked most fewer looked some few = omega (arith, fewer, AllZip-long IsLookedAt jobs jobs' looked, some, few)
 
 -- with one job a batch there is no such read

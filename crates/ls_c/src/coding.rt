@@ -17,7 +17,7 @@ ghost use Rattle.ls_c.specs.Calls.{IsEncoding, IsDecoding, IsUnopened, HaveForm,
 use crate::form::{JlsrecFault, JlsrecForm, details_of, form_by, no_details, no_form};
 use crate::refusal::{NO_MEMORY, Refusal};
 use crate::request::{Request, adjacent, joined, request_of};
-use ls_frame::{FrameView, PictureView, Place, Presets, Samples};
+use ls_frame::{FrameView, PictureView, Presets, Sample, Samples};
 use ls_stream::laws::codestreams_spell_their_frames;
 use ls_stream::{Lines, Opening, Regions, StreamFault, encode_into, encode_picture, picture_bound};
 use std::alloc::Global;
@@ -142,7 +142,7 @@ fn encode_apart(
 /// bytes of the codestream. If `samples` is too small (`NoRoom`) or can't hold maxval (`NotEightBits`), `form` is set
 /// all the same. If the bytes can't be decoded, `fault` has the details, and the samples of the frame may have been
 /// overwritten. After any other refusal, `samples` is unchanged.
-pub fn decode<S: Place>(
+pub fn decode<S: Sample>(
     alloc: Global,
     bytes: &[u8],
     samples: &mut [S],
@@ -209,7 +209,7 @@ fn open<'a>(
 
 /// Decodes the frame of an opening into `places`, which must be as many as its samples and hold values up to its
 /// maxval, and returns the number of bytes of its codestream. If an allocation fails, they are unchanged.
-fn decode_at<S: Place>(
+fn decode_at<S: Sample>(
     alloc: Global,
     opening: &Opening,
     places: &mut [S],

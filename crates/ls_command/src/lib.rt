@@ -83,7 +83,7 @@ pub enum Request<'a> {
         workers: u8,
     },
     /// Record films, side by side.
-    Record(Recording<'a>),
+    Record(RecordRequest<'a>),
     /// Replay the steps of a file on a queue.
     Replay {
         sources: u8,
@@ -94,7 +94,7 @@ pub enum Request<'a> {
 
 /// A request to record films.
 #[derive(Drop)]
-pub struct Recording<'a> {
+pub struct RecordRequest<'a> {
     /// The number of workers, of frames that may wait for one, and of frames of a film that may be read and not
     /// written.
     pub workers: usize,
@@ -342,7 +342,7 @@ fn recording_of<'a>(
     tuning: Tuning,
     files: Vec<&'a str>,
 ) -> Option<Request<'a>> {
-    Some(Request::Record(Recording {
+    Some(Request::Record(RecordRequest {
         workers: words.get_one("workers")?,
         capacity: words.get_one("queue")?,
         window: words.get_one("window")?,

@@ -8,7 +8,7 @@ use Rattle.ls_frame.specs.View.Known.{WasAtEnd}
 use Rattle.ls_stream.specs.declared.faults.StreamFault.{StreamFault}
 use Rattle.ls_film.specs.declared.ahead.Ahead.{Ahead}
 use Rattle.ls_film.specs.declared.ahead.After.TheVariants.{More, End, Fault}
-use Rattle.ls_film.specs.declared.ahead.Job.{Job}
+use Rattle.ls_film.specs.declared.ahead.Fetched.{Fetched}
 use Rattle.ls_film.specs.declared.codestreams.Unread.{Unread}
 use Rattle.ls_film.specs.declared.codestreams.Unread.TheVariants.{Stream}
 use Rattle.ls_film.specs.View.Ahead.{IsMade, AreTaken, ComesAfter, IsBatch, IsAhead, GivesAhead, codestreams_of}
@@ -34,16 +34,16 @@ no-more-after-fault fault is = let clash : ⊥ = cc in clash
 
 module _ {T : Type 0} (made : Picture → T → Type 0) where
   -- it was done on a job, whose codestream stays
-  abbrev pub Works : Job T → Job T → Type 0
+  abbrev pub Works : Fetched T → Fetched T → Type 0
   Works job job' = (job'.bytes ≡ job.bytes) × IsMade made job'
 
-  abbrev pub EachWorks : List (Job T) → List (Job T) → Type 0
-  EachWorks jobs jobs' = (i : ℕ) (d : Job T) → i < length jobs → Works (slice_index_or jobs i d) (slice_index_or jobs' i d)
+  abbrev pub EachWorks : List (Fetched T) → List (Fetched T) → Type 0
+  EachWorks jobs jobs' = (i : ℕ) (d : Fetched T) → i < length jobs → Works (slice_index_or jobs i d) (slice_index_or jobs' i d)
 
-  later : (job job' : Job T) (jobs jobs' : List (Job T)) → EachWorks (job ∷ jobs) (job' ∷ jobs') → EachWorks jobs jobs'
+  later : (job job' : Fetched T) (jobs jobs' : List (Fetched T)) → EachWorks (job ∷ jobs) (job' ∷ jobs') → EachWorks jobs jobs'
   later job job' jobs jobs' each i d lt = each (suc i) d (omega arith)
 
-  pub all-made : (jobs jobs' : List (Job T)) → length jobs' ≡ length jobs → EachWorks jobs jobs' → AllByRecursion (IsMade made) jobs' × (codestreams_of jobs' ≡ codestreams_of jobs)
+  pub all-made : (jobs jobs' : List (Fetched T)) → length jobs' ≡ length jobs → EachWorks jobs jobs' → AllByRecursion (IsMade made) jobs' × (codestreams_of jobs' ≡ codestreams_of jobs)
   all-made [] [] len each = (tt, refl)
   all-made [] (job' ∷ jobs') len each = let no : ⊥ = omega arith in absurd no
   all-made (job ∷ jobs) [] len each = let no : ⊥ = omega arith in absurd no
@@ -62,12 +62,12 @@ lent-back whole lent after len same size kept =
 
 module _ {T : Type 0} where
   -- the first is taken off
-  pub first-and-rest : (jobs : List (Job T)) (job : Job T) (rest : List (Job T)) → 0 < length jobs → job ≡ slice_index_or jobs 0 job → rest ≡ remove jobs 0 → jobs ≡ job ∷ rest
+  pub first-and-rest : (jobs : List (Fetched T)) (job : Fetched T) (rest : List (Fetched T)) → 0 < length jobs → job ≡ slice_index_or jobs 0 job → rest ≡ remove jobs 0 → jobs ≡ job ∷ rest
   first-and-rest [] job rest some is are = let no : ⊥ = omega arith in absurd no
   first-and-rest (first ∷ more) job rest some is are = ap (λ j. j ∷ more) (sym is) ∙ ap (λ js. job ∷ js) (sym are)
 
   -- none
-  pub none-left : (jobs : List (Job T)) → length jobs ≡ 0 → jobs ≡ []
+  pub none-left : (jobs : List (Fetched T)) → length jobs ≡ 0 → jobs ≡ []
   none-left [] is = refl
   none-left (job ∷ jobs) is = let no : ⊥ = omega arith in absurd no
 
@@ -113,7 +113,7 @@ module _ {T : Type 0} (made : Picture → T → Type 0) (place read : Option (Li
       (place, is, subst (IsUnread fault) (sym same) at)
 
   -- a job comes next
-  module _ (ahead rest : Ahead T) (job : Job T) (are : ahead.jobs.items ≡ job ∷ rest.jobs.items) (same : rest.after ≡ ahead.after) (is : IsAhead made place read ahead) where
+  module _ (ahead rest : Ahead T) (job : Fetched T) (are : ahead.jobs.items ≡ job ∷ rest.jobs.items) (same : rest.after ≡ ahead.after) (is : IsAhead made place read ahead) where
     taken-first : (mid : Option (List ℕ)) × IsTaken place mid job.bytes.items × AreTaken mid is.mid (codestreams_of rest.jobs.items)
     taken-first = rw are at is.taken
 

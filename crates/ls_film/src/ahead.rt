@@ -35,13 +35,13 @@ pub struct SideBySide<'rt, Rt, T> {
 /// Codestreams that were taken off a reader, one after the other, and not yet given.
 #[derive(Drop)]
 pub struct Ahead<T> {
-    pub jobs: Vec<Job<T>>,
+    pub jobs: Vec<Fetched<T>>,
     pub after: After,
 }
 
 /// A codestream, and what was made of its frame.
 #[derive(Drop)]
-pub struct Job<T> {
+pub struct Fetched<T> {
     /// The codestream's bytes.
     pub bytes: Vec<u8>,
     /// What was made of its frame, or why there is none. `NoMemory` before it is worked on.
@@ -189,7 +189,7 @@ fn give<T: Made + Drop>(ahead: &mut Ahead<T>) -> Result<Option<T>, Unread>
         };
     }
     let job = ahead.jobs.remove(0);
-    let Job {
+    let Fetched {
         bytes: _codestream,
         made,
     } = job;
@@ -209,7 +209,7 @@ fn take<T: Drop, R: Feed>(alloc: Global, reader: &mut R, most: usize) -> Ahead<T
     let mut jobs = Vec::new(alloc);
     for _place in 0..most {
         let job = match take_codestream(alloc, reader) {
-            Ok(Some(bytes)) => Job {
+            Ok(Some(bytes)) => Fetched {
                 bytes,
                 made: Err(StreamFault::NoMemory),
             },
@@ -258,7 +258,7 @@ fn work_on<T: Made + Send + Drop, Rt: Threads + Sync>(
 fn work_on_all<T: Made + Send + Drop, Rt: Threads + Sync>(
     rt: &Rt,
     alloc: Global,
-    jobs: &mut [Job<T>],
+    jobs: &mut [Fetched<T>],
     threads: usize,
 )
     requires { 0 < threads }
@@ -268,14 +268,14 @@ fn work_on_all<T: Made + Send + Drop, Rt: Threads + Sync>(
         rt,
         jobs,
         threads,
-        &|_place: usize, job: &mut Job<T>|
+        &|_place: usize, job: &mut Fetched<T>|
             ensures { (job.new.bytes ≡ job.old.bytes) × IsMade T.made job.new }
         { work::<T>(alloc, job) },
     );
 }
 
 /// Decodes a job's codestream, and makes of its frame what is to be made.
-fn work<T: Made + Drop>(alloc: Global, job: &mut Job<T>)
+fn work<T: Made + Drop>(alloc: Global, job: &mut Fetched<T>)
     ensures bytes { job.new.bytes ≡ job.old.bytes }
     ensures made { IsMade T.made job.new }
 {
@@ -288,7 +288,7 @@ pub trait Task {
     fn size(&self) -> usize;
 }
 
-impl<T> Task for Job<T> {
+impl<T> Task for Fetched<T> {
     fn size(&self) -> usize {
         self.bytes.len()
     }

@@ -56,5 +56,5 @@ pub use memory::keep_blocks;
 pub use netpbm::{NetpbmFault, first_frame, next_frame, write_frame};
 pub use output::{WriteFault, lay, write_bytes};
 pub use presets::{PresetFault, Presets};
-pub use samples::{Place, Samples};
+pub use samples::{Sample, Samples};
 pub use tuning::Tuning;

@@ -1,4 +1,4 @@
-//! Borrowed samples of 8 or 16 bits, and slots that samples are stored in.
+//! Borrowed samples of 8 or 16 bits, and what samples are stored in.
 ghost use Rattle.std.specs.Prelude.{◌≡◌, ◌==◌, ℕ, ◌+◌, ◌<◌, ◌≤◌, ◌++◌, List, refl, length, slice_index, take, drop, nat_lt, position, fold, max, set};
 ghost use lib.Pointwise.{pointwise};
 ghost use Rattle.ls_frame.specs.View.Numbers.{numbers, most_of};
@@ -53,26 +53,26 @@ impl<'a> Samples<'a> {
     }
 }
 
-/// A slot that a sample is stored in, of 8 or 16 bits.
-pub trait Place {
-    /// The numbers stored in these slots.
+/// An integer that a sample is stored in, of 8 or of 16 bits.
+pub trait Sample {
+    /// The numbers that these store.
     ghost numbers: { List Self → List ℕ };
 
-    /// The greatest number that a slot can store.
+    /// The greatest number that one can store.
     ghost most: { ℕ };
 
-    /// The greatest number that a slot can store: 255 or 65535.
+    /// The greatest number that one can store: 255 or 65535.
     fn greatest() -> u16
         ensures { result ≡ most };
 
-    /// Stores a sample in the slot with index `place`. Requires that this slot exists, and that it can store the
-    /// sample: a slot of 8 bits stores 255 at most.
+    /// Stores a sample at the index `place`. Requires that the slice is longer, and that one can store the sample: 8
+    /// bits store 255 at most.
     fn put(places: &mut [Self], place: usize, sample: u16)
         requires inside { place < length (numbers places.old) }
         requires small { sample ≤ most }
         ensures { numbers places.new ≡ set (numbers places.old) place sample };
 
-    /// Stores 0 in each slot.
+    /// Stores 0 in each.
     fn clear(places: &mut [Self])
         ensures zeros { (k : ℕ) → k < length (numbers places.new) → slice_index (numbers places.new) k ≡ 0 }
         ensures len { length (numbers places.new) ≡ length (numbers places.old) };
@@ -82,7 +82,7 @@ pub trait Place {
     ghost in_parts: { (front rest : List Self) → numbers (front ++ rest) ≡ numbers front ++ numbers rest };
 }
 
-impl Place for u8 {
+impl Sample for u8 {
     ghost numbers = { λ places. places };
 
     ghost most = { 255 };
@@ -105,7 +105,7 @@ impl Place for u8 {
     ghost in_parts = { λ _ _. refl };
 }
 
-impl Place for u16 {
+impl Sample for u16 {
     ghost numbers = { λ places. places };
 
     ghost most = { 65535 };

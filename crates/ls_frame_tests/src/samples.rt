@@ -1,5 +1,5 @@
 use crate::testing::{check, check_samples, form_of};
-use ls_frame::{FrameFault, FrameView, Kind, Place, Samples};
+use ls_frame::{FrameFault, FrameView, Kind, Sample, Samples};
 use std::process::Abort;
 
 /// A maxval, a row of bytes, and the fault if they don't make a view of one row.

@@ -1,6 +1,6 @@
 //! The names of a film and of the files of its recording, and which of them are duplicates.
 use crate::refusal::Refusal;
-use ls_command::Recording as Asked;
+use ls_command::RecordRequest;
 use ls_console::{Shown, cleared};
 use ls_files::INDEX;
 use ls_files::identity::last_part;
@@ -23,7 +23,7 @@ pub struct Names<'a> {
 /// Refused if one is a duplicate.
 pub fn names_once<'a>(
     alloc: Global,
-    asked: &Asked<'a>,
+    asked: &RecordRequest<'a>,
     columns: usize,
 ) -> Result<Vec<Names<'a>>, Refusal<'a>> {
     let mut names = Vec::new(alloc);

@@ -5,7 +5,7 @@ use crate::found::{Found, has_index, has_index_at, is_met, written_twice};
 use crate::names::Names;
 use crate::refusal::Refusal;
 use ls_archive::{Follower, Indexing};
-use ls_command::Recording as Asked;
+use ls_command::RecordRequest;
 use ls_console::{Console, MadeFile, Reader, Shown, buffered, make_file};
 use ls_files::{Folders, Keeper, Makes, Opens, Place, Source, Target, Targets};
 use ls_frame::{Counted, Outlet, Tuning};
@@ -40,7 +40,7 @@ const PAUSE: u64 = 10;
 pub fn open_films<'a, R, O, E>(
     rt: &R,
     opener: O,
-    asked: &Asked<'a>,
+    asked: &RecordRequest<'a>,
     names: &'a [Names<'a>],
     console: &mut Console<E>,
 ) -> Result<Opened<'a, O>, Refusal<'a>>
@@ -76,7 +76,7 @@ where
 struct Opening<'o, 'a, R, O> {
     rt: &'o R,
     opener: O,
-    asked: &'o Asked<'a>,
+    asked: &'o RecordRequest<'a>,
     names: &'a [Names<'a>],
 }
 

@@ -3,7 +3,7 @@ use crate::ending::report::{table_of, write_report};
 use crate::ending::{end_films, release, say_counts};
 use crate::watching::Watch;
 use crate::watching::progress::Teller;
-use ls_command::Recording as Asked;
+use ls_command::RecordRequest;
 use ls_console::{Host, Program, Reader, no_memory};
 use ls_files::Makes;
 use ls_frame::Outlet;
@@ -26,7 +26,11 @@ pub type Recorded<'a, O> = Result<
 
 /// Records the films that are asked for, says how each ended, and returns the status. On a terminal progress is always
 /// shown.
-pub fn record_films<R, O, W, E>(program: Program<'_, R, W, E>, opener: O, asked: Asked<'_>) -> u8
+pub fn record_films<R, O, W, E>(
+    program: Program<'_, R, W, E>,
+    opener: O,
+    asked: RecordRequest<'_>,
+) -> u8
 where
     R: Host + Clock + Threads + Wait + Sync,
     O: Makes<File = R::File> + Copy + Send,
@@ -48,7 +52,7 @@ where
 /// Records films whose files are open, says how each ended, writes the report, and returns the status.
 fn record_opened<'a, R, O, W, E>(
     program: Program<'_, R, W, E>,
-    asked: &'a Asked<'a>,
+    asked: &'a RecordRequest<'a>,
     opened: Opened<'a, O>,
 ) -> u8
 where
@@ -107,7 +111,7 @@ where
 /// Records films while another thread watches them. If no thread can be started to watch, nobody does.
 fn record_watched<'a, R, O, W, E>(
     rt: &R,
-    asked: &Asked<'_>,
+    asked: &RecordRequest<'_>,
     watch: &Watch<'_, R>,
     teller: Teller<'_, 'a, R, O, W, E>,
     devices: Vec<Devices<'a, O>>,

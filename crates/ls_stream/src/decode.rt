@@ -24,7 +24,7 @@ use crate::segments::read::FrameHeader;
 use crate::shape::Shape;
 use ls_bits::{CodeFault, Stop, data_of};
 use ls_coding::Regions;
-use ls_frame::{Form, Frame, Place, Presets};
+use ls_frame::{Form, Frame, Presets, Sample};
 use std::alloc::Global;
 use std::marker::Model;
 
@@ -175,7 +175,7 @@ impl<'a> Opening<'a> {
     /// over maxval in them (zeros will do); lines at least as wide as the frame; and the regions of the opening's
     /// parameters. A fault is as for `decode_frame`, but never NoMemory; the contents of the places are then
     /// unspecified.
-    pub fn decode<S: Place>(
+    pub fn decode<S: Sample>(
         &self,
         lines: &mut Lines,
         regions: &Regions,
@@ -230,7 +230,7 @@ impl<'a> Opening<'a> {
 
 /// Decodes the scans after an opening that was read from these bytes, which are no more than a codestream may have.
 /// Returns the number of bytes of the codestream.
-fn decode_opened<S: Place>(
+fn decode_opened<S: Sample>(
     bytes: &[u8],
     opening: (FrameHeader, Presets, &[u8]),
     lines: &mut Lines,
@@ -265,7 +265,7 @@ fn decode_opened<S: Place>(
 
 /// Decodes the scans of all components into the samples. The first scan's header was read before. Returns the bytes
 /// after EOI.
-fn decode_scans<'a, S: Place>(
+fn decode_scans<'a, S: Sample>(
     presets: &Presets,
     regions: &Regions,
     header: &FrameHeader,
@@ -322,7 +322,7 @@ fn after_data(bytes: &[u8]) -> &[u8]
 
 /// Decodes the data of a component's scan, at the front of bytes, into the component's places among the samples.
 /// Returns the bytes after it.
-fn decode_data<'a, S: Place>(
+fn decode_data<'a, S: Sample>(
     presets: &Presets,
     regions: &Regions,
     lines: &mut Lines,

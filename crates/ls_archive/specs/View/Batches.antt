@@ -10,7 +10,7 @@ use Rattle.ls_archive.specs.declared.checking.IndexLine.{IndexLine}
 use Rattle.ls_archive.specs.declared.checking.batches.After.{After}
 use Rattle.ls_archive.specs.declared.checking.batches.After.TheVariants.{More, End, Fault}
 use Rattle.ls_archive.specs.declared.checking.batches.Batch.{Batch}
-use Rattle.ls_archive.specs.declared.checking.batches.Job.{Job}
+use Rattle.ls_archive.specs.declared.checking.batches.Listed.{Listed}
 use Rattle.ls_archive.specs.declared.checking.batches.SoFar.{SoFar}
 use Rattle.ls_archive.specs.View.Checking.{Line, IsLine}
 use Rattle.ls_archive.specs.View.Checks.{GaveAtMost, IsFound, HasChecked, StopsNextLine, StopsReading, blames_index, blames_recording}
@@ -30,7 +30,7 @@ line_of line = record { text = line.text.items; size = line.size; sum = line.sum
 
 -- At this place the index gave the job's line, and the recording the line's bytes, or all that were left; the check is then at the next
 -- place.
-pub record IsTaken (at next : Place) (job : Job) : Type 0 where
+pub record IsTaken (at next : Place) (job : Listed) : Type 0 where
   pub number : job.number ≡ at.number
   pub offset : job.offset ≡ at.offset
   pub is : IsLine at.number at.offset (line_of job.line)
@@ -40,7 +40,7 @@ pub record IsTaken (at next : Place) (job : Job) : Type 0 where
   pub next_offset : next.offset ≡ at.offset + job.line.size
 
 -- The jobs were taken one after the other, from the first place to the second.
-abbrev pub AreTaken : Place → Place → List Job → Type 0
+abbrev pub AreTaken : Place → Place → List Listed → Type 0
 AreTaken at next [] = at ≡ next
 AreTaken at next (job ∷ jobs) = (mid : Place) × IsTaken at mid job × AreTaken mid next jobs
 
@@ -60,7 +60,7 @@ pub record IsBatch (at : Place) (index recording : Option (List ℕ)) (batch : B
 -- ---- what is found
 
 -- The job's bytes were looked at, and what is wrong with them was found, unless an allocation failed.
-pub record IsLookedAt (job job' : Job) : Type 0 where
+pub record IsLookedAt (job job' : Listed) : Type 0 where
   pub number : job'.number ≡ job.number
   pub offset : job'.offset ≡ job.offset
   pub line : job'.line ≡ job.line
@@ -68,7 +68,7 @@ pub record IsLookedAt (job job' : Job) : Type 0 where
 
 -- At this place the readers gave the job's line and its bytes, and the job says what was found of these, unless an allocation failed; the
 -- check is then at the next place.
-pub record IsLooked (at next : Place) (job : Job) : Type 0 where
+pub record IsLooked (at next : Place) (job : Listed) : Type 0 where
   pub number : job.number ≡ at.number
   pub offset : job.offset ≡ at.offset
   pub is : IsLine at.number at.offset (line_of job.line)
@@ -80,7 +80,7 @@ pub record IsLooked (at next : Place) (job : Job) : Type 0 where
   pub next_offset : next.offset ≡ at.offset + job.line.size
 
 -- The jobs were taken one after the other, from the first place to the second, and looked at.
-abbrev pub AreLooked : Place → Place → List Job → Type 0
+abbrev pub AreLooked : Place → Place → List Listed → Type 0
 AreLooked at next [] = at ≡ next
 AreLooked at next (job ∷ jobs) = (mid : Place) × IsLooked at mid job × AreLooked mid next jobs
 
@@ -93,14 +93,14 @@ pub record HasCheckedTo (index recording : Option (List ℕ)) (found found' : Op
   pub checked : HasChecked index at.index recording at.recording found found' at.number at.offset so_far.damaged
 
 -- A check that stands before these jobs, whatever its place, stands before the jobs that are left once what was found is reported.
-abbrev pub LeadsOn : Option (List Finding) → Option (List Finding) → SoFar → SoFar → List Job → List Job → Type 0
+abbrev pub LeadsOn : Option (List Finding) → Option (List Finding) → SoFar → SoFar → List Listed → List Listed → Type 0
 LeadsOn told told' so_far so_far' jobs left =
     (index recording : Option (List ℕ)) (found : Option (List Finding)) (at next : Place) → HasCheckedTo index recording found told at so_far → AreLooked at next jobs
     → (mid : Place) × HasCheckedTo index recording found told' mid so_far' × AreLooked mid next left
 
 -- the same, for some state and some jobs left
-abbrev pub LeadsSomewhere : Option (List Finding) → Option (List Finding) → SoFar → List Job → Type 0
-LeadsSomewhere told told' so_far jobs = (so_far' : SoFar) × (left : List Job) × LeadsOn told told' so_far so_far' jobs left
+abbrev pub LeadsSomewhere : Option (List Finding) → Option (List Finding) → SoFar → List Listed → Type 0
+LeadsSomewhere told told' so_far jobs = (so_far' : SoFar) × (left : List Listed) × LeadsOn told told' so_far so_far' jobs left
 
 -- ---- reads that failed
 

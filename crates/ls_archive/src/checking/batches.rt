@@ -25,7 +25,7 @@ pub struct SoFar {
 
 /// A line of an index, and the bytes that stand at its offset.
 #[derive(Drop)]
-pub struct Job {
+pub struct Listed {
     pub number: u64,
     pub offset: u64,
     pub line: IndexLine,
@@ -38,7 +38,7 @@ pub struct Job {
 /// Lines that were taken off an index one after the other.
 #[derive(Drop)]
 pub struct Batch {
-    pub jobs: Vec<Job>,
+    pub jobs: Vec<Listed>,
     pub after: After,
 }
 
@@ -102,7 +102,7 @@ fn next_job<I: Feed, R: Feed>(
     recording: &mut R,
     number: u64,
     offset: u64,
-) -> Result<Job, After>
+) -> Result<Listed, After>
     ensures taken { IfOk result (λ job. IsTaken
         (record { index = I.remaining index.old; recording = R.remaining recording.old; number = number; offset = offset })
         (record { index = I.remaining index.new; recording = R.remaining recording.new; number = number + 1; offset = offset + job.line.size })
@@ -127,7 +127,7 @@ fn next_job<I: Feed, R: Feed>(
         Err(fault) => return Err(After::Fault(fault)),
     };
     match take_bytes(alloc, recording, line.size as usize) {
-        Ok(bytes) => Ok(Job {
+        Ok(bytes) => Ok(Listed {
             number,
             offset,
             line,
@@ -140,7 +140,7 @@ fn next_job<I: Feed, R: Feed>(
 
 /// Reports what is wrong with the bytes of jobs, in order, and returns how far the check is then.
 pub fn tell_all<F: Findings>(
-    jobs: &[Job],
+    jobs: &[Listed],
     so_far: SoFar,
     findings: &mut F,
 ) -> Result<SoFar, AllocError>
@@ -162,7 +162,7 @@ pub fn tell_all<F: Findings>(
 }
 
 /// Reports what is wrong with the bytes of the next job, if anything is, and returns how far the check is then.
-fn tell_of<F: Findings>(job: &Job, so_far: SoFar, findings: &mut F) -> Result<SoFar, AllocError>
+fn tell_of<F: Findings>(job: &Listed, so_far: SoFar, findings: &mut F) -> Result<SoFar, AllocError>
     requires few { so_far.number < most_frames }
     requires bounded { so_far.offset ≤ 2 ^ 32 * so_far.number }
     requires damaged { so_far.damaged ≤ so_far.number }

@@ -4,7 +4,7 @@ ghost use Rattle.std.specs.List.{AllZip};
 ghost use Rattle.std.specs.Thread.{IsSync};
 ghost use Rattle.ls_archive.specs.View.Batches.{IsLookedAt};
 
-use crate::checking::batches::Job;
+use crate::checking::batches::Listed;
 use crate::checking::damage_of;
 use ls_film::ahead::{Task, batch_for, threads_for};
 use std::alloc::Global;
@@ -26,7 +26,7 @@ pub trait Looking {
         ensures few { result ≤ most };
 
     /// Looks at the bytes of all jobs, and frees them.
-    fn look_at_all(&self, alloc: Global, jobs: &mut Vec<Job>)
+    fn look_at_all(&self, alloc: Global, jobs: &mut Vec<Listed>)
         requires { may_run }
         ensures { AllZip IsLookedAt jobs.old.items jobs.new.items };
 }
@@ -44,7 +44,7 @@ impl Looking for Alone {
         1
     }
 
-    fn look_at_all(&self, alloc: Global, jobs: &mut Vec<Job>) {
+    fn look_at_all(&self, alloc: Global, jobs: &mut Vec<Listed>) {
         for job in jobs.iter_mut() {
             look_at_job(alloc, job);
         }
@@ -67,12 +67,12 @@ impl<'rt, Rt: Threads + Sync> Looking for ByThreads<'rt, Rt> {
         batch_for(self.workers) as u64
     }
 
-    fn look_at_all(&self, alloc: Global, jobs: &mut Vec<Job>) {
+    fn look_at_all(&self, alloc: Global, jobs: &mut Vec<Listed>) {
         look_side_by_side(self.rt, alloc, self.workers, jobs)
     }
 }
 
-impl Task for Job {
+impl Task for Listed {
     fn size(&self) -> usize {
         self.bytes.len()
     }
@@ -83,7 +83,7 @@ fn look_side_by_side<Rt: Threads + Sync>(
     rt: &Rt,
     alloc: Global,
     workers: usize,
-    jobs: &mut Vec<Job>,
+    jobs: &mut Vec<Listed>,
 )
     ensures { AllZip IsLookedAt jobs.old.items jobs.new.items }
 {
@@ -92,14 +92,14 @@ fn look_side_by_side<Rt: Threads + Sync>(
         rt,
         jobs,
         threads,
-        &|_place: usize, job: &mut Job|
+        &|_place: usize, job: &mut Listed|
             ensures { IsLookedAt job.old job.new }
         { look_at_job(alloc, job) },
     );
 }
 
 /// Looks at the bytes of a job, and frees them.
-fn look_at_job(alloc: Global, job: &mut Job)
+fn look_at_job(alloc: Global, job: &mut Listed)
     ensures { IsLookedAt job.old job.new }
 {
     let bytes = replace(&mut job.bytes, Vec::new(alloc));

@@ -7,7 +7,7 @@ use Rattle.ls_stream.specs.Grammar.{Spells}
 use Rattle.ls_film.specs.declared.ahead.After.{After}
 use Rattle.ls_film.specs.declared.ahead.After.TheVariants.{More, End, Fault}
 use Rattle.ls_film.specs.declared.ahead.Ahead.{Ahead}
-use Rattle.ls_film.specs.declared.ahead.Job.{Job}
+use Rattle.ls_film.specs.declared.ahead.Fetched.{Fetched}
 use Rattle.ls_film.specs.declared.codestreams.Unread.{Unread}
 use Rattle.ls_film.specs.View.Codestreams.{IsTaken, IsMadeOf, IsUnmade, IsUnread, is_io}
 use Rattle.ls_film.specs.View.Sources.{GivesImage}
@@ -15,11 +15,11 @@ use Rattle.ls_film.specs.View.Sources.{GivesImage}
 -- ---- codestreams that were taken at once
 
 -- What is to be made of the job's frame was made, or its fault found.
-abbrev pub IsMade : {T : Type 0} → (Picture → T → Type 0) → Job T → Type 0
+abbrev pub IsMade : {T : Type 0} → (Picture → T → Type 0) → Fetched T → Type 0
 IsMade made job = MatchResult job.made (IsMadeOf made job.bytes.items) (IsUnmade job.bytes.items)
 
 -- the codestreams of jobs
-abbrev pub codestreams_of : {T : Type 0} → List (Job T) → List (List ℕ)
+abbrev pub codestreams_of : {T : Type 0} → List (Fetched T) → List (List ℕ)
 codestreams_of jobs = map (λ job. job.bytes.items) jobs
 
 -- They were taken off a reader, one after the other.

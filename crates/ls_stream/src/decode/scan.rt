@@ -16,7 +16,7 @@ use crate::lines::clear;
 use crate::shape::Shape;
 use ls_bits::{BitSource, CodeFault};
 use ls_coding::{Regions, State, SureZeros};
-use ls_frame::{Place, Presets};
+use ls_frame::{Presets, Sample};
 
 /// Why a scan's data isn't that of a plane.
 #[derive(Clone, Copy)]
@@ -28,7 +28,7 @@ pub enum ScanFault {
 }
 
 /// Decodes the plane of a component from a scan's data, into the component's places among the samples.
-pub fn decode_scan<S: Place>(
+pub fn decode_scan<S: Sample>(
     presets: &Presets,
     regions: &Regions,
     bytes: &[u8],
@@ -82,7 +82,7 @@ pub fn decode_scan<S: Place>(
 
 /// Decodes a component's plane from a scan's start. `above` and `line` are buffers, at least two places longer than a
 /// row.
-fn decode_plane<S: Place>(
+fn decode_plane<S: Sample>(
     decoder: &mut Decoder,
     above: &mut Vec<u16>,
     line: &mut Vec<u16>,
@@ -127,7 +127,7 @@ fn decode_plane<S: Place>(
 }
 
 /// Decodes the rows of one component, with `above` and `line` as line buffers.
-fn decode_rows<S: Place>(
+fn decode_rows<S: Sample>(
     decoder: &mut Decoder,
     above: &mut [u16],
     line: &mut [u16],
@@ -170,7 +170,7 @@ fn decode_rows<S: Place>(
 }
 
 /// Stores a row, which is in a line from its second place on, into its places among the samples of all components.
-fn store_row<S: Place>(samples: &mut [S], line: &[u16], row: usize, shape: Shape, component: usize)
+fn store_row<S: Sample>(samples: &mut [S], line: &[u16], row: usize, shape: Shape, component: usize)
     requires line { length line.now ≡ shape.width + 2 }
     requires fits { (k : ℕ) → slice_index line.now k ≤ S.most }
     requires samples { length (S.numbers samples.old) ≡ shape.height * shape.width * shape.components }
@@ -195,7 +195,7 @@ fn store_row<S: Place>(samples: &mut [S], line: &[u16], row: usize, shape: Shape
 
 /// Stores `count` samples, which are in a line from its second place on, into the places from `start` on, several at
 /// once.
-fn put_side_by_side<S: Place>(samples: &mut [S], line: &[u16], start: usize, count: usize)
+fn put_side_by_side<S: Sample>(samples: &mut [S], line: &[u16], start: usize, count: usize)
     requires line { count < length line.now }
     requires fits { (k : ℕ) → slice_index line.now k ≤ S.most }
     requires samples { start + count ≤ length (S.numbers samples.old) }

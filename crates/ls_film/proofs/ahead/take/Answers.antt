@@ -6,7 +6,7 @@ use Rattle.ls_film.proofs.AheadLemmas.{taken-more, no-more-after-end, no-more-af
 use Rattle.ls_film.proofs.CodestreamLemmas.{had-bytes}
 use Rattle.std.proofs.Common.{Err}
 use Rattle.ls_stream.specs.declared.faults.StreamFault.TheVariants.{NoMemory}
-use Rattle.ls_film.specs.declared.ahead.Job.{Job}
+use Rattle.ls_film.specs.declared.ahead.Fetched.{Fetched}
 use Rattle.ls_film.proofs.ahead.take.Goals as goal
 
 pub returns-in-Err-clause-taken : goal.returns-in-Err-clause-taken
@@ -33,7 +33,7 @@ loop-place-preserved g c =
     let read = g.R.Read.remaining c.loop-place.reader in
     let read' = g.R.Read.remaining c.take_codestream.new.reader in
     let is : IsTaken read read' c.in-Ok-Some.bytes.items = rw c.in-Ok-Some.field-0-is at c.in-Ok-Some.ensures.taken in
-    let job : Job g.row.T.Denot = record { bytes = c.in-Ok-Some.bytes; made = Err NoMemory } in
+    let job : Fetched g.row.T.Denot = record { bytes = c.in-Ok-Some.bytes; made = Err NoMemory } in
     let more = taken-more _ read read' (codestreams_of c.loop-place.jobs.items) job.bytes.items c.loop-place.invariant.taken is in
     let pushed : c.push.new.self.items ≡ c.loop-place.jobs.items ++ job ∷ [] = search rules in
     record {

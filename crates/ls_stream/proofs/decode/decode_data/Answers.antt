@@ -22,14 +22,14 @@ returns-in-Ok-clause-rest g c =
 pub returns-in-Ok-clause-coded : goal.returns-in-Ok-clause-coded
 returns-in-Ok-clause-coded g c =
     let bytes = c.args.bytes.now in
-    subst (λ n. IsCoded c.args.presets.now (component_plane c.args.shape.width c.args.shape.components c.args.component (g.S.Place.numbers c.decode_scan-read.new.samples)) (take n bytes))
+    subst (λ n. IsCoded c.args.presets.now (component_plane c.args.shape.width c.args.shape.components c.args.component (g.S.Sample.numbers c.decode_scan-read.new.samples)) (take n bytes))
     (data_length-only bytes c.data_of-found.result.len c.data_of-found.ensures.len) c.in-Ok.ensures.coded
 
 pub returns-in-Ok-clause-only : goal.returns-in-Ok-clause-only
 returns-in-Ok-clause-only g c =
     let bytes = c.args.bytes.now in
     subst (λ n. (plane : Plane) → IsSamplePlane c.args.presets.now.maxval c.args.shape.width c.args.shape.height plane → IsCoded c.args.presets.now plane (take n bytes)
-    → plane ≡ component_plane c.args.shape.width c.args.shape.components c.args.component (g.S.Place.numbers c.decode_scan-read.new.samples))
+    → plane ≡ component_plane c.args.shape.width c.args.shape.components c.args.component (g.S.Sample.numbers c.decode_scan-read.new.samples))
     (data_length-only bytes c.data_of-found.result.len c.data_of-found.ensures.len) c.in-Ok.ensures.only
 
 pub returns-in-Err-clause-none : goal.returns-in-Err-clause-none

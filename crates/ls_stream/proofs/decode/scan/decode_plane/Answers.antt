@@ -20,14 +20,14 @@ returns-clause-plane g c =
     let height : ℕ = c.args.shape.height in
     let count : ℕ = c.args.shape.components in
     let component : ℕ = c.args.component in
-    let new = (g.S.Place.numbers c.decode_rows.new.samples) in
+    let new = (g.S.Sample.numbers c.decode_rows.new.samples) in
     let bits = c.decode_rows.new.decoder.bits in
     let plane : Plane = component_plane width count component new in
     let some : 1 ≤ count = omega (arith, c.requires.component) in
     let whole : length new ≡ height * width * count = c.decode_rows.ensures.len ∙ c.requires.samples in
     let is = is_sample_plane maxval width height count component new some whole c.decode_rows.ensures.small in
     ok_map c.decode_rows.result _ _
-    (λ x rows. started maxval width height count component plane (g.S.Place.numbers c.args.samples.now) s c.args.decoder.now.bits bits c.requires.some is c.requires.state
+    (λ x rows. started maxval width height count component plane (g.S.Sample.numbers c.args.samples.now) s c.args.decoder.now.bits bits c.requires.some is c.requires.state
     ((rows plane is bits).1 (ends plane height count component new c.decode_rows.new.decoder.state bits (rows_of_component width height count component new some whole))))
     c.decode_rows.ensures.rows
 
@@ -39,12 +39,12 @@ returns-clause-only g c =
     let height : ℕ = c.args.shape.height in
     let count : ℕ = c.args.shape.components in
     let component : ℕ = c.args.component in
-    let new = (g.S.Place.numbers c.decode_rows.new.samples) in
+    let new = (g.S.Sample.numbers c.decode_rows.new.samples) in
     let some : 1 ≤ count = omega (arith, c.requires.component) in
     let whole : length new ≡ height * width * count = c.decode_rows.ensures.len ∙ c.requires.samples in
     ok_map c.decode_rows.result _ _
     (λ x rows plane is rest e.
-    let after = (rows plane is rest).0 (starts maxval width height count component plane (g.S.Place.numbers c.args.samples.now) s c.args.decoder.now.bits rest c.requires.some is c.requires.state e) in (
+    let after = (rows plane is rest).0 (starts maxval width height count component plane (g.S.Sample.numbers c.args.samples.now) s c.args.decoder.now.bits rest c.requires.some is c.requires.state e) in (
       all_rows_are maxval width height count component new plane c.requires.some some whole is after.rows,
       ended plane height count component new c.decode_rows.new.decoder.state c.decode_rows.new.decoder.bits rest after,
     ))
@@ -56,7 +56,7 @@ returns-clause-none g c =
     let maxval : ℕ = s.parameters.maxval in
     err_map c.decode_rows.result _ _
     (λ x none plane is rest e.
-    none plane is rest (starts maxval c.args.shape.width c.args.shape.height c.args.shape.components c.args.component plane (g.S.Place.numbers c.args.samples.now) s c.args.decoder.now.bits rest c.requires.some is c.requires.state e))
+    none plane is rest (starts maxval c.args.shape.width c.args.shape.height c.args.shape.components c.args.component plane (g.S.Sample.numbers c.args.samples.now) s c.args.decoder.now.bits rest c.requires.some is c.requires.state e))
     c.decode_rows.ensures.none
 
 pub returns-clause-breaks : goal.returns-clause-breaks

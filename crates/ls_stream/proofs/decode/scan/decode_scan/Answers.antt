@@ -11,7 +11,7 @@ returns-then-left-ge16-clause-fault g c =
     let width : ℕ = c.args.shape.width in
     let count : ℕ = c.args.shape.components in
     let component : ℕ = c.args.component in
-    let new = (g.S.Place.numbers c.decode_plane-read.new.samples) in
+    let new = (g.S.Sample.numbers c.decode_plane-read.new.samples) in
     let coder : c.new-decoder.result.state.parameters ≡ p = c.new-decoder.ensures.parameters in
     let some : 1 ≤ count = omega (arith, c.requires.component) in
     record {

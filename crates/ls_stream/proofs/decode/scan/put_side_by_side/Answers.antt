@@ -7,7 +7,7 @@ use Rattle.ls_stream.proofs.decode.scan.put_side_by_side.Goals as goal
 pub loop-column-preserved : goal.loop-column-preserved
 loop-column-preserved g c =
     let column : ℕ = c.loop-column.column in
-    let samples = g.S.Place.numbers c.loop-column.samples in
+    let samples = g.S.Sample.numbers c.loop-column.samples in
     let place : ℕ = c.args.start + column in
     let sample : ℕ = get_or c.args.line.now (column + 1) 0 in
     let inside : place < length samples = omega (arith, c.loop-column-test.true, c.loop-column.invariant.whole, c.requires.samples) in

@@ -3,7 +3,7 @@ use Rattle.ls_stream.proofs.decode.scan.put_side_by_side.Given as goal
 
 abbrev pub invariant-loop-column : goal.invariant-loop-column
 invariant-loop-column g l = record {
-  whole : length (g.S.Place.numbers l.samples) ≡ length (g.S.Place.numbers l.fn.samples);
-  stored : (j : ℕ) → j < l.column → get_or (g.S.Place.numbers l.samples) (l.start + j) 0 ≡ get_or l.line (j + 1) 0;
-  kept : (k : ℕ) → ((j : ℕ) → j < l.count → k ≢ l.start + j) → get_or (g.S.Place.numbers l.samples) k 0 ≡ get_or (g.S.Place.numbers l.fn.samples) k 0;
+  whole : length (g.S.Sample.numbers l.samples) ≡ length (g.S.Sample.numbers l.fn.samples);
+  stored : (j : ℕ) → j < l.column → get_or (g.S.Sample.numbers l.samples) (l.start + j) 0 ≡ get_or l.line (j + 1) 0;
+  kept : (k : ℕ) → ((j : ℕ) → j < l.count → k ≢ l.start + j) → get_or (g.S.Sample.numbers l.samples) k 0 ≡ get_or (g.S.Sample.numbers l.fn.samples) k 0;
 }
