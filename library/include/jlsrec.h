@@ -1,5 +1,7 @@
 /* Lossless JPEG-LS (ITU-T T.87) for C99 and C++17: pictures of one or three components, of 1 to 16 bits per sample,
- * with one scan per component. What each call returns and what it leaves in memory is proved, as described here.
+ * with one scan per component. What each call returns and what it leaves in memory is proved, as described here, except
+ * for three things, which are tested: how much a call allocates, that NO_MEMORY comes only if an allocation fails, and
+ * which text jlsrec_text writes, of at most 64 bytes.
  *
  * What a call returns and writes depends on its arguments alone. Calls keep no state, and may be made from any thread
  * at any time, also at the same time as others. Encoding, decoding and jlsrec_extent call malloc, realloc and free, and

@@ -1,7 +1,8 @@
 """Lossless JPEG-LS (ITU-T T.87) of numpy arrays.
 
-The codec is that of jlsrec, whose every byte is proved. A picture is an array of uint8 or uint16: (height, width), gray,
-or (height, width, 3), colour. Calls hold no lock of Python's while they code, so threads code side by side.
+The codec is the C library libjlsrec, whose calls are proved to return what its header says; this package, which calls
+it, is only tested. A picture is an array of uint8 or uint16: (height, width), gray, or (height, width, 3), colour. Calls
+hold no lock of Python's while they code, so threads code side by side.
 
     import jlsrec
     data = jlsrec.encode(array)
