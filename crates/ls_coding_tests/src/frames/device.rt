@@ -1,4 +1,4 @@
-use crate::testing::{
+use crate::frames::testing::{
     BROKEN, Chunks, Mishap, Sink, Take, check, check_items, check_so, check_takes,
 };
 use ls_frame::{Counted, Failed, Feed, FeedFault, Outlet};

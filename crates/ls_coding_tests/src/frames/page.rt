@@ -1,4 +1,4 @@
-use crate::testing::{check, check_items};
+use crate::frames::testing::{check, check_items};
 use ls_frame::{Feed, NetpbmFault, Outlet, next_frame, write_frame};
 use std::alloc::Global;
 

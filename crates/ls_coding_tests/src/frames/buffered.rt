@@ -1,4 +1,4 @@
-use crate::testing::{BROKEN, Chunks, Take, check, check_items, check_so, check_takes};
+use crate::frames::testing::{BROKEN, Chunks, Take, check, check_items, check_so, check_takes};
 use ls_frame::{Buffered, Counted, Failed, Feed, FeedFault};
 use std::alloc::Global;
 use std::io::Read;

@@ -1,4 +1,4 @@
-use crate::testing::{Parameters, check, check_so, parameters_of};
+use crate::frames::testing::{Parameters, check, check_so, parameters_of};
 use ls_frame::{PresetFault, Presets, Tuning};
 use std::process::Abort;
 

@@ -1,4 +1,6 @@
-use crate::testing::{Mishap, Parts, Sink, check, check_items, check_so, frame_of, long_samples};
+use crate::frames::testing::{
+    Mishap, Parts, Sink, check, check_items, check_so, frame_of, long_samples,
+};
 use ls_frame::{Counted, Frame, Kind, Outlet, WriteFault, first_frame, write_frame};
 use std::alloc::Global;
 use std::process::Abort;

@@ -1,4 +1,6 @@
-use crate::testing::{Parts, check, check_items, check_samples, form_of, frame_of, parts_of};
+use crate::frames::testing::{
+    Parts, check, check_items, check_samples, form_of, frame_of, parts_of,
+};
 use ls_frame::{Frame, FrameFault, FrameView, Kind, PictureView, Samples};
 use std::alloc::{AllocError, Global};
 use std::process::Abort;

@@ -1,4 +1,4 @@
-use crate::testing::{check, check_samples, form_of};
+use crate::frames::testing::{check, check_samples, form_of};
 use ls_frame::{FrameFault, FrameView, Kind, Sample, Samples};
 use std::process::Abort;
 

@@ -1,4 +1,6 @@
-use crate::testing::{Mishap, Parameters, Sink, check, check_items, check_so, parameters_of};
+use crate::frames::testing::{
+    Mishap, Parameters, Sink, check, check_items, check_so, parameters_of,
+};
 use ls_frame::{PresetFault, Presets};
 use std::io::Write;
 use std::process::Abort;

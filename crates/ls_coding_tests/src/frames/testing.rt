@@ -1,6 +1,6 @@
 //! Frames, readers, writers and checks for the tests. The readers and the writers don't allocate.
 ghost use Rattle.std.specs.Prelude.{◌≤◌};
-ghost use Rattle.ls_frame_tests.specs.declared.testing.TheConstants.{ROOM};
+ghost use Rattle.ls_coding_tests.specs.declared.frames.testing.TheConstants.{ROOM};
 
 use ls_frame::{Failed, Feed, FeedFault, Form, Frame, Kind, PresetFault, Presets, Samples};
 use std::alloc::{AllocError, Global};

@@ -1,4 +1,4 @@
-use crate::testing::{Mishap, Sink, check, check_items};
+use crate::frames::testing::{Mishap, Sink, check, check_items};
 use ls_frame::{Counted, Outlet, WriteFault, write_bytes};
 use std::process::Abort;
 

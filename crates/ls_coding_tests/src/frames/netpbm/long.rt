@@ -1,5 +1,5 @@
 use super::*;
-use crate::testing::long_samples;
+use crate::frames::testing::long_samples;
 use std::alloc::AllocError;
 
 const NARROW: &[u8] = b"P5 300 300 255\n";

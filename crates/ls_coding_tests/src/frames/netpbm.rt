@@ -1,7 +1,7 @@
 mod failures;
 mod long;
 
-use crate::testing::{Chunks, Parts, check, check_items, check_so, parts_of};
+use crate::frames::testing::{Chunks, Parts, check, check_items, check_so, parts_of};
 use ls_frame::{Counted, Feed, Frame, Kind, NetpbmFault, first_frame, next_frame};
 use std::alloc::{AllocError, Global};
 use std::process::Abort;
