@@ -1,7 +1,8 @@
 -- Forms that openings give, and samples that are zeros.
-use Rattle.std.proofs.Common.{◌≡◌, ℕ, ◌<◌, ◌≤◌, List, ◌++◌, [], ◌∷◌, length, take, drop, get_or, zero, suc, refl, sym, ◌∙◌, ap, subst, inl, inr, arith}
+use Rattle.std.proofs.Common.{◌≡◌, ℕ, ◌<◌, ◌≤◌, List, ◌++◌, [], ◌∷◌, length, take, drop, take-append-drop, get_or, zero, suc, refl, sym, ◌∙◌, ap, subst, inl, inr, arith}
 use Rattle.std.specs.Prelude.{slice_index}
 use Rattle.std.proofs.lemmas.Bool.{cases_lt}
+use Rattle.std.proofs.lemmas.List.{length-take-le}
 use Rattle.std.proofs.Math.Seq.{drop-append_seam}
 use Rattle.ls_frame.specs.Picture.{Picture, picture_of, components, sample_count}
 use Rattle.ls_stream.specs.Grammar.{Spells}
@@ -52,6 +53,37 @@ decoded_of most bytes old new form used fault o places same_bytes fits has says 
 pub form_samples : (o : Opened) (form : JlsrecForm) → form ≡ form_by o → samples_of form ≡ sample_count o.kind o.width o.height
 form_samples o form e = ap samples_of e
 
--- what is beyond places that were written to
-pub beyond_places : (count : ℕ) (places old : List ℕ) → length places ≡ count → drop count (places ++ drop count old) ≡ drop count old
-beyond_places count places old e = ap (λ n. drop n (places ++ drop count old)) (sym e) ∙ drop-append_seam places (drop count old)
+-- ---- slots, seen as numbers
+
+-- the numbers of the first slots; of the rest; of the first when they were written to; and of all when the first were not changed
+pub front_numbers : {A : Type 0} (numbers : List A → List ℕ) → ((slots : List A) → length (numbers slots) ≡ length slots) → (count : ℕ) (slots : List A) → count ≤ length slots
+    → length (numbers (take count slots)) ≡ count
+front_numbers numbers one_each count slots few = one_each (take count slots) ∙ length-take-le count slots few
+
+split_numbers : {A : Type 0} (numbers : List A → List ℕ) → ((front rest : List A) → numbers (front ++ rest) ≡ numbers front ++ numbers rest) → (count : ℕ) (slots : List A)
+    → numbers slots ≡ numbers (take count slots) ++ numbers (drop count slots)
+split_numbers numbers in_parts count slots = ap numbers (sym (take-append-drop count slots)) ∙ in_parts (take count slots) (drop count slots)
+
+rest_numbers : {A : Type 0} (numbers : List A → List ℕ) → ((slots : List A) → length (numbers slots) ≡ length slots)
+    → ((front rest : List A) → numbers (front ++ rest) ≡ numbers front ++ numbers rest) → (count : ℕ) (slots : List A) → count ≤ length slots
+    → numbers (drop count slots) ≡ drop count (numbers slots)
+rest_numbers numbers one_each in_parts count slots few =
+    sym (ap (drop count) (split_numbers numbers in_parts count slots)
+    ∙ ap (λ n. drop n (numbers (take count slots) ++ numbers (drop count slots))) (sym (front_numbers numbers one_each count slots few))
+    ∙ drop-append_seam (numbers (take count slots)) (numbers (drop count slots)))
+
+pub laid_numbers : {A : Type 0} (numbers : List A → List ℕ) → ((slots : List A) → length (numbers slots) ≡ length slots)
+    → ((front rest : List A) → numbers (front ++ rest) ≡ numbers front ++ numbers rest) → (count : ℕ) (slots written : List A) → count ≤ length slots
+    → numbers (written ++ drop count slots) ≡ numbers written ++ drop count (numbers slots)
+laid_numbers numbers one_each in_parts count slots written few =
+    in_parts written (drop count slots) ∙ ap (λ rest. numbers written ++ rest) (rest_numbers numbers one_each in_parts count slots few)
+
+pub kept_numbers : {A : Type 0} (numbers : List A → List ℕ) → ((front rest : List A) → numbers (front ++ rest) ≡ numbers front ++ numbers rest) → (count : ℕ) (slots written : List A)
+    → numbers written ≡ numbers (take count slots) → numbers (written ++ drop count slots) ≡ numbers slots
+kept_numbers numbers in_parts count slots written e =
+    in_parts written (drop count slots) ∙ ap (λ front. front ++ numbers (drop count slots)) e ∙ sym (split_numbers numbers in_parts count slots)
+
+-- what is beyond slots that were written to
+pub beyond_numbers : (count : ℕ) (written old new : List ℕ) → length written ≡ count → new ≡ written ++ drop count old → drop count new ≡ drop count old
+beyond_numbers count written old new e is =
+    ap (drop count) is ∙ ap (λ n. drop n (written ++ drop count old)) (sym e) ∙ drop-append_seam written (drop count old)

@@ -47,16 +47,16 @@ pub fn encode(
         Err(refused) => return Err(refused),
     };
     if let Some(samples) = adjacent(&request, samples) {
-        return encode_joined(alloc, &request, samples, bytes, written);
+        return encode_joined(alloc, request, samples, bytes, written);
     }
     match samples {
         Samples::Bytes(apart) => {
             let joined = joined(alloc, &request.rows, apart)?;
-            encode_joined(alloc, &request, Samples::Bytes(&joined), bytes, written)
+            encode_joined(alloc, request, Samples::Bytes(&joined), bytes, written)
         }
         Samples::Words(apart) => {
             let joined = joined(alloc, &request.rows, apart)?;
-            encode_joined(alloc, &request, Samples::Words(&joined), bytes, written)
+            encode_joined(alloc, request, Samples::Words(&joined), bytes, written)
         }
     }
 }
@@ -66,28 +66,28 @@ pub fn encode(
 /// own, which checks samples while they are coded; else it checks all samples first, and encodes into `bytes`.
 fn encode_joined(
     alloc: Global,
-    request: &Request,
+    request: Request,
     samples: Samples,
     bytes: &mut [u8],
     written: &mut usize,
 ) -> Result<(), Refusal>
-    requires some_width { 0 < request.now.form.width }
-    requires some_height { 0 < request.now.form.height }
-    requires some_maxval { 0 < request.now.form.maxval }
-    requires maxval { request.now.presets.maxval ≡ request.now.form.maxval }
-    requires legal { IsLegal request.now.presets }
-    requires few { sample_count request.now.form.kind request.now.form.width request.now.form.height ≤ most_samples }
-    requires count { length (numbers samples) ≡ sample_count request.now.form.kind request.now.form.width request.now.form.height }
+    requires some_width { 0 < request.form.width }
+    requires some_height { 0 < request.form.height }
+    requires some_maxval { 0 < request.form.maxval }
+    requires maxval { request.presets.maxval ≡ request.form.maxval }
+    requires legal { IsLegal request.presets }
+    requires few { sample_count request.form.kind request.form.width request.form.height ≤ most_samples }
+    requires count { length (numbers samples) ≡ sample_count request.form.kind request.form.width request.form.height }
     requires nothing { written.old ≡ 0 }
     ensures exactly { (result ≡ Err (Refusal.Stream StreamFault.NoMemory))
-        ⊎ (status_of result ≡ status_by (coding_refusal (picture_of request.now.form (numbers samples.entry)) request.now.presets (length bytes.old))) }
-    ensures frame { OnOk result (IsFrame (picture_of request.now.form (numbers samples.entry))) }
-    ensures done { OnOk result (bytes.new ≡ codestream (picture_of request.now.form (numbers samples.entry)) request.now.presets ++ drop written.new bytes.old) }
-    ensures spells { OnOk result (Spells (codestream (picture_of request.now.form (numbers samples.entry)) request.now.presets) (picture_of request.now.form (numbers samples.entry))) }
-    ensures written { OnOk result (written.new ≡ length (codestream (picture_of request.now.form (numbers samples.entry)) request.now.presets)) }
+        ⊎ (status_of result ≡ status_by (coding_refusal (picture_of request.form (numbers samples.entry)) request.presets (length bytes.old))) }
+    ensures frame { OnOk result (IsFrame (picture_of request.form (numbers samples.entry))) }
+    ensures done { OnOk result (bytes.new ≡ codestream (picture_of request.form (numbers samples.entry)) request.presets ++ drop written.new bytes.old) }
+    ensures spells { OnOk result (Spells (codestream (picture_of request.form (numbers samples.entry)) request.presets) (picture_of request.form (numbers samples.entry))) }
+    ensures written { OnOk result (written.new ≡ length (codestream (picture_of request.form (numbers samples.entry)) request.presets)) }
     ensures kept { OnErr result (bytes.new ≡ bytes.old) }
     ensures need { result ≡ Err Refusal.NoRoom
-        → (written.new ≡ length (codestream (picture_of request.now.form (numbers samples.entry)) request.now.presets)) × (length bytes.old < written.new) }
+        → (written.new ≡ length (codestream (picture_of request.form (numbers samples.entry)) request.presets)) × (length bytes.old < written.new) }
     ensures none { IfErr result (λ refused. (refused ≡ Refusal.NoRoom) ⊎ (written.new ≡ 0)) }
 {
     codestreams_spell_their_frames();
