@@ -69,7 +69,7 @@ pub trait Findings {
     /// Those received so far, in order, if they are known (as a vector's are).
     ghost found: { Self → Option (List Finding) };
 
-    /// Receives one more finding. If an allocation fails, it isn't received.
+    /// Receives one more finding. On an error it isn't received.
     fn tell(&mut self, finding: Finding) -> Result<(), AllocError>
         ensures told { OnOk result (FindsMore (found self.old) (found self.new) (finding ∷ [])) }
         ensures none { OnErr result (found self.new ≡ found self.old) };
@@ -170,7 +170,7 @@ pub fn check<I: Feed, R: Feed, F: Findings>(
 /// Twice as many lines as workers are taken off the index at once, with the bytes of their codestreams; what is wrong
 /// with these is reported, in order, before the next are taken. If no thread can be made, the calling one looks at all
 /// of them; no workers count as one. The findings, the result and the fault are as `check` says, whatever the threads
-/// do. If an allocation fails, a read after what it was for may have failed too.
+/// do. With `NoMemory` a read may have failed too, after what the allocation was for.
 pub fn check_by<Rt: Threads + Sync, I: Feed, R: Feed, F: Findings>(
     rt: &Rt,
     alloc: Global,
@@ -323,7 +323,6 @@ fn take_line<I: Feed>(alloc: Global, reader: &mut I) -> Result<Option<Vec<u8>>, 
 
 /// Parses the beginning of the line of the codestream of this number, which begins at this offset: returns the
 /// codestream's size in bytes, and what follows up to LF; `None` if the text doesn't begin and end as such a line.
-/// Fails only if an allocation fails.
 fn size_in(
     alloc: Global,
     number: u64,
@@ -443,8 +442,7 @@ fn after_number(text: &[u8]) -> Option<&[u8]>
     left.strip_prefix(buffer.format(number).as_bytes())
 }
 
-/// Takes `most` bytes off a reader, or all that are left. Fails with `Io` if a read fails, and with `NoMemory` if an
-/// allocation fails.
+/// Takes `most` bytes off a reader, or all that are left. Fails with `Io` if a read fails, or with `NoMemory`.
 fn take_bytes<R: Feed>(alloc: Global, reader: &mut R, most: usize) -> Result<Vec<u8>, CheckFault>
     ensures taken { IfOk result (λ bytes. GaveAtMost (R.remaining reader.old) (R.remaining reader.new) most bytes.items) }
     ensures blame { IfErr result (λ fault. fault ≢ CheckFault.IndexIo) }
@@ -529,7 +527,7 @@ fn damage_of(
     }
 }
 
-/// Converts a fault of decoding to `Damage`; fails if it is that an allocation failed.
+/// Converts a fault of decoding to `Damage`; fails if it is `NoMemory`.
 fn undecoded(fault: StreamFault) -> Result<Option<Damage>, AllocError>
     ensures { IfOk result (λ found. (fault ≢ StreamFault.NoMemory) × (found ≡ Some (Damage.Fault fault))) }
 {

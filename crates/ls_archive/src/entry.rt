@@ -56,7 +56,7 @@ impl Indexed {
     /// Takes the next codestream off a reader, and reads its headers; `None` exactly at the end of input.
     ///
     /// Fails with `Stream` if it isn't complete by its markers and headers, with `Io` if a read fails, both with
-    /// `number`; and with `NoMemory` if an allocation fails.
+    /// `number`; or with `NoMemory`.
     pub fn next<R: Feed>(
         alloc: Global,
         reader: &mut R,

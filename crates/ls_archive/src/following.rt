@@ -59,8 +59,7 @@ impl Progress {
         }
     }
 
-    /// Takes the recording's next bytes, and returns the codestream that ends with them, if one does. Fails only if an
-    /// allocation fails.
+    /// Takes the recording's next bytes, and returns the codestream that ends with them, if one does.
     fn take(&mut self, alloc: Global, bytes: &[u8]) -> Result<Option<Indexed>, AllocError>
         ensures entry { IfOk result (λ next. IfSome next (λ entry. IsEntry entry × (entry.bytes ≡ self.old.pending ++ bytes.now))) }
         ensures none { IfOk result (λ next. IfSome next (λ entry. self.new ≡ holding [] self.old)) }
@@ -118,10 +117,9 @@ impl<I: Outlet> Follower<I> {
 
     /// Takes the recording's next bytes; if a codestream ends with them, writes its line.
     ///
-    /// Fails with `Output` if a write fails, and says exactly how many bytes of all lines were written; with `NoMemory`
-    /// if an allocation fails for the bytes or a line; with `TooMany` if the codestream is numbered 4,294,967,295.
-    /// After the last two exactly the lines of the codestreams before it were written. It isn't to be called again
-    /// after a failure.
+    /// Fails with `Output` if a write fails, and says exactly how many bytes of all lines were written; with `TooMany`
+    /// if the codestream is numbered 4,294,967,295; or with `NoMemory`. After the last two exactly the lines of the
+    /// codestreams before it were written. It isn't to be called again after a failure.
     pub fn follow(&mut self, bytes: &[u8]) -> Result<(), IndexFault>
         ensures follows { OnOk result (FollowsOn bytes.now
             (I.contents (index_of self.old)) (I.contents (index_of self.new)) (followed self.old) (followed self.new)) }

@@ -58,7 +58,7 @@ pub fn write_index<R: Feed, W: Outlet>(
 ///
 /// The program makes indexes by `write_index`. This is the same over bytes in memory, all of which are known. If the
 /// recording is codestreams of at most `ls_film::MOST_FRAMES` frames, each has its line, which says the frame's form,
-/// unless an allocation fails.
+/// or the fault is `NoMemory` or `Output`.
 pub fn index_bytes(
     alloc: Global,
     recording: &[u8],
@@ -76,7 +76,7 @@ pub fn index_bytes(
     (writer.into_inner(), ended)
 }
 
-/// The line of the codestream of this number, from 0, which begins at this offset. Fails only if an allocation fails.
+/// The line of the codestream of this number, from 0, which begins at this offset.
 pub(crate) fn line(
     alloc: Global,
     sums: bool,
@@ -101,7 +101,7 @@ pub(crate) fn line(
     Ok(text)
 }
 
-/// Appends a blank and a number to a text. Fails only if an allocation fails.
+/// Appends a blank and a number to a text.
 fn push_column(text: &mut String, number: u64) -> Result<(), AllocError>
     ensures pushed { OnOk result (string_bytes text.new ≡ string_bytes text.old ++ column number) }
     ensures short { OnOk result (length (string_bytes text.new) ≤ length (string_bytes text.old) + 41) }
@@ -111,7 +111,7 @@ fn push_column(text: &mut String, number: u64) -> Result<(), AllocError>
     text.push_str(buffer.format(number))
 }
 
-/// Appends a blank and the SHA-256 of `bytes` to a text, or nothing without `sums`. Fails only if an allocation fails.
+/// Appends a blank and the SHA-256 of `bytes` to a text, or nothing without `sums`.
 fn push_sum(alloc: Global, text: &mut String, sums: bool, bytes: &[u8]) -> Result<(), AllocError>
     ensures pushed { OnOk result (string_bytes text.new ≡ string_bytes text.old ++ sum_column sums bytes.now) }
     ensures short { OnOk result (length (string_bytes text.new) ≤ length (string_bytes text.old) + 65) }
@@ -124,7 +124,7 @@ fn push_sum(alloc: Global, text: &mut String, sums: bool, bytes: &[u8]) -> Resul
     text.push_str(sum.as_str())
 }
 
-/// The SHA-256 of bytes in hexadecimal. Fails only if an allocation fails.
+/// The SHA-256 of bytes in hexadecimal.
 fn sum_text(alloc: Global, bytes: &[u8]) -> Result<String, AllocError>
     ensures text { IfOk result (λ text. string_bytes text ≡ sum_text bytes.now) }
     ensures short { IfOk result (λ text. length (string_bytes text) ≡ 64) }

@@ -68,7 +68,7 @@ pub fn read_index<I: Feed>(alloc: Global, index: &mut I) -> Result<Vec<Wanted>, 
 /// of `wanted` is passed over, since the codestream that should stand there does.
 ///
 /// If no end is found within the most bytes that a codestream may have, or after 2^62 bytes, stops there and returns
-/// what was found before. Fails with `Io` if a read fails, and with `NoMemory` if an allocation fails.
+/// what was found before. Fails with `Io` if a read fails, or with `NoMemory`.
 pub fn find_places<R: Feed>(
     alloc: Global,
     recording: &mut Buffered<R>,

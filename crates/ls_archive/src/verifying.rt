@@ -90,8 +90,8 @@ pub fn verify_by<Rt: Threads + Sync, F: Feed, R: Feed>(
 /// Whether a recording in memory has the frames of a film in memory.
 ///
 /// The program compares by `verify`. This is the same over bytes in memory, all of which are known. If they are a film
-/// and a recording of at most `ls_film::MOST_FRAMES` frames each, the verdict is that on their frames, unless an
-/// allocation fails.
+/// and a recording of at most `ls_film::MOST_FRAMES` frames each, the verdict is that on their frames, or the fault is
+/// `NoMemory`.
 pub fn verify_bytes(alloc: Global, film: &[u8], recording: &[u8]) -> Result<Verdict, VerifyFault>
     ensures finds { IfOk result (FindsIn film.now recording.now) }
     ensures stops { IfErr result (StopsIn film.now recording.now) }

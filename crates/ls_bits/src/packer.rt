@@ -46,7 +46,7 @@ impl<R: Room> Model for Packer<R> {
 }
 
 impl Packer<Vec<u8>> {
-    /// Reserves room for one put of at most 64 bits, or for `finish`. Fails only if an allocation fails; the bits are
+    /// Reserves room for one put of at most 64 bits, or for `finish`. Its only error is `AllocError`; the bits are
     /// unchanged either way.
     #[inline(always)]
     pub fn reserve(&mut self) -> Result<(), AllocError>

@@ -39,8 +39,8 @@ impl BitSink {
 
     /// Appends `value` in `count` bits, the most significant first.
     ///
-    /// `count` is at most 32, and `value` is below 2^count. Fails only if an allocation fails; the sink is unchanged
-    /// then and can be used again.
+    /// `count` is at most 32, and `value` is below 2^count. Its only error is `AllocError`; the sink is unchanged then
+    /// and can be used again.
     pub fn put(&mut self, value: u32, count: u32) -> Result<(), AllocError>
         requires count { count ≤ 32 }
         requires value { value < 2 ^ count }
@@ -54,8 +54,8 @@ impl BitSink {
 
     /// Appends the code word of `v`: LG(k, glimit) of T.87 A.5.3, of at most glimit bits.
     ///
-    /// `qbpp` is at most 16, `k` at most qbpp + 1, `glimit` from qbpp + 2 to 64, and `v` at most 2^qbpp. Fails only if
-    /// an allocation fails; the sink is unchanged then and can be used again.
+    /// `qbpp` is at most 16, `k` at most qbpp + 1, `glimit` from qbpp + 2 to 64, and `v` at most 2^qbpp. Its only error
+    /// is `AllocError`; the sink is unchanged then and can be used again.
     pub fn put_golomb(&mut self, k: u32, glimit: u32, qbpp: u32, v: u32) -> Result<(), AllocError>
         requires code { IsGolomb k glimit qbpp }
         requires value { v ≤ most_value qbpp }
@@ -70,7 +70,7 @@ impl BitSink {
     /// Stuffs the bits into bytes (T.87 C.1). The last byte is filled with bits 0, and 00 follows it if it is FF. A
     /// sink without bits gives no bytes.
     ///
-    /// Fails only if an allocation fails; the sink is consumed, and its bits are lost then.
+    /// Its only error is `AllocError`. The sink is consumed either way; on an error its bits are lost.
     pub fn finish(mut self) -> Result<Vec<u8>, AllocError>
         ensures { IfOk result (λ bytes. bytes.items ≡ stuff self) }
     {

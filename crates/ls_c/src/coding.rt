@@ -207,8 +207,8 @@ fn open<'a>(
     Ok(opening)
 }
 
-/// Decodes the frame of an opening into `places`, which must be as many as its samples and hold values up to its
-/// maxval, and returns the number of bytes of its codestream. If an allocation fails, they are unchanged.
+/// Decodes the frame of an opening into `places`, which must be as many as its samples and able to store numbers up to
+/// its maxval, and returns the number of bytes of its codestream. After `NoMemory` they are unchanged.
 fn decode_at<S: Sample>(
     alloc: Global,
     opening: &Opening,

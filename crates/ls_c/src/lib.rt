@@ -2,9 +2,10 @@
 //!
 //! Its interface is the exported functions. `library/include/jlsrec.h` declares them for C and says what each returns
 //! and leaves in memory; `specs/Calls.antt` says the same, call by call (`IsEncoding`, `IsDecoding`, `IsReading`,
-//! `IsExtent`), in terms of the forms and rows of `specs/Forms.antt` and the statuses of `specs/Refusals.antt`. In C a
-//! slice is a pointer followed by a count, and `alloc` is no parameter: it stands for the malloc, realloc and free of
-//! the process.
+//! `IsExtent`), in terms of the forms and rows of `specs/Forms.antt` and the statuses of `specs/Refusals.antt`, except
+//! how much is allocated, that NO_MEMORY comes only if an allocation fails, and which words a text has. In C a slice is
+//! a pointer followed by a count, and `alloc` is no parameter: it stands for the malloc, realloc and free of the
+//! process.
 //!
 //! In reading order: `form` (the structs shared with C), `refusal` (why a call refuses, and the statuses), `request`
 //! (what is to be encoded, checked before anything is allocated), `coding` (encoding and decoding), `reading` (reading

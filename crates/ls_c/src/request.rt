@@ -82,8 +82,8 @@ fn sixteen_bits(number: u32) -> Option<u16>
     }
 }
 
-/// Returns the request to encode `count` samples of at most `most`. Fails as `picture_form` does, else with the first of
-/// `NotEightBits`, `Preset`, `Stride` and `TooFewSamples` that applies.
+/// Returns the request to encode `count` samples of at most `most`. Fails as `picture_form` does, else with the first
+/// of `NotEightBits`, `Preset`, `Stride` and `TooFewSamples` that applies.
 pub fn request_of(
     most: u32,
     form: &JlsrecForm,
@@ -172,7 +172,7 @@ fn narrowed(number: u32) -> u16
     u16::try_from(number).unwrap_or(0)
 }
 
-/// Returns the rows of a picture, copied into one vector without gaps. Fails only if an allocation fails.
+/// Returns the rows of a picture, copied into one vector without gaps.
 pub fn joined<T: Copy>(alloc: Global, rows: &Rows, samples: &[T]) -> Result<Vec<T>, AllocError>
     ensures { IfOk result (λ joined. joined.items ≡ rows_of rows.now.row rows.now.stride rows.now.height samples.now) }
 {

@@ -33,7 +33,7 @@ impl Model for Regions {
 }
 
 impl Regions {
-    /// The table for these parameters. Fails only if an allocation fails.
+    /// The table for these parameters. Its only error is `AllocError`.
     pub fn new(alloc: Global, presets: &Presets) -> Result<Regions, AllocError>
         ensures { IfOk result (λ regions. regions ≡ presets.now) }
     {

@@ -365,8 +365,8 @@ fn replay_request<'a>(words: &ArgMatches<'a>) -> Option<Request<'a>> {
     })
 }
 
-/// A usage fault that `clap` doesn't find by itself; an error of kind `OutOfMemory` if an allocation fails, also that
-/// of the command.
+/// A usage fault that `clap` doesn't find by itself. An `AllocError`, also that of the command, becomes an error of
+/// kind `OutOfMemory`.
 fn usage_fault(used: Result<Command<'_>, AllocError>, message: &str) -> Error {
     fault_of_kind(ErrorKind::InvalidValue, used, message)
 }

@@ -58,7 +58,9 @@ The film comes back byte for byte if its headers are as play writes them: P5 or 
 and maxval, each on a line of its own, with no comment. Other programs take the images from a pipe, as
 in `jlsrec play film.jls | ffmpeg -f image2pipe -i - film.mkv`.
 
-A codestream of another program is read if it is lossless, and each component has a scan of its own.";
+A codestream of another program is read if it is lossless and has one component or three, each in a scan
+of its own, without subsampling, restart intervals or mapping tables, and with its height and all
+parameters before the first scan. Of any other it says what isn't supported.";
 
 pub const FRAMES_HELP: &str = "\
 The frames to play, from number A to number B, both of them too, counted from 0: A..B; or A, A.. to the end, ..B.

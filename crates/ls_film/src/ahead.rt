@@ -254,7 +254,7 @@ fn work_on<T: Made + Send + Drop, Rt: Threads + Sync>(
     work_on_all::<T, Rt>(rt, alloc, &mut ahead.jobs, threads);
 }
 
-/// Works on jobs by this number of threads at most.
+/// Works on codestreams that were taken, by this number of threads at most.
 fn work_on_all<T: Made + Send + Drop, Rt: Threads + Sync>(
     rt: &Rt,
     alloc: Global,
@@ -274,7 +274,7 @@ fn work_on_all<T: Made + Send + Drop, Rt: Threads + Sync>(
     );
 }
 
-/// Decodes a job's codestream, and makes of its frame what is to be made.
+/// Decodes a codestream that was taken, and makes of its frame what is to be made.
 fn work<T: Made + Drop>(alloc: Global, job: &mut Fetched<T>)
     ensures bytes { job.new.bytes ≡ job.old.bytes }
     ensures made { IsMade T.made job.new }
@@ -304,7 +304,8 @@ pub fn batch_for(workers: usize) -> usize
     2 * workers.max(1).min(MOST_WORKERS)
 }
 
-/// The number of threads that jobs justify by their bytes: at most that of the workers, of which none count as one.
+/// The number of threads that codestreams justify by their bytes: at most that of the workers, of which none count as
+/// one.
 pub fn threads_for<W: Task>(jobs: &[W], workers: usize) -> usize
     ensures some { 0 < result }
     ensures few { 0 < workers → result ≤ workers }

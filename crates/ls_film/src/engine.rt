@@ -19,7 +19,7 @@ pub trait Made: Sized {
     /// Whether a value is what is made of a frame.
     ghost made: { Picture → Self → Type 0 };
 
-    /// Makes it. Fails only if an allocation fails.
+    /// Makes it. Its only error is `AllocError`.
     fn make(alloc: Global, frame: Frame) -> Result<Self, AllocError>
         ensures { IfOk result (made frame) };
 }
@@ -75,7 +75,7 @@ pub trait Text<T: Made> {
 
     /// The chunk of the frame of this number, from 0: what the text grows by with this frame. Shorter than 2^32 bytes.
     ///
-    /// Fails only if an allocation fails.
+    /// Its only error is `AllocError`.
     fn chunk(alloc: Global, number: u64, item: T) -> Result<Vec<u8>, AllocError>
         ensures grows { (f : Picture) → T.made f item → IfOk result (λ chunk. GrowsBy text number f chunk.items) }
         ensures short { IfOk result (λ chunk. length chunk.items < 2 ^ 32) };

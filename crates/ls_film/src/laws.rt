@@ -15,7 +15,8 @@ use ls_frame::{Counted, Feed};
 use std::alloc::Global;
 
 /// A film that is coded into memory is played back as its frames, each as its canonical Netpbm image, whatever reads
-/// the film, unless an allocation fails. If the reader's bytes are known, it gave images of these frames.
+/// the film; or playing ends in `NoMemory` or `Output`. If the reader's bytes are known, it gave images of these
+/// frames.
 ///
 /// Returns how the coding ended, what the playing wrote, and how the playing ended. Nothing is promised if the coding
 /// failed.

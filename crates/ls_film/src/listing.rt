@@ -83,7 +83,7 @@ fn columns(frame: &Frame) -> [u32; 9]
     ]
 }
 
-/// The line of the frame of this number, from 0. Fails only if an allocation fails.
+/// The line of the frame of this number, from 0.
 fn line(alloc: Global, number: u64, frame: &Frame) -> Result<String, AllocError>
     ensures text { IfOk result (λ text. string_bytes text ≡ line number frame.now) }
     ensures short { IfOk result (λ text. length (string_bytes text) ≤ 512) }

@@ -144,9 +144,9 @@ pub fn play_by<Rt: Threads + Sync, R: Feed, W: Outlet>(
 
 /// The images of a recording in memory, as far as they were written, and how the playing ended.
 ///
-/// A fault says what `play` says of it. It is never `Io`, since memory is read, and `Output` says that an allocation
-/// failed for what is written. If the recording is codestreams of at most `ls_film::MOST_FRAMES` frames, whatever their
-/// parameters, these are shown and nothing else, unless an allocation fails.
+/// A fault says what `play` says of it. It is never `Io`, since memory is read; `Output` stands for a failed allocation
+/// for what is written. If the recording is codestreams of at most `ls_film::MOST_FRAMES` frames, whatever their
+/// parameters, these are shown and nothing else, or the fault is `NoMemory` or `Output`.
 pub fn play_bytes(alloc: Global, recording: &[u8]) -> (Vec<u8>, Result<u64, PlayFault>)
     ensures { Plays recording.now result.0.items result.1 }
 {

@@ -34,9 +34,8 @@ pub struct Buffered<R> {
 impl<R: Read> Buffered<R> {
     ghost use Rattle.ls_frame.specs.View.Chunks.{in_chunk, inner_reader, left_in};
 
-    /// Makes a buffered reader with an empty chunk, and reads nothing from `inner` yet. If the allocation fails,
-    /// `inner` is dropped. Later calls don't allocate, except `put_back`, and `feed_until` and `feed_past` for the
-    /// bytes that they append.
+    /// Makes a buffered reader with an empty chunk, and reads nothing from `inner` yet. On an error `inner` is dropped.
+    /// Later calls don't allocate, except `put_back`, and `feed_until` and `feed_past` for the bytes that they append.
     pub fn new(alloc: Global, inner: R) -> Result<Buffered<R>, AllocError>
     where
         R: Drop,
@@ -51,8 +50,8 @@ impl<R: Read> Buffered<R> {
         })
     }
 
-    /// Puts bytes before those that are left, as if they hadn't been read. If an allocation fails, nothing changes.
-    /// Later chunks are then as large as `bytes` and the rest of the chunk together, if that is over 64 KiB.
+    /// Puts bytes before those that are left, as if they hadn't been read. Later chunks are then as large as `bytes`
+    /// and the rest of the chunk together, if that is over 64 KiB. On an error nothing changes.
     pub fn put_back(&mut self, alloc: Global, bytes: &[u8]) -> Result<(), AllocError>
         ensures back { OnOk result (left_in R.remaining self.new ≡ prepend_known bytes.now (left_in R.remaining self.old)) }
         ensures kept { OnErr result (left_in R.remaining self.new ≡ left_in R.remaining self.old) }
@@ -129,7 +128,7 @@ impl<R> Buffered<R> {
 
     /// Moves bytes from the chunk to the end of `bytes`: at most `most`, which must be 1 or more, up to and including
     /// the first `mark` that isn't followed by a byte below `limit`. Returns the last of them, or `None` if the chunk
-    /// is used up. If an allocation fails, nothing is appended.
+    /// is used up. On an error nothing is appended.
     fn append_past(
         &mut self,
         mark: u8,

@@ -3,9 +3,12 @@
 //!
 //! What it promises: a `Frame` is within its ranges, however it was made; reading follows the grammar of the pgm and
 //! ppm pages, fault by fault (`specs/Netpbm.antt`, `specs/Faults.antt`); a frame is written as one canonical text
-//! (`specs/Canonical.antt`); `Presets` follow the formulas of T.87 (A.2.1, C.2.4.1), by default, explicit, or chosen
-//! in part by a `Tuning`. Bytes are read from a `Feed` and written to an `Outlet`, which count failed calls.
-//! `specs/View` relates the code's readers, writers and frames to these definitions.
+//! (`specs/Canonical.antt`); `Presets` follow the formulas of T.87 (A.2.1, C.2.4.1), by default, explicit, or chosen in
+//! part by a `Tuning`. Bytes are read from a `Feed` and written to an `Outlet`, which count failed calls. `specs/View`
+//! relates the code's readers, writers and frames to these definitions.
+//!
+//! `NoMemory` and `AllocError`, here and in all crates above, stand for a failed allocation. That they come in no other
+//! case is tested (`tests/memory`), not said by a clause.
 //!
 //! ```
 //! use ls_frame::{Feed, NetpbmFault, Outlet, next_frame, write_frame};

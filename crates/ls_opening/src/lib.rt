@@ -2,7 +2,7 @@
 //! films, and locks and makes the files, unless one is a duplicate.
 //!
 //! ```
-//! use ls_command::Recording;
+//! use ls_command::RecordRequest;
 //! use ls_console::{Console, Host};
 //! use ls_files::{Locks, Opener};
 //! use ls_frame::Outlet;
@@ -10,7 +10,11 @@
 //! use std::sync::Wait;
 //!
 //! /// Opens films and makes their files; the number of films, or the status once it is said why none is recorded.
-//! pub fn try_films<R, E>(rt: &R, asked: &Recording<'_>, console: &mut Console<E>) -> Result<usize, u8>
+//! pub fn try_films<R, E>(
+//!     rt: &R,
+//!     asked: &RecordRequest<'_>,
+//!     console: &mut Console<E>,
+//! ) -> Result<usize, u8>
 //! where
 //!     R: Host + Wait,
 //!     R::File: Locks,

@@ -93,8 +93,8 @@ impl Model for Collector {
 }
 
 impl Collector {
-    /// Makes a collector for a source, with nothing booked. Fails with `Window` exactly if the window isn't 1 to 64,
-    /// else only if an allocation fails.
+    /// Makes a collector for a source, with nothing booked. Fails with `Window` exactly if the window isn't 1 to 64;
+    /// else its only fault is `NoMemory`.
     ///
     /// Allocates all the memory that the collector will need.
     pub fn new(alloc: Global, source: u8, window: usize) -> Result<Collector, CollectorFault>

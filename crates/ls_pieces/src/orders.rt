@@ -61,7 +61,7 @@ impl Clone for Order {
 
     ghost is_clone = { λ order copy. copy ≡ order };
 
-    /// Copies the order; both share the frame. Fails only if the frame's reference count can't grow.
+    /// Copies the order; both share the frame. Its only error is `AllocError`: the frame's reference count can't grow.
     fn clone(&self) -> Result<Order, AllocError>
         ensures { IfOk result (λ copy. copy ≡ self.now) }
     {

@@ -41,7 +41,7 @@ pub struct Uncoded {
 impl Coded {
     /// Codes the order of a job. The result is of this job, and `Uncoded` has its source and its number.
     ///
-    /// Fails only if an allocation fails: it allocates `code_bound` bytes and two lines before it codes.
+    /// It allocates `code_bound` bytes and two lines before it codes.
     pub fn make(alloc: Global, job: Job<Order>) -> Result<Coded, Uncoded>
         ensures { MatchResult result (λ piece. piece ≡ job) (λ uncoded. (uncoded.source ≡ job.source) × (uncoded.number ≡ job.number)) }
     {
@@ -98,7 +98,7 @@ impl Coded {
     }
 }
 
-/// The codestream of an order, fewer than 2^32 bytes. Fails only if an allocation fails.
+/// The codestream of an order, fewer than 2^32 bytes.
 fn code(alloc: Global, order: &Order) -> Result<Vec<u8>, AllocError>
     ensures { IfOk result (λ bytes. IsCoded order.now bytes.items) }
 {

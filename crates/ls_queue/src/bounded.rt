@@ -38,7 +38,7 @@ impl<T> Model for Core<T> {
 
 impl<T: Drop> Core<T> {
     /// Makes an empty queue of 1 to 16 sources, each open, that holds at most `capacity` jobs, 1 to 256. Fails with
-    /// `Sources` or else `Capacity` if that number is out of range; else only if an allocation fails (`NoMemory`).
+    /// `Sources` or else `Capacity` if that number is out of range; else its only fault is `NoMemory`.
     ///
     /// Allocates all the memory that the queue will need.
     pub fn new(alloc: Global, sources: u8, capacity: usize) -> Result<Core<T>, QueueFault>

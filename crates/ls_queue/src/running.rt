@@ -108,7 +108,7 @@ pub enum Taken<T> {
 /// Makes a queue of 1 to 16 sources and 1 to 16 workers, whose channel has room for `capacity` jobs, 1 to 256, or for
 /// one job per worker if that is more. Returns it with a seat for each source, in order from source 0, a seat for each
 /// worker, and the closer. Fails with the first of `Sources`, `Capacity` and `Workers` whose number is out of range;
-/// else only if an allocation fails (`NoMemory`).
+/// else its only fault is `NoMemory`.
 ///
 /// Allocates all the memory that the queue will need.
 pub fn open<T: Drop, R: Wait>(

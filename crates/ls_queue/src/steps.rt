@@ -46,8 +46,8 @@ impl Step {
 /// each source the items taken, followed by those still held, are the items that it sent.
 ///
 /// Fails with the first of these that applies: `Sources` (not 1 to 16), `Capacity` (not 1 to 256), `NoSource` with the
-/// index, from 0, of the first step that names a source which the queue doesn't have; else only if an allocation fails
-/// (`NoMemory`).
+/// index, from 0, of the first step that names a source which the queue doesn't have; else its only fault is
+/// `NoMemory`.
 pub fn replay(
     alloc: Global,
     sources: u8,
@@ -84,8 +84,7 @@ fn first_unknown(sources: u8, steps: &[Step]) -> Option<usize>
     steps.iter().position(|step| !step.is_known(sources))
 }
 
-/// Runs these steps, which must name existing sources, and returns the queue's replies. Fails only if an allocation
-/// fails.
+/// Runs these steps, which must name existing sources, and returns the queue's replies.
 fn replies_of(
     alloc: Global,
     queue: &mut Core<u64>,

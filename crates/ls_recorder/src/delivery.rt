@@ -20,7 +20,7 @@ use std::sync::Wait;
 
 /// Makes an inbox for each of 1 to 16 sources, in order from source 0, and an outbox for each of 1 to 16 workers. An
 /// inbox holds at most `window` results, 1 to 64. Fails with the first of `Sources`, `Workers` and `Window` that
-/// applies, else only if an allocation fails.
+/// applies; else its only fault is `NoMemory`.
 ///
 /// Allocates all the memory that the boxes will need.
 pub fn boxes<R: Wait>(

@@ -34,6 +34,9 @@ use thiserror::Error;
 use writing::{Arrivals, Writing, WritingEnd, write_film};
 
 /// The reason why a lane stopped.
+///
+/// A clause of `lane` says what was read and written then. Why `NoMemory`, `Lost` and `NotStarted` come is tested, not
+/// said by a clause.
 #[derive(Clone, Copy, Debug, Drop, PartialEq, Eq, Error)]
 pub enum LaneFault {
     /// The frame of this number, from 0, can't be read; the fault is never `NetpbmFault::NoMemory`. The codestreams of
@@ -79,7 +82,8 @@ pub struct LaneEnd<F, W> {
 
 /// Records the film of a source: reads its frames, makes an order of each with the parameters that the tuning gives for
 /// it, puts the orders into the queue, and writes the codestreams that come out of the inbox in frame order, each once
-/// all before it are written. At most `window` frames are in progress, that is, read and not yet written.
+/// all before it are written. At most `window` frames are in progress, that is, read and not yet written. (The window's
+/// places are made so; no clause says it.)
 ///
 /// Requires that the seat is of this queue and has put nothing, and that the window is 1 to 64. The inbox should be of
 /// the seat's source: coded frames of another source don't fit.
@@ -89,8 +93,8 @@ pub struct LaneEnd<F, W> {
 /// before it are written; if writing fails meanwhile, that fault is returned instead, once a read in progress has
 /// ended. After a fault nothing is said of the reader's position.
 ///
-/// Writes in a thread of its own. If none can be made, the result is `NotStarted`, with nothing read or written. Waits
-/// for that thread, for the queue and for workers; nothing is promised of when it returns.
+/// Writes in a thread of its own. `NotStarted` means that it had none; then nothing was read or written. Waits for that
+/// thread, for the queue and for workers; nothing is promised of when it returns.
 pub fn lane<F: Feed + Drop, W: Outlet + Send + Drop, R: Threads + Wait + Sync>(
     rt: &R,
     alloc: Global,
@@ -267,8 +271,8 @@ pub struct Parts {
     pub seats: Vec<WorkerSeat<Order>>,
 }
 
-/// Opens a queue for the bookings of a source, with its seats, and makes what else the halves of its lane need. Fails
-/// only if an allocation fails.
+/// Opens a queue for the bookings of a source, with its seats, and makes what else the halves of its lane need. Its
+/// only fault is `NoMemory`.
 fn parts_for<R: Wait>(
     rt: &R,
     alloc: Global,

@@ -44,16 +44,16 @@ pub struct Recording<R, W> {
 /// Records 1 to 16 films side by side, each as the codestreams of its frames, joined. A film is a reader, a writer for
 /// its codestreams, and a tuning of its coding parameters. 1 to 16 workers code the frames of all films. At most
 /// `capacity` frames, 1 to 256, wait for a worker, or one for each worker if that is more; of each film at most
-/// `window` frames, 1 to 64, are read and not yet written.
+/// `window` frames, 1 to 64, are read and not yet written. (The queue and the windows are made so; no clause of
+/// `record` says it.)
 ///
-/// Each film has a lane of its own, and no film's end or fault affects another (`lane::lane` says what each result
-/// means). A lane for which no thread can be made ends with `NotStarted`, with nothing read or written, and the others
-/// go on. If the bytes of a film's reader and writer are known (as in memory), the clauses say which were read and
-/// written.
+/// Each film has a lane of its own, and its track speaks of that film alone (`lane::lane` says what each result means).
+/// A lane that ends with `NotStarted` had no thread, and read and wrote nothing. That no film's end or fault affects
+/// another is tested, not said by a clause. If the bytes of a film's reader and writer are known (as in memory), the
+/// clauses say which were read and written.
 ///
-/// Fails with the first of `Sources`, `Workers`, `Capacity` and `Window` that applies; else with `NoMemory` only if an
-/// allocation fails, and with `NotStarted` only if no thread can be made for a worker. Then the films are returned,
-/// with nothing read or written.
+/// Fails with the first of `Sources`, `Workers`, `Capacity` and `Window` that applies; else with `NoMemory`, or with
+/// `NotStarted`, which stands for a worker without a thread. Then the films are returned, with nothing read or written.
 ///
 /// Allocates the queue, the boxes and the buffers for its threads' results before it starts a thread; lanes and workers
 /// allocate more as they go. Waits for its threads; nothing is promised of when they end.
@@ -102,7 +102,7 @@ struct Prepared<R: Feed + Drop, W: Outlet + Drop> {
 }
 
 /// Allocates what a recording of `sources` films needs before it starts a thread. Requires numbers within their limits.
-/// Fails only if an allocation fails.
+/// Its only fault is `NoMemory`.
 fn prepare<Rt: Wait, R: Feed + Drop, W: Outlet + Drop>(
     rt: &Rt,
     alloc: Global,
@@ -161,8 +161,8 @@ fn run_prepared<Rt: Threads + Wait + Sync, R: Feed + Send + Drop, W: Outlet + Se
 }
 
 /// Makes a queue with all its seats and with room for `capacity` jobs, or for one for each worker if that is more; and
-/// a box for each source, which holds at most `window` results. Requires numbers within their limits. Fails only if an
-/// allocation fails.
+/// a box for each source, which holds at most `window` results. Requires numbers within their limits. Its only fault is
+/// `NoMemory`.
 fn make_queue<Rt: Wait>(
     rt: &Rt,
     alloc: Global,

@@ -21,7 +21,7 @@ pub struct Worked {
 }
 
 /// Takes jobs until the queue is done, codes each, and sends the result to the inbox of its source. Calls the gate
-/// before and after each coding. If an allocation fails in coding a job, its result is `Uncoded`.
+/// before and after each coding. If a job can't be coded, its result is `Uncoded`.
 ///
 /// Requires that the seat is of this queue, and that the outbox is for at least as many sources as the queue has. Waits
 /// for jobs, and while the inbox of a result is full.

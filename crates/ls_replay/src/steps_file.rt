@@ -84,7 +84,7 @@ pub fn read_text<R: Feed>(alloc: Global, reader: &mut R) -> Result<Vec<u8>, Text
 }
 
 /// Returns the steps of a steps file, in order. Fails with `NotAStep` and the number, from 1, of the first line that
-/// has words but is no step; else only if an allocation fails (`NoMemory`).
+/// has words but is no step, or with `NoMemory`.
 ///
 /// A line is a step, or has no words. Lines end with LF, which the last one may lack.
 pub fn read_steps(alloc: Global, text: &[u8]) -> Result<Vec<Step>, StepsFault>

@@ -28,19 +28,19 @@ pub struct PlayedBack {
     pub played: Result<u64, PlayFault>,
 }
 
-/// Records films side by side, each with its tuning, and plays back each recording, one after the other, with `players`
-/// players each.
+/// Records 1 to 16 films side by side, each with its tuning, and plays back each recording, one after the other, with
+/// `players` players each.
 ///
-/// For any numbers of workers and players, any capacity and window, and any order in which the threads run: if a film
-/// was recorded completely (`recorded` is `Ok`), its recording is the codestreams of all its frames, in order, with
-/// nothing between; if its tuning is all zeros, that is what `ls_film::code_film` writes of the film. Playing it gives
-/// exactly the film's frames, each as its canonical Netpbm image, unless an allocation fails. If a film's lane stopped,
-/// its recording is what the fault says (`LaneFault`); except after `Output` it is complete codestreams, and playing it
-/// gives exactly their frames, unless an allocation fails.
+/// For 1 to 16 workers, a capacity of 1 to 256, a window of 1 to 64, any number of players, and any order in which the
+/// threads run: if a film was recorded completely (`recorded` is `Ok`), its recording is the codestreams of all its
+/// frames, in order, with nothing between; if its tuning is all zeros, that is what `ls_film::code_film` writes of the
+/// film. Playing it gives exactly the film's frames, each as its canonical Netpbm image, or ends in `NoMemory` or
+/// `Output` (`PlayFault`). If a film's lane stopped, its recording is what the fault says (`LaneFault`); except after
+/// `Output` it is complete codestreams, and playing it gives exactly their frames, or ends in one of these two.
 ///
-/// Fails with `NoMemory` only if an allocation fails; else with the first of `Sources`, `Workers`, `Capacity` and
-/// `Window` that applies; else with `NotStarted` only if no thread can be made for a worker. Then nothing is returned.
-/// If no thread can be made for a player, the calling thread plays; no players count as one.
+/// Fails with `NoMemory`; or with the first of `Sources`, `Workers`, `Capacity` and `Window` that applies; or, if none
+/// does, with `NotStarted`, which stands for a worker without a thread. Then nothing is returned. If no thread can be
+/// made for a player, the calling thread plays; no players count as one.
 pub fn record_and_play<Rt: Threads + Wait + Sync, G: Gate>(
     rt: &Rt,
     alloc: Global,
@@ -78,7 +78,7 @@ pub fn record_and_play<Rt: Threads + Wait + Sync, G: Gate>(
 /// A film in memory, the writer of its recording, and its tuning.
 type Unrecorded<'a> = (&'a [u8], Counted<Vec<u8>>, Tuning);
 
-/// The films, each with an empty recording. Fails only if an allocation fails.
+/// The films, each with an empty recording.
 fn unrecorded<'a>(
     alloc: Global,
     mut films: Vec<(&'a [u8], Tuning)>,

@@ -94,7 +94,7 @@ impl SalvageFault {
     }
 }
 
-/// Whether an allocation failed, which is no fault of the bytes.
+/// Whether this is `NoMemory`, which is no fault of the bytes.
 pub(crate) fn is_refusal(fault: StreamFault) -> bool
     ensures { result ≡ is_refusal fault }
 {

@@ -24,7 +24,7 @@ pub trait Gaps {
     /// The gaps reported to it, in order, if they are known.
     ghost told: { Self → Option (List Gap) };
 
-    /// Reports one more gap. If an allocation fails, the gap isn't reported.
+    /// Reports one more gap. On an error it isn't reported.
     fn tell(&mut self, gap: Gap) -> Result<(), AllocError>
         ensures told { OnOk result (TellsMore (told self.old) (told self.new) (gap ∷ [])) }
         ensures kept { OnErr result (told self.new ≡ told self.old) };

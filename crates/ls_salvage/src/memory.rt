@@ -20,9 +20,9 @@ use std::alloc::Global;
 /// far as they were reported, and how the salvage ended.
 ///
 /// Each complete codestream of a frame is shown, unless one that is shown holds its beginning. A fault means what
-/// `salvage` says of it; it is never `Io`, since memory is read, and `Output` means that an allocation failed for the
+/// `salvage` says of it; it is never `Io`, since memory is read, and `Output` stands for a failed allocation for the
 /// images. If the recording is codestreams of frames and nothing else, fewer than 2^62 bytes and no more frames than a
-/// film may have, these are shown and there is no gap, unless an allocation fails.
+/// film may have, these are shown and there is no gap, or the fault is `NoMemory` or `Output`.
 pub fn salvage_bytes(
     alloc: Global,
     recording: &[u8],

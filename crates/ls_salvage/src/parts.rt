@@ -64,8 +64,8 @@ pub fn next_part<R: Feed>(
     }
 }
 
-/// Takes the next codestream off a reader and decodes it; `None` exactly at the end. A failed allocation is returned as
-/// `NoMemory`, not as a fault of the bytes.
+/// Takes the next codestream off a reader and decodes it; `None` exactly at the end. `NoMemory` is returned as such,
+/// not as a fault of the bytes.
 fn find_next<R: Feed>(alloc: Global, reader: &mut R) -> Result<Option<Found>, ReadFault>
     ensures found { IfOk result (λ next. IfSome next (λ found. IsFound (R.remaining reader.old) (R.remaining reader.new) found)) }
     ensures end { IfOk result (λ next. IfNone next (WasAtEnd (R.remaining reader.old) (R.remaining reader.new))) }

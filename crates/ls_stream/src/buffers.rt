@@ -28,7 +28,7 @@ impl Model for Lines {
 }
 
 impl Lines {
-    /// Buffers for lines of up to `width` samples, 0 to 65535. Fails only if an allocation fails.
+    /// Buffers for lines of up to `width` samples, 0 to 65535. Its only error is `AllocError`.
     pub fn new(alloc: Global, width: u16) -> Result<Lines, AllocError>
         ensures { IfOk result (λ lines. lines ≡ width) }
     {

@@ -45,9 +45,9 @@ pub struct Decoded {
 /// any plane, or that a marker comes before the plane's end; and Truncated, that the input ends before it. If there are
 /// more bytes than a codestream may have, TooLarge replaces Truncated.
 ///
-/// NoMemory comes only if an allocation fails, and only for bytes that begin with a complete legal opening: SOI, the
-/// frame header, the segments before the first scan and its header, with legal coding parameters. It allocates two
-/// lines, a table of 2 * MAXVAL + 1 bytes, and the samples.
+/// NoMemory comes only for bytes that begin with a complete legal opening: SOI, the frame header, the segments before
+/// the first scan and its header, with legal coding parameters. It allocates two lines, a table of 2 * MAXVAL + 1
+/// bytes, and the samples.
 pub fn decode_frame(alloc: Global, bytes: &[u8]) -> Result<Decoded, StreamFault>
     ensures ok { IfOk result (λ decoded. (decoded.used ≤ length bytes.now) × Spells (take decoded.used bytes.now) decoded.frame) }
     ensures fault { IfErr result (λ fault. (fault ≡ StreamFault.NoMemory)
@@ -171,10 +171,9 @@ impl<'a> Opening<'a> {
     /// Decodes the frame into `samples`: row by row from the top, pixel by pixel, component by component. Returns the
     /// number of bytes of the codestream. It allocates nothing.
     ///
-    /// It requires as many places as the frame has samples, of a type that holds numbers up to maxval, with no number
-    /// over maxval in them (zeros will do); lines at least as wide as the frame; and the regions of the opening's
-    /// parameters. A fault is as for `decode_frame`, but never NoMemory; the contents of the places are then
-    /// unspecified.
+    /// It requires as many `samples` as the frame has, of a type that can store numbers up to maxval, with none over
+    /// maxval beforehand (zeros will do); lines at least as wide as the frame; and the regions of the opening's
+    /// parameters. A fault is as for `decode_frame`, but never NoMemory; the samples are then unspecified.
     pub fn decode<S: Sample>(
         &self,
         lines: &mut Lines,

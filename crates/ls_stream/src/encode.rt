@@ -22,7 +22,7 @@ use std::alloc::{AllocError, Global};
 /// The codestream of a frame, coded with the default parameters of its maxval (T.87 C.2.4.1.1). It has fewer than 2^32
 /// bytes.
 ///
-/// Fails only if an allocation fails. Before it codes, it allocates two lines and `code_bound` bytes, which are the
+/// Its only error is `AllocError`. Before it codes, it allocates two lines and `code_bound` bytes, which are the
 /// capacity of the returned vector.
 pub fn encode_frame(alloc: Global, frame: &Frame) -> Result<Vec<u8>, AllocError>
     ensures bytes { let f = frame.now in IfOk result (λ bytes. bytes.items ≡ codestream f (default_parameters f.maxval)) }
@@ -35,7 +35,7 @@ pub fn encode_frame(alloc: Global, frame: &Frame) -> Result<Vec<u8>, AllocError>
 /// The codestream of a frame, coded with these parameters, whose maxval must be the frame's. It has fewer than 2^32
 /// bytes, and an LSE segment only if the parameters aren't the defaults of the greatest MAXVAL of the precision.
 ///
-/// Fails only if an allocation fails. Before it codes, it allocates two lines and `code_bound` bytes, which are the
+/// Its only error is `AllocError`. Before it codes, it allocates two lines and `code_bound` bytes, which are the
 /// capacity of the returned vector.
 pub fn encode_with(alloc: Global, frame: &Frame, presets: &Presets) -> Result<Vec<u8>, AllocError>
     requires maxval { presets.now.maxval ≡ frame.now.maxval }

@@ -23,7 +23,7 @@ use ls_frame::laws::parameters_are_legal_or_at_fault;
 use ls_frame::{Frame, Presets};
 use std::alloc::Global;
 
-/// Decoding an encoded frame gives the frame back, and its codestream's length; or an allocation fails.
+/// Decoding an encoded frame gives the frame back, and its codestream's length; or the result is `NoMemory`.
 ///
 /// It requires parameters of the frame's maxval.
 pub fn decoding_gives_what_was_encoded(
@@ -51,7 +51,8 @@ pub struct DecodedTwice {
 }
 
 /// Decoding the codestream that `next_stream` takes from bytes gives what decoding all of them gives: the same frame
-/// and the same length of its codestream, or the same fault; or an allocation fails. `None` if there are no bytes.
+/// and the same length of its codestream, or the same fault; unless one of the two results is `NoMemory`. `None` if
+/// there are no bytes.
 pub fn what_is_taken_is_decoded_alike(
     alloc: Global,
     bytes: &[u8],
@@ -157,8 +158,8 @@ pub fn outlines_follow_the_grammar()
     ensures faults { BoundedFaultsBreak }
 {}
 
-/// Bytes have one first fault, so the fault that decoding returns depends on the bytes alone, unless an allocation
-/// fails. The next codestream at their front has the same first fault.
+/// Bytes have one first fault, so the fault that decoding returns depends on the bytes alone, unless it is `NoMemory`.
+/// The next codestream at their front has the same first fault.
 pub fn bytes_have_one_first_fault()
     ensures one { OneFirstFault }
     ensures next { NextHasTheFirstFault }

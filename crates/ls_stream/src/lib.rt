@@ -1,9 +1,9 @@
 //! Codestreams of JPEG-LS (T.87 Annex C): markers, segments, and lossless scans (NEAR 0) of one component each.
 //!
 //! Encoding returns exactly the codestream that `specs/Layout.antt` defines for a frame. Decoding returns exactly the
-//! frame of which a front of the bytes is a codestream by the grammar (`specs/Grammar.antt`), or a fault: there is no
-//! such front, or an allocation failed. From a reader, one codestream at a time is taken, by its markers alone
-//! (`specs/View/Extents.antt`). The bits of a scan are those of its plane (`specs/Planes.antt`).
+//! frame of which a front of the bytes is a codestream by the grammar (`specs/Grammar.antt`), or a fault, which is
+//! `NoMemory` or means that there is no such front. From a reader, one codestream at a time is taken, by its markers
+//! alone (`specs/View/Extents.antt`). The bits of a scan are those of its plane (`specs/Planes.antt`).
 //!
 //! ```
 //! use ls_frame::Frame;

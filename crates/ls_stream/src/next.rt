@@ -36,12 +36,12 @@ pub enum NextFault {
 ///
 /// They end with EOI; or with the byte that shows a fault of the markers: no SOI, no marker where one is due, a marker
 /// that isn't supported, or a length below 2; or with the input. The contents of segments aren't examined. Decoding
-/// these bytes gives what decoding all remaining bytes would, unless an allocation fails: if any front of the remaining
-/// bytes is a codestream of a frame, these bytes are that front; otherwise both have the same first fault.
+/// these bytes gives what decoding all remaining bytes would, but for `NoMemory`: if any front of the remaining bytes
+/// is a codestream of a frame, these bytes are that front; otherwise both have the same first fault.
 ///
 /// If the bytes are known (as in memory), the clauses say which were read. `TooLarge` comes after exactly 4,294,967,295
-/// bytes that show neither an end nor a fault. `Io` comes only if a read failed, and `NoMemory` only if an allocation
-/// failed, and never at the end of input; after these two the reader's place is unspecified.
+/// bytes that show neither an end nor a fault. `Io` comes exactly if a read failed, and `NoMemory` never at the end of
+/// input; after these two the reader's place is unspecified.
 pub fn next_stream<R: Feed>(alloc: Global, reader: &mut R) -> Result<Option<Vec<u8>>, NextFault>
     // The bytes are the next codestream, and exactly they were read.
     ensures stream { IfOk result (λ next. IfSome next (λ bytes. Gave (R.remaining reader.old) (R.remaining reader.new)

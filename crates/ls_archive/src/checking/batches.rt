@@ -1,5 +1,5 @@
-//! The lines of an index, a batch at once: they are taken off it with the bytes of their codestreams, and what was found
-//! in these is reported.
+//! The lines of an index, a batch at once: they are taken off it with the bytes of their codestreams, and what was
+//! found in these is reported.
 ghost use Rattle.std.specs.Prelude.{◌≡◌, ◌≢◌, ◌+◌, ◌*◌, ◌^◌, ◌<◌, ◌≤◌, List, [], ℕ, Option, length, IfOk, IfErr, OnErr, MatchResult};
 ghost use Rattle.ls_film.specs.Film.{most_frames};
 ghost use Rattle.ls_frame.specs.View.Devices.{count_after};
@@ -138,7 +138,7 @@ fn next_job<I: Feed, R: Feed>(
     }
 }
 
-/// Reports what is wrong with the bytes of jobs, in order, and returns how far the check is then.
+/// Reports what is wrong with the bytes of listed codestreams, in order, and returns how far the check is then.
 pub fn tell_all<F: Findings>(
     jobs: &[Listed],
     so_far: SoFar,
@@ -161,7 +161,8 @@ pub fn tell_all<F: Findings>(
     Ok(so_far)
 }
 
-/// Reports what is wrong with the bytes of the next job, if anything is, and returns how far the check is then.
+/// Reports what is wrong with the bytes of the next listed codestream, if anything is, and returns how far the check is
+/// then.
 fn tell_of<F: Findings>(job: &Listed, so_far: SoFar, findings: &mut F) -> Result<SoFar, AllocError>
     requires few { so_far.number < most_frames }
     requires bounded { so_far.offset ≤ 2 ^ 32 * so_far.number }

@@ -1,4 +1,4 @@
-//! Who looks at the bytes of a batch's jobs: the calling thread alone, or several side by side.
+//! Who looks at the bytes of a batch's codestreams: the calling thread alone, or several side by side.
 ghost use Rattle.std.specs.Prelude.{◌<◌, ◌≤◌, ◌^◌, ℕ, ⊤};
 ghost use Rattle.std.specs.List.{AllZip};
 ghost use Rattle.std.specs.Thread.{IsSync};
@@ -12,26 +12,26 @@ use std::mem::replace;
 use std::thread;
 use std::thread::Threads;
 
-/// Looks at the bytes of jobs, batch by batch.
+/// Looks at the bytes of listed codestreams, batch by batch.
 pub trait Looking {
-    /// The most jobs of a batch.
+    /// The most codestreams of a batch.
     ghost most: { ℕ };
 
     /// What `look_at_all` requires: with threads, that they may share what it was lent.
     ghost may_run: { Type 0 };
 
-    /// The number of jobs that are taken at once.
+    /// The number of codestreams that are taken at once.
     fn batch(&self) -> u64
         ensures some { 0 < result }
         ensures few { result ≤ most };
 
-    /// Looks at the bytes of all jobs, and frees them.
+    /// Looks at the bytes of all these codestreams, and frees them.
     fn look_at_all(&self, alloc: Global, jobs: &mut Vec<Listed>)
         requires { may_run }
         ensures { AllZip IsLookedAt jobs.old.items jobs.new.items };
 }
 
-/// The calling thread alone: it looks at a job before the next is taken.
+/// The calling thread alone: it looks at a codestream before the next is taken.
 #[derive(Drop)]
 pub struct Alone;
 
@@ -51,7 +51,7 @@ impl Looking for Alone {
     }
 }
 
-/// At most this number of threads side by side. Where none can be started, the calling one looks at all jobs.
+/// At most this number of threads side by side. Where none can be started, the calling one looks at all codestreams.
 #[derive(Drop)]
 pub struct ByThreads<'rt, Rt> {
     pub rt: &'rt Rt,
@@ -78,7 +78,7 @@ impl Task for Listed {
     }
 }
 
-/// Looks at the bytes of all jobs, by at most `workers` threads.
+/// Looks at the bytes of all these codestreams, by at most `workers` threads.
 fn look_side_by_side<Rt: Threads + Sync>(
     rt: &Rt,
     alloc: Global,
@@ -98,7 +98,7 @@ fn look_side_by_side<Rt: Threads + Sync>(
     );
 }
 
-/// Looks at the bytes of a job, and frees them.
+/// Looks at the bytes of a listed codestream, and frees them.
 fn look_at_job(alloc: Global, job: &mut Listed)
     ensures { IsLookedAt job.old job.new }
 {

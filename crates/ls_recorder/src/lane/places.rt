@@ -38,8 +38,7 @@ pub struct Returns {
 }
 
 impl Places {
-    /// Makes `window` free places, and the end that gives them back. Requires at least one. Fails only if an allocation
-    /// fails.
+    /// Makes `window` free places, and the end that gives them back. Requires at least one.
     pub fn new(alloc: Global, window: usize) -> Result<(Places, Returns), AllocError>
         requires { 0 < window }
         ensures none { IfOk result (λ made. made.1.returned ≡ 0) }

@@ -82,8 +82,8 @@ pub fn read_booked<F: Feed, R: Wait, G: Gate>(
 
 /// Reads the film, each frame once a place in the window is free. The same orders are put by `booked` and by `seat`.
 ///
-/// Returns the number of frames, with the reader at its end. A fault is that of the next frame; or `NoMemory`, if an
-/// allocation failed or if nobody is left to give places back.
+/// Returns the number of frames, with the reader at its end. A fault is that of the next frame; or `NoMemory`, also if
+/// nobody is left to give places back.
 fn read_film<F: Feed, R: Wait, G: Gate>(
     setting: &Setting<'_, R, G>,
     seat: &mut SourceSeat<Order>,
@@ -163,8 +163,8 @@ fn next_order<F: Feed>(
     }
 }
 
-/// Books an order for the writing half, and puts it into the queue. Fails with `NoMemory` only if the order can't be
-/// copied; then nothing was booked or put.
+/// Books an order for the writing half, and puts it into the queue. Its only fault is `NoMemory`, from copying the
+/// order; then nothing was booked or put.
 fn put<R: Wait, G: Gate>(
     setting: &Setting<'_, R, G>,
     seat: &mut SourceSeat<Order>,

@@ -59,8 +59,7 @@ pub struct Ran<R, W> {
     pub seats: Vec<WorkerSeat<Order>>,
 }
 
-/// Allocates for the handles and the results of `sources` lanes and `workers` workers. Fails only if an allocation
-/// fails.
+/// Allocates for the handles and the results of `sources` lanes and `workers` workers.
 pub fn buffers_for<R: Feed + Drop, W: Outlet + Drop>(
     alloc: Global,
     sources: usize,
@@ -77,7 +76,7 @@ pub fn buffers_for<R: Feed + Drop, W: Outlet + Drop>(
     })
 }
 
-/// A flag for each source, not set. Fails only if an allocation fails.
+/// A flag for each source, not set.
 pub fn flags_for(alloc: Global, sources: usize) -> Result<Vec<AtomicBool>, AllocError>
     ensures { IfOk result (λ flags. length flags.items ≡ sources) }
 {
