@@ -28,7 +28,7 @@ line_of line = record { text = line.text.items; size = line.size; sum = line.sum
 
 -- ---- lines that are taken
 
--- At this place the index gave the job's line, and the recording the line's bytes, or all that were left; the check is then at the next
+-- At this place the index gave the line of a listed codestream, and the recording the line's bytes, or all that were left; the check is then at the next
 -- place.
 pub record IsTaken (at next : Place) (job : Listed) : Type 0 where
   pub number : job.number ≡ at.number
@@ -39,7 +39,7 @@ pub record IsTaken (at next : Place) (job : Listed) : Type 0 where
   pub next_number : next.number ≡ at.number + 1
   pub next_offset : next.offset ≡ at.offset + job.line.size
 
--- The jobs were taken one after the other, from the first place to the second.
+-- Listed codestreams were taken one after the other, from the first place to the second.
 abbrev pub AreTaken : Place → Place → List Listed → Type 0
 AreTaken at next [] = at ≡ next
 AreTaken at next (job ∷ jobs) = (mid : Place) × IsTaken at mid job × AreTaken mid next jobs
@@ -59,14 +59,14 @@ pub record IsBatch (at : Place) (index recording : Option (List ℕ)) (batch : B
 
 -- ---- what is found
 
--- The job's bytes were looked at, and what is wrong with them was found, unless an allocation failed.
+-- A listed codestream's bytes were looked at, and what is wrong with them was found, unless an allocation failed.
 pub record IsLookedAt (job job' : Listed) : Type 0 where
   pub number : job'.number ≡ job.number
   pub offset : job'.offset ≡ job.offset
   pub line : job'.line ≡ job.line
   pub found : IfOk job'.damage (IsFound job'.number job'.offset (line_of job'.line) job.bytes.items)
 
--- At this place the readers gave the job's line and its bytes, and the job says what was found of these, unless an allocation failed; the
+-- At this place the readers gave the line of a listed codestream and its bytes, and it says what was found of these, unless an allocation failed; the
 -- check is then at the next place.
 pub record IsLooked (at next : Place) (job : Listed) : Type 0 where
   pub number : job.number ≡ at.number
@@ -79,7 +79,7 @@ pub record IsLooked (at next : Place) (job : Listed) : Type 0 where
   pub next_number : next.number ≡ at.number + 1
   pub next_offset : next.offset ≡ at.offset + job.line.size
 
--- The jobs were taken one after the other, from the first place to the second, and looked at.
+-- Listed codestreams were taken one after the other, from the first place to the second, and looked at.
 abbrev pub AreLooked : Place → Place → List Listed → Type 0
 AreLooked at next [] = at ≡ next
 AreLooked at next (job ∷ jobs) = (mid : Place) × IsLooked at mid job × AreLooked mid next jobs
@@ -92,13 +92,13 @@ pub record HasCheckedTo (index recording : Option (List ℕ)) (found found' : Op
   pub offset : so_far.offset ≡ at.offset
   pub checked : HasChecked index at.index recording at.recording found found' at.number at.offset so_far.damaged
 
--- A check that stands before these jobs, whatever its place, stands before the jobs that are left once what was found is reported.
+-- A check that stands before these codestreams, whatever its place, stands before those that are left once what was found is reported.
 abbrev pub LeadsOn : Option (List Finding) → Option (List Finding) → SoFar → SoFar → List Listed → List Listed → Type 0
 LeadsOn told told' so_far so_far' jobs left =
     (index recording : Option (List ℕ)) (found : Option (List Finding)) (at next : Place) → HasCheckedTo index recording found told at so_far → AreLooked at next jobs
     → (mid : Place) × HasCheckedTo index recording found told' mid so_far' × AreLooked mid next left
 
--- the same, for some state and some jobs left
+-- the same, for some state and some codestreams left
 abbrev pub LeadsSomewhere : Option (List Finding) → Option (List Finding) → SoFar → List Listed → Type 0
 LeadsSomewhere told told' so_far jobs = (so_far' : SoFar) × (left : List Listed) × LeadsOn told told' so_far so_far' jobs left
 
@@ -120,6 +120,6 @@ fails_recording (Fault fault) = blames_recording fault
 abbrev pub HasReadBeyond : Bool → ℕ → ℕ → Result Checked CheckFault → Type 0
 HasReadBeyond blamed failed failed' result = (failed' ≡ count_after blamed failed) ⊎ ((result ≡ Err fault.NoMemory) × (failed' ≡ count_after true failed))
 
--- the same of batches that have at most this many jobs: with one there is no such read
+-- the same of batches that have at most this many codestreams: with one there is no such read
 abbrev pub HasReadBatches : ℕ → Bool → ℕ → ℕ → Result Checked CheckFault → Type 0
 HasReadBatches most blamed failed failed' result = (failed' ≡ count_after blamed failed) ⊎ ((1 < most) × HasReadBeyond blamed failed failed' result)

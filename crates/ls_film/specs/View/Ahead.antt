@@ -14,11 +14,11 @@ use Rattle.ls_film.specs.View.Sources.{GivesImage}
 
 -- ---- codestreams that were taken at once
 
--- What is to be made of the job's frame was made, or its fault found.
+-- What is to be made of a fetched codestream's frame was made, or its fault found.
 abbrev pub IsMade : {T : Type 0} → (Picture → T → Type 0) → Fetched T → Type 0
 IsMade made job = MatchResult job.made (IsMadeOf made job.bytes.items) (IsUnmade job.bytes.items)
 
--- the codestreams of jobs
+-- the codestreams that were fetched
 abbrev pub codestreams_of : {T : Type 0} → List (Fetched T) → List (List ℕ)
 codestreams_of jobs = map (λ job. job.bytes.items) jobs
 
