@@ -49,7 +49,6 @@ where
     O: Makes<File = R::File> + Copy + Drop,
     E: Outlet,
 {
-    let alloc = rt.alloc();
     let opening = Opening {
         rt,
         opener,
@@ -62,8 +61,7 @@ where
         writers,
         report,
     } = opening.make_files(&sources, console)?;
-    let readers = readers_of(alloc, names, sources, console)?;
-    let devices = devices_of(alloc, readers, writers, asked.tuning)?;
+    let devices = opening.devices(sources, writers, console)?;
     Ok(Opened {
         films,
         devices,
@@ -220,6 +218,22 @@ where
         }
         Ok(films)
     }
+
+    /// What each film's lane is given. The tuning is that of all films.
+    fn devices<E: Outlet>(
+        &self,
+        sources: Vec<Source<'a, O>>,
+        writers: Vec<Writer<'a, O>>,
+        console: &mut Console<E>,
+    ) -> Result<Vec<Devices<'a, O>>, Refusal<'a>> {
+        let alloc = self.rt.alloc();
+        let mut devices = Vec::new(alloc);
+        for ((film, source), writer) in self.names.iter().zip(sources).zip(writers) {
+            let reader = reader_of(alloc, film, source, console)?;
+            devices.push((reader, writer, self.asked.tuning))?;
+        }
+        Ok(devices)
+    }
 }
 
 /// Makes the files of the report and of each recording, whose places are claimed.
@@ -286,24 +300,6 @@ fn writer_of<'a, O: Opens + Drop>(alloc: Global, targets: Targets<'a, O>) -> Wri
     Indexing::new(Counted::new(recording), follower)
 }
 
-/// The readers of the films.
-fn readers_of<'a, O, E>(
-    alloc: Global,
-    names: &'a [Names<'a>],
-    sources: Vec<Source<'a, O>>,
-    console: &mut Console<E>,
-) -> Result<Vec<Reader<'a, O>>, Refusal<'a>>
-where
-    O: Opens + Copy,
-    E: Outlet,
-{
-    let mut readers = Vec::new(alloc);
-    for (film, source) in names.iter().zip(sources) {
-        readers.push(reader_of(alloc, film, source, console)?)?;
-    }
-    Ok(readers)
-}
-
 /// The reader of a film, with a buffer. On a terminal, says if its pipe is waited for.
 fn reader_of<'a, O, E>(
     alloc: Global,
@@ -324,18 +320,4 @@ where
         Ok(reader) => Ok(reader),
         Err(status) => Err(Refusal::Said(status)),
     }
-}
-
-/// What each film's lane is given. The tuning is that of all films.
-fn devices_of<'a, O: Opens + Copy>(
-    alloc: Global,
-    readers: Vec<Reader<'a, O>>,
-    writers: Vec<Writer<'a, O>>,
-    tuning: Tuning,
-) -> Result<Vec<Devices<'a, O>>, AllocError> {
-    let mut devices = Vec::new(alloc);
-    for (reader, writer) in readers.into_iter().zip(writers) {
-        devices.push((reader, writer, tuning))?;
-    }
-    Ok(devices)
 }
