@@ -15,11 +15,12 @@ use Rattle.ls_stream.proofs.MostLemmas.{first_of, left_of}
 use Rattle.ls_stream.proofs.GrownLemmas.{changed, left_more, outline_grown}
 use Rattle.ls_film.specs.Film.{most_frames, IsFilm}
 use Rattle.ls_film.specs.View.Codestreams.{BeginsWithNone}
+use Rattle.ls_film.specs.View.Steps.{failed_by}
 use Rattle.ls_archive.specs.declared.faults.IndexFault.{IndexFault}
 use Rattle.ls_archive.specs.declared.faults.IndexFault.TheVariants.{Stream, Io, Output, NoMemory, TooMany}
 use Rattle.ls_archive.specs.Index.{Entry, joined}
 use Rattle.ls_archive.specs.View.Entries.{Says, IsEntry, IsOfFrame, OneIndex}
-use Rattle.ls_archive.specs.View.Indexing.{Completes, Stops, IsIndexOf, StopsOver, IsIndexOfFrames, IsOutOfMemory, blames_reader, failed_reader}
+use Rattle.ls_archive.specs.View.Indexing.{Completes, Stops, IsIndexOf, StopsOver, IsIndexOfFrames, IsOutOfMemory, blames_reader}
 use Rattle.ls_archive.proofs.EntryLemmas.{outline_few, some_outlined}
 
 no_end : (r : Take Outline) (o : Outline) (left : List ℕ) → r ≡ Ok (o, left) → r ≡ Err stream.Truncated → ⊥
@@ -189,7 +190,7 @@ pub no_failure : (failed : Bool) → 0 ≡ count_after failed 0 → failed ≡ f
 no_failure false stays = refl
 no_failure true stays = absurd (omega arith)
 
-pub stops_over : (sums : Bool) (recording out : List ℕ) (left : Option (List ℕ)) (r : Result ℕ IndexFault) → 0 ≡ count_after (failed_reader r) 0
+pub stops_over : (sums : Bool) (recording out : List ℕ) (left : Option (List ℕ)) (r : Result ℕ IndexFault) → 0 ≡ count_after (failed_by blames_reader r) 0
     → IfErr r (Stops sums (Some recording) left (Some []) (Some out)) → IfErr r (StopsOver sums recording out)
 stops_over sums recording out left (Ok n) stays stops = tt
 stops_over sums recording out left (Err fault) stays stops = (left, stops, no_failure (blames_reader fault) stays)

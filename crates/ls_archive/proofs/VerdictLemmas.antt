@@ -18,7 +18,8 @@ use Rattle.ls_archive.specs.declared.faults.VerifyFault.TheVariants.{Film, Recor
 use Rattle.ls_archive.specs.declared.verifying.Verdict.{Verdict}
 use Rattle.ls_archive.specs.declared.verifying.Verdict.TheVariants.{Same, Differs, Missing, Extra}
 use Rattle.ls_archive.specs.Verify.{Compares}
-use Rattle.ls_archive.specs.View.Verifying.{BeginsWithImage, Finds, Stops, FindsIn, StopsIn, blames_film, blames_recording, failed_film, failed_recording}
+use Rattle.ls_film.specs.View.Steps.{failed_by}
+use Rattle.ls_archive.specs.View.Verifying.{BeginsWithImage, Finds, Stops, FindsIn, StopsIn, blames_film, blames_recording}
 use Rattle.ls_archive.proofs.FormLemmas.{no_break, no_failure}
 
 -- ---- images and codestreams have bytes
@@ -171,7 +172,7 @@ pub finds_in : (film recording : List ℕ) (film' recording' : Option (List ℕ)
 finds_in film recording film' recording' (Ok v) finds = (film', recording', finds)
 finds_in film recording film' recording' (Err fault) finds = tt
 
-pub stops_in : (film recording : List ℕ) (r : Result Verdict VerifyFault) → 0 ≡ count_after (failed_film r) 0 → 0 ≡ count_after (failed_recording r) 0
+pub stops_in : (film recording : List ℕ) (r : Result Verdict VerifyFault) → 0 ≡ count_after (failed_by blames_film r) 0 → 0 ≡ count_after (failed_by blames_recording r) 0
     → IfErr r (Stops (Some film) (Some recording)) → IfErr r (StopsIn film recording)
 stops_in film recording (Ok v) film_stays recording_stays stops = tt
 stops_in film recording (Err fault) film_stays recording_stays stops =

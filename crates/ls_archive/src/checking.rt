@@ -10,9 +10,10 @@ ghost use Rattle.ls_frame.specs.View.Known.{Tells, Gave, WasAtEnd, known};
 ghost use Rattle.ls_film.specs.Film.{most_frames};
 ghost use Rattle.ls_film.specs.Listing.{kind_text, column};
 ghost use Rattle.ls_stream.specs.Grammar.{Spells, most_bytes};
+ghost use Rattle.ls_film.specs.View.Steps.{failed_by};
 ghost use Rattle.ls_archive.specs.View.Checking.{Line, beginning, AreNumbers, EndsColumn, IsSum, sum_at_end, AreColumns, IsLine, HasLine, IsGood, IsDamage};
 ghost use Rattle.ls_archive.specs.Index.{line};
-ghost use Rattle.ls_archive.specs.View.Checks.{FindsMore, GaveAtMost, IsOneLine, IsFrontLine, IsFound, HasLooked, HasChecked, IsChecked, StopsNextLine, StopsReading, Stops, failed_index, failed_recording};
+ghost use Rattle.ls_archive.specs.View.Checks.{FindsMore, GaveAtMost, IsOneLine, IsFrontLine, IsFound, HasLooked, HasChecked, IsChecked, StopsNextLine, StopsReading, Stops, blames_index, blames_recording};
 ghost use Rattle.ls_archive.specs.View.Batches.{HasReadBeyond, HasReadBatches};
 ghost use Rattle.ls_archive.specs.declared.checking.Finding.{Finding};
 
@@ -159,8 +160,8 @@ pub fn check<I: Feed, R: Feed, F: Findings>(
 ) -> Result<Checked, CheckFault>
     ensures checked { IfOk result (IsChecked (I.remaining index.old) (R.remaining recording.old) (F.found findings.old) (F.found findings.new)) }
     ensures stops { IfErr result (Stops (I.remaining index.old) (R.remaining recording.old) (F.found findings.old) (F.found findings.new)) }
-    ensures index_reads { I.failed_reads index.new ≡ count_after (failed_index result) (I.failed_reads index.old) }
-    ensures reads { R.failed_reads recording.new ≡ count_after (failed_recording result) (R.failed_reads recording.old) }
+    ensures index_reads { I.failed_reads index.new ≡ count_after (failed_by blames_index result) (I.failed_reads index.old) }
+    ensures reads { R.failed_reads recording.new ≡ count_after (failed_by blames_recording result) (R.failed_reads recording.old) }
 {
     check_all::<Alone, I, R, F>(alloc, &Alone, index, recording, findings)
 }
@@ -181,8 +182,8 @@ pub fn check_by<Rt: Threads + Sync, I: Feed, R: Feed, F: Findings>(
 ) -> Result<Checked, CheckFault>
     ensures checked { IfOk result (IsChecked (I.remaining index.old) (R.remaining recording.old) (F.found findings.old) (F.found findings.new)) }
     ensures stops { IfErr result (Stops (I.remaining index.old) (R.remaining recording.old) (F.found findings.old) (F.found findings.new)) }
-    ensures index_reads { HasReadBeyond (failed_index result) (I.failed_reads index.old) (I.failed_reads index.new) result }
-    ensures reads { HasReadBeyond (failed_recording result) (R.failed_reads recording.old) (R.failed_reads recording.new) result }
+    ensures index_reads { HasReadBeyond (failed_by blames_index result) (I.failed_reads index.old) (I.failed_reads index.new) result }
+    ensures reads { HasReadBeyond (failed_by blames_recording result) (R.failed_reads recording.old) (R.failed_reads recording.new) result }
 {
     let threads = ByThreads { rt, workers };
     check_all::<ByThreads<'_, Rt>, I, R, F>(alloc, &threads, index, recording, findings)
@@ -199,8 +200,8 @@ fn check_all<L: Looking, I: Feed, R: Feed, F: Findings>(
     requires { L.may_run }
     ensures checked { IfOk result (IsChecked (I.remaining index.old) (R.remaining recording.old) (F.found findings.old) (F.found findings.new)) }
     ensures stops { IfErr result (Stops (I.remaining index.old) (R.remaining recording.old) (F.found findings.old) (F.found findings.new)) }
-    ensures index_reads { HasReadBatches L.most (failed_index result) (I.failed_reads index.old) (I.failed_reads index.new) result }
-    ensures reads { HasReadBatches L.most (failed_recording result) (R.failed_reads recording.old) (R.failed_reads recording.new) result }
+    ensures index_reads { HasReadBatches L.most (failed_by blames_index result) (I.failed_reads index.old) (I.failed_reads index.new) result }
+    ensures reads { HasReadBatches L.most (failed_by blames_recording result) (R.failed_reads recording.old) (R.failed_reads recording.new) result }
 {
     let mut so_far = SoFar {
         number: 0,
@@ -242,8 +243,8 @@ fn end_at_most<I: Feed, R: Feed>(
     ensures stops { (lines whole : Option (List ℕ)) (found found' : Option (List Finding))
         → HasChecked lines (I.remaining index.old) whole (R.remaining recording.old) found found' most_frames offset damaged
         → IfErr result (Stops lines whole found found') }
-    ensures index_reads { I.failed_reads index.new ≡ count_after (failed_index result) (I.failed_reads index.old) }
-    ensures reads { R.failed_reads recording.new ≡ count_after (failed_recording result) (R.failed_reads recording.old) }
+    ensures index_reads { I.failed_reads index.new ≡ count_after (failed_by blames_index result) (I.failed_reads index.old) }
+    ensures reads { R.failed_reads recording.new ≡ count_after (failed_by blames_recording result) (R.failed_reads recording.old) }
 {
     let None = next_line(alloc, index, MOST_FRAMES, offset)? else {
         return Err(CheckFault::TooMany);
@@ -282,7 +283,7 @@ pub(crate) fn next_line<I: Feed>(
     ensures end { IfOk result (λ next. IfNone next (WasAtEnd (I.remaining index.old) (I.remaining index.new))) }
     ensures blame { IfErr result (λ fault. fault ≢ CheckFault.Io) }
     ensures stops { IfErr result (StopsNextLine (I.remaining index.old) number offset) }
-    ensures failures { I.failed_reads index.new ≡ count_after (failed_index result) (I.failed_reads index.old) }
+    ensures failures { I.failed_reads index.new ≡ count_after (failed_by blames_index result) (I.failed_reads index.old) }
 {
     let text = match take_line(alloc, index) {
         Ok(Some(text)) => text,
@@ -447,7 +448,7 @@ fn take_bytes<R: Feed>(alloc: Global, reader: &mut R, most: usize) -> Result<Vec
     ensures taken { IfOk result (λ bytes. GaveAtMost (R.remaining reader.old) (R.remaining reader.new) most bytes.items) }
     ensures blame { IfErr result (λ fault. fault ≢ CheckFault.IndexIo) }
     ensures stops { IfErr result StopsReading }
-    ensures failures { R.failed_reads reader.new ≡ count_after (failed_recording result) (R.failed_reads reader.old) }
+    ensures failures { R.failed_reads reader.new ≡ count_after (failed_by blames_recording result) (R.failed_reads reader.old) }
 {
     let mut bytes = Vec::new(alloc);
     while bytes.len() < most {
@@ -466,7 +467,7 @@ fn has_more<R: Feed>(alloc: Global, reader: &mut R) -> Result<bool, CheckFault>
     ensures more { IfOk result (λ more. Tells (R.remaining reader.old) → IsTrue more ↔ (0 < length (known (R.remaining reader.old)))) }
     ensures blame { IfErr result (λ fault. fault ≢ CheckFault.IndexIo) }
     ensures stops { IfErr result StopsReading }
-    ensures failures { R.failed_reads reader.new ≡ count_after (failed_recording result) (R.failed_reads reader.old) }
+    ensures failures { R.failed_reads reader.new ≡ count_after (failed_by blames_recording result) (R.failed_reads reader.old) }
 {
     let bytes = take_bytes(alloc, reader, 1)?;
     Ok(!bytes.is_empty())

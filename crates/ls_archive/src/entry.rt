@@ -5,9 +5,10 @@ ghost use Rattle.ls_frame.specs.View.Devices.{count_after};
 ghost use Rattle.ls_frame.specs.View.Known.{WasAtEnd};
 ghost use Rattle.ls_stream.specs.Grammar.{Spells, most_bytes};
 ghost use Rattle.ls_stream.specs.View.Outlines.{outline_of};
+ghost use Rattle.ls_film.specs.View.Steps.{failed_by};
 ghost use Rattle.ls_archive.specs.Index.{Entry, columns};
 ghost use Rattle.ls_archive.specs.View.Entries.{IsEntry, GaveEntry, HasHeaders};
-ghost use Rattle.ls_archive.specs.View.Indexing.{StopsNext, failed_reader};
+ghost use Rattle.ls_archive.specs.View.Indexing.{StopsNext, blames_reader};
 
 use crate::faults::IndexFault;
 use ls_film::codestreams::{Unread, take_codestream};
@@ -65,7 +66,7 @@ impl Indexed {
         ensures entry { IfOk result (λ next. IfSome next (GaveEntry (R.remaining reader.old) (R.remaining reader.new))) }
         ensures end { IfOk result (λ next. IfNone next (WasAtEnd (R.remaining reader.old) (R.remaining reader.new))) }
         ensures stops { IfErr result (StopsNext (R.remaining reader.old) number) }
-        ensures failures { R.failed_reads reader.new ≡ count_after (failed_reader result) (R.failed_reads reader.old) }
+        ensures failures { R.failed_reads reader.new ≡ count_after (failed_by blames_reader result) (R.failed_reads reader.old) }
     {
         let bytes = match take_codestream(alloc, reader) {
             Ok(Some(bytes)) => bytes,

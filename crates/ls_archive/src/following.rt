@@ -5,8 +5,9 @@ ghost use Rattle.std.specs.Io.KnownBytes.{Keeps, WriteAppends};
 ghost use Rattle.ls_frame.specs.View.Devices.{count_after};
 ghost use Rattle.ls_stream.specs.Grammar.{most_bytes};
 ghost use Rattle.ls_film.specs.Film.{most_frames};
+ghost use Rattle.ls_film.specs.View.Steps.{failed_by};
 ghost use Rattle.ls_archive.specs.View.Entries.{IsEntry};
-ghost use Rattle.ls_archive.specs.View.Indexing.{failed_writer};
+ghost use Rattle.ls_archive.specs.View.Indexing.{blames_writer};
 ghost use Rattle.ls_archive.specs.View.Followed.{nothing, holding, stepped};
 ghost use Rattle.ls_archive.specs.View.Following.{index_of, followed, recording_of, following, broken, HasFollowed, SpellNoFrame, FollowsOn, StopsFollowing, IsTold};
 
@@ -127,7 +128,7 @@ impl<I: Outlet> Follower<I> {
         ensures stops { IfErr result (StopsFollowing bytes.now
             (I.contents (index_of self.old)) (I.contents (index_of self.new)) (followed self.old)) }
         ensures failures { I.failed_writes (index_of self.new)
-            ≡ count_after (failed_writer result) (I.failed_writes (index_of self.old)) }
+            ≡ count_after (failed_by blames_writer result) (I.failed_writes (index_of self.old)) }
     {
         let alloc = self.alloc;
         let Some(indexed) = self.progress.take(alloc, bytes)? else {

@@ -6,8 +6,9 @@ ghost use Rattle.ls_frame.specs.View.Devices.{count_after};
 ghost use Rattle.ls_stream.specs.Grammar.{Spells};
 ghost use Rattle.ls_film.specs.Film.{most_frames, IsFilm};
 ghost use Rattle.ls_film.specs.Listing.{kind_text, column};
+ghost use Rattle.ls_film.specs.View.Steps.{failed_by};
 ghost use Rattle.ls_archive.specs.Index.{line, sum_text, sum_column};
-ghost use Rattle.ls_archive.specs.View.Indexing.{Completes, Stops, StopsLine, IsIndexOf, StopsOver, IsIndexOfFrames, IsOutOfMemory, failed_reader, failed_writer};
+ghost use Rattle.ls_archive.specs.View.Indexing.{Completes, Stops, StopsLine, IsIndexOf, StopsOver, IsIndexOfFrames, IsOutOfMemory, blames_reader, blames_writer};
 
 use crate::entry::Indexed;
 use crate::faults::IndexFault;
@@ -35,8 +36,8 @@ pub fn write_index<R: Feed, W: Outlet>(
         (R.remaining reader.old) (R.remaining reader.new) (W.contents writer.old) (W.contents writer.new)) }
     ensures stops { IfErr result (Stops sums
         (R.remaining reader.old) (R.remaining reader.new) (W.contents writer.old) (W.contents writer.new)) }
-    ensures reads { R.failed_reads reader.new ≡ count_after (failed_reader result) (R.failed_reads reader.old) }
-    ensures writes { W.failed_writes writer.new ≡ count_after (failed_writer result) (W.failed_writes writer.old) }
+    ensures reads { R.failed_reads reader.new ≡ count_after (failed_by blames_reader result) (R.failed_reads reader.old) }
+    ensures writes { W.failed_writes writer.new ≡ count_after (failed_by blames_writer result) (W.failed_writes writer.old) }
 {
     let mut offset = 0;
     let mut written = 0;
@@ -153,7 +154,7 @@ pub(crate) fn write_line<W: Outlet>(
     ensures all { OnOk result (Appends (W.contents writer.old) (W.contents writer.new) line.now) }
     ensures count { IfOk result (λ count. count ≡ written + length line.now) }
     ensures stops { IfErr result (StopsLine (W.contents writer.old) (W.contents writer.new) written line.now) }
-    ensures failures { W.failed_writes writer.new ≡ count_after (failed_writer result) (W.failed_writes writer.old) }
+    ensures failures { W.failed_writes writer.new ≡ count_after (failed_by blames_writer result) (W.failed_writes writer.old) }
 {
     match write_bytes(writer, line) {
         Ok(()) => Ok(written + line.len() as u64),

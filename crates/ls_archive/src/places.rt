@@ -2,8 +2,9 @@
 ghost use Rattle.std.specs.Prelude.{◌≡◌, ◌⊎◌, ◌<◌, ◌^◌, length, IfOk, IfErr, IfSome, IsTrue};
 ghost use Rattle.ls_frame.specs.View.Chunks.{left_in, inner_reader};
 ghost use Rattle.ls_frame.specs.View.Devices.{count_after};
-ghost use Rattle.ls_salvage.specs.View.Ends.{failed_read};
-ghost use Rattle.ls_archive.specs.View.Checks.{failed_index, failed_recording};
+ghost use Rattle.ls_film.specs.View.Steps.{failed_by};
+ghost use Rattle.ls_salvage.specs.View.Ends.{is_io};
+ghost use Rattle.ls_archive.specs.View.Checks.{blames_index, blames_recording};
 ghost use Rattle.ls_archive.specs.View.Places.{GaveStanding, IsSmall};
 
 use crate::checking::{CheckFault, next_line};
@@ -33,7 +34,7 @@ pub struct Wanted {
 ///
 /// A line must have the form that `check` requires, and a fault means what it means there; `Io` never occurs.
 pub fn read_index<I: Feed>(alloc: Global, index: &mut I) -> Result<Vec<Wanted>, CheckFault>
-    ensures reads { I.failed_reads index.new ≡ count_after (failed_index result) (I.failed_reads index.old) }
+    ensures reads { I.failed_reads index.new ≡ count_after (failed_by blames_index result) (I.failed_reads index.old) }
 {
     let mut wanted = Vec::new(alloc);
     let mut offset = 0;
@@ -77,7 +78,7 @@ pub fn find_places<R: Feed>(
 ) -> Result<Vec<Option<u64>>, CheckFault>
     ensures count { IfOk result (λ places. length places.items ≡ length wanted.now) }
     ensures blame { IfErr result (λ fault. (fault ≡ CheckFault.Io) ⊎ (fault ≡ CheckFault.NoMemory)) }
-    ensures reads { R.failed_reads (inner_reader recording.new) ≡ count_after (failed_recording result) (R.failed_reads (inner_reader recording.old)) }
+    ensures reads { R.failed_reads (inner_reader recording.new) ≡ count_after (failed_by blames_recording result) (R.failed_reads (inner_reader recording.old)) }
 {
     let mut search = Search::new(alloc, wanted)?;
     let mut places = vec![in alloc; None; wanted.len()]?;
@@ -120,7 +121,7 @@ fn next_standing<R: Feed>(
 ) -> Result<Option<Standing>, ReadFault>
     ensures small { IfOk result (λ next. IfSome next IsSmall) }
     ensures standing { IfOk result (λ next. IfSome next (GaveStanding (left_in R.remaining reader.old) (left_in R.remaining reader.new))) }
-    ensures failures { R.failed_reads (inner_reader reader.new) ≡ count_after (failed_read result) (R.failed_reads (inner_reader reader.old)) }
+    ensures failures { R.failed_reads (inner_reader reader.new) ≡ count_after (failed_by is_io result) (R.failed_reads (inner_reader reader.old)) }
 {
     let mut bytes = match take_codestream(alloc, reader) {
         Ok(Some(bytes)) => bytes,

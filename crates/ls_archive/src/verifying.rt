@@ -5,9 +5,10 @@ ghost use Rattle.ls_frame.specs.Picture.{Picture};
 ghost use Rattle.ls_frame.specs.View.Devices.{count_after};
 ghost use Rattle.ls_stream.specs.Grammar.{Spells};
 ghost use Rattle.ls_film.specs.Film.{most_frames, IsFilm};
+ghost use Rattle.ls_film.specs.View.Steps.{failed_by};
 ghost use Rattle.ls_archive.specs.Verify.{Compares, difference_of};
 ghost use Rattle.ls_archive.specs.View.Comparing.{GivesCoded, HasCompared, HasFound, FindsAhead, HasReadAhead};
-ghost use Rattle.ls_archive.specs.View.Verifying.{Finds, Stops, GaveNext, StopsFilm, StopsRecording, verdict_at, at_most, failed_film, failed_recording, FindsIn, StopsIn};
+ghost use Rattle.ls_archive.specs.View.Verifying.{Finds, Stops, GaveNext, StopsFilm, StopsRecording, verdict_at, at_most, blames_film, blames_recording, FindsIn, StopsIn};
 
 use crate::faults::VerifyFault;
 use ls_film::MOST_FRAMES;
@@ -60,8 +61,8 @@ pub fn verify<F: Feed, R: Feed>(
     ensures finds { IfOk result (Finds
         (F.remaining film.old) (F.remaining film.new) (R.remaining recording.old) (R.remaining recording.new)) }
     ensures stops { IfErr result (Stops (F.remaining film.old) (R.remaining recording.old)) }
-    ensures film_reads { F.failed_reads film.new ≡ count_after (failed_film result) (F.failed_reads film.old) }
-    ensures recording_reads { R.failed_reads recording.new ≡ count_after (failed_recording result) (R.failed_reads recording.old) }
+    ensures film_reads { F.failed_reads film.new ≡ count_after (failed_by blames_film result) (F.failed_reads film.old) }
+    ensures recording_reads { R.failed_reads recording.new ≡ count_after (failed_by blames_recording result) (R.failed_reads recording.old) }
 {
     compare_all::<OneByOne, F, R>(alloc, film, &mut OneByOne, recording)
 }
@@ -80,7 +81,7 @@ pub fn verify_by<Rt: Threads + Sync, F: Feed, R: Feed>(
     ensures finds { IfOk result (FindsAhead
         (F.remaining film.old) (F.remaining film.new) (R.remaining recording.old)) }
     ensures stops { IfErr result (Stops (F.remaining film.old) (R.remaining recording.old)) }
-    ensures film_reads { F.failed_reads film.new ≡ count_after (failed_film result) (F.failed_reads film.old) }
+    ensures film_reads { F.failed_reads film.new ≡ count_after (failed_by blames_film result) (F.failed_reads film.old) }
     ensures recording_reads { HasReadAhead (R.failed_reads recording.old) (R.failed_reads recording.new) result }
 {
     let mut source = SideBySide::new(rt, alloc, workers);
@@ -121,9 +122,9 @@ fn compare_all<S: Recorded<Frame>, F: Feed, R: Feed>(
         → IfOk result (HasFound S.Images.stands (F.remaining film.old) (F.remaining film.new) place (R.remaining recording.new) source.new) }
     ensures stops { (place : Option (List ℕ)) → S.Images.stands source.old place (R.remaining recording.old)
         → IfErr result (Stops (F.remaining film.old) place) }
-    ensures film_reads { F.failed_reads film.new ≡ count_after (failed_film result) (F.failed_reads film.old) }
+    ensures film_reads { F.failed_reads film.new ≡ count_after (failed_by blames_film result) (F.failed_reads film.old) }
     ensures recording_reads { (failed : ℕ) → R.failed_reads recording.old ≡ count_after (S.Images.owes source.old) failed
-        → R.failed_reads recording.new ≡ count_after (failed_recording result || S.Images.owes source.new) failed }
+        → R.failed_reads recording.new ≡ count_after (failed_by blames_recording result || S.Images.owes source.new) failed }
 {
     for number in 0..MOST_FRAMES + 1 {
         let compared = compare::<S, F, R>(alloc, film, source, recording, number)?;
@@ -150,9 +151,9 @@ fn compare<S: Recorded<Frame>, F: Feed, R: Feed>(
         → IfOk result (HasCompared S.Images.stands (F.remaining film.old) (F.remaining film.new) place (R.remaining recording.new) source.new number) }
     ensures stops { (place : Option (List ℕ)) → S.Images.stands source.old place (R.remaining recording.old)
         → IfErr result (λ fault. StopsFilm (F.remaining film.old) number fault ⊎ StopsRecording place number fault) }
-    ensures film_reads { F.failed_reads film.new ≡ count_after (failed_film result) (F.failed_reads film.old) }
+    ensures film_reads { F.failed_reads film.new ≡ count_after (failed_by blames_film result) (F.failed_reads film.old) }
     ensures recording_reads { (failed : ℕ) → R.failed_reads recording.old ≡ count_after (S.Images.owes source.old) failed
-        → R.failed_reads recording.new ≡ count_after (failed_recording result || S.Images.owes source.new) failed }
+        → R.failed_reads recording.new ≡ count_after (failed_by blames_recording result || S.Images.owes source.new) failed }
 {
     let image = next_image(alloc, film, number)?;
     let coded = next_coded::<S, R>(alloc, source, recording, number)?;
@@ -167,7 +168,7 @@ fn next_image<F: Feed>(
 ) -> Result<Option<Frame>, VerifyFault>
     ensures next { IfOk result (GaveNext IsImageOf (F.remaining film.old) (F.remaining film.new)) }
     ensures stops { IfErr result (StopsFilm (F.remaining film.old) number) }
-    ensures film_reads { F.failed_reads film.new ≡ count_after (failed_film result) (F.failed_reads film.old) }
+    ensures film_reads { F.failed_reads film.new ≡ count_after (failed_by blames_film result) (F.failed_reads film.old) }
 {
     match next_frame(alloc, film) {
         Ok(next) => Ok(next),
@@ -187,9 +188,9 @@ fn next_coded<S: Recorded<Frame>, R: Feed>(
         → IfOk result (GivesCoded S.Images.stands place (R.remaining recording.new) source.new) }
     ensures stops { (place : Option (List ℕ)) → S.Images.stands source.old place (R.remaining recording.old)
         → IfErr result (StopsRecording place number) }
-    ensures film_reads { failed_film result ≡ false }
+    ensures film_reads { failed_by blames_film result ≡ false }
     ensures recording_reads { (failed : ℕ) → R.failed_reads recording.old ≡ count_after (S.Images.owes source.old) failed
-        → R.failed_reads recording.new ≡ count_after (failed_recording result || S.Images.owes source.new) failed }
+        → R.failed_reads recording.new ≡ count_after (failed_by blames_recording result || S.Images.owes source.new) failed }
 {
     match source.next(alloc, recording) {
         Ok(next) => Ok(next),

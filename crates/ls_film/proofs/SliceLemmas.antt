@@ -11,8 +11,9 @@ use Rattle.ls_film.specs.View.Given.{GaveFrames}
 use Rattle.ls_film.specs.View.Engine.{Completes}
 use Rattle.ls_film.specs.declared.faults.FilmFault.{FilmFault}
 use Rattle.ls_film.specs.declared.faults.FilmFault.TheVariants.{Input, Output, NoMemory, TooMany}
-use Rattle.ls_film.specs.View.Stopping.{IsHeadingOrImage, Stops, blames_reader, failed_reader}
+use Rattle.ls_film.specs.View.Stopping.{IsHeadingOrImage, Stops, blames_reader}
 use Rattle.ls_film.specs.View.Memory.{IsTextOf, BeginsFilm, AnyBytes, StopsOver}
+use Rattle.ls_film.specs.View.Steps.{failed_by}
 
 -- if a count stays 0, no call failed
 no_failure : (failed : Bool) → 0 ≡ count_after failed 0 → failed ≡ false
@@ -78,6 +79,6 @@ module _ (text : List Picture → List ℕ) (film out : List ℕ) (left : Option
   stops-over TooMany device run = (run.frames, run.last, gave-over (run.frames ++ run.last ∷ []) run.gave, run.count, run.wrote)
 
   -- a run over memory, whose reader has no failed call
-  pub run-stops : (r : Result ℕ FilmFault) → 0 ≡ count_after (failed_reader r) 0 → IfErr r (Stops text (Some film) left (Some []) (Some out)) → IfErr r (StopsOver text film out)
+  pub run-stops : (r : Result ℕ FilmFault) → 0 ≡ count_after (failed_by blames_reader r) 0 → IfErr r (Stops text (Some film) left (Some []) (Some out)) → IfErr r (StopsOver text film out)
   run-stops (Ok n) stays run = tt
   run-stops (Err fault) stays run = stops-over fault (no_failure (blames_reader fault) stays) run

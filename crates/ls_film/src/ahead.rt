@@ -9,7 +9,7 @@ ghost use Rattle.ls_frame.specs.View.Devices.{count_after};
 ghost use Rattle.ls_stream.specs.Grammar.{Spells};
 ghost use Rattle.ls_film.specs.View.Codestreams.{IsUnread, is_io};
 ghost use Rattle.ls_film.specs.View.Sources.{IsShown, IsItself};
-ghost use Rattle.ls_film.specs.View.Steps.{failed_input};
+ghost use Rattle.ls_film.specs.View.Steps.{failed_by};
 ghost use Rattle.ls_film.specs.View.Ahead.{IsMade, IsBatch, IsAhead, GivesAhead, codestreams_of, failed_after, IsFull};
 
 use crate::codestreams::{Recorded, Unread, made_of, take_codestream};
@@ -160,7 +160,7 @@ fn next_ahead<T: Made + Send + Drop, Rt: Threads + Sync, R: Feed>(
     ensures gives { (place : Option (List ℕ)) → IsAhead T.made place (R.remaining reader.old) ahead.old
         → GivesAhead T.made place (R.remaining reader.new) ahead.new result }
     ensures failures { (failed : ℕ) → R.failed_reads reader.old ≡ count_after (failed_after ahead.old.after) failed
-        → R.failed_reads reader.new ≡ count_after (failed_input is_io result || failed_after ahead.new.after) failed }
+        → R.failed_reads reader.new ≡ count_after (failed_by is_io result || failed_after ahead.new.after) failed }
     ensures end { IfOk result (λ next. IfNone next (failed_after ahead.new.after ≡ false)) }
 {
     if ahead.is_spent() {

@@ -6,7 +6,7 @@ ghost use Rattle.ls_frame.specs.View.Known.{WasAtEnd};
 ghost use Rattle.ls_stream.specs.Grammar.{Spells};
 ghost use Rattle.ls_film.specs.declared.codestreams.Unread.{Unread};
 ghost use Rattle.ls_film.specs.View.Codestreams.{IsTaken, IsMadeOf, IsUnmade, is_io, unread_of, IsUnread, IsUntaken};
-ghost use Rattle.ls_film.specs.View.Steps.{failed_input};
+ghost use Rattle.ls_film.specs.View.Steps.{failed_by};
 
 use crate::engine::{Images, Made};
 use ls_frame::Feed;
@@ -43,7 +43,7 @@ pub fn take_codestream<R: Feed>(alloc: Global, reader: &mut R) -> Result<Option<
     ensures end { IfOk result (λ next. IfNone next (WasAtEnd (R.remaining reader.old) (R.remaining reader.new))) }
     ensures stops { IfErr result (λ fault. IsUnread fault (R.remaining reader.old)) }
     ensures untaken { IfErr result (λ fault. IsUntaken fault (R.remaining reader.old)) }
-    ensures failures { R.failed_reads reader.new ≡ count_after (failed_input is_io result) (R.failed_reads reader.old) }
+    ensures failures { R.failed_reads reader.new ≡ count_after (failed_by is_io result) (R.failed_reads reader.old) }
 {
     match next_stream(alloc, reader) {
         Ok(Some(mut bytes)) => {

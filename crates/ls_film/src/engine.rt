@@ -7,7 +7,7 @@ ghost use Rattle.ls_frame.specs.View.Devices.{count_after};
 ghost use Rattle.ls_film.specs.Film.{most_frames};
 ghost use Rattle.ls_film.specs.View.Engine.{Completes};
 ghost use Rattle.ls_film.specs.View.Sources.{GivesImage, IsItself, StandsAfter};
-ghost use Rattle.ls_film.specs.View.Steps.{HasStopped, StopsChunk, failed_input, failed_reader, failed_writer};
+ghost use Rattle.ls_film.specs.View.Steps.{HasStopped, StopsChunk, blames_reader, blames_writer, failed_by};
 ghost use Rattle.ls_film.specs.View.Texts.{GrowsBy};
 
 use crate::faults::MOST_FRAMES;
@@ -64,7 +64,7 @@ pub trait Images<T: Made> {
         ensures gives { (place : Option (List ℕ)) → stands self.old place (R.remaining reader.old)
             → GivesImage image T.made unread stands place (R.remaining reader.new) self.new result }
         ensures failures { (failed : ℕ) → R.failed_reads reader.old ≡ count_after (owes self.old) failed
-            → R.failed_reads reader.new ≡ count_after (failed_input of_device result || owes self.new) failed }
+            → R.failed_reads reader.new ≡ count_after (failed_by of_device result || owes self.new) failed }
         ensures end { IfOk result (λ next. IfNone next (owes self.new ≡ false)) };
 }
 
@@ -137,9 +137,9 @@ pub fn write_text<T: Made + Drop, X: Text<T>, I: Images<T>, R: Feed, W: Outlet>(
         → IfErr result (λ stopped. (place' : Option (List ℕ)) × I.stands source.new place' (R.remaining reader.new)
         × HasStopped I.image I.unread X.text place place' (W.contents writer.old) (W.contents writer.new) stopped) }
     ensures reads { (failed : ℕ) → R.failed_reads reader.old ≡ count_after (I.owes source.old) failed
-        → R.failed_reads reader.new ≡ count_after (failed_reader I.of_device result || I.owes source.new) failed }
+        → R.failed_reads reader.new ≡ count_after (failed_by (blames_reader I.of_device) result || I.owes source.new) failed }
     ensures ended { OnOk result (I.owes source.new ≡ false) }
-    ensures writes { W.failed_writes writer.new ≡ count_after (failed_writer result) (W.failed_writes writer.old) }
+    ensures writes { W.failed_writes writer.new ≡ count_after (failed_by blames_writer result) (W.failed_writes writer.old) }
 {
     let run = write_at_most::<T, X, I, R, W>(alloc, source, reader, writer, MOST_FRAMES)?;
     if run.ended {
@@ -176,8 +176,8 @@ pub fn write_at_most<T: Made + Drop, X: Text<T>, I: Images<T>, R: Feed, W: Outle
         × HasStopped I.image I.unread X.text place place' (W.contents writer.old) (W.contents writer.new) stopped) }
     ensures few { IfErr result (λ stopped. stopped ≢ Stopped.TooMany) }
     ensures reads { (failed : ℕ) → R.failed_reads reader.old ≡ count_after (I.owes source.old) failed
-        → R.failed_reads reader.new ≡ count_after (failed_reader I.of_device result || I.owes source.new) failed }
-    ensures writes { W.failed_writes writer.new ≡ count_after (failed_writer result) (W.failed_writes writer.old) }
+        → R.failed_reads reader.new ≡ count_after (failed_by (blames_reader I.of_device) result || I.owes source.new) failed }
+    ensures writes { W.failed_writes writer.new ≡ count_after (failed_by blames_writer result) (W.failed_writes writer.old) }
 {
     let mut written = 0;
     for number in 0..most {
@@ -206,7 +206,7 @@ fn write_chunk<E, W: Outlet>(writer: &mut W, chunk: &[u8], written: u64) -> Resu
     ensures all { OnOk result (Appends (W.contents writer.old) (W.contents writer.new) chunk.now) }
     ensures count { IfOk result (λ count. count ≡ written + length chunk.now) }
     ensures stops { IfErr result (StopsChunk (W.contents writer.old) (W.contents writer.new) written chunk.now) }
-    ensures failures { W.failed_writes writer.new ≡ count_after (failed_writer result) (W.failed_writes writer.old) }
+    ensures failures { W.failed_writes writer.new ≡ count_after (failed_by blames_writer result) (W.failed_writes writer.old) }
 {
     match write_bytes(writer, chunk) {
         Ok(()) => Ok(written + chunk.len() as u64),

@@ -5,7 +5,8 @@ ghost use Rattle.ls_frame.specs.Netpbm.{IsImageOf};
 ghost use Rattle.ls_frame.specs.View.Devices.{count_after};
 ghost use Rattle.ls_film.specs.View.Engine.{Completes};
 ghost use Rattle.ls_film.specs.View.Memory.{IsTextOf, StopsOver};
-ghost use Rattle.ls_film.specs.View.Stopping.{IsUnread, Stops, failed_reader, failed_writer};
+ghost use Rattle.ls_film.specs.View.Stopping.{IsUnread, Stops, blames_reader, blames_writer};
+ghost use Rattle.ls_film.specs.View.Steps.{failed_by};
 
 use crate::engine::{Images, Text, write_text};
 use crate::faults::FilmFault;
@@ -60,8 +61,8 @@ pub fn write_film<T: Text<Frame>, R: Feed, W: Outlet>(
         (R.remaining reader.old) (R.remaining reader.new) (W.contents writer.old) (W.contents writer.new)) }
     ensures stops { IfErr result (Stops T.text
         (R.remaining reader.old) (R.remaining reader.new) (W.contents writer.old) (W.contents writer.new)) }
-    ensures reads { R.failed_reads reader.new ≡ count_after (failed_reader result) (R.failed_reads reader.old) }
-    ensures writes { W.failed_writes writer.new ≡ count_after (failed_writer result) (W.failed_writes writer.old) }
+    ensures reads { R.failed_reads reader.new ≡ count_after (failed_by blames_reader result) (R.failed_reads reader.old) }
+    ensures writes { W.failed_writes writer.new ≡ count_after (failed_by blames_writer result) (W.failed_writes writer.old) }
 {
     match write_text::<Frame, T, NetpbmImages, R, W>(alloc, &mut NetpbmImages, reader, writer) {
         Ok(frames) => Ok(frames),

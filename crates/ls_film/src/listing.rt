@@ -5,7 +5,8 @@ ghost use Rattle.ls_frame.specs.View.Devices.{count_after};
 ghost use Rattle.ls_film.specs.Listing.{kind_text, columns, line, lines};
 ghost use Rattle.ls_film.specs.View.Engine.{Completes};
 ghost use Rattle.ls_film.specs.View.Memory.{IsTextOf, StopsOver};
-ghost use Rattle.ls_film.specs.View.Stopping.{Stops, failed_reader, failed_writer};
+ghost use Rattle.ls_film.specs.View.Stopping.{Stops, blames_reader, blames_writer};
+ghost use Rattle.ls_film.specs.View.Steps.{failed_by};
 
 use crate::engine::Text;
 use crate::faults::FilmFault;
@@ -27,8 +28,8 @@ pub fn list_film<R: Feed, W: Outlet>(
         (R.remaining reader.old) (R.remaining reader.new) (W.contents writer.old) (W.contents writer.new)) }
     ensures stops { IfErr result (Stops lines
         (R.remaining reader.old) (R.remaining reader.new) (W.contents writer.old) (W.contents writer.new)) }
-    ensures reads { R.failed_reads reader.new ≡ count_after (failed_reader result) (R.failed_reads reader.old) }
-    ensures writes { W.failed_writes writer.new ≡ count_after (failed_writer result) (W.failed_writes writer.old) }
+    ensures reads { R.failed_reads reader.new ≡ count_after (failed_by blames_reader result) (R.failed_reads reader.old) }
+    ensures writes { W.failed_writes writer.new ≡ count_after (failed_by blames_writer result) (W.failed_writes writer.old) }
 {
     write_film::<LineText, R, W>(alloc, reader, writer)
 }

@@ -7,8 +7,9 @@ ghost use Rattle.ls_stream.specs.Grammar.{Spells, most_bytes};
 ghost use Rattle.ls_stream.specs.View.Extents.{failed_feed};
 ghost use Rattle.ls_film.specs.Film.{most_frames, IsFilm};
 ghost use Rattle.ls_film.specs.Showing.{show};
-ghost use Rattle.ls_film.specs.View.Parts.{GavePassed, ShowsNext, ShowsPart, StopsPassing, StopsPart, IsPartOf, failed_play, failed_show, failed_reader, failed_writer};
+ghost use Rattle.ls_film.specs.View.Parts.{GavePassed, ShowsNext, ShowsPart, StopsPassing, StopsPart, IsPartOf, failed_play, failed_show, blames_reader, blames_writer};
 ghost use Rattle.ls_film.specs.View.Playing.{Stops};
+ghost use Rattle.ls_film.specs.View.Steps.{failed_by};
 
 use crate::codestreams::{OneByOne, Unread, take_codestream};
 use crate::engine::{Run, Stopped, write_at_most, write_text};
@@ -65,8 +66,8 @@ pub fn play_part<R: Feed, W: Outlet>(
     // The result for a recording that is codestreams of frames.
     ensures film { (frames : List Picture) → length frames ≤ most_frames → Tells (R.remaining reader.old) → IsFilm Spells (known (R.remaining reader.old)) frames
         → IsPartOf (W.contents writer.old) (W.contents writer.new) part.first part.last frames result }
-    ensures reads { R.failed_reads reader.new ≡ count_after (failed_reader result) (R.failed_reads reader.old) }
-    ensures writes { W.failed_writes writer.new ≡ count_after (failed_writer result) (W.failed_writes writer.old) }
+    ensures reads { R.failed_reads reader.new ≡ count_after (failed_by blames_reader result) (R.failed_reads reader.old) }
+    ensures writes { W.failed_writes writer.new ≡ count_after (failed_by blames_writer result) (W.failed_writes writer.old) }
 {
     no_codestream_begins_another();
     one_frame_each();

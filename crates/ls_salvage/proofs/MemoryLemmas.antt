@@ -13,9 +13,10 @@ use Rattle.ls_salvage.specs.declared.gaps.Gap.{Gap}
 use Rattle.ls_salvage.specs.declared.salvaging.Salvaged.{Salvaged}
 use Rattle.ls_salvage.specs.Salvage.{Part, frame, gap, frames_of, gaps_of}
 use Rattle.ls_salvage.specs.View.Salvaged.{AreParts}
-use Rattle.ls_salvage.specs.View.Ends.{most_place, blames_reader, failed_reader}
+use Rattle.ls_salvage.specs.View.Ends.{most_place, blames_reader}
 use Rattle.ls_salvage.specs.View.Memory.{IsSalvageOf, IsOutOfMemory}
 use Rattle.ls_film.specs.View.Codestreams.{BeginsWithNone}
+use Rattle.ls_film.specs.View.Steps.{failed_by}
 use Rattle.ls_salvage.specs.View.Runs.{Completes, StopsAfter, IsEndless, IsTooMuch, BeginsWithOne, Stops}
 use Rattle.ls_salvage.proofs.SalvageLemmas.{some_bytes, one_front, whole_ones, undamaged, parts_length}
 
@@ -23,7 +24,7 @@ same_some : (one other : List Gap) → Some one ≡ Some other → one ≡ other
 same_some one other same = cc
 
 -- if the count of failed reads hasn't changed, no read failed
-pub no_failed_read : (result : Result Salvaged SalvageFault) → 0 ≡ count_after (failed_reader result) 0 → IfErr result (λ fault. blames_reader fault ≡ false)
+pub no_failed_read : (result : Result Salvaged SalvageFault) → 0 ≡ count_after (failed_by blames_reader result) 0 → IfErr result (λ fault. blames_reader fault ≡ false)
 no_failed_read (Ok salvaged) same = tt
 no_failed_read (Err fault) same = never_blamed (blames_reader fault) same
 
@@ -103,7 +104,7 @@ module _ (only : (one other rest : List ℕ) (f g : Picture) → Spells one f �
         absurd (enough recording after.0 frames here.parts few short film after.1 after.2)
 
     pub salvaged_whole : (result : Result Salvaged SalvageFault) (written out : Option (List ℕ)) (told told' : Option (List Gap)) (read : Option (List ℕ)) → read ≡ Some recording
-        → 0 ≡ count_after (failed_reader result) 0 → IfOk result (IsSalvageOf recording final gaps) → IfErr result (Stops show written out told told' read)
+        → 0 ≡ count_after (failed_by blames_reader result) 0 → IfOk result (IsSalvageOf recording final gaps) → IfErr result (Stops show written out told told' read)
         → MatchResult result (λ salvaged. (salvaged.frames ≡ length frames) × (salvaged.gaps ≡ 0) × (final ≡ show frames) × (gaps ≡ [])) IsOutOfMemory
     salvaged_whole (Ok salvaged) written out told told' read is reads run stops = shows_all salvaged run
     salvaged_whole (Err fault) written out told told' read is reads run stops = refused written out told told' read fault is reads stops

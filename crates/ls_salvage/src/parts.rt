@@ -3,8 +3,9 @@ ghost use Rattle.std.specs.Prelude.{◌≡◌, ◌≢◌, ◌<◌, ◌≤◌, �
 ghost use Rattle.ls_frame.specs.View.Chunks.{left_in, inner_reader};
 ghost use Rattle.ls_frame.specs.View.Devices.{count_after};
 ghost use Rattle.ls_frame.specs.View.Known.{Tells, WasAtEnd, known};
+ghost use Rattle.ls_film.specs.View.Steps.{failed_by};
 ghost use Rattle.ls_salvage.specs.Salvage.{size_of};
-ghost use Rattle.ls_salvage.specs.View.Ends.{most_place, failed_read};
+ghost use Rattle.ls_salvage.specs.View.Ends.{most_place, is_io};
 ghost use Rattle.ls_salvage.specs.View.Parts.{IsFound, HasPassed, part_of, GavePart, IsLawful, HasNoEnd, HasLongGap};
 
 use crate::faults::{ReadFault, is_refusal};
@@ -52,7 +53,7 @@ pub fn next_part<R: Feed>(
         → HasNoEnd (known (left_in R.remaining reader.old))) }
     ensures too_much { IfErr result (λ fault. fault ≡ ReadFault.TooMuch → Tells (left_in R.remaining reader.old)
         → HasLongGap (known (left_in R.remaining reader.old))) }
-    ensures failures { R.failed_reads (inner_reader reader.new) ≡ count_after (failed_read result) (R.failed_reads (inner_reader reader.old)) }
+    ensures failures { R.failed_reads (inner_reader reader.new) ≡ count_after (failed_by is_io result) (R.failed_reads (inner_reader reader.old)) }
 {
     match find_next(alloc, reader)? {
         None => Ok(None),
@@ -72,7 +73,7 @@ fn find_next<R: Feed>(alloc: Global, reader: &mut R) -> Result<Option<Found>, Re
     ensures no_end { IfErr result (λ fault. fault ≡ ReadFault.NoEnd → Tells (R.remaining reader.old)
         → HasNoEnd (known (R.remaining reader.old))) }
     ensures few { IfErr result (λ fault. fault ≢ ReadFault.TooMuch) }
-    ensures failures { R.failed_reads reader.new ≡ count_after (failed_read result) (R.failed_reads reader.old) }
+    ensures failures { R.failed_reads reader.new ≡ count_after (failed_by is_io result) (R.failed_reads reader.old) }
 {
     let bytes = match take_codestream(alloc, reader) {
         Ok(Some(bytes)) => bytes,
@@ -101,7 +102,7 @@ pub fn pass_gap<R: Feed>(
     ensures too_much { IfErr result (λ fault. fault ≡ ReadFault.TooMuch → Tells (left_in R.remaining reader.old)
         → most_place ≤ length (read.now ++ known (left_in R.remaining reader.old))) }
     ensures ends { IfErr result (λ fault. fault ≢ ReadFault.NoEnd) }
-    ensures failures { R.failed_reads (inner_reader reader.new) ≡ count_after (failed_read result) (R.failed_reads (inner_reader reader.old)) }
+    ensures failures { R.failed_reads (inner_reader reader.new) ≡ count_after (failed_by is_io result) (R.failed_reads (inner_reader reader.old)) }
 {
     reader.put_back(alloc, after_first(read))?;
     let count = skip_to_start(alloc, reader)?;

@@ -4,8 +4,9 @@ ghost use Rattle.ls_frame.specs.Picture.{Picture};
 ghost use Rattle.ls_salvage.specs.declared.gaps.Gap.{Gap};
 ghost use Rattle.ls_frame.specs.View.Chunks.{left_in, inner_reader};
 ghost use Rattle.ls_frame.specs.View.Devices.{count_after};
+ghost use Rattle.ls_film.specs.View.Steps.{failed_by};
 ghost use Rattle.ls_salvage.specs.Salvage.{frame as frame_part, gap as gap_part, size_of};
-ghost use Rattle.ls_salvage.specs.View.Ends.{most_place, failed_reader, failed_writer};
+ghost use Rattle.ls_salvage.specs.View.Ends.{most_place, blames_reader, blames_writer};
 ghost use Rattle.ls_salvage.specs.View.Parts.{part_of, IsLawful};
 ghost use Rattle.ls_salvage.specs.View.Runs.{Completes, Stops, IsSmall, no_progress, HandsOn, StopsHandingOn};
 
@@ -62,8 +63,8 @@ pub fn salvage<T: Text<Frame>, G: Gaps, R: Feed, W: Outlet>(
         (left_in R.remaining reader.old) (left_in R.remaining reader.new)) }
     ensures stops { IfErr result (Stops T.text (W.contents writer.old) (W.contents writer.new) (G.told gaps.old) (G.told gaps.new)
         (left_in R.remaining reader.old)) }
-    ensures reads { R.failed_reads (inner_reader reader.new) ≡ count_after (failed_reader result) (R.failed_reads (inner_reader reader.old)) }
-    ensures writes { W.failed_writes writer.new ≡ count_after (failed_writer result) (W.failed_writes writer.old) }
+    ensures reads { R.failed_reads (inner_reader reader.new) ≡ count_after (failed_by blames_reader result) (R.failed_reads (inner_reader reader.old)) }
+    ensures writes { W.failed_writes writer.new ≡ count_after (failed_by blames_writer result) (W.failed_writes writer.old) }
 {
     let mut progress = Progress::none();
     'parts: while progress.place < MOST_PLACE {
@@ -112,7 +113,7 @@ fn hand_on<T: Text<Frame>, G: Gaps, W: Outlet>(
         (part_of next)) }
     ensures stops { IfErr result (StopsHandingOn T.text (W.contents writer.old) (W.contents writer.new) (G.told gaps.old) (G.told gaps.new) progress
         (part_of next)) }
-    ensures writes { W.failed_writes writer.new ≡ count_after (failed_writer result) (W.failed_writes writer.old) }
+    ensures writes { W.failed_writes writer.new ≡ count_after (failed_by blames_writer result) (W.failed_writes writer.old) }
 {
     match next {
         NextPart::Frame(frame, count) => {
@@ -135,7 +136,7 @@ fn show_frame<T: Text<Frame>, W: Outlet>(
     requires size { count < 2 ^ 63 }
     ensures shown { IfOk result (λ after. (told : Option (List Gap)) → HandsOn T.text (W.contents writer.old) (W.contents writer.new) told told progress (frame_part count frame) after) }
     ensures stops { IfErr result (λ fault. (told : Option (List Gap)) → StopsHandingOn T.text (W.contents writer.old) (W.contents writer.new) told told progress (frame_part count frame) fault) }
-    ensures writes { W.failed_writes writer.new ≡ count_after (failed_writer result) (W.failed_writes writer.old) }
+    ensures writes { W.failed_writes writer.new ≡ count_after (failed_by blames_writer result) (W.failed_writes writer.old) }
 {
     if progress.frames >= MOST_FRAMES {
         return Err(SalvageFault::TooMuch);

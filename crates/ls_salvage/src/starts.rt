@@ -4,8 +4,9 @@ ghost use Rattle.std.specs.List.{AllByRecursion};
 ghost use Rattle.ls_frame.specs.View.Chunks.{left_in, inner_reader};
 ghost use Rattle.ls_frame.specs.View.Devices.{count_after};
 ghost use Rattle.ls_frame.specs.View.Known.{Tells, TakesUntil, WasAtEnd, known};
+ghost use Rattle.ls_film.specs.View.Steps.{failed_by};
 ghost use Rattle.ls_salvage.specs.Starts.{ff, may_follow_soi};
-ghost use Rattle.ls_salvage.specs.View.Ends.{most_place, failed_read};
+ghost use Rattle.ls_salvage.specs.View.Ends.{most_place, is_io};
 ghost use Rattle.ls_salvage.specs.View.Skipping.{GoesOn, FoundStart, HasSkipped};
 
 use crate::faults::ReadFault;
@@ -63,7 +64,7 @@ pub fn skip_to_start<R: Feed>(alloc: Global, reader: &mut Buffered<R>) -> Result
     ensures too_much { IfErr result (λ fault. fault ≡ ReadFault.TooMuch → Tells (left_in R.remaining reader.old)
         → most_place ≤ length (known (left_in R.remaining reader.old))) }
     ensures ends { IfErr result (λ fault. fault ≢ ReadFault.NoEnd) }
-    ensures failures { R.failed_reads (inner_reader reader.new) ≡ count_after (failed_read result) (R.failed_reads (inner_reader reader.old)) }
+    ensures failures { R.failed_reads (inner_reader reader.new) ≡ count_after (failed_by is_io result) (R.failed_reads (inner_reader reader.old)) }
 {
     let mut run = Vec::new(alloc);
     let mut matched = Matched::Nothing;
@@ -99,7 +100,7 @@ fn next_bytes<R: Feed>(
     ensures end { IfOk result (λ next. IfNone next
         ((bytes.new.items ≡ bytes.old.items) × WasAtEnd (R.remaining reader.old) (R.remaining reader.new))) }
     ensures fault { IfErr result (λ fault. (fault ≢ ReadFault.NoEnd) × (fault ≢ ReadFault.TooMuch)) }
-    ensures failures { R.failed_reads reader.new ≡ count_after (failed_read result) (R.failed_reads reader.old) }
+    ensures failures { R.failed_reads reader.new ≡ count_after (failed_by is_io result) (R.failed_reads reader.old) }
 {
     match reader.feed_until(FF, most, bytes) {
         Ok(next) => Ok(next),

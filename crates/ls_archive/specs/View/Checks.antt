@@ -1,5 +1,5 @@
 -- What a check by an index says of its two readers and of the findings that it reports.
-use Rattle.std.specs.Prelude.{◌≡◌, ◌⊎◌, ◌↔◌, ℕ, ◌<◌, ◌≤◌, Bool, true, false, IsTrue, List, [], ◌∷◌, ◌++◌, length, take, drop, codes, Option, None, Some, Result, Ok, Err}
+use Rattle.std.specs.Prelude.{◌≡◌, ◌⊎◌, ◌↔◌, ℕ, ◌<◌, ◌≤◌, Bool, true, false, IsTrue, List, [], ◌∷◌, ◌++◌, length, take, drop, codes, Option, None, Some}
 use Rattle.ls_film.specs.Film.{most_frames}
 use Rattle.ls_frame.specs.View.Known.{Tells, Gave, known}
 use Rattle.ls_archive.specs.declared.checking.Damage.{Damage}
@@ -146,11 +146,3 @@ blames_recording fault.IndexIo = false
 blames_recording fault.Io = true
 blames_recording fault.NoMemory = false
 blames_recording fault.TooMany = false
-
-abbrev pub failed_index : {X : Type 0} → Result X CheckFault → Bool
-failed_index (Ok x) = false
-failed_index (Err why) = blames_index why
-
-abbrev pub failed_recording : {X : Type 0} → Result X CheckFault → Bool
-failed_recording (Ok x) = false
-failed_recording (Err why) = blames_recording why

@@ -7,7 +7,8 @@ use Rattle.ls_film.specs.View.Codestreams.{IsUnread}
 use Rattle.ls_film.specs.View.Sources.{GivesImage}
 use Rattle.ls_archive.specs.declared.faults.VerifyFault.{VerifyFault}
 use Rattle.ls_archive.specs.declared.verifying.Verdict.{Verdict}
-use Rattle.ls_archive.specs.View.Verifying.{Finds, IsCompared, failed_recording}
+use Rattle.ls_film.specs.View.Steps.{failed_by}
+use Rattle.ls_archive.specs.View.Verifying.{Finds, IsCompared, blames_recording}
 
 module _ {S : Type 0} (stands : S → Option (List ℕ) → Option (List ℕ) → Type 0) where
   -- what the next codestream gives: its frame, or nothing at the end
@@ -30,4 +31,4 @@ FindsAhead film film' recording verdict = (place : Option (List ℕ)) × Finds f
 
 -- The reads of the recording that failed: one where that is the fault; else none, or one after the frames of the verdict or fault.
 abbrev pub HasReadAhead : ℕ → ℕ → Result Verdict VerifyFault → Type 0
-HasReadAhead failed failed' result = (failed' ≡ count_after (failed_recording result) failed) ⊎ (failed' ≡ count_after true failed)
+HasReadAhead failed failed' result = (failed' ≡ count_after (failed_by blames_recording result) failed) ⊎ (failed' ≡ count_after true failed)

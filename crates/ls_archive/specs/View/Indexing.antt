@@ -1,5 +1,5 @@
 -- What writing an index does, and where it may stop. The reader's and the writer's known bytes, each before and after, come first.
-use Rattle.std.specs.Prelude.{◌≡◌, ◌≢◌, ℕ, ◌+◌, ◌<◌, ◌≤◌, Bool, true, false, List, [], ◌∷◌, ◌++◌, length, take, Option, Some, Result, Ok, Err}
+use Rattle.std.specs.Prelude.{◌≡◌, ◌≢◌, ℕ, ◌+◌, ◌<◌, ◌≤◌, Bool, true, false, List, [], ◌∷◌, ◌++◌, length, take, Option, Some}
 use Rattle.std.specs.Io.KnownBytes.{Appends}
 use Rattle.std.specs.List.{AllZip}
 use Rattle.ls_frame.specs.Picture.{Picture}
@@ -111,14 +111,6 @@ blames_writer (Io m) = false
 blames_writer (Output bytes) = true
 blames_writer NoMemory = false
 blames_writer TooMany = false
-
-abbrev pub failed_reader : {X : Type 0} → Result X IndexFault → Bool
-failed_reader (Ok x) = false
-failed_reader (Err fault) = blames_reader fault
-
-abbrev pub failed_writer : {X : Type 0} → Result X IndexFault → Bool
-failed_writer (Ok x) = false
-failed_writer (Err fault) = blames_writer fault
 
 -- ---- in memory
 

@@ -181,14 +181,6 @@ blames_recording (RecordingIo m) = true
 blames_recording NoMemory = false
 blames_recording TooMany = false
 
-abbrev pub failed_film : {X : Type 0} → Result X VerifyFault → Bool
-failed_film (Ok x) = false
-failed_film (Err fault) = blames_film fault
-
-abbrev pub failed_recording : {X : Type 0} → Result X VerifyFault → Bool
-failed_recording (Ok x) = false
-failed_recording (Err fault) = blames_recording fault
-
 -- ---- in memory
 
 -- what each verdict says of a film and a recording in memory

@@ -15,6 +15,7 @@ use Rattle.ls_film.specs.Showing.{show}
 use Rattle.ls_film.specs.View.Given.{GaveFrames}
 use Rattle.ls_film.specs.View.Codestreams.{BreaksBy}
 use Rattle.ls_film.specs.View.Playing.{Stops, blames_reader as reader_at_fault, blames_writer as writer_at_fault}
+use Rattle.ls_film.specs.View.Steps.{failed_by}
 
 -- ---- codestreams that are passed over
 
@@ -139,18 +140,9 @@ abbrev pub blames_writer : PartFault → Bool
 blames_writer (Play fault) = writer_at_fault fault
 blames_writer (TooFew m) = false
 
-abbrev pub failed_reader : {X : Type 0} → Result X PartFault → Bool
-failed_reader (Ok x) = false
-failed_reader (Err fault) = blames_reader fault
-
-abbrev pub failed_writer : {X : Type 0} → Result X PartFault → Bool
-failed_writer (Ok x) = false
-failed_writer (Err fault) = blames_writer fault
-
+-- whether playing failed because a read did, and because a write did
 abbrev pub failed_play : {X : Type 0} → Result X PlayFault → Bool
-failed_play (Ok x) = false
-failed_play (Err fault) = reader_at_fault fault
+failed_play result = failed_by reader_at_fault result
 
 abbrev pub failed_show : {X : Type 0} → Result X PlayFault → Bool
-failed_show (Ok x) = false
-failed_show (Err fault) = writer_at_fault fault
+failed_show result = failed_by writer_at_fault result

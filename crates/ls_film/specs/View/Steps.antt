@@ -7,10 +7,10 @@ use Rattle.ls_film.specs.View.Engine.{HasRun, StopsAtOutput, StopsForMemory, Sto
 use Rattle.ls_film.specs.declared.engine.Stopped.{Stopped}
 use Rattle.ls_film.specs.declared.engine.Stopped.TheVariants.{Input, Output, NoMemory, TooMany}
 
--- whether a call failed because a read did, which its fault says
-abbrev pub failed_input : {E X : Type 0} → (E → Bool) → Result X E → Bool
-failed_input of_device (Ok x) = false
-failed_input of_device (Err fault) = of_device fault
+-- whether a call failed because a device did, which its fault says
+abbrev pub failed_by : {E X : Type 0} → (E → Bool) → Result X E → Bool
+failed_by blames (Ok x) = false
+failed_by blames (Err fault) = blames fault
 
 -- whether a run failed because a read did, and because a write did
 abbrev pub blames_reader : {E : Type 0} → (E → Bool) → Stopped E → Bool
@@ -24,14 +24,6 @@ blames_writer (Input m fault) = false
 blames_writer (Output bytes) = true
 blames_writer NoMemory = false
 blames_writer TooMany = false
-
-abbrev pub failed_reader : {E X : Type 0} → (E → Bool) → Result X (Stopped E) → Bool
-failed_reader of_device (Ok x) = false
-failed_reader of_device (Err stopped) = blames_reader of_device stopped
-
-abbrev pub failed_writer : {E X : Type 0} → Result X (Stopped E) → Bool
-failed_writer (Ok x) = false
-failed_writer (Err stopped) = blames_writer stopped
 
 -- an image of some frame
 abbrev pub IsSomeImage : (List ℕ → Picture → Type 0) → List ℕ → Type 0

@@ -1,5 +1,5 @@
 -- Why an engine over a film of Netpbm images stopped, and what had been read and written by then.
-use Rattle.std.specs.Prelude.{◌≡◌, ◌≢◌, ℕ, ◌⊎◌, Bool, true, false, IsTrue, List, Option, Result, Ok, Err}
+use Rattle.std.specs.Prelude.{◌≡◌, ◌≢◌, ℕ, ◌⊎◌, Bool, true, false, IsTrue, List, Option}
 use Rattle.ls_frame.specs.declared.netpbm.NetpbmFault.{NetpbmFault}
 use Rattle.ls_frame.specs.declared.netpbm.NetpbmFault.TheVariants as netpbm
 use Rattle.ls_frame.specs.Picture.{Picture}
@@ -61,11 +61,3 @@ blames_writer (Input m fault) = false
 blames_writer (Output bytes) = true
 blames_writer NoMemory = false
 blames_writer TooMany = false
-
-abbrev pub failed_reader : {X : Type 0} → Result X FilmFault → Bool
-failed_reader (Ok x) = false
-failed_reader (Err fault) = blames_reader fault
-
-abbrev pub failed_writer : {X : Type 0} → Result X FilmFault → Bool
-failed_writer (Ok x) = false
-failed_writer (Err fault) = blames_writer fault

@@ -1,5 +1,5 @@
 -- When reading gives up, and whose device failed.
-use Rattle.std.specs.Prelude.{if◌then◌else◌, ℕ, ◌^◌, Bool, true, false, Result, Ok, Err}
+use Rattle.std.specs.Prelude.{if◌then◌else◌, ℕ, ◌^◌, Bool, true, false}
 use Rattle.ls_stream.specs.declared.faults.StreamFault.{StreamFault}
 use Rattle.ls_stream.specs.declared.faults.StreamFault.TheVariants as stream
 use Rattle.ls_film.specs.declared.codestreams.Unread.{Unread}
@@ -44,10 +44,6 @@ is_io read.NoMemory = false
 is_io read.NoEnd = false
 is_io read.TooMuch = false
 
-abbrev pub failed_read : {X : Type 0} → Result X ReadFault → Bool
-failed_read (Ok x) = false
-failed_read (Err fault) = is_io fault
-
 -- whether a salvage stopped because its reader's device failed; because its writer's did
 abbrev pub blames_reader : SalvageFault → Bool
 blames_reader (Io frames) = true
@@ -62,11 +58,3 @@ blames_writer (Output bytes) = true
 blames_writer NoMemory = false
 blames_writer NoEnd = false
 blames_writer TooMuch = false
-
-abbrev pub failed_reader : {X : Type 0} → Result X SalvageFault → Bool
-failed_reader (Ok x) = false
-failed_reader (Err fault) = blames_reader fault
-
-abbrev pub failed_writer : {X : Type 0} → Result X SalvageFault → Bool
-failed_writer (Ok x) = false
-failed_writer (Err fault) = blames_writer fault

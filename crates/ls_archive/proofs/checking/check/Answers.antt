@@ -1,9 +1,10 @@
-use Rattle.ls_archive.specs.View.Checks.{failed_index, failed_recording}
+use Rattle.ls_film.specs.View.Steps.{failed_by}
+use Rattle.ls_archive.specs.View.Checks.{blames_index, blames_recording}
 use Rattle.ls_archive.proofs.BatchLemmas.{reads-alone}
 use Rattle.ls_archive.proofs.checking.check.Goals as goal
 
 pub returns-clause-index_reads : goal.returns-clause-index_reads
-returns-clause-index_reads g c = reads-alone (failed_index c.check_all.result) _ _ c.check_all.result c.check_all.ensures.index_reads
+returns-clause-index_reads g c = reads-alone (failed_by blames_index c.check_all.result) _ _ c.check_all.result c.check_all.ensures.index_reads
 
 pub returns-clause-reads : goal.returns-clause-reads
-returns-clause-reads g c = reads-alone (failed_recording c.check_all.result) _ _ c.check_all.result c.check_all.ensures.reads
+returns-clause-reads g c = reads-alone (failed_by blames_recording c.check_all.result) _ _ c.check_all.result c.check_all.ensures.reads
