@@ -1,4 +1,5 @@
-use Rattle.std.proofs.Common.{sym, ◌∙◌}
+use Rattle.std.proofs.Common.{sym, ap, ◌∙◌}
+use Rattle.ls_frame.specs.declared.frame.Form.{Form}
 use Rattle.ls_archive.proofs.EntryLemmas.{used_few, none_outlined}
 use Rattle.ls_archive.proofs.entry.headers_of.Goals as goal
 
@@ -13,9 +14,9 @@ returns-clause-ok c =
       size = skipped.3;
       few = used_few c.args.bytes.now skipped.1 skipped.0 c.in-Ok.used skipped.2 skipped.3;
       says = record {
-        kind = from.kind ∙ sym c.kind.ensures;
-        width = from.width ∙ sym c.width.ensures.value;
-        height = from.height ∙ sym c.height.ensures.value;
+        kind = from.kind ∙ sym (ap (λ (form : Form). form.kind) c.form-form.ensures.value);
+        width = from.width ∙ sym (ap (λ (form : Form). form.width) c.form-form.ensures.value);
+        height = from.height ∙ sym (ap (λ (form : Form). form.height) c.form-form.ensures.value);
         precision = from.precision ∙ sym c.precision.ensures;
         parameters = from.parameters ∙ sym c.presets.ensures;
       };

@@ -7,7 +7,7 @@ use Rattle.ls_c.specs.declared.refusal.Refusal.{Refusal}
 use Rattle.ls_c.specs.declared.request.Request.{Request}
 use Rattle.ls_c.specs.Forms.{request_refusal, rows_of}
 use Rattle.ls_c.specs.Requests.{IsRequest}
-use Rattle.ls_c.proofs.EncodingLemmas.{refused, answered, joined_count, adjacent_rows, IsCoding}
+use Rattle.ls_c.proofs.EncodingLemmas.{refused, answered, joined_count, adjacent_rows}
 use Rattle.ls_c.proofs.coding.encode.Goals as goal
 
 -- what the request's call ensures, of the samples themselves
