@@ -6,7 +6,7 @@ use std::io;
 use std::io::Write;
 
 /// A file to write to. A named pipe is opened at the first write, which waits until something reads from it. Any
-/// other file is already open.
+/// other file is already open. A write that a signal interrupts is tried again.
 #[derive(Drop)]
 pub struct Target<'a, O: Opens> {
     opener: O,
@@ -74,12 +74,21 @@ impl<'a, O: Opens> Write for Target<'a, O> {
 
     fn write(&mut self, buf: &[u8]) -> io::Result<usize> {
         self.open()?;
-        let taken = match &mut self.file {
-            Some(file) => file.write(buf)?,
-            None => 0,
-        };
-        self.written = self.written.saturating_add(taken as u64);
-        Ok(taken)
+        for _try in 0..u64::MAX {
+            let taken = match &mut self.file {
+                Some(file) => file.write(buf),
+                None => Ok(0),
+            };
+            match taken {
+                Ok(taken) => {
+                    self.written = self.written.saturating_add(taken as u64);
+                    return Ok(taken);
+                }
+                Err(fault) if fault.kind() == io::ErrorKind::Interrupted => {}
+                Err(fault) => return Err(fault),
+            }
+        }
+        Err(io::Error::from(io::ErrorKind::Interrupted))
     }
 
     fn flush(&mut self) -> io::Result<()> {
