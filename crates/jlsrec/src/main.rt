@@ -25,6 +25,10 @@ const LEAST_WIDTH: usize = 20;
 
 const MOST_WIDTH: usize = 1000;
 
+/// The environment's variable with the path of the file that has a byte once `record` is to stop. What is linked with
+/// the program sets it, before `main`; without it only the system's end of a program ends a recording early.
+const STOP: &str = "JLSREC_STOP";
+
 fn main(rt: HostRuntime) -> ExitCode {
     let _taken = take_closed(&rt);
     let mut output = Counted::new(rt.stdout());
@@ -36,7 +40,9 @@ fn main(rt: HostRuntime) -> ExitCode {
         output: &mut output,
         console: &mut console,
     };
-    ExitCode::from(start(program, Opener::new(&rt)))
+    let stop = env::var(&rt, STOP).ok();
+    let opener = Opener::new(&rt).stopped_by(stop.as_deref());
+    ExitCode::from(start(program, opener))
 }
 
 /// The number of characters in a progress line: one less than the terminal's width, which is in the environment's
