@@ -11,7 +11,7 @@ mod streams;
 mod words;
 
 use ls_console::{COLUMNS, Console, Program};
-use ls_files::Opener;
+use ls_files::{Opener, Patient};
 use ls_frame::Counted;
 use program::start;
 use std::env;
@@ -31,9 +31,10 @@ const STOP: &str = "JLSREC_STOP";
 
 fn main(rt: HostRuntime) -> ExitCode {
     let _taken = take_closed(&rt);
-    let mut output = Counted::new(rt.stdout());
+    // Where a signal stops a recording, it interrupts writes as well as reads.
+    let mut output = Counted::new(Patient::new(rt.stdout()));
     let is_terminal = rt.stderr().is_terminal();
-    let errors = Counted::new(rt.stderr());
+    let errors = Counted::new(Patient::new(rt.stderr()));
     let mut console = Console::new(rt.alloc(), errors, is_terminal, columns(&rt));
     let program = Program {
         rt: &rt,

@@ -159,6 +159,8 @@ impl<'a, O: Opens> Read for Source<'a, O> {
                 None => Ok(0),
             };
             match given {
+                // A signal that comes to the camera too may end it first.
+                Ok(0) if self.opener.is_stopping() => {}
                 Ok(given) => {
                     self.keep(&buf[..given]);
                     return Ok(given);

@@ -2,6 +2,7 @@
 ghost use Rattle.std.specs.Prelude.{◌≡◌, Some};
 
 use crate::opener::Opens;
+use crate::patient::write_again;
 use std::io;
 use std::io::Write;
 
@@ -74,21 +75,12 @@ impl<'a, O: Opens> Write for Target<'a, O> {
 
     fn write(&mut self, buf: &[u8]) -> io::Result<usize> {
         self.open()?;
-        for _try in 0..u64::MAX {
-            let taken = match &mut self.file {
-                Some(file) => file.write(buf),
-                None => Ok(0),
-            };
-            match taken {
-                Ok(taken) => {
-                    self.written = self.written.saturating_add(taken as u64);
-                    return Ok(taken);
-                }
-                Err(fault) if fault.kind() == io::ErrorKind::Interrupted => {}
-                Err(fault) => return Err(fault),
-            }
-        }
-        Err(io::Error::from(io::ErrorKind::Interrupted))
+        let taken = match &mut self.file {
+            Some(file) => write_again(file, buf)?,
+            None => 0,
+        };
+        self.written = self.written.saturating_add(taken as u64);
+        Ok(taken)
     }
 
     fn flush(&mut self) -> io::Result<()> {

@@ -1,7 +1,0 @@
-use Rattle.std.specs.Io.KnownBytes.{Keeps}
-use Rattle.ls_files.specs.View.Opened.{known_of}
-use Rattle.ls_files.proofs.target.TargetWrite.write.Given as goal
-
--- a try that is interrupted writes nothing
-abbrev pub invariant-loop-try : goal.invariant-loop-try
-invariant-loop-try g l = Keeps (known_of g.O.File.Write.contents l.fn.self.file) (known_of g.O.File.Write.contents l.self.file)
