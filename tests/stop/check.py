@@ -541,7 +541,8 @@ def terminals():
             os.write(terminal, b"\x03")
 
         shown, status = on_a_terminal(columns, variables, act, *names)
-        lines = [len(it) for it in shown.replace("\n", "\r").split("\r") if it.startswith(("a_camera", "..")) and "waits" in it]
+        parts = shown.replace("^C", "").replace("\n", "\r").split("\r")
+        lines = [len(it) for it in parts if it.startswith(("a_camera", "..")) and "waits" in it]
         count(f"a terminal of {columns} columns, {variables}", status == 0 and lines and max(lines) == most, lines, shown)
         count(f"a terminal of {columns} columns, {variables}: no pipe is told to be open", "opened" not in shown)
         os.chdir("..")
