@@ -11,7 +11,7 @@ mod streams;
 mod words;
 
 use ls_console::{COLUMNS, Console, Program};
-use ls_files::Opener;
+use ls_files::{Opener, Patient};
 use ls_frame::Counted;
 use program::start;
 use std::env;
@@ -25,18 +25,25 @@ const LEAST_WIDTH: usize = 20;
 
 const MOST_WIDTH: usize = 1000;
 
+/// The environment's variable with the path of the file that has a byte once `record` is to stop. What is linked with
+/// the program sets it, before `main`; without it only the system's end of a program ends a recording early.
+const STOP: &str = "JLSREC_STOP";
+
 fn main(rt: HostRuntime) -> ExitCode {
     let _taken = take_closed(&rt);
-    let mut output = Counted::new(rt.stdout());
+    // Where a signal stops a recording, it interrupts writes as well as reads.
+    let mut output = Counted::new(Patient::new(rt.stdout()));
     let is_terminal = rt.stderr().is_terminal();
-    let errors = Counted::new(rt.stderr());
+    let errors = Counted::new(Patient::new(rt.stderr()));
     let mut console = Console::new(rt.alloc(), errors, is_terminal, columns(&rt));
     let program = Program {
         rt: &rt,
         output: &mut output,
         console: &mut console,
     };
-    ExitCode::from(start(program, Opener::new(&rt)))
+    let stop = env::var(&rt, STOP).ok();
+    let opener = Opener::new(&rt).stopped_by(stop.as_deref());
+    ExitCode::from(start(program, opener))
 }
 
 /// The number of characters in a progress line: one less than the terminal's width, which is in the environment's

@@ -20,12 +20,12 @@
 //! ```
 //!
 //! In reading order: `identity` (identifies files), `opener` (opens and makes files, in any thread), `source` (a file
-//! that is read), `target` (a file that is written), `place` (the place of a file that is to be made, and what is
-//! there already), `held` (a file that is made, from the lock of the earlier one to the last sync), `keeper` (a
-//! recording's file and that of its index, together), `folders` (locks the folders in which files are made),
-//! `likeness` (guesses formats). The known bytes of a source or a target are those of its file, once that is open
-//! (`specs/View/Opened.antt`). No contract says more of files: the tests of the whole program show how these calls
-//! work.
+//! that is read), `patient` (writes that are tried again), `target` (a file that is written), `place` (the place of a
+//! file that is to be made, and what is there already), `held` (a file that is made, from the lock of the earlier one to
+//! the last sync), `keeper` (a recording's file and that of its index, together), `folders` (locks the folders in which
+//! files are made), `likeness` (guesses formats). The known bytes of a source or a target are those of its file, once
+//! that is open (`specs/View/Opened.antt`). No contract says more of files: the tests of the whole program show how these
+//! calls work.
 #![tactic(auto)]
 
 pub mod folders;
@@ -34,6 +34,7 @@ pub mod identity;
 pub mod keeper;
 pub mod likeness;
 pub mod opener;
+mod patient;
 pub mod place;
 pub mod source;
 pub mod target;
@@ -43,6 +44,7 @@ pub use identity::{Identity, Spot};
 pub use keeper::{INDEX, Keeper, Targets, Unmade};
 pub use likeness::likeness_of;
 pub use opener::{Locks, Makes, Opener, Opens};
+pub use patient::Patient;
 pub use place::Place;
 pub use source::Source;
 pub use target::Target;

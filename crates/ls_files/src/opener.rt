@@ -2,6 +2,7 @@
 use std::alloc::{AllocError, Global};
 use std::fs::{File, Files, Metadata, OpenFile, OpenOptions, TryLockError};
 use std::io::{Read, Write};
+use std::os::unix::fs::FileTypeExt;
 use std::{fs, io};
 
 /// Opens files, and writes a line on standard error. A lane opens its pipe with it, in its own thread, into which the
@@ -17,6 +18,13 @@ pub trait Opens {
 
     /// Writes a line on standard error. A failure is ignored.
     fn say(&self, line: &str);
+
+    /// Whether the program was asked to stop: then no film is read any further.
+    fn is_stopping(&self) -> bool;
+
+    /// Opens a named pipe for reading and writing, which never waits, and closes it again: so whoever waits for its
+    /// other side goes on. Does nothing with any other file. A failure is ignored.
+    fn wake(&self, path: &str);
 }
 
 /// Makes, locks, renames and removes files, in any thread.
@@ -61,12 +69,19 @@ impl Locks for File {
 /// Opens the files of a runtime.
 pub struct Opener<'a, R> {
     rt: &'a R,
+    /// The file that has a byte once the program was asked to stop, if there is one.
+    stop: Option<&'a str>,
 }
 
 impl<'a, R> Opener<'a, R> {
     /// An opener for the files of this runtime.
     pub fn new(rt: &'a R) -> Opener<'a, R> {
-        Opener { rt }
+        Opener { rt, stop: None }
+    }
+
+    /// The same for a program that is asked to stop by a byte in the file at `stop`.
+    pub fn stopped_by(self, stop: Option<&'a str>) -> Opener<'a, R> {
+        Opener { rt: self.rt, stop }
     }
 }
 
@@ -91,6 +106,22 @@ impl<'a, R: Files + Eprint> Opens for Opener<'a, R> {
 
     fn say(&self, line: &str) {
         let _refused = self.rt.eprintln(line);
+    }
+
+    fn is_stopping(&self) -> bool {
+        match self.stop {
+            Some(stop) => fs::metadata(self.rt, stop).is_ok_and(|file| file.len() > 0),
+            None => false,
+        }
+    }
+
+    fn wake(&self, path: &str) {
+        if fs::metadata(self.rt, path).is_ok_and(|file| file.file_type().is_fifo()) {
+            let _pipe = OpenOptions::new()
+                .read(true)
+                .write(true)
+                .open(self.rt, path);
+        }
     }
 }
 

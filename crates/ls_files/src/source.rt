@@ -17,6 +17,9 @@ const PERMISSION_DENIED: i32 = 13;
 
 /// A film or a recording to read. A named pipe made by `of` is opened at the first read, which waits until something
 /// writes to it: so only its reader waits. Any other file is already open.
+///
+/// A read that a signal interrupts is tried again. Once the program was asked to stop, reads fail with `Interrupted`, and
+/// nothing else does.
 #[derive(Drop)]
 pub struct Source<'a, O: Opens> {
     opener: O,
@@ -25,6 +28,8 @@ pub struct Source<'a, O: Opens> {
     identity: Option<Identity>,
     /// A line for standard error once a pipe is open.
     notice: Option<&'a str>,
+    /// Whether a read was refused since the program was asked to stop.
+    is_stopped: bool,
     /// The first bytes that were read.
     front: [u8; FRONT],
     kept: usize,
@@ -73,6 +78,7 @@ impl<'a, O: Opens> Source<'a, O> {
             file,
             identity,
             notice: None,
+            is_stopped: false,
             front: [0; FRONT],
             kept: 0,
         }
@@ -81,6 +87,11 @@ impl<'a, O: Opens> Source<'a, O> {
     /// Whether it has yet to be opened.
     pub fn is_awaited(&self) -> bool {
         self.file.is_none()
+    }
+
+    /// Whether a read was refused since the program was asked to stop.
+    pub fn is_stopped(&self) -> bool {
+        self.is_stopped
     }
 
     /// Sets the line to write on standard error once an awaited pipe is open.
@@ -103,9 +114,21 @@ impl<'a, O: Opens> Source<'a, O> {
     {
         if self.file.is_none() {
             self.file = Some(self.opener.open(self.path)?);
-            if let Some(notice) = self.notice {
-                self.opener.say(notice);
+            match self.notice {
+                Some(notice) if !self.opener.is_stopping() => self.opener.say(notice),
+                _ => {}
             }
+        }
+        Ok(())
+    }
+
+    /// Fails with `Interrupted` if the program was asked to stop.
+    fn refuse_stopped(&mut self) -> io::Result<()>
+        ensures file { self.new.file ≡ self.old.file }
+    {
+        if self.opener.is_stopping() {
+            self.is_stopped = true;
+            return Err(io::Error::from(io::ErrorKind::Interrupted));
         }
         Ok(())
     }
@@ -127,13 +150,26 @@ impl<'a, O: Opens> Read for Source<'a, O> {
     ghost remaining = { λ source. known_of O.File.remaining source.file };
 
     fn read(&mut self, buf: &mut [u8]) -> io::Result<usize> {
+        self.refuse_stopped()?;
         self.open_late()?;
-        let given = match &mut self.file {
-            Some(file) => file.read(buf)?,
-            None => 0,
-        };
-        self.keep(&buf[..given]);
-        Ok(given)
+        for _try in 0..u64::MAX {
+            self.refuse_stopped()?;
+            let given = match &mut self.file {
+                Some(file) => file.read(buf),
+                None => Ok(0),
+            };
+            match given {
+                // A signal that comes to the camera too may end it first.
+                Ok(0) if self.opener.is_stopping() => {}
+                Ok(given) => {
+                    self.keep(&buf[..given]);
+                    return Ok(given);
+                }
+                Err(fault) if fault.kind() == io::ErrorKind::Interrupted => {}
+                Err(fault) => return Err(fault),
+            }
+        }
+        Err(io::Error::from(io::ErrorKind::Interrupted))
     }
 }
 

@@ -2,11 +2,12 @@
 ghost use Rattle.std.specs.Prelude.{◌≡◌, Some};
 
 use crate::opener::Opens;
+use crate::patient::write_again;
 use std::io;
 use std::io::Write;
 
 /// A file to write to. A named pipe is opened at the first write, which waits until something reads from it. Any
-/// other file is already open.
+/// other file is already open. A write that a signal interrupts is tried again.
 #[derive(Drop)]
 pub struct Target<'a, O: Opens> {
     opener: O,
@@ -75,7 +76,7 @@ impl<'a, O: Opens> Write for Target<'a, O> {
     fn write(&mut self, buf: &[u8]) -> io::Result<usize> {
         self.open()?;
         let taken = match &mut self.file {
-            Some(file) => file.write(buf)?,
+            Some(file) => write_again(file, buf)?,
             None => 0,
         };
         self.written = self.written.saturating_add(taken as u64);

@@ -19,6 +19,8 @@ pub struct Film<'a, O: Makes> {
     unsynced: Option<Failed>,
     /// The number of frames, once the film has ended and if its recording is whole.
     pub frames: Option<u64>,
+    /// Whether the film was read no further since the program was asked to stop, once it has ended.
+    pub is_stopped: bool,
     /// Whether it has an index that isn't whole, once the film has ended.
     pub is_index_broken: bool,
     /// Whether the line with its number of frames was written.
@@ -50,6 +52,7 @@ impl<'a, O: Makes + Copy + Drop> Film<'a, O> {
                 synced: None,
                 unsynced: None,
                 frames: None,
+                is_stopped: false,
                 is_index_broken: false,
                 is_told: false,
             }),

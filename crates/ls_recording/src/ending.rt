@@ -11,7 +11,7 @@ use ls_console::{
     say_index_end, say_unsynced, write_text,
 };
 use ls_files::{Makes, Opens, Target, Targets};
-use ls_frame::{Counted, Failed, Outlet};
+use ls_frame::{Counted, Failed, NetpbmFault, Outlet};
 use ls_opening::Film;
 use ls_recorder::{LaneFault, Track};
 use std::alloc::{AllocError, Global};
@@ -93,7 +93,7 @@ where
         match film.frames {
             Some(_) if film.is_told => {}
             Some(frames) => {
-                let said = say_count(alloc, film.names.file, frames, output, console);
+                let said = say_count(alloc, film, frames, output, console);
                 if said != DONE {
                     return said;
                 }
@@ -145,6 +145,8 @@ where
     } = track;
     let names = film.names;
     let file = names.file;
+    film.is_stopped = reader.get_ref().get_ref().is_stopped();
+    let result = outcome_of(result, film.is_stopped);
     let synced = film.settle(result.is_err(), written);
     let (writer, follower, broken) = writer.into_parts();
     if let Err(fault) = result {
@@ -198,6 +200,15 @@ where
     target
 }
 
+/// The outcome of a film: to its lane a stop that the program was asked for is a failed read, after the last frame that
+/// was read whole.
+fn outcome_of(outcome: Result<u64, LaneFault>, is_stopped: bool) -> Result<u64, LaneFault> {
+    match outcome {
+        Err(LaneFault::Input(frames, NetpbmFault::Io)) if is_stopped => Ok(frames),
+        _ => outcome,
+    }
+}
+
 /// The cause of an index's fault.
 fn cause_of_index(fault: IndexFault) -> Cause {
     match fault {
@@ -216,15 +227,21 @@ fn cause_of(fault: LaneFault) -> Cause {
 }
 
 /// Says the number of recorded frames of a film, and returns the status.
-pub fn say_count<W: Write, E: Outlet>(
+pub fn say_count<O, W, E>(
     alloc: Global,
-    file: &str,
+    film: &Film<'_, O>,
     frames: u64,
     output: &mut Counted<W>,
     console: &mut Console<E>,
-) -> u8 {
-    let file = Shown(file);
-    match format!(in alloc; "{file}: {frames} frames\n") {
+) -> u8
+where
+    O: Makes,
+    W: Write,
+    E: Outlet,
+{
+    let file = Shown(film.names.file);
+    let ended = if film.is_stopped { ", stopped" } else { "" };
+    match format!(in alloc; "{file}: {frames} frames{ended}\n") {
         Ok(line) => write_text(line.as_bytes(), output, console),
         Err(_) => no_memory(console),
     }

@@ -44,7 +44,7 @@ where
         Err(refusal) => return refusal.say(program.console),
     };
     match open_films(program.rt, opener, &asked, &names, program.console) {
-        Ok(opened) => record_opened(program, &asked, opened),
+        Ok(opened) => record_opened(program, opener, &asked, opened),
         Err(refusal) => refusal.say(program.console),
     }
 }
@@ -52,6 +52,7 @@ where
 /// Records films whose files are open, says how each ended, writes the report, and returns the status.
 fn record_opened<'a, R, O, W, E>(
     program: Program<'_, R, W, E>,
+    opener: O,
     asked: &'a RecordRequest<'a>,
     opened: Opened<'a, O>,
 ) -> u8
@@ -83,6 +84,7 @@ where
             output: &mut *output,
             console: &mut *console,
         },
+        opener,
         watch: &watch,
         files: &asked.files,
         films: &mut films,
@@ -97,11 +99,11 @@ where
         }
         Err(status) => status,
     };
-    // The films' files are unlocked before the report is written, which may wait for what reads it.
-    drop(films);
     match report {
         Some(report) => {
-            let table = table_of(rt.alloc(), &watch, &asked.files, asked.workers);
+            let table = table_of(rt.alloc(), &watch, &films, asked.workers);
+            // The films' files are unlocked before the report is written, which may wait for what reads it.
+            drop(films);
             status.max(write_report(report, table, console))
         }
         None => status,

@@ -90,6 +90,11 @@ impl<'r, R: Clock> Watch<'r, R> {
         }
     }
 
+    /// The fault that stopped the film of this number, if it stopped.
+    pub fn fault(&self, film: usize) -> Option<LaneFault> {
+        self.films.get(film)?.fault()
+    }
+
     /// The fault that stopped the film of this number, if it stopped and no call has given that before: so it is
     /// reported once.
     pub fn news(&self, film: usize) -> Option<LaneFault> {

@@ -4,7 +4,7 @@ use crate::watching::Watch;
 use ls_console::{Console, DONE, FAILED, MadeFile, Shown};
 use ls_files::Makes;
 use ls_frame::{Counted, Outlet, write_bytes};
-use ls_opening::failed_of;
+use ls_opening::{Film, failed_of};
 use std::alloc::{AllocError, Global};
 use std::time::Clock;
 
@@ -54,16 +54,20 @@ where
 }
 
 /// The table of a recording that has ended: a line for each film, by its name, and one of the workers.
-pub fn table_of<R: Clock>(
+pub fn table_of<R, O>(
     alloc: Global,
     watch: &Watch<'_, R>,
-    files: &[&str],
+    films: &[Film<'_, O>],
     workers: usize,
-) -> Result<String, AllocError> {
+) -> Result<String, AllocError>
+where
+    R: Clock,
+    O: Makes,
+{
     let mut table = head(alloc)?;
-    for (film, file) in files.iter().enumerate() {
-        if let Some(seen) = watch.seen(film) {
-            add_film(alloc, &mut table, *file, &seen)?;
+    for (number, film) in films.iter().enumerate() {
+        if let Some(seen) = watch.seen(number) {
+            add_film(alloc, &mut table, film.names.file, film.is_stopped, &seen)?;
         }
     }
     add_workers(alloc, &mut table, watch.coding(), watch.lasted(), workers)?;

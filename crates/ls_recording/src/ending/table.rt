@@ -17,10 +17,11 @@ pub fn add_film(
     alloc: Global,
     table: &mut String,
     file: &str,
+    is_stopped: bool,
     seen: &Seen,
 ) -> Result<(), AllocError> {
     add_numbers(alloc, table, seen)?;
-    add_name(alloc, table, file, seen)
+    add_name(alloc, table, file, is_stopped, seen)
 }
 
 /// Adds the line of the workers, which coded for `coding` nanoseconds together, each for at most `lasted`.
@@ -72,10 +73,17 @@ fn add_waits(alloc: Global, table: &mut String, seen: &Seen) -> Result<(), Alloc
     table.push_str(&waits)
 }
 
-/// Adds the name of a film, and why its recording stopped, if it did.
-fn add_name(alloc: Global, table: &mut String, file: &str, seen: &Seen) -> Result<(), AllocError> {
+/// Adds the name of a film, and whether the program was asked to stop it, or why else its recording stopped, if it did.
+fn add_name(
+    alloc: Global,
+    table: &mut String,
+    file: &str,
+    is_stopped: bool,
+    seen: &Seen,
+) -> Result<(), AllocError> {
     let file = Shown(file);
     let name = match seen.doing {
+        _ if is_stopped => format!(in alloc; " {file}: stopped\n"),
         Doing::Ended(Err(fault)) => format!(in alloc; " {file}: {fault}\n"),
         _ => format!(in alloc; " {file}\n"),
     }?;

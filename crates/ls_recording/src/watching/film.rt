@@ -170,12 +170,21 @@ impl FilmWatch {
         self.written.load(Ordering::SeqCst)
     }
 
-    /// The fault that stopped it, if it stopped and no call has given that before.
-    pub fn news(&self) -> Option<LaneFault> {
+    /// The fault that stopped it, if it stopped.
+    pub fn fault(&self) -> Option<LaneFault> {
         match self.end.get() {
-            Some(Err(fault)) if !self.told.swap(true, Ordering::SeqCst) => Some(*fault),
+            Some(Err(fault)) => Some(*fault),
             _ => None,
         }
+    }
+
+    /// The fault that stopped it, if it stopped and no call has given that before.
+    pub fn news(&self) -> Option<LaneFault> {
+        let fault = self.fault()?;
+        if self.told.swap(true, Ordering::SeqCst) {
+            return None;
+        }
+        Some(fault)
     }
 
     /// Whether `news` has given the fault that stopped it.

@@ -5,9 +5,10 @@ use super::line::line_of;
 use super::pace::Pace;
 use crate::ending::say_count;
 use ls_console::{Console, Program, Shown};
-use ls_files::Makes;
-use ls_frame::{Counted, Outlet};
+use ls_files::{Makes, Opens};
+use ls_frame::{Counted, NetpbmFault, Outlet};
 use ls_opening::Film;
+use ls_recorder::LaneFault;
 use std::alloc::{AllocError, Global};
 use std::io::Write;
 use std::sync::Wait;
@@ -20,6 +21,7 @@ const DUE: u64 = 450_000_000;
 #[derive(Drop)]
 pub struct Teller<'s, 'a, R, O: Makes, W, E> {
     pub program: Program<'s, R, W, E>,
+    pub opener: O,
     pub watch: &'s Watch<'s, R>,
     /// The films' names.
     pub files: &'s [&'s str],
@@ -38,10 +40,14 @@ where
     /// Until the recording ends, settles the files of each film that ends. If progress is wanted, says immediately
     /// which film has ended or stopped, and twice a second how far each is.
     ///
+    /// Once the program was asked to stop, wakes the lanes whose pipes no one has opened, and says that, if progress is
+    /// wanted. (Each wait ends within 10 ms then, since what asks the program to stop interrupts its threads so often.)
+    ///
     /// If memory runs out at the beginning, does nothing; later, what it ran out for isn't said that time.
     pub fn tell(self) {
         let Teller {
             program,
+            opener,
             watch,
             files,
             films,
@@ -56,14 +62,23 @@ where
         let Ok(mut progress) = Progress::new(alloc, files, watch.now()) else {
             return;
         };
+        let mut is_stop_said = false;
         for _ in rt.forever() {
             watch.wait(longest_wait(is_telling));
             if watch.is_over() {
                 break;
             }
-            settle_ended(watch, films);
+            let is_stopping = opener.is_stopping();
+            if is_stopping {
+                wake_awaited(opener, watch, files);
+            }
+            settle_ended(opener, watch, films);
             if is_telling {
-                tell_news(watch, files, console);
+                if is_stopping && !is_stop_said {
+                    tell_stop(watch, files.len(), console);
+                    is_stop_said = true;
+                }
+                tell_news(opener, watch, files, console);
                 tell_counts(alloc, watch, films, output, console);
                 progress.tell(watch, console);
             }
@@ -161,9 +176,41 @@ fn longest_wait(is_telling: bool) -> Duration {
     }
 }
 
+/// Wakes the lanes that wait for what writes to their pipes, so that they see that they are to stop.
+fn wake_awaited<R, O>(opener: O, watch: &Watch<'_, R>, files: &[&str])
+where
+    R: Clock,
+    O: Makes + Copy + Drop,
+{
+    for (film, file) in files.iter().enumerate() {
+        if watch.ended(film).is_none() {
+            opener.wake(*file);
+        }
+    }
+}
+
+/// Says that the recording ends, and how many frames were read that are still to be coded or written.
+fn tell_stop<R: Clock, E: Outlet>(watch: &Watch<'_, R>, films: usize, console: &mut Console<E>) {
+    let mut frames: u64 = 0;
+    for film in 0..films {
+        if let Some(seen) = watch.seen(film) {
+            frames = frames.saturating_add(seen.read.saturating_sub(seen.written));
+        }
+    }
+    console.say(format_args!(
+        "ending: {frames} frames are still to be coded; a second signal ends at once"
+    ));
+}
+
+/// Whether a fault may be the failed read by which a lane stops because the program was asked to. At the end its source
+/// says whether it is, and what there is to say is said then.
+fn may_be_stop<O: Opens>(opener: &O, fault: LaneFault) -> bool {
+    matches!(fault, LaneFault::Input(_, NetpbmFault::Io)) && opener.is_stopping()
+}
+
 /// Settles the files of each film that has ended since, and removes earlier files that the recordings of the others
-/// have replaced.
-fn settle_ended<R, O>(watch: &Watch<'_, R>, films: &mut [Film<'_, O>])
+/// have replaced. Leaves a film without a frame for the end, if it may have been stopped.
+fn settle_ended<R, O>(opener: O, watch: &Watch<'_, R>, films: &mut [Film<'_, O>])
 where
     R: Clock,
     O: Makes + Copy + Drop,
@@ -171,6 +218,7 @@ where
     for (number, film) in films.iter_mut().enumerate() {
         let written = watch.written(number);
         match watch.ended(number) {
+            Some(Err(fault)) if written == 0 && may_be_stop(&opener, fault) => {}
             Some(result) => {
                 let _synced = film.settle(result.is_err(), written);
             }
@@ -200,15 +248,23 @@ where
         if let Some(Ok(frames)) = watch.ended(number) {
             film.is_told = true;
             console.clear();
-            let _said = say_count(alloc, film.names.file, frames, output, console);
+            let _said = say_count(alloc, film, frames, output, console);
         }
     }
 }
 
 /// Says why each film stopped that has stopped since.
-fn tell_news<R: Clock, E: Outlet>(watch: &Watch<'_, R>, files: &[&str], console: &mut Console<E>) {
+fn tell_news<R, O, E>(opener: O, watch: &Watch<'_, R>, files: &[&str], console: &mut Console<E>)
+where
+    R: Clock,
+    O: Makes + Copy + Drop,
+    E: Outlet,
+{
     for (film, file) in files.iter().enumerate() {
-        if let Some(fault) = watch.news(film) {
+        let Some(fault) = watch.fault(film) else {
+            continue;
+        };
+        if !may_be_stop(&opener, fault) && watch.news(film).is_some() {
             let file = Shown(file);
             console.say(format_args!("{file}: {fault}"));
         }
