@@ -108,8 +108,12 @@ class Picture:
 
     @property
     def maxval(self) -> int:
-        """The greatest sample of a codestream: signed values go in two's complement of all bits that they take."""
-        return (1 << (self.allocated if self.signed else max(self.stored, 2))) - 1
+        """The greatest sample of a codestream: that of Bits Stored, or of Bits Allocated.
+
+        The latter if values are signed, which go in two's complement, and up to 8 bits stored: GDCM and DCMTK read no
+        samples of 8 bits for words of 16, and DCMTK few of less than 8.
+        """
+        return (1 << (self.allocated if self.signed or self.stored <= 8 else self.stored)) - 1
 
     @property
     def frame_size(self) -> int:

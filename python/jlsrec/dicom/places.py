@@ -136,7 +136,8 @@ class Part:
         with contextlib.suppress(OSError):
             os.fchown(self.number, like.st_uid, like.st_gid)
         with contextlib.suppress(OSError):
-            os.fchmod(self.number, stat.S_IMODE(like.st_mode) & 0o777)
+            # It is read back, whoever reads the other one.
+            os.fchmod(self.number, stat.S_IMODE(like.st_mode) & 0o777 | 0o400)
         os.utime(self.number, ns=(like.st_mtime_ns, like.st_mtime_ns))
         os.fsync(self.number)
         with contextlib.suppress(OSError):

@@ -41,6 +41,7 @@ def by_gdcm(coded: Source, picture: Picture) -> Iterator[np.ndarray]:
     """The frames' values by GDCM."""
     import gdcm
 
+    gdcm.Trace.WarningOff()
     reader = gdcm.ImageReader()
     reader.SetFileName(f"/proc/{os.getpid()}/fd/{coded.number}")
     if not reader.Read():
@@ -67,6 +68,8 @@ def by_dcmtk(coded: Source, picture: Picture) -> Iterator[np.ndarray]:
             raise Left(f"DCMTK can't decode it: {said[-1]}")
         with Source(os.fsencode(raw)) as file:
             front = front_of(file)
+            if front.length != picture.size:
+                raise Left(f"DCMTK decodes {front.length} bytes, and its frames take {picture.size}")
             for number in range(picture.frames):
                 data = file.read(front.at + number * picture.frame_size, picture.frame_size)
                 yield picture.array(data, planar_of(front))

@@ -23,7 +23,7 @@ from typing import Any, Callable, Optional, Union
 
 from .._files import sync_folder, write_all
 from . import Refused, second
-from .each import FULL, Job, Line, failed
+from .each import Job, Line, failed
 from .manifest import KEPT, NAME, Manifest, named, path_in
 from .places import PART, make_folders, shown, standing
 from .progress import Progress
@@ -58,6 +58,17 @@ class Entry:
     stat: Optional[os.stat_result]
     why: str = ""
 
+    @property
+    def is_folder(self) -> bool:
+        """Whether it is a folder that has nothing."""
+        return self.stat is not None and stat.S_ISDIR(self.stat.st_mode)
+
+    @property
+    def is_file(self) -> bool:
+        """Whether it is a file, and not one that a run left before it was whole."""
+        is_regular = self.stat is not None and stat.S_ISREG(self.stat.st_mode)
+        return is_regular and not PART.fullmatch(os.path.basename(self.path))
+
 
 def walk(root: bytes, path: bytes = b"") -> Iterator[Entry]:
     """All files, links and empty folders of a tree, folder by folder, by their names. No link is followed."""
@@ -65,7 +76,9 @@ def walk(root: bytes, path: bytes = b"") -> Iterator[Entry]:
         with os.scandir(os.path.join(root, path) if path else root) as found:
             entries = sorted(found, key=lambda entry: entry.name)
     except OSError as error:
-        yield Entry(path or b".", None, error.strerror or str(error))
+        if not path:
+            raise
+        yield Entry(path, None, error.strerror or str(error))
         return
     if not entries and path:
         yield Entry(path, os.lstat(os.path.join(root, path)))
@@ -93,8 +106,8 @@ class Listing(threading.Thread):
     def run(self) -> None:
         try:
             for entry in walk(self._root):
-                self._progress.files += 1
-                self._progress.bytes += entry.stat.st_size if entry.stat and stat.S_ISREG(entry.stat.st_mode) else 0
+                self._progress.files += not entry.is_folder
+                self._progress.bytes += entry.stat.st_size if entry.is_file else 0
                 self._queue.put(entry)
             self._progress.is_counted = True
             self._queue.put(None)
@@ -134,7 +147,11 @@ class Run:
 
     def workers(self) -> Workers:
         """Those that the words ask for."""
-        return Dask(self.words.dask) if self.words.dask is not None else Processes(self.words.jobs)
+        if self.words.dask is None:
+            return Processes(self.words.jobs)
+        workers = Dask(self.words.dask)
+        self.progress.say(f"the scheduler's workers have {workers.threads()} threads")
+        return workers
 
     def batched(self, items: Iterator[Optional[tuple[Any, int]]]) -> Iterator[Sequence[Any]]:
         """Items with their bytes in batches; an empty one where there is none yet."""
@@ -165,6 +182,8 @@ class Run:
 
     def _counting(self, done: Callable[[list[Line]], None]) -> Callable[[list[Line]], None]:
         def counted(lines: list[Line]) -> None:
+            if any([line.pop("is_full", False) for line in lines]):
+                self.stop("there is no more space")
             try:
                 done(lines)
             except OSError as error:
@@ -175,10 +194,8 @@ class Run:
         return counted
 
     def count(self, line: Line) -> None:
-        """Counts a file, and stops where there is no more space."""
+        """Counts a file."""
         self.progress.add(line, shown(path_in(line)))
-        if line.pop("is_full", False):
-            self.stop("there is no more space")
 
     def _look(self) -> bool:
         self.progress.tell()
@@ -242,7 +259,8 @@ def _to_compress(
     for entry in listing.entries():
         if entry is None:
             yield None
-        elif entry.stat is not None and stat.S_ISREG(entry.stat.st_mode) and not PART.fullmatch(os.path.basename(entry.path)):
+        elif entry.is_file:
+            assert entry.stat is not None
             line = _earlier(entry, known, words.out)
             if line is not None:
                 _record(line, going, manifest)
@@ -250,8 +268,7 @@ def _to_compress(
                 going.progress.skip(entry.stat.st_size)
             else:
                 yield entry.path, entry.stat.st_size
-        elif entry.stat is not None and stat.S_ISDIR(entry.stat.st_mode):
-            going.progress.files -= 1
+        elif entry.is_folder:
             with contextlib.suppress(OSError):
                 make_folders(words.out, entry.path)
         else:
@@ -312,8 +329,7 @@ def _linked(root: bytes, path: bytes, target: bytes) -> Line:
             sync_folder(os.path.dirname(place))
     except OSError as error:
         why = "there is another file of its name, which was left as it is"
-        line = failed(path, why if error.errno == errno.EINVAL else error.strerror or str(error))
-        return {**line, "is_full": True} if error.errno in FULL else line
+        return failed(path, why if error.errno == errno.EINVAL else error.strerror or str(error))
     return line
 
 
@@ -395,7 +411,9 @@ def verify(words: Words) -> int:
         with Verified(words.out, words.tree is not None) as verified:
             going.work(job, _to_verify(manifest, last, going, verified), verified.add)
             if not going.is_stopped:
-                _find_others(words.out, last, going)
+                _find_others(words.out, last, going, "the manifest doesn't name it")
+                if words.tree is not None:
+                    _find_others(words.tree, last, going, "OUT doesn't have it")
                 verified.remove()
         return going.end()
 
@@ -427,12 +445,13 @@ def _verified_link(out: bytes, line: Line) -> Line:
     return {**named(path), "state": "verified"} if is_same else failed(path, "it isn't the link that the manifest says")
 
 
-def _find_others(out: bytes, last: dict[bytes, int], going: Run) -> None:
-    """Counts what OUT has and the manifest doesn't name."""
-    for entry in walk(out):
-        is_ours = entry.path in last or entry.path in (NAME, VERIFIED) or PART.fullmatch(os.path.basename(entry.path))
-        if not is_ours and entry.stat is not None and not stat.S_ISDIR(entry.stat.st_mode):
-            going.count(failed(entry.path, "the manifest doesn't name it"))
+def _find_others(root: bytes, last: dict[bytes, int], going: Run, why: str) -> None:
+    """Counts what a tree has and the manifest doesn't name."""
+    is_out = root == going.words.out
+    for entry in walk(root):
+        is_ours = is_out and (entry.path in (NAME, VERIFIED) or PART.fullmatch(os.path.basename(entry.path)))
+        if entry.path not in last and not entry.is_folder and not is_ours:
+            going.count(failed(entry.path, entry.why or why))
 
 
 class Verified:

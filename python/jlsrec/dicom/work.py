@@ -226,13 +226,17 @@ class Dask:
         if self._client.status != "running":
             raise Lost(f"the scheduler at {self._address} is gone")
 
-    def count(self) -> int:
+    def threads(self) -> int:
+        """How many threads the workers have that the scheduler has now."""
         self._check()
         now = time.monotonic()
         if now > self._asked + ASKED_EVERY:
             workers = self._client.scheduler_info()["workers"].values()
             self._threads, self._asked = sum(worker["nthreads"] for worker in workers), now
-        return max(self._threads, 1)
+        return self._threads
+
+    def count(self) -> int:
+        return max(self.threads(), 1)
 
     def submit(self, job: Job, items: Sequence[Any]) -> Any:
         self._check()
