@@ -170,8 +170,16 @@ def tables(explicit: bool) -> bytes:
     lut = struct.pack("<3H", 0, 0, 16)
     return (
         element(0x00281050, "DS", text("0040.0\\1e3"), explicit)
-        + b"".join(element(0x00281101 + color, "US", lut, explicit) for color in range(3))
-        + b"".join(element(0x00281201 + color, "OW", bytes(range(256)) * 512, explicit) for color in range(3))
+        + element(0x00281101, "US", lut, explicit)
+        + element(0x00281201, "OW", bytes(range(256)) * 512, explicit)
+    )
+
+
+def palette(explicit: bool) -> bytes:
+    """The colours of 256 values."""
+    lut = struct.pack("<3H", 256, 0, 16)
+    return b"".join(element(0x00281101 + color, "US", lut, explicit) for color in range(3)) + b"".join(
+        element(0x00281201 + color, "OW", bytes(range(256)) * 2, explicit) for color in range(3)
     )
 
 
@@ -205,7 +213,7 @@ def forms() -> dict[str, Form]:
         made[f"{name}_8_signed_in_16"] = Form(gray(8, 2, 1), 8, 16, 1, syntax=syntax)
         made[f"{name}_words_of_8"] = Form(gray(8, shape=(3, 3)), 8, 8, syntax=syntax, vr="OW")
         made[f"{name}_inverse"] = Form(gray(12), photometric="MONOCHROME1", syntax=syntax)
-        made[f"{name}_palette"] = Form(gray(8), 8, 8, photometric="PALETTE COLOR", syntax=syntax, late=[tables])
+        made[f"{name}_palette"] = Form(gray(8), 8, 8, photometric="PALETTE COLOR", syntax=syntax, late=[palette])
         for planar in (0, 1):
             for frames in (1, 3):
                 for bits in (8, 12, 16):
