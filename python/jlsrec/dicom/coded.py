@@ -9,6 +9,7 @@ groups that say theirs. So the file can be made again from its coded one, and it
 
 from __future__ import annotations
 
+import hashlib
 import struct
 from collections.abc import Callable, Iterator
 from dataclasses import dataclass
@@ -38,6 +39,7 @@ WHOLE = {1: {"MONOCHROME1", "MONOCHROME2", "PALETTE COLOR"}, 3: {"RGB", "YBR_FUL
 FIRST = 1 << 16
 MOST = 1 << 28
 MOST_SAMPLES = 1 << 28
+CHUNK = 1 << 20
 
 _ITEM = struct.Struct("<HHI")
 
@@ -342,22 +344,29 @@ class Plan:
         for data in self.frames():
             self.picture.check(self.picture.array(data, self.planar))
 
-    def write(self, write: Callable[[bytes], None], write_at: Callable[[int, bytes], None]) -> None:
-        """Writes the coded file. Raises Left if there is more in a frame than can be coded."""
+    def write(self, write: Callable[[bytes], None], write_at: Callable[[int, bytes], None]) -> str:
+        """Writes the coded file. Answers the SHA-256 of what stands after the table of its frames.
+
+        Raises Left if there is more in a frame than can be coded.
+        """
         front = self.coded_front(0)
         table = len(front)
         write(front + _ITEM.pack(ITEM >> 16, ITEM & 0xFFFF, 4 * self.picture.frames) + bytes(4 * self.picture.frames))
-        starts, at = [], 0
+        starts, at, sum = [], 0, hashlib.sha256()
         for data in self.frames():
             array = self.picture.array(data, self.planar)
             self.picture.check(array)
             codestream = encode(array, self.picture.maxval)
             # A fragment of even length: a byte stands behind EOI where that is needed.
             codestream += b"\0" * (len(codestream) % 2)
-            write(_ITEM.pack(ITEM >> 16, ITEM & 0xFFFF, len(codestream)) + codestream)
+            fragment = _ITEM.pack(ITEM >> 16, ITEM & 0xFFFF, len(codestream)) + codestream
+            sum.update(fragment)
+            write(fragment)
             starts.append(at)
-            at += 8 + len(codestream)
-        write(_ITEM.pack(SEQUENCE_END >> 16, SEQUENCE_END & 0xFFFF, 0) + self.coded_tail)
+            at += len(fragment)
+        end = _ITEM.pack(SEQUENCE_END >> 16, SEQUENCE_END & 0xFFFF, 0) + self.coded_tail
+        sum.update(end)
+        write(end)
         # From the pixel data's tag to the end of their group.
         length = 12 + 8 + 4 * len(starts) + at + 8
         if length > 0xFFFFFFFF:
@@ -365,6 +374,33 @@ class Plan:
         write_at(table + 8, np.array(starts, "<u4").tobytes())
         if self.front.has_group_length:
             write_at(table - 16, length.to_bytes(4, "little"))
+        return sum.hexdigest()
+
+    def check_coded(self, coded: Reads, written: Optional[str]) -> None:
+        """Raises Damaged if a coded file hasn't the front and the tail that it is to have, or other bytes than written.
+
+        What stands between is checked by raw_chunks.
+        """
+        front = len(self.coded_front(0))
+        length = coded.size - len(self.coded_tail) - front + 12
+        table_end = front + 8 + 4 * self.picture.frames
+        if not table_end < coded.size < table_end + UNDEFINED:
+            raise Damaged("it has another size")
+        same = coded.read(0, front) == self.coded_front(length)
+        if not same or coded.read(coded.size - len(self.coded_tail), len(self.coded_tail)) != self.coded_tail:
+            raise Damaged("it has other elements")
+        if written is not None and sum_of(coded, table_end) != written:
+            raise Damaged("what was written isn't what is read")
+
+
+def sum_of(file: Reads, at: int = 0) -> str:
+    """The SHA-256 of a file's bytes from a place on."""
+    made = hashlib.sha256()
+    while at < file.size:
+        chunk = file.read(at, min(CHUNK, file.size - at))
+        made.update(chunk)
+        at += len(chunk)
+    return made.hexdigest()
 
 
 def raw_front(front: Front, origin: Origin, picture: Picture) -> bytes:
@@ -406,7 +442,10 @@ def _raw_frames(file: Reads, at: int, picture: Picture, planar: int, see: Option
         tag, length = _item(file, at)
         if tag != ITEM or at - begin != start:
             raise Damaged(f"there is no fragment at byte {at}")
-        array = decode(file.read(at + 8, length))
+        fragment = file.read(at + 8, length)
+        if not fragment.endswith((b"\xff\xd9", b"\xff\xd9\0")):
+            raise Damaged(f"the fragment at byte {at} doesn't end with its codestream")
+        array = decode(fragment)
         if array.shape != shape:
             raise Damaged(f"the frame at byte {at} has another size")
         array = array.astype("u1" if picture.allocated == 8 else "<u2", copy=False)

@@ -10,14 +10,14 @@ import errno
 import hashlib
 import os
 import stat
-from collections.abc import Iterable, Iterator, Sequence
+from collections.abc import Callable, Iterable, Iterator, Sequence
 from dataclasses import dataclass
 from typing import Any, Optional, Union
 
 import numpy as np
 
 from . import manifest, second
-from .coded import Damaged, Origin, Plan, raw_chunks
+from .coded import Damaged, Origin, Plan, raw_chunks, sum_of
 from .elements import Left
 from .places import Changed, Part, Source, Taken, make_folders, standing
 
@@ -81,11 +81,16 @@ def compress(job: Job, path: bytes) -> Line:
             if standing(place) is not None:
                 plan.check()
             return _put(
-                source, place, lambda part: plan.write(part.write, part.write_at), lambda at: coded_line(at, plan, job)
+                source,
+                place,
+                lambda part: plan.write(part.write, part.write_at),
+                lambda path, written: coded_line(path, plan, job.second, written),
             )
         except Left as why:
             text = str(why)
-            return _put(source, place, lambda part: _copy(source, part), lambda at: copied_line(at, source, text))
+            return _put(
+                source, place, lambda part: _copy(source, part), lambda path, written: copied_line(path, source, text)
+            )
 
 
 def _clear(place: bytes, source: Source) -> None:
@@ -95,14 +100,19 @@ def _clear(place: bytes, source: Source) -> None:
         os.unlink(place)
 
 
-def _put(source: Source, place: bytes, write, check) -> Line:
+def _put(
+    source: Source,
+    place: bytes,
+    write: Callable[[Part], Optional[str]],
+    check: Callable[[bytes, Optional[str]], Line],
+) -> Line:
     """Puts a file in its place once it is checked. What an earlier run put there before it ended is checked alike."""
     if standing(place) is None:
         with Part(place) as part:
-            write(part)
+            written = write(part)
             part.sync(source.stat)
             try:
-                line = check(part.path)
+                line = check(part.path, written)
             finally:
                 # If it differs, that is the first reason.
                 source.check()
@@ -112,7 +122,7 @@ def _put(source: Source, place: bytes, write, check) -> Line:
             except Taken:
                 pass
     try:
-        line = check(place)
+        line = check(place, None)
     except (Damaged, OSError):
         raise Taken from None
     source.check()
@@ -124,13 +134,17 @@ def _copy(source: Source, part: Part) -> None:
         part.write(chunk)
 
 
-def coded_line(path: bytes, plan: Plan, job: Job) -> Line:
-    """The line of a coded file, of which every byte of its source was made again and compared."""
+def coded_line(path: bytes, plan: Plan, other: Optional[str], written: Optional[str]) -> Line:
+    """The line of a coded file, of which every byte of its source was made again and compared.
+
+    written is the SHA-256 of what was written after the table of its frames, if that is known.
+    """
     values, source = hashlib.sha256(), plan.source
     with Source(path) as coded:
+        plan.check_coded(coded, written)
         made = compared(raw_chunks(coded, plan.origin, lambda array: values.update(array)), source)
-        if job.second is not None:
-            _ask_second(job.second, coded, plan)
+        if other is not None:
+            _ask_second(other, coded, plan)
         line = {
             "state": "compressed",
             "frames": plan.picture.frames,
@@ -141,8 +155,8 @@ def coded_line(path: bytes, plan: Plan, job: Job) -> Line:
         }
     if plan.picture.colors == 3:
         line["planar"] = plan.planar
-    if job.second is not None:
-        line["second"] = job.second
+    if other is not None:
+        line["second"] = other
     return line
 
 
@@ -159,7 +173,7 @@ def _sums(source: Source, made: Source, sha256: str) -> Line:
         "bytes_after": made.size,
         "mtime_ns": source.stat.st_mtime_ns,
         "sha256_before": sha256,
-        "sha256": made.sha256(),
+        "sha256": sum_of(made),
     }
 
 
@@ -210,7 +224,7 @@ def restore(job: Job, line: Line) -> Line:
 def _same_sum(path: bytes, sha256: str) -> None:
     """Raises Taken if there is a file of another sum."""
     with Source(path) as file:
-        if file.sha256() != sha256:
+        if sum_of(file) != sha256:
             raise Taken
 
 
@@ -226,7 +240,7 @@ def verify(job: Job, line: Line) -> Line:
     path = manifest.path_in(line)
     values = hashlib.sha256()
     with Source(os.path.join(job.out, path)) as made:
-        if made.size != line["bytes_after"] or made.sha256() != line["sha256"]:
+        if made.size != line["bytes_after"] or sum_of(made) != line["sha256"]:
             raise Damaged("its sum isn't that of the manifest")
         chunks = _source_chunks(made, line, lambda array: values.update(array))
         if job.tree is None:

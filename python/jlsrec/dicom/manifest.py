@@ -61,9 +61,9 @@ def _token(line: bytes) -> Optional[str]:
 
 
 def _is_torn_heading(data: bytes, whole: int) -> bool:
-    """Whether a file is empty, or a first line that was torn: cut off, or of zeros."""
+    """Whether a file is empty, or a first line that was torn: cut off, with zeros behind it perhaps."""
     heading = json.dumps({"format": FORMAT, "token": ""})[:-2].encode()
-    return whole == 0 and (heading.startswith(data[: len(heading)]) or not data.strip(b"\0"))
+    return whole == 0 and heading.startswith(data.rstrip(b"\0")[: len(heading)])
 
 
 class Manifest:

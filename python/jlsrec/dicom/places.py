@@ -7,7 +7,6 @@ from __future__ import annotations
 
 import contextlib
 import errno
-import hashlib
 import os
 import re
 import secrets
@@ -73,13 +72,6 @@ class Source:
         """All bytes, one chunk after the other."""
         for at in range(0, self.size, CHUNK):
             yield self.read(at, min(CHUNK, self.size - at))
-
-    def sha256(self) -> str:
-        """The SHA-256 of all bytes."""
-        made = hashlib.sha256()
-        for chunk in self.chunks():
-            made.update(chunk)
-        return made.hexdigest()
 
     def check(self) -> None:
         """Raises Changed if the file isn't what it was when it was opened, or another one has its name."""

@@ -316,7 +316,7 @@ def _linked(root: bytes, path: bytes, target: bytes) -> Line:
     """Makes a link in a tree, if it leads to a place in there, and answers its line."""
     line = {**named(path), "state": "link", "to": target.decode("utf-8", "backslashreplace"), "to_hex": target.hex()}
     below = os.path.normpath(os.path.join(b"/-", os.path.dirname(path), target))
-    if os.path.isabs(target) or not below.startswith(b"/-/"):
+    if os.path.isabs(target) or not (below + b"/").startswith(b"/-/"):
         return {**line, "state": "left", "why": f"it is a link that leads out of the tree, to {shown(target)}"}
     place = os.path.join(root, path)
     try:
