@@ -242,6 +242,8 @@ def compress(words: Words) -> int:
         listing = Listing(words.tree, going.progress)
         listing.start()
         going.work(job, _to_compress(listing, known, going, manifest, words), manifest.add)
+        # Workers that died meanwhile leave some too.
+        _remove_parts(words.out)
         with contextlib.suppress(OSError):
             manifest.sync()
         return going.end()
@@ -374,6 +376,7 @@ def restore(words: Words) -> int:
         job = Job("restore", words.tree, words.out, str(manifest.token))
         links: list[Line] = []
         going.work(job, _to_restore(manifest, last, going, links), lambda lines: None)
+        _remove_parts(words.tree)
         for line in [] if going.is_stopped else links:
             going.count(_linked(words.tree, path_in(line), bytes.fromhex(line["to_hex"])))
         return going.end()

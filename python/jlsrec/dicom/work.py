@@ -195,6 +195,13 @@ class Processes:
         self._pool.shutdown(wait=True, cancel_futures=True)
 
 
+def _silence() -> None:
+    """Has dask say nothing on standard error: what counts of its errors is raised, and said in a line."""
+    for name in ["distributed", "tornado", "asyncio", *logging.root.manager.loggerDict]:
+        if name.partition(".")[0] in ("distributed", "tornado", "asyncio"):
+            logging.getLogger(name).setLevel(logging.CRITICAL + 1)
+
+
 def _begin(parent: int) -> None:
     """What a process of ours does first: it dies with its parent, which alone is told of Ctrl-C."""
     signal.signal(signal.SIGINT, signal.SIG_IGN)
@@ -212,7 +219,7 @@ class Dask:
             import distributed
         except ImportError:
             raise Refused("--dask wants dask.distributed; apt-get install python3-distributed has it") from None
-        logging.getLogger("distributed").setLevel(logging.CRITICAL)
+        _silence()
         self._distributed = distributed
         self._address = address
         self._finished = _Finished()
