@@ -478,6 +478,9 @@ runpy.run_module("jlsrec.dicom", run_name="__main__")
 """
 done = subprocess.run([sys.executable, "-c", hidden, "compress", "tree", "new"], stderr=subprocess.PIPE)
 case(f"no pydicom: {said(done)}", said(done) == "compress: it wants pydicom; apt-get install python3-pydicom has it\n")
+script = Path(manifest.__file__).parents[2] / "jlsrec-dicom"
+done = subprocess.run([sys.executable, "-W", "ignore", script, "compress", "tree", "by_script"], stderr=subprocess.PIPE)
+case(f"the command itself: {said(done)}", done.returncode == 0 and made("by_script") == made("out"))
 done = subprocess.run([*COMMAND, "compress", "tree", "out", "--jobs", "0"], stderr=subprocess.PIPE)
 case(f"no jobs: {said(done)}", done.returncode == 2)
 
