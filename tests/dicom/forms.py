@@ -1,6 +1,6 @@
 """Files of all forms, compressed, read by others, restored byte for byte, and found if a bit of them changes.
 
-    python3 forms.py
+    python3 forms.py [--long]
 
 What is expected is the source's, by pydicom, and what DCMTK and GDCM read, if they are there.
 """
@@ -22,6 +22,7 @@ from pydicom.data import get_testdata_files
 from cases import case, end
 from makes import forms, others
 
+CHANGED = 3000 if "--long" in sys.argv else 300
 LOSSLESS = "1.2.840.10008.1.2.4.80"
 PIXELS = {0x7FE00010, 0x7FE00000, 0x00280006}
 
@@ -165,6 +166,35 @@ for name in sorted(wanted):
     back = Path("tree_back", name)
     case(f"{name}: back as it was, or not at all", not back.exists() or back.read_bytes() == Path("tree", name).read_bytes())
     case(f"{name}: back if it isn't damaged", back.exists() or name in damaged)
+
+# ---- bytes that are changed anywhere: each file is coded or copied, and comes back
+
+os.mkdir("changed")
+originals = [Path("tree", name).read_bytes() for name in ("explicit_all", "implicit_all", "explicit_tail", "implicit_tail", "explicit_colour_1_3_8")]
+for number in range(CHANGED):
+    data = bytearray(originals[number % len(originals)])
+    # Most of them before the pixel data, where the elements are.
+    for _ in range(drawn.choice((1, 1, 2, 5))):
+        at = drawn.randrange(min(len(data), drawn.choice((400, 1500, len(data)))))
+        how = drawn.randrange(4)
+        if how == 0:
+            data[at] ^= 1 << drawn.randrange(8)
+        elif how == 1:
+            data[at : at + 4] = drawn.choice((b"\xff\xff\xff\xff", b"\0\0\0\0", b"\xfe\xff\0\xe0", b"\xfe\xff\xdd\xe0"))
+        elif how == 2:
+            del data[at : at + drawn.randrange(1, 9)]
+        else:
+            data[at:at] = drawn.randbytes(drawn.randrange(1, 9))
+    Path("changed", str(number)).write_bytes(data)
+done = run("compress", "changed", "changed_out")
+case(f"changed files: {done.stderr[-500:]}", done.returncode == 0)
+states = [line["state"] for line in lines("changed_out").values()]
+case(f"changed files: {states.count('compressed')} coded, {states.count('copied')} copied", len(states) == CHANGED)
+case("changed files: some of both", min(states.count("compressed"), states.count("copied")) > CHANGED // 10)
+done = run("restore", "changed_out", "changed_back")
+case(f"changed files: back {done.stderr[-500:]}", done.returncode == 0)
+for name in os.listdir("changed"):
+    case(f"changed {name} is back", Path("changed", name).read_bytes() == Path("changed_back", name).read_bytes())
 
 # ---- a second decoder
 

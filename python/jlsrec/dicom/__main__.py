@@ -11,6 +11,9 @@ import sys
 from . import Refused
 
 
+INTERRUPTED = 130
+
+
 def main(program: str = "jlsrec-dicom") -> int:
     """Runs one of the commands, for what is called so.
 
@@ -29,6 +32,8 @@ def main(program: str = "jlsrec-dicom") -> int:
         name = f"{os.fsdecode(error.filename)}: " if error.filename else ""
         print(f"{words.command}: {name}{error.strerror or error}", file=sys.stderr)
         return 1
+    except KeyboardInterrupt:
+        return INTERRUPTED
 
 
 def _run(words: argparse.Namespace) -> int:

@@ -323,7 +323,10 @@ class Plan:
     def _check_way_back(self) -> None:
         """Raises Left if the front or the tail wouldn't come back from the coded file byte for byte."""
         data = self.coded_front(0)
-        back = _front(data, len(data) + 8)
+        try:
+            back = _front(data, len(data) + 8)
+        except TooShort:
+            raise Left("its elements aren't whole") from None
         same = raw_front(back, self.origin, self.picture) == self.source.read(0, self.front.at)
         tail = _reencoded(back, self.coded_tail, self.front.is_explicit)
         if not same or tail != self.tail or self.pad not in (b"", b"\0"):

@@ -16,6 +16,7 @@ from typing import Any, Optional, Union
 
 import numpy as np
 
+from .._files import sync_folder
 from . import manifest, second
 from .coded import Damaged, Origin, Plan, raw_chunks, sum_of
 from .elements import Left
@@ -126,6 +127,7 @@ def _put(
     except (Damaged, OSError):
         raise Taken from None
     source.check()
+    sync_folder(os.path.dirname(place))
     return line
 
 

@@ -4,6 +4,7 @@ from __future__ import annotations
 
 import collections
 import json
+import shutil
 import sys
 import time
 from typing import Any, Optional
@@ -81,7 +82,7 @@ class Progress:
             return
         self._next = now + (OFTEN if self._is_terminal else SELDOM)
         if self._is_terminal:
-            text = self.text()
+            text = self.text()[: shutil.get_terminal_size().columns - 1]
             print(f"\r{text:<{self._width}}", end="", file=sys.stderr, flush=True)
             self._width = len(text)
         else:

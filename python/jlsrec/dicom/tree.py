@@ -203,11 +203,11 @@ class Run:
 
     @contextlib.contextmanager
     def _until_signalled(self) -> Iterator[None]:
-        """A first INT or TERM lets what is on its way end; a second one doesn't."""
+        """A first INT or TERM lets what is on its way end; a second one ends this and its processes at once."""
 
         def stop(number: int, frame: object) -> None:
             if self.is_stopped:
-                raise KeyboardInterrupt
+                os._exit(INTERRUPTED)
             self.stop("interrupted", INTERRUPTED)
 
         earlier = {number: signal.signal(number, stop) for number in (signal.SIGINT, signal.SIGTERM)}
