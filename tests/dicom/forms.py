@@ -164,13 +164,19 @@ for words in (["verify", "out"], ["verify", "out", "tree"], ["restore", "out", "
         case(f"{words}: each is told of {told ^ set(damaged)}", told == set(damaged))
 for name in sorted(wanted):
     back = Path("tree_back", name)
-    case(f"{name}: back as it was, or not at all", not back.exists() or back.read_bytes() == Path("tree", name).read_bytes())
+    case(
+        f"{name}: back as it was, or not at all",
+        not back.exists() or back.read_bytes() == Path("tree", name).read_bytes(),
+    )
     case(f"{name}: back if it isn't damaged", back.exists() or name in damaged)
 
 # ---- bytes that are changed anywhere: each file is coded or copied, and comes back
 
 os.mkdir("changed")
-originals = [Path("tree", name).read_bytes() for name in ("explicit_all", "implicit_all", "explicit_tail", "implicit_tail", "explicit_colour_1_3_8")]
+originals = [
+    Path("tree", name).read_bytes()
+    for name in ("explicit_all", "implicit_all", "explicit_tail", "implicit_tail", "explicit_colour_1_3_8")
+]
 for number in range(CHANGED):
     data = bytearray(originals[number % len(originals)])
     # Most of them before the pixel data, where the elements are.

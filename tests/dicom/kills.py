@@ -1,4 +1,6 @@
-"""Workers, clients and schedulers that are killed at drawn moments: nothing that has a name is torn, and the next run ends it.
+"""Workers, clients and schedulers that are killed at drawn moments: nothing that has a name is torn.
+
+The next run ends what one that was killed began.
 
     python3 kills.py [--long]
 """
@@ -19,7 +21,7 @@ from pathlib import Path
 import numpy as np
 
 from cases import case, end
-from jlsrec.dicom import places
+from jlsrec.dicom import each, places
 from makes import Form
 
 # How often is killed: of processes here, and by dask.
@@ -160,7 +162,10 @@ for command, words in (("restore", ("out", "back")), ("verify", ("out", "tree"))
         kill(client.pid)
         ended(client)
         made = files("back") if os.path.exists("back") else {}
-        case(f"{command} {number}: nothing is torn", all(data == Path("tree", path).read_bytes() for path, data in made.items()))
+        case(
+            f"{command} {number}: nothing is torn",
+            all(data == Path("tree", path).read_bytes() for path, data in made.items()),
+        )
         status = ended(start(command, *words, "--jobs", "2"))
         case(f"{command} {number}, then: {status} {told()}", status == 0)
         if command == "restore":
@@ -169,7 +174,8 @@ case("a verification leaves nothing", sorted(os.listdir("out")) == [*map(str, ra
 
 # ---- a file of which each worker dies
 
-Path("sitecustomize.py").write_text("""
+Path("sitecustomize.py").write_text(
+    """
 import os, sys
 if any("spawn_main" in word for word in sys.orig_argv):
     from jlsrec.dicom import places
@@ -179,13 +185,17 @@ if any("spawn_main" in word for word in sys.orig_argv):
             os.kill(os.getpid(), 9)
         real(self, path)
     places.Source.__init__ = __init__
-""")
+"""
+)
 shutil.rmtree("out")
 environment = {**os.environ, "PYTHONPATH": f"{os.getcwd()}:{os.environ['PYTHONPATH']}"}
 command = [*COMMAND, "compress", "tree", "out", "--jobs", "2", "--report", "report.json"]
 status = ended(subprocess.Popen(command, stderr=open("told", "wb"), env=environment))
 case(f"a deadly file: {status} {told()}", status == 1 and "2/16: 3 workers died of it" in told())
-case("a deadly file: all others are there", files("out") == {path: data for path, data in whole.items() if path != "2/16"})
+case(
+    "a deadly file: all others are there",
+    files("out") == {path: data for path, data in whole.items() if path != "2/16"},
+)
 failures = json.loads(Path("report.json").read_text())["failures"]
 case(f"a deadly file: the report {failures}", failures == [{"path": "2/16", "why": "3 workers died of it"}])
 os.unlink("sitecustomize.py")
@@ -206,7 +216,9 @@ class Cluster:
         self.end()
         with contextlib.suppress(FileNotFoundError):
             os.unlink("scheduler.json")
-        self.scheduler = self._start("scheduler", "--host", "127.0.0.1", "--port", "0", "--scheduler-file", "scheduler.json")
+        self.scheduler = self._start(
+            "scheduler", "--host", "127.0.0.1", "--port", "0", "--scheduler-file", "scheduler.json"
+        )
         while not os.path.exists("scheduler.json"):
             time.sleep(0.05)
         self.address = json.loads(Path("scheduler.json").read_text())["address"]
@@ -216,7 +228,15 @@ class Cluster:
         """Has two workers that live."""
         self.workers = [worker for worker in self.workers if worker.poll() is None]
         while len(self.workers) < 2:
-            words = ("--nthreads", "1", "--no-nanny", "--local-directory", f"{os.getcwd()}/dask", "--death-timeout", "60")
+            words = (
+                "--nthreads",
+                "1",
+                "--no-nanny",
+                "--local-directory",
+                f"{os.getcwd()}/dask",
+                "--death-timeout",
+                "60",
+            )
             self.workers.append(self._start("worker", self.address, *words))
 
     def _start(self, kind: str, *words: str) -> subprocess.Popen:
@@ -269,13 +289,28 @@ try:
             status = ended(client)
             said = told()
             is_told = "the same command goes on from here" in said or "no scheduler at" in said
-            case(f"{name}: it is told of: {status} {said}", status == 0 or status == 1 and is_told and "Traceback" not in said)
+            case(
+                f"{name}: it is told of: {status} {said}",
+                status == 0 or status == 1 and is_told and "Traceback" not in said,
+            )
             cluster.begin()
         is_sound(name)
         is_whole(f"{name}, then", ended(start("compress", "tree", "out", "--dask", cluster.address)))
     case("verified", ended(start("verify", "out", "tree", "--jobs", "2")) == 0)
 
-    # Workers that don't see OUT, and a scheduler that isn't there.
+    # A worker that hasn't the package, one that sees another OUT, and a scheduler that isn't there.
+    shutil.rmtree("out")
+    cluster.begin()
+    for worker in cluster.workers:
+        worker.kill()
+        worker.wait()
+    earlier = os.environ.pop("PYTHONPATH")
+    cluster.more()
+    os.environ["PYTHONPATH"] = earlier
+    status = ended(start("compress", "tree", "out", "--dask", cluster.address))
+    case(f"no package: {status} {told()}", status == 1 and "a worker can't work at all: ModuleNotFoundError" in told())
+    answered = each.do_batch(each.Job("compress", b"tree", b"out", "another"), [b"0/7"])
+    case(f"another OUT: {answered}", answered[0]["why"] == "this worker doesn't see OUT and its manifest")
     cluster.end()
     status = ended(start("compress", "tree", "out", "--dask", cluster.address))
     case(f"no scheduler: {status} {told()}", status == 1 and told().startswith("compress: there is no scheduler at "))

@@ -101,15 +101,22 @@ class Form:
         return self.front() + b"".join(parts) + pixels + self.tail
 
     def front(self) -> bytes:
-        meta = b"".join((
-            element(0x00020001, "OB", b"\0\1"),
-            element(0x00020002, "UI", b"1.2.840.10008.5.1.4.1.1.2\0"),
-            element(0x00020003, "UI", b"1.2.3.4\0"),
-            element(0x00020010, "UI", self.syntax + b"\0" * (len(self.syntax) % 2)),
-            element(0x00020012, "UI", b"1.2.3\0"),
-            self.meta,
-        ))
-        return b"A preamble of its own".ljust(128, b"\0") + b"DICM" + element(0x00020000, "UL", struct.pack("<I", len(meta))) + meta
+        meta = b"".join(
+            (
+                element(0x00020001, "OB", b"\0\1"),
+                element(0x00020002, "UI", b"1.2.840.10008.5.1.4.1.1.2\0"),
+                element(0x00020003, "UI", b"1.2.3.4\0"),
+                element(0x00020010, "UI", self.syntax + b"\0" * (len(self.syntax) % 2)),
+                element(0x00020012, "UI", b"1.2.3\0"),
+                self.meta,
+            )
+        )
+        return (
+            b"A preamble of its own".ljust(128, b"\0")
+            + b"DICM"
+            + element(0x00020000, "UL", struct.pack("<I", len(meta)))
+            + meta
+        )
 
     def pixels(self, explicit: bool) -> bytes:
         values = self.values
@@ -125,11 +132,17 @@ def private(explicit: bool) -> bytes:
     creator = element(0x00090010, "LO", text("A MAKER"), explicit)
     inner = element(0x00091002, "LO", text("within"), explicit)
     if not explicit:
-        return creator + element(0x00091001, "", b"\1\2\3\4\5\6", False) + sequence(0x00091003, [inner, inner], False) + (
-            sequence(0x00091004, [inner], False, defined=False)
+        return (
+            creator
+            + element(0x00091001, "", b"\1\2\3\4\5\6", False)
+            + sequence(0x00091003, [inner, inner], False)
+            + (sequence(0x00091004, [inner], False, defined=False))
         )
-    return creator + element(0x00091001, "UN", b"\1\2\3\4\5\6") + sequence(0x00091003, [inner, inner], True) + (
-        sequence(0x00091004, [element(0x00091002, "", text("implicit"), False)], True, "UN", defined=False)
+    return (
+        creator
+        + element(0x00091001, "UN", b"\1\2\3\4\5\6")
+        + sequence(0x00091003, [inner, inner], True)
+        + (sequence(0x00091004, [element(0x00091002, "", text("implicit"), False)], True, "UN", defined=False))
     )
 
 
@@ -139,10 +152,16 @@ def nested(explicit: bool) -> bytes:
     inner = sequence(0x00082218, [code, code], explicit, defined=False)
     deeper = sequence(0x00082112, [element(0x00081150, "UI", b"1.2\0", explicit) + inner], explicit)
     icon = b"".join(
-        element(tag, vr, value, explicit) for tag, vr, value in (
-            (0x00280002, "US", number(1)), (0x00280004, "CS", text("MONOCHROME2")), (0x00280010, "US", number(2)),
-            (0x00280011, "US", number(2)), (0x00280100, "US", number(8)), (0x00280101, "US", number(8)),
-            (0x00280102, "US", number(7)), (0x00280103, "US", number(0)),
+        element(tag, vr, value, explicit)
+        for tag, vr, value in (
+            (0x00280002, "US", number(1)),
+            (0x00280004, "CS", text("MONOCHROME2")),
+            (0x00280010, "US", number(2)),
+            (0x00280011, "US", number(2)),
+            (0x00280100, "US", number(8)),
+            (0x00280101, "US", number(8)),
+            (0x00280102, "US", number(7)),
+            (0x00280103, "US", number(0)),
         )
     ) + element(0x7FE00010, "OB" if explicit else "OW", b"\1\2\3\4", explicit)
     return (
@@ -207,7 +226,12 @@ def forms() -> dict[str, Form]:
                 for frames in (1, 3):
                     allocated = 8 if bits <= 8 else 16
                     made[f"{name}_{bits}_{signed}_{frames}"] = Form(
-                        gray(bits, frames, signed), bits, allocated, signed, syntax=syntax, vr="OB" if bits <= 8 else "OW"
+                        gray(bits, frames, signed),
+                        bits,
+                        allocated,
+                        signed,
+                        syntax=syntax,
+                        vr="OB" if bits <= 8 else "OW",
                     )
         made[f"{name}_8_in_16"] = Form(gray(8), 8, 16, syntax=syntax)
         made[f"{name}_8_signed_in_16"] = Form(gray(8, 2, 1), 8, 16, 1, syntax=syntax)
@@ -218,7 +242,12 @@ def forms() -> dict[str, Form]:
             for frames in (1, 3):
                 for bits in (8, 12, 16):
                     made[f"{name}_colour_{planar}_{frames}_{bits}"] = Form(
-                        colour(bits, frames), bits, 8 if bits == 8 else 16, photometric="RGB", planar=planar, syntax=syntax
+                        colour(bits, frames),
+                        bits,
+                        8 if bits == 8 else 16,
+                        photometric="RGB",
+                        planar=planar,
+                        syntax=syntax,
                     )
         made[f"{name}_ybr"] = Form(colour(8), 8, 8, photometric="YBR_FULL", planar=0, syntax=syntax)
         made[f"{name}_odd_colour"] = Form(colour(8, 1, (3, 5)), 8, 8, photometric="RGB", planar=1, syntax=syntax)
@@ -226,10 +255,17 @@ def forms() -> dict[str, Form]:
         made[f"{name}_one_sample"] = Form(gray(12, shape=(1, 1)), syntax=syntax)
         made[f"{name}_no_frames_said"] = Form(gray(12), frames="", syntax=syntax)
         made[f"{name}_all"] = Form(
-            gray(12, 2), syntax=syntax, early=[nested, private, patient], late=[tables], after=[overlay], group_lengths=True
+            gray(12, 2),
+            syntax=syntax,
+            early=[nested, private, patient],
+            late=[tables],
+            after=[overlay],
+            group_lengths=True,
         )
         made[f"{name}_tail"] = Form(
-            gray(12), syntax=syntax, late=[tables],
+            gray(12),
+            syntax=syntax,
+            late=[tables],
             tail=sequence(0xFFFAFFFA, [element(0x04000005, "US", number(1), syntax == EXPLICIT)], syntax == EXPLICIT)
             + (PADDING if syntax == EXPLICIT else element(0xFFFCFFFC, "", bytes(60), False)),
         )
@@ -237,7 +273,9 @@ def forms() -> dict[str, Form]:
         # What can't be coded, or wouldn't come back byte for byte.
         copied = {
             "overlay_in_bits": Form(gray(12), unused=0x8000, copied="bits above its Bits Stored are in use"),
-            "overlay_in_signed": Form(gray(12, 1, 1) & 0x0FFF, signed=1, copied="bits above its Bits Stored are in use"),
+            "overlay_in_signed": Form(
+                gray(12, 1, 1) & 0x0FFF, signed=1, copied="bits above its Bits Stored are in use"
+            ),
             "high_bit": Form(gray(12) << 4, high=15, copied="16 bits a sample, 12 of them stored"),
             "half_of_it": Form(gray(12, 2), frames="3", copied="its pixel data say"),
             "more_of_it": Form(gray(12, 2), frames="1", copied="its pixel data say"),
@@ -247,12 +285,14 @@ def forms() -> dict[str, Form]:
             "odd_planar": Form(colour(8), 8, 8, photometric="RGB", planar=2, copied="Planar Configuration is 2"),
             "odd_pad": Form(gray(8, shape=(3, 3)), 8, 8, pad=b"\7", copied="byte for byte"),
             "wrong_group_length": Form(
-                gray(12), early=[lambda explicit: element(0x00080000, "UL", struct.pack("<I", 2), explicit)],
+                gray(12),
+                early=[lambda explicit: element(0x00080000, "UL", struct.pack("<I", 2), explicit)],
                 copied="byte for byte" if syntax == IMPLICIT else None,
             ),
             "thirty_two": Form(gray(16), 16, 32, copied="32 bits a sample"),
             "out_of_order": Form(
-                gray(12), early=[patient, lambda explicit: element(0x00080060, "CS", b"CT", explicit)],
+                gray(12),
+                early=[patient, lambda explicit: element(0x00080060, "CS", b"CT", explicit)],
                 copied="out of order",
             ),
             "twice": Form(gray(12), early=[patient, patient], copied="out of order"),
@@ -260,7 +300,9 @@ def forms() -> dict[str, Form]:
         for each, form in copied.items():
             form.syntax = syntax
             made[f"{name}_{each}"] = form
-    made["implicit_rubbish_behind"] = Form(gray(12), syntax=IMPLICIT, tail=b"rubbish", copied="breaks off within an element")
+    made["implicit_rubbish_behind"] = Form(
+        gray(12), syntax=IMPLICIT, tail=b"rubbish", copied="breaks off within an element"
+    )
     made["explicit_rubbish_behind"] = Form(gray(12), tail=b"rubbish behind")
     made["explicit_zeros_behind"] = Form(gray(12), tail=bytes(512))
     made["unknown_vr"] = Form(gray(12), early=[lambda e: b"\x08\0\x60\0??\2\0CT"], copied="no value representation")
@@ -269,14 +311,19 @@ def forms() -> dict[str, Form]:
     made["jpeg"] = Form(gray(12), syntax=b"1.2.840.10008.1.2.4.70", copied="1.2.840.10008.1.2.4.70")
     made["jpeg_ls"] = Form(gray(12), syntax=b"1.2.840.10008.1.2.4.80", copied="1.2.840.10008.1.2.4.80")
     made["no_syntax"] = Form(gray(12), syntax=b"", copied="not named")
-    made["private_meta"] = Form(gray(12), meta=element(0x00020100, "UI", b"1.2.9\0") + element(0x00020102, "OB", b"\1\2"))
+    made["private_meta"] = Form(
+        gray(12), meta=element(0x00020100, "UI", b"1.2.9\0") + element(0x00020102, "OB", b"\1\2")
+    )
     return made
 
 
 def others() -> dict[str, bytes]:
     """Files that aren't whole or aren't DICOM, by their names."""
     whole = Form(np.arange(600).reshape(1, 20, 30), early=[nested, private, patient]).data()
-    made = {f"cut_at_{count}": whole[:count] for count in (0, 1, 127, 131, 132, 140, 200, 400, 900, len(whole) - 1201, len(whole) - 1)}
+    made = {
+        f"cut_at_{count}": whole[:count]
+        for count in (0, 1, 127, 131, 132, 140, 200, 400, 900, len(whole) - 1201, len(whole) - 1)
+    }
     made["text.txt"] = b"Not DICOM at all\n"
     made["no_preamble"] = whole[132:]
     made["no_pixels"] = whole[: whole.index(b"\xe0\x7f\x10\0OW")]

@@ -24,7 +24,7 @@ import pydicom
 
 from cases import case, end
 from jlsrec.dicom import coded, each, manifest, places
-from makes import Form, forms
+from makes import Form
 
 drawn = np.random.default_rng(31)
 COMMAND = [sys.executable, "-W", "ignore", "-m", "jlsrec.dicom"]
@@ -103,7 +103,17 @@ home = os.getcwd()
 # ---- names of any bytes, links, pipes
 
 fresh("a/b/c.dcm", "a/a.part", "same.dcm")
-odd = [b"\xff\xfe\x80.dcm", b"new\nline", b" lead", b"-dash", b"'\"$`\\", "ünï ✓".encode(), b"n" * 255, b"\x1b[2J", b"manifest.jsonl.1"]
+odd = [
+    b"\xff\xfe\x80.dcm",
+    b"new\nline",
+    b" lead",
+    b"-dash",
+    b"'\"$`\\",
+    "ünï ✓".encode(),
+    b"n" * 255,
+    b"\x1b[2J",
+    b"manifest.jsonl.1",
+]
 for name in odd:
     with open(os.path.join(b"tree", name), "wb") as file:
         file.write(slice_of())
@@ -113,7 +123,14 @@ os.makedirs("tree/empty/within")
 Path("secret").write_bytes(b"not of the tree")
 os.mkdir("elsewhere")
 Path("elsewhere/file").write_bytes(slice_of())
-inside = {b"l1": b"same.dcm", b"a/l2": b"../same.dcm", b"l3": b"a/b", b"l4": b"nowhere", b"l5": b".", b"a/\xff": b"\xfe"}
+inside = {
+    b"l1": b"same.dcm",
+    b"a/l2": b"../same.dcm",
+    b"l3": b"a/b",
+    b"l4": b"nowhere",
+    b"l5": b".",
+    b"a/\xff": b"\xfe",
+}
 outside = {b"o1": b"../secret", b"a/o2": b"../../elsewhere", b"o3": b"/etc/passwd", b"o4": b"../tree/same.dcm"}
 for name, target in {**inside, **outside}.items():
     os.symlink(target, os.path.join(b"tree", name))
@@ -127,8 +144,14 @@ case("names: the tree is as it was", below("tree") == before)
 found = lines("out")
 wanted = set(before) | {b"pipe", b"socket"}
 case(f"names: each has a line {wanted ^ set(found)}", set(found) == wanted)
-case("names: each file is compressed", all(found[n]["state"] == "compressed" for n, what in before.items() if n not in inside and n not in outside))
-case("links inside are made again", all(os.readlink(os.path.join(b"out", name)) == target for name, target in inside.items()))
+case(
+    "names: each file is compressed",
+    all(found[n]["state"] == "compressed" for n, what in before.items() if n not in inside and n not in outside),
+)
+case(
+    "links inside are made again",
+    all(os.readlink(os.path.join(b"out", name)) == target for name, target in inside.items()),
+)
 case("links that lead out are told of", all(found[name]["state"] == "left" for name in outside))
 case("and aren't made", not any(os.path.lexists(os.path.join(b"out", name)) for name in outside))
 case("pipes are told of", found[b"pipe"]["state"] == found[b"socket"]["state"] == "left")
@@ -139,7 +162,10 @@ done = run("verify", "out", "tree")
 case(f"names: verified {said(done)}", done.returncode == 0)
 done = run("restore", "out", "back")
 case(f"names: restored {said(done)}", done.returncode == 0)
-case("names: all is back, but what leads out", below("back") == {n: what for n, what in before.items() if n not in outside})
+case(
+    "names: all is back, but what leads out",
+    below("back") == {n: what for n, what in before.items() if n not in outside},
+)
 case("names: empty folders too", os.path.isdir("back/empty/within"))
 no_parts("names")
 
@@ -156,7 +182,11 @@ if os.geteuid() == 0:
             os.chmod(folder, 0o755)
     os.mkdir("out")
     os.chown("out", 65534, 65534)
-probe = subprocess.run([*as_user, sys.executable, "-c", "import jlsrec; open('tree/a.dcm')"], stderr=subprocess.PIPE) if shutil.which("setpriv") or not as_user else None
+probe = (
+    subprocess.run([*as_user, sys.executable, "-c", "import jlsrec; open('tree/a.dcm')"], stderr=subprocess.PIPE)
+    if shutil.which("setpriv") or not as_user
+    else None
+)
 if probe is None or probe.returncode != 0:
     print("a file that can't be read: not tested, since there is no other user here who could run it")
 else:
@@ -168,7 +198,10 @@ else:
     os.chmod("tree/b.dcm", 0o644)
     os.chmod("tree/closed", 0o755)
     done = run("compress", "tree", "out", before=as_user)
-    case(f"readable again: {said(done)}", done.returncode == 0 and set(made("out")) == {b"a.dcm", b"b.dcm", b"closed/c.dcm"})
+    case(
+        f"readable again: {said(done)}",
+        done.returncode == 0 and set(made("out")) == {b"a.dcm", b"b.dcm", b"closed/c.dcm"},
+    )
 os.chmod("tree/closed", 0o755)
 
 # ---- a file that changes while it is read
@@ -240,6 +273,7 @@ os.mkdir("out")
 listed = manifest.Manifest(b"out", True)
 real_sync = places.Part.sync
 for at in (5, 140, 160, 300, 420, 700, 1300, -1):
+
     def sync(self, like, at=at):
         real_sync(self, like)
         with open(self.path, "r+b") as file:
@@ -283,7 +317,10 @@ os.link, os.rename = real_link, real_rename
 case("ended before the rename: the place is empty", made("out")[b"b.dcm"] == b"")
 listed.close()
 done = run("compress", "tree", "out")
-case(f"ended before the rename, then: {said(done)}", done.returncode == 0 and run("verify", "out", "tree").returncode == 0)
+case(
+    f"ended before the rename, then: {said(done)}",
+    done.returncode == 0 and run("verify", "out", "tree").returncode == 0,
+)
 no_parts("no hard links")
 
 # ---- full disks
@@ -319,7 +356,11 @@ then=0
 echo "$status $then" >statuses
 """
 os.mkdir("disk")
-done = subprocess.run(["unshare", "-m", "bash", "-c", disk, "bash", *COMMAND], stderr=subprocess.PIPE) if shutil.which("unshare") else None
+done = (
+    subprocess.run(["unshare", "-m", "bash", "-c", disk, "bash", *COMMAND], stderr=subprocess.PIPE)
+    if shutil.which("unshare")
+    else None
+)
 if done is None or b"ermi" in done.stderr and b"mount" in done.stderr or b"unshare" in done.stderr:
     print("a full disk: not tested, since nothing may be mounted here")
 else:
@@ -335,7 +376,10 @@ os.mkdir("out")
 listed = manifest.Manifest(b"out", True)
 for words in (["compress", "tree", "out"], ["verify", "out"], ["restore", "out", "back"]):
     done = run(*words)
-    case(f"two at once: {said(done)}", done.returncode == 1 and said(done).endswith("/here/out: another run is at work on it\n"))
+    case(
+        f"two at once: {said(done)}",
+        done.returncode == 1 and said(done).endswith("/here/out: another run is at work on it\n"),
+    )
 case("two at once: nothing is made", made("out") == {} and not os.path.exists("back"))
 listed.close()
 case("one after the other", run("compress", "tree", "out").returncode == 0)
@@ -346,8 +390,10 @@ fresh("a.dcm", "b/c.dcm")
 os.makedirs("out")
 Path("out/mine").write_bytes(b"mine")
 for text, content in (
-    ("it has files, and no manifest", None), ("it is no manifest of jlsrec-dicom", b'{"mine": 1}\n'),
-    ("it is no manifest of jlsrec-dicom", b"mine"), ("it is no manifest of jlsrec-dicom", b'{"format": "jlsrec-dicom 9"}\n'),
+    ("it has files, and no manifest", None),
+    ("it is no manifest of jlsrec-dicom", b'{"mine": 1}\n'),
+    ("it is no manifest of jlsrec-dicom", b"mine"),
+    ("it is no manifest of jlsrec-dicom", b'{"format": "jlsrec-dicom 9"}\n'),
 ):
     if content is not None:
         Path("out/manifest.jsonl").write_bytes(content)
@@ -360,7 +406,10 @@ for words in (["tree", "tree"], ["tree", "tree/out"], ["tree/b", "tree"], ["nowh
     case(f"{words}: {said(done)}", done.returncode == 1 and below(".") == before and "Traceback" not in said(done))
 os.symlink("tree/b", "aside")
 done = run("compress", "tree", "aside/out")
-case(f"a folder in the tree by a link: {said(done)}", done.returncode == 1 and below("tree").keys() == {b"a.dcm", b"b/c.dcm"})
+case(
+    f"a folder in the tree by a link: {said(done)}",
+    done.returncode == 1 and below("tree").keys() == {b"a.dcm", b"b/c.dcm"},
+)
 os.mkdir("lost")
 os.mkdir("lost/lost+found")
 case("a new disk", run("compress", "tree", "lost").returncode == 0)
@@ -377,7 +426,10 @@ case(f"without lines what stands is taken up: {said(done)}", done.returncode == 
 case("and isn't made again", run("verify", "out", "tree").returncode == 0)
 os.unlink("out/a.dcm")
 done = run("compress", "tree", "out")
-case(f"what is gone is made again: {said(done)}", done.returncode == 0 and made("out") == whole and "4 done before" in said(done))
+case(
+    f"what is gone is made again: {said(done)}",
+    done.returncode == 0 and made("out") == whole and "4 done before" in said(done),
+)
 Path("tree/e.dcm").write_bytes(slice_of())
 Path("out/e.dcm").write_bytes(b"another's")
 Path("tree/b.dcm").write_bytes(slice_of(2))
@@ -385,9 +437,16 @@ os.truncate("out/c.dcm", 100)
 done = run("compress", "tree", "out")
 after = made("out")
 case(f"another's file, a changed source, a torn file: {said(done)}", done.returncode == 1)
-for name, why in (("e.dcm", "there is another file"), ("b.dcm", "it isn't what was compressed"), ("c.dcm", "OUT has another file")):
+for name, why in (
+    ("e.dcm", "there is another file"),
+    ("b.dcm", "it isn't what was compressed"),
+    ("c.dcm", "OUT has another file"),
+):
     case(f"{name} is told of", f"compress: {name}: {why}" in said(done))
-case("all three are left", after[b"e.dcm"] == b"another's" and after[b"b.dcm"] == whole[b"b.dcm"] and len(after[b"c.dcm"]) == 100)
+case(
+    "all three are left",
+    after[b"e.dcm"] == b"another's" and after[b"b.dcm"] == whole[b"b.dcm"] and len(after[b"c.dcm"]) == 100,
+)
 case("the line that holds is that of the file", lines("out")[b"b.dcm"]["state"] == "compressed")
 done = run("verify", "out", "tree")
 told = {line.split(": ")[1] for line in said(done).splitlines()[:-1]}
@@ -418,18 +477,38 @@ fresh("a.dcm", "b.dcm", "c.dcm")
 case("a manifest", run("compress", "tree", "out").returncode == 0)
 whole, text = made("out"), Path("out/manifest.jsonl").read_bytes()
 cuts = random.Random(7)
-for cut in [0, 1, 30, text.index(b"\n"), text.index(b"\n") + 1, len(text) - 1, *(cuts.randrange(len(text)) for _ in range(4))]:
+for cut in [
+    0,
+    1,
+    30,
+    text.index(b"\n"),
+    text.index(b"\n") + 1,
+    len(text) - 1,
+    *(cuts.randrange(len(text)) for _ in range(4)),
+]:
     for tail in (b"", bytes(100)) if cut < 40 else (bytes(10),):
         Path("out/manifest.jsonl").write_bytes(text[:cut] + tail)
         done = run("compress", "tree", "out", jobs=1)
-        case(f"cut at {cut}: {said(done)}", done.returncode == 0 and made("out") == whole and set(lines("out")) == set(whole))
+        case(
+            f"cut at {cut}: {said(done)}",
+            done.returncode == 0 and made("out") == whole and set(lines("out")) == set(whole),
+        )
 rows = text.splitlines(True)
-for bad in (b"{\n", b'{"path": "a.dcm"}\n', b'{"path": "../a", "state": "copied"}\n', b"[]\n", b'{"path": "/etc/x", "state": "link"}\n'):
+for bad in (
+    b"{\n",
+    b'{"path": "a.dcm"}\n',
+    b'{"path": "../a", "state": "copied"}\n',
+    b"[]\n",
+    b'{"path": "/etc/x", "state": "link"}\n',
+):
     Path("out/manifest.jsonl").write_bytes(rows[0] + rows[1] + bad + rows[2])
     before = below(".")
     for words in (["compress", "tree", "out"], ["restore", "out", "back"], ["verify", "out"]):
         done = run(*words, jobs=1)
-        case(f"{words} with {bad}: {said(done)}", done.returncode == 1 and "manifest" in said(done) and "Traceback" not in said(done))
+        case(
+            f"{words} with {bad}: {said(done)}",
+            done.returncode == 1 and "manifest" in said(done) and "Traceback" not in said(done),
+        )
     after = {path: what for path, what in below(".").items()}
     case(f"with {bad} nothing is made", after == before)
 
@@ -450,12 +529,24 @@ Path("tree/text").write_bytes(b"no DICOM")
 done = run("compress", "tree", "out", "--report", "report.json")
 report = json.loads(Path("report.json").read_text())
 size = sum(os.path.getsize(f"tree/{name}") for name in os.listdir("tree"))
-wanted = {"command": "compress", "finished": True, "files": 6, "compressed": 5, "copied": 1, "bytes_before": size, "failures": []}
+wanted = {
+    "command": "compress",
+    "finished": True,
+    "files": 6,
+    "compressed": 5,
+    "copied": 1,
+    "bytes_before": size,
+    "failures": [],
+}
 case(f"the report: {report}", wanted.items() <= report.items() and report["copied_since"] == {"it is no DICOM file": 1})
 case(f"what is said: {said(done)}", said(done).startswith("compress: 5 compressed, 1 copied; "))
 for name, line in lines("out").items():
     source, here = Path("tree", name.decode()).read_bytes(), Path("out", name.decode()).read_bytes()
-    case(f"{name}: its sums", line["sha256_before"] == hashlib.sha256(source).hexdigest() and line["sha256"] == hashlib.sha256(here).hexdigest())
+    case(
+        f"{name}: its sums",
+        line["sha256_before"] == hashlib.sha256(source).hexdigest()
+        and line["sha256"] == hashlib.sha256(here).hexdigest(),
+    )
     case(f"{name}: its sizes", (line["bytes_before"], line["bytes_after"]) == (len(source), len(here)))
     if line["state"] == "compressed":
         case(f"{name}: its values' sum", line["sha256_values"] == hashlib.sha256(values(source).tobytes()).hexdigest())
@@ -499,7 +590,10 @@ if "--long" in sys.argv:
     done = run("compress", "tree", "out", jobs=4)
     case(f"10,000 files again: {said(done)}", "10,000 done before" in said(done))
     case("10,000 files verified", run("verify", "out", "tree", jobs=4).returncode == 0)
-    case("10,000 files restored", run("restore", "out", "back", jobs=4).returncode == 0 and below("back") == below("tree"))
+    case(
+        "10,000 files restored",
+        run("restore", "out", "back", jobs=4).returncode == 0 and below("back") == below("tree"),
+    )
     fresh()
     form = Form(drawn.integers(0, 4096, (1, 1024, 1024)), frames="1536")
     front, frame = form.data()[: -2 * 1024 * 1024], form.data()[-2 * 1024 * 1024 :]

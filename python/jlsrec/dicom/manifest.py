@@ -6,7 +6,6 @@ its last line holds. A last line that has no end was torn, and is cut off by the
 
 from __future__ import annotations
 
-import errno
 import fcntl
 import json
 import os

@@ -7,7 +7,7 @@ import json
 import shutil
 import sys
 import time
-from typing import Any, Optional
+from typing import Any
 
 from .._files import NewFile
 

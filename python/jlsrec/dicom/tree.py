@@ -159,7 +159,8 @@ class Run:
         batch: list[Any] = []
         count = 0
         for item in items:
-            self.progress.tell()
+            if self._look():
+                return
             if item is not None:
                 batch.append(item[0])
                 count += item[1]
@@ -174,7 +175,7 @@ class Run:
         workers = self.workers()
         try:
             with self._until_signalled():
-                run(workers, job, self.batched(items), self._counting(done), lambda: self._look())
+                run(workers, job, self.batched(items), self._counting(done), self._look)
         except Lost as why:
             self.stop(str(why))
         finally:

@@ -262,6 +262,8 @@ class Dask:
         except (concurrent.futures.CancelledError, OSError, TimeoutError, self._distributed.TimeoutError):
             self._check()
             raise Died from None
+        except Exception as error:
+            raise Lost(f"a worker can't work at all: {type(error).__name__}: {error}") from None
 
     def renew(self) -> None:
         """The scheduler has other workers, or gets them."""
