@@ -89,32 +89,38 @@ def _add_trees(commands: argparse._SubParsersAction) -> None:
     compress = commands.add_parser(
         "compress",
         help="a tree of DICOM files to JPEG-LS, each compared with its source",
-        description="Makes of each DICOM file of TREE one of OUT in JPEG-LS lossless, and compares it byte for byte with "
-        "what it was made of. What can't be coded is copied. TREE is only read. The same command goes on where it ended.",
+        description="Makes of each DICOM file of TREE one of OUT in JPEG-LS lossless, and compares it byte for byte "
+        "with what it was made of. What can't be coded is copied. TREE is only read. The same command goes on where it "
+        "was ended.",
     )
     compress.add_argument("tree", metavar="TREE", help="a folder, which is only read")
     compress.add_argument("out", metavar="OUT", help="an empty folder, or that of an earlier run")
-    compress.add_argument("--second", choices=["gdcm", "dcmtk"], help="have this decoder read the values too, and compare")
+    compress.add_argument(
+        "--second", choices=["gdcm", "dcmtk"], help="have this decoder read the values too, and compare"
+    )
     restore = commands.add_parser(
         "restore",
         help="a compressed tree back, byte for byte",
-        description="Makes of each file of OUT the one that it was made of, byte for byte. The same command goes on where "
-        "it ended. No file is replaced.",
+        description="Makes of each file of OUT the one that it was made of, byte for byte. The same command goes on "
+        "where it was ended. No file is replaced.",
     )
     restore.add_argument("out", metavar="OUT", help="a folder that a tree was compressed into")
     restore.add_argument("tree", metavar="TREE", help="the folder that gets the files")
     verify = commands.add_parser(
         "verify",
         help="whether a compressed tree is what its manifest says",
-        description="Looks at the sums of each file of OUT, of its values and of its source, and compares it with TREE's "
-        "file if TREE is named. The same command goes on where it was ended.",
+        description="Looks at the sums of each file of OUT, of its values and of its source, and compares it with "
+        "TREE's file if TREE is named. The same command goes on where it was ended.",
     )
     verify.add_argument("out", metavar="OUT", help="a folder that a tree was compressed into")
     verify.add_argument("tree", metavar="TREE", nargs="?", help="the tree that it was compressed of")
     for command in (compress, restore, verify):
         workers = command.add_mutually_exclusive_group()
         workers.add_argument(
-            "--jobs", type=_count, default=len(os.sched_getaffinity(0)), metavar="N",
+            "--jobs",
+            type=_count,
+            default=len(os.sched_getaffinity(0)),
+            metavar="N",
             help="how many processes work at it; by default as many as there are processors",
         )
         workers.add_argument("--dask", metavar="ADDRESS", help="have the workers of this dask scheduler do it")

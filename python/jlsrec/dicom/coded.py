@@ -1,8 +1,8 @@
 """A DICOM file with its frames as JPEG-LS codestreams, and the file that it was made of, byte for byte.
 
 A file is its front (preamble, meta information and the elements before the pixel data), its frames, and its tail. In
-transfer syntax 1.2.840.10008.1.2.4.80 each frame is a codestream, a fragment of its own behind a basic offset table. The
-front and the tail stay what they are in explicit little endian; of an implicit file each element gets its value
+transfer syntax 1.2.840.10008.1.2.4.80 each frame is a codestream, a fragment of its own after a basic offset table.
+The front and the tail stay what they are in explicit little endian; of an implicit file each element gets its value
 representation. Nothing else changes but the transfer syntax, Planar Configuration, which is 0 then, and the lengths of
 groups that say theirs. So the file can be made again from its coded one, and it is only coded if all of its bytes can.
 """
@@ -19,8 +19,20 @@ import numpy as np
 
 from .. import JlsrecError, decode, encode
 from .elements import (
-    ITEM, MAGIC, META, META_LENGTH, PIXEL_DATA, SEQUENCE_END, TRANSFER_SYNTAX, UNDEFINED, Left, TooShort, converted,
-    element_at, head_at, shown_tag,
+    ITEM,
+    MAGIC,
+    META,
+    META_LENGTH,
+    PIXEL_DATA,
+    SEQUENCE_END,
+    TRANSFER_SYNTAX,
+    UNDEFINED,
+    Left,
+    TooShort,
+    converted,
+    element_at,
+    head_at,
+    shown_tag,
 )
 
 JPEG_LS_LOSSLESS = "1.2.840.10008.1.2.4.80"
@@ -225,7 +237,9 @@ def picture_of(front: Front) -> Picture:
     colors, planar = front.number(COLORS), planar_of(front)
     photometric = front.values.get(PHOTOMETRIC, b"").rstrip(b"\0 ").decode("ascii", "backslashreplace")
     if photometric not in WHOLE.get(colors, set()):
-        raise Left(f"it has {colors} samples a pixel and the photometric interpretation {photometric or 'that it lacks'}")
+        raise Left(
+            f"it has {colors} samples a pixel and the photometric interpretation {photometric or 'that it lacks'}"
+        )
     if planar not in (0, 1):
         raise Left(f"its Planar Configuration is {planar}")
     allocated, stored, high = front.number(ALLOCATED), front.number(STORED), front.number(HIGH_BIT)

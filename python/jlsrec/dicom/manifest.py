@@ -144,7 +144,9 @@ class Manifest:
                     path_in(found)
                     found["state"]
                 except (ValueError, KeyError, TypeError, AttributeError):
-                    raise Refused(f"{shown(self.path)}: line {number} is damaged; without it its file is looked at anew") from None
+                    raise Refused(
+                        f"{shown(self.path)}: line {number} is damaged; without it its file is looked at anew"
+                    ) from None
                 yield found
 
     def last(self) -> dict[bytes, int]:

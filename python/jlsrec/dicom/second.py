@@ -61,7 +61,9 @@ def by_dcmtk(coded: Source, picture: Picture) -> Iterator[np.ndarray]:
         raw = os.path.join(room, "raw.dcm")
         done = subprocess.run(
             ["dcmdjpls", f"/proc/{os.getpid()}/fd/{coded.number}", raw],
-            stdin=subprocess.DEVNULL, stdout=subprocess.DEVNULL, stderr=subprocess.PIPE,
+            stdin=subprocess.DEVNULL,
+            stdout=subprocess.DEVNULL,
+            stderr=subprocess.PIPE,
         )
         if done.returncode != 0:
             said = done.stderr.decode(errors="replace").strip().splitlines() or [f"status {done.returncode}"]

@@ -1,8 +1,8 @@
 """A tree of DICOM files compressed into another one, restored and verified, each file for itself.
 
-A tree that is read is never written to, and no file that stands anywhere is replaced. What a run has done stays, however
-it ends: a file gets its name once it is on the disk and was compared, and its line in the manifest after that. So the
-next run of the same words goes on, and takes up a file that has no line yet if it is what it would have made.
+A tree that is read is never written to, and no existing file is replaced. What a run has done stays, however it ends:
+a file gets its name once it is on the disk and was compared, and its line in the manifest after that. So the next run
+of the same words goes on, and takes up a file that has no line yet if it is what it would have made.
 """
 
 from __future__ import annotations
@@ -238,11 +238,11 @@ def compress(words: Words) -> int:
     with contextlib.closing(Manifest(words.out, True)) as manifest:
         going = Run(words)
         _remove_parts(words.out)
-        known = {path_in(line): line_known(line) for line in manifest.lines() if line["state"] in KEPT}
+        known = Known(manifest)
         job = Job("compress", words.tree, words.out, str(manifest.token), words.second)
         listing = Listing(words.tree, going.progress)
         listing.start()
-        going.work(job, _to_compress(listing, known, going, manifest, words), manifest.add)
+        going.work(job, _to_compress(listing, known, going, manifest), manifest.add)
         # Workers that died meanwhile leave some too.
         _remove_parts(words.out)
         with contextlib.suppress(OSError):
@@ -250,45 +250,56 @@ def compress(words: Words) -> int:
         return going.end()
 
 
-def line_known(line: Line) -> tuple[int, int, int]:
-    """What is kept of a file's line in memory: its bytes and its time before, and its bytes after."""
-    return line["bytes_before"], line["mtime_ns"], line["bytes_after"]
+class Known:
+    """What the manifest says already: of a file its bytes and time before and its bytes after; else its line."""
+
+    def __init__(self, manifest: Manifest) -> None:
+        self.files: dict[bytes, tuple[int, int, int]] = {}
+        self.others: dict[bytes, Line] = {}
+        for line in manifest.lines():
+            if line["state"] in KEPT:
+                self.files[path_in(line)] = line["bytes_before"], line["mtime_ns"], line["bytes_after"]
+            elif line["state"] != "failed":
+                self.others[path_in(line)] = line
 
 
 def _to_compress(
-    listing: Listing, known: dict[bytes, tuple[int, int, int]], going: Run, manifest: Manifest, words: Words
+    listing: Listing, known: Known, going: Run, manifest: Manifest
 ) -> Iterator[Optional[tuple[bytes, int]]]:
     """The files that are to be compressed. What else there is gets its line here."""
+    out = going.words.out
     for entry in listing.entries():
         if entry is None:
             yield None
-        elif entry.is_file:
-            assert entry.stat is not None
-            line = _earlier(entry, known, words.out)
-            if line is not None:
+        elif entry.is_folder:
+            with contextlib.suppress(OSError):
+                make_folders(out, entry.path)
+        elif not entry.is_file:
+            line = _other(entry, going.words)
+            if known.others.get(entry.path) == line:
+                going.progress.skip(0)
+            else:
                 _record(line, going, manifest)
-            elif entry.path in known and standing(os.path.join(words.out, entry.path)) is not None:
+        else:
+            assert entry.stat is not None
+            there = standing(os.path.join(out, entry.path)) if entry.path in known.files else None
+            before, time, after = known.files.get(entry.path, (0, 0, 0))
+            why = "" if there is None else _difference(entry.stat, there, before, after)
+            if why:
+                _record(failed(entry.path, why), going, manifest)
+            elif there is not None and entry.stat.st_mtime_ns == time:
                 going.progress.skip(entry.stat.st_size)
             else:
                 yield entry.path, entry.stat.st_size
-        elif entry.is_folder:
-            with contextlib.suppress(OSError):
-                make_folders(words.out, entry.path)
-        else:
-            _record(_other(entry, words), going, manifest)
 
 
-def _earlier(entry: Entry, known: dict[bytes, tuple[int, int, int]], out: bytes) -> Optional[Line]:
+def _difference(source: os.stat_result, there: os.stat_result, before: int, after: int) -> str:
     """Why a file that has a line isn't what that says, here or in OUT; neither is touched then."""
-    there = standing(os.path.join(out, entry.path)) if entry.path in known else None
-    if there is None or entry.stat is None:
-        return None
-    before, time, after = known[entry.path]
-    if (entry.stat.st_size, entry.stat.st_mtime_ns) != (before, time):
-        return failed(entry.path, "it isn't what was compressed; OUT has it as it was then, and was left so")
+    if source.st_size != before:
+        return "it isn't what was compressed; OUT has it as it was then, and was left so"
     if not stat.S_ISREG(there.st_mode) or there.st_size != after:
-        return failed(entry.path, "OUT has another file of its name than the manifest says, which was left as it is")
-    return None
+        return "OUT has another file of its name than the manifest says, which was left as it is"
+    return ""
 
 
 def _record(line: Line, going: Run, manifest: Manifest) -> None:
@@ -389,7 +400,9 @@ def _lines_that_hold(manifest: Manifest, last: dict[bytes, int]) -> Iterator[Lin
             yield line
 
 
-def _to_restore(manifest: Manifest, last: dict[bytes, int], going: Run, links: list[Line]) -> Iterator[tuple[Line, int]]:
+def _to_restore(
+    manifest: Manifest, last: dict[bytes, int], going: Run, links: list[Line]
+) -> Iterator[tuple[Line, int]]:
     """The lines of files that OUT has. Links come after them all."""
     going.progress.files, going.progress.is_counted = len(last), True
     going.progress.bytes = sum(line.get("bytes_after", 0) for line in _lines_that_hold(manifest, last))
@@ -422,7 +435,9 @@ def verify(words: Words) -> int:
         return going.end()
 
 
-def _to_verify(manifest: Manifest, last: dict[bytes, int], going: Run, verified: Verified) -> Iterator[tuple[Line, int]]:
+def _to_verify(
+    manifest: Manifest, last: dict[bytes, int], going: Run, verified: Verified
+) -> Iterator[tuple[Line, int]]:
     """The lines of files that are to be looked at."""
     going.progress.files, going.progress.is_counted = len(last), True
     going.progress.bytes = sum(line.get("bytes_before", 0) for line in _lines_that_hold(manifest, last))
@@ -459,7 +474,10 @@ def _find_others(root: bytes, last: dict[bytes, int], going: Run, why: str) -> N
 
 
 class Verified:
-    """What a verification has found good, so that the next one goes on if it is ended. It goes once all was looked at."""
+    """What a verification has found good, so that the next one goes on if it is ended.
+
+    The file goes once all was looked at.
+    """
 
     def __init__(self, out: bytes, with_tree: bool) -> None:
         self.path = os.path.join(out, VERIFIED)

@@ -73,7 +73,10 @@ class Workers(Protocol):
 
 
 def run(
-    workers: Workers, job: Job, batches: Iterable[Sequence[Any]], done: Callable[[list[Line]], None],
+    workers: Workers,
+    job: Job,
+    batches: Iterable[Sequence[Any]],
+    done: Callable[[list[Line]], None],
     is_stopped: Callable[[], bool],
 ) -> None:
     """Has all batches done, and hands on their lines as they come. Once stopped it only waits for what is on its way.
