@@ -17,6 +17,7 @@ import socket
 import stat
 import subprocess
 import sys
+import tempfile
 from pathlib import Path
 
 import numpy as np
@@ -180,16 +181,17 @@ os.chmod("tree/closed", 0)
 as_user: list[str] = []
 if os.geteuid() == 0:
     as_user = ["setpriv", "--reuid=65534", "--regid=65534", "--clear-groups"]
-    for folder in (".", *map(str, Path(os.getcwd()).parents)):
-        if folder.startswith(home) or folder == ".":
-            os.chmod(folder, 0o755)
+    # Where another user may look.
+    aside = tempfile.mkdtemp()
+    os.chmod(aside, 0o755)
+    shutil.move("tree", aside)
+    os.chdir(aside)
     os.mkdir("out")
     os.chown("out", 65534, 65534)
-probe = (
-    subprocess.run([*as_user, sys.executable, "-c", "import jlsrec; open('tree/a.dcm')"], stderr=subprocess.PIPE)
-    if shutil.which("setpriv") or not as_user
-    else None
-)
+probe = None
+if shutil.which("setpriv") or not as_user:
+    asked = f"import jlsrec; open({os.path.abspath('tree/a.dcm')!r})"
+    probe = subprocess.run([*as_user, sys.executable, "-c", asked], stderr=subprocess.PIPE)
 if probe is None or probe.returncode != 0:
     print("a file that can't be read: not tested, since there is no other user here who could run it")
 else:
@@ -206,6 +208,9 @@ else:
         done.returncode == 0 and set(made("out")) == {b"a.dcm", b"b.dcm", b"closed/c.dcm"},
     )
 os.chmod("tree/closed", 0o755)
+if as_user:
+    os.chdir(home)
+    shutil.rmtree(aside)
 
 # ---- a file that changes while it is read
 
