@@ -234,7 +234,7 @@ class NewFile:
             else:
                 self._link()
             self.part = None
-            _sync_folder(os.path.dirname(self._place))
+            sync_folder(os.path.dirname(self._place))
 
     def _rename(self) -> None:
         number = self._locked() if os.path.exists(self._place) else -1
@@ -308,7 +308,7 @@ class NewFile:
             self.drop()
 
 
-def _sync_folder(path: str) -> None:
+def sync_folder(path: str) -> None:
     """Syncs a folder, so that a name in it is on the disk. One that may not be read is left to the system."""
     try:
         number = os.open(path, os.O_RDONLY | os.O_DIRECTORY | os.O_CLOEXEC)

@@ -1,4 +1,4 @@
-"""python3 -m jlsrec.dicom to-film FILE.. > FILM, and python3 -m jlsrec.dicom to-dicom RECORDING OUT FILE.."""
+"""python3 -m jlsrec.dicom to-film | to-dicom | compress | restore | verify: the command jlsrec-dicom."""
 
 from __future__ import annotations
 
@@ -11,12 +11,57 @@ import sys
 from . import Refused
 
 
+INTERRUPTED = 130
+
+
 def main(program: str = "jlsrec-dicom") -> int:
-    """Runs one of the two, for what is called so. The status is 0, or 1 if a film or a file can't be made, with a line that says why."""
+    """Runs one of the commands, for what is called so.
+
+    The status is 0, or 1 if a film or a file can't be made or isn't right, with a line that says why.
+    """
     hold_standard_streams()
+    words = _parser(program).parse_args()
+    try:
+        if importlib.util.find_spec("pydicom") is None:
+            raise Refused("it wants pydicom; apt-get install python3-pydicom has it")
+        return _run(words)
+    except (ImportError, Refused) as why:
+        print(f"{words.command}: {why}", file=sys.stderr)
+        return 1
+    except OSError as error:
+        name = f"{os.fsdecode(error.filename)}: " if error.filename else ""
+        print(f"{words.command}: {name}{error.strerror or error}", file=sys.stderr)
+        return 1
+    except KeyboardInterrupt:
+        return INTERRUPTED
+
+
+def _run(words: argparse.Namespace) -> int:
+    if words.command == "to-film":
+        from .film import write_film
+
+        write_film(words.files, words.offset)
+        return 0
+    if words.command == "to-dicom":
+        from .files import write_files
+
+        write_files(words.recording, words.out, words.files, words.extended)
+        return 0
+    from . import tree
+
+    tree.check_second(getattr(words, "second", None))
+    root = None if words.tree is None else os.path.abspath(os.fsencode(words.tree))
+    out = os.path.abspath(os.fsencode(words.out))
+    second = getattr(words, "second", None)
+    given = tree.Words(words.command, out, root, words.jobs, words.dask, second, words.report)
+    return {"compress": tree.compress, "restore": tree.restore, "verify": tree.verify}[words.command](given)
+
+
+def _parser(program: str) -> argparse.ArgumentParser:
     parser = argparse.ArgumentParser(
         prog=program,
-        description="DICOM files as films of their stored values, and recordings back in DICOM files.",
+        description="DICOM files as films of their stored values, and recordings back in DICOM files; trees of DICOM "
+        "files compressed to JPEG-LS, restored and verified.",
     )
     commands = parser.add_subparsers(dest="command", required=True)
     film = commands.add_parser(
@@ -35,26 +80,58 @@ def main(program: str = "jlsrec-dicom") -> int:
     back.add_argument("recording", metavar="RECORDING", help="the recording of the film of these files")
     back.add_argument("out", metavar="OUT", help="a file where one FILE is named, else a folder")
     back.add_argument("files", nargs="+", metavar="FILE", help="a DICOM file, in the order of the film")
-    words = parser.parse_args()
-    try:
-        if importlib.util.find_spec("pydicom") is None:
-            raise Refused("it wants pydicom; apt-get install python3-pydicom has it")
-        if words.command == "to-film":
-            from .film import write_film
+    _add_trees(commands)
+    return parser
 
-            write_film(words.files, words.offset)
-        else:
-            from .files import write_files
 
-            write_files(words.recording, words.out, words.files, words.extended)
-    except (ImportError, Refused) as why:
-        print(f"{words.command}: {why}", file=sys.stderr)
-        return 1
-    except OSError as error:
-        name = f"{error.filename}: " if error.filename else ""
-        print(f"{words.command}: {name}{error.strerror or error}", file=sys.stderr)
-        return 1
-    return 0
+def _add_trees(commands: argparse._SubParsersAction) -> None:
+    """The commands over whole trees."""
+    compress = commands.add_parser(
+        "compress",
+        help="a tree of DICOM files to JPEG-LS, each compared with its source",
+        description="Makes of each DICOM file of TREE one of OUT in JPEG-LS lossless, and compares it byte for byte "
+        "with what it was made of. What can't be coded is copied. TREE is only read. The same command goes on where it "
+        "was ended.",
+    )
+    compress.add_argument("tree", metavar="TREE", help="a folder, which is only read")
+    compress.add_argument("out", metavar="OUT", help="an empty folder, or that of an earlier run")
+    compress.add_argument(
+        "--second", choices=["gdcm", "dcmtk"], help="have this decoder read the values too, and compare"
+    )
+    restore = commands.add_parser(
+        "restore",
+        help="a compressed tree back, byte for byte",
+        description="Makes of each file of OUT the one that it was made of, byte for byte. The same command goes on "
+        "where it was ended. No file is replaced.",
+    )
+    restore.add_argument("out", metavar="OUT", help="a folder that a tree was compressed into")
+    restore.add_argument("tree", metavar="TREE", help="the folder that gets the files")
+    verify = commands.add_parser(
+        "verify",
+        help="whether a compressed tree is what its manifest says",
+        description="Looks at the sums of each file of OUT, of its values and of its source, and compares it with "
+        "TREE's file if TREE is named. The same command goes on where it was ended.",
+    )
+    verify.add_argument("out", metavar="OUT", help="a folder that a tree was compressed into")
+    verify.add_argument("tree", metavar="TREE", nargs="?", help="the tree that it was compressed of")
+    for command in (compress, restore, verify):
+        workers = command.add_mutually_exclusive_group()
+        workers.add_argument(
+            "--jobs",
+            type=_count,
+            default=len(os.sched_getaffinity(0)),
+            metavar="N",
+            help="how many processes work at it; by default as many as there are processors",
+        )
+        workers.add_argument("--dask", metavar="ADDRESS", help="have the workers of this dask scheduler do it")
+        command.add_argument("--report", metavar="FILE", help="write what came of it as JSON")
+
+
+def _count(word: str) -> int:
+    number = int(word)
+    if not 1 <= number <= 1024:
+        raise argparse.ArgumentTypeError("it is to be 1 to 1024")
+    return number
 
 
 def hold_standard_streams() -> None:

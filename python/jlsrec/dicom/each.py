@@ -1,0 +1,260 @@
+"""What is done with one file of a tree: it is compressed, restored or verified.
+
+Each answers a line, a dictionary: of compress what the manifest says of the file; else its state alone, and why it
+failed. A worker calls `do_batch`; nothing that happens to a file keeps the next from being done.
+"""
+
+from __future__ import annotations
+
+import errno
+import hashlib
+import os
+import stat
+from collections.abc import Callable, Iterable, Iterator, Sequence
+from dataclasses import dataclass
+from typing import Any, Optional, Union
+
+import numpy as np
+
+from .._files import sync_folder
+from . import manifest, second
+from .coded import Damaged, Origin, Plan, raw_chunks, sum_of
+from .elements import Left
+from .places import Changed, Part, Source, Taken, make_folders, standing
+
+Line = dict[str, Any]
+# Errors by which no other file can be written either.
+FULL = {errno.ENOSPC, errno.EDQUOT}
+
+
+@dataclass(frozen=True)
+class Job:
+    """What a run does: with which trees, and by what manifest it knows that it sees OUT."""
+
+    command: str
+    tree: Optional[bytes]
+    out: bytes
+    token: str
+    second: Optional[str] = None
+
+
+def do_batch(job: Job, items: Sequence[Union[bytes, Line]]) -> list[Line]:
+    """The lines of files: of their names, or of what the manifest says of them."""
+    if manifest.token_in(job.out) != job.token:
+        return [failed(item, "this worker doesn't see OUT and its manifest") for item in items]
+    return [_do(job, item) for item in items]
+
+
+def _do(job: Job, item: Union[bytes, Line]) -> Line:
+    try:
+        if isinstance(item, bytes):
+            return {**manifest.named(item), **compress(job, item)}
+        line = restore(job, item) if job.command == "restore" else verify(job, item)
+        return {**manifest.named(manifest.path_in(item)), **line}
+    except (Changed, Damaged) as why:
+        return failed(item, str(why))
+    except Taken:
+        return failed(item, "there is another file of its name, which was left as it is")
+    except OSError as error:
+        line = failed(item, error.strerror or str(error))
+        return {**line, "is_full": True} if error.errno in FULL else line
+    except MemoryError:
+        return failed(item, "there isn't memory enough")
+    except Exception as error:
+        return failed(item, f"{type(error).__name__}: {error}")
+
+
+def failed(item: Union[bytes, Line], why: str) -> Line:
+    """The line of a file that nothing was done with."""
+    path = item if isinstance(item, bytes) else manifest.path_in(item)
+    return {**manifest.named(path), "state": "failed", "why": why}
+
+
+def compress(job: Job, path: bytes) -> Line:
+    """Compresses a file into OUT, or copies it there, and compares what then stands there with it, byte for byte."""
+    assert job.tree is not None
+    place = os.path.join(job.out, path)
+    make_folders(job.out, os.path.dirname(path))
+    with Source(os.path.join(job.tree, path)) as source:
+        _clear(place, source)
+        try:
+            plan = Plan(source)
+            if standing(place) is not None:
+                plan.check()
+            return _put(
+                source,
+                place,
+                lambda part: plan.write(part.write, part.write_at),
+                lambda path, written: coded_line(path, plan, job.second, written),
+            )
+        except Left as why:
+            text = str(why)
+            return _put(
+                source, place, lambda part: _copy(source, part), lambda path, written: copied_line(path, source, text)
+            )
+
+
+def _clear(place: bytes, source: Source) -> None:
+    """Removes an empty file: where there are no hard links, a run that ended may have left it in a file's place."""
+    there = standing(place)
+    if there is not None and stat.S_ISREG(there.st_mode) and there.st_size == 0 and source.size > 0:
+        os.unlink(place)
+
+
+def _put(
+    source: Source,
+    place: bytes,
+    write: Callable[[Part], Optional[str]],
+    check: Callable[[bytes, Optional[str]], Line],
+) -> Line:
+    """Puts a file in its place once it is checked. What an earlier run put there before it ended is checked alike."""
+    if standing(place) is None:
+        with Part(place) as part:
+            written = write(part)
+            part.sync(source.stat)
+            try:
+                line = check(part.path, written)
+            finally:
+                # If it differs, that is the first reason.
+                source.check()
+            try:
+                part.settle()
+                return line
+            except Taken:
+                pass
+    try:
+        line = check(place, None)
+    except (Damaged, OSError):
+        raise Taken from None
+    source.check()
+    sync_folder(os.path.dirname(place))
+    return line
+
+
+def _copy(source: Source, part: Part) -> None:
+    for chunk in source.chunks():
+        part.write(chunk)
+
+
+def coded_line(path: bytes, plan: Plan, other: Optional[str], written: Optional[str]) -> Line:
+    """The line of a coded file, of which every byte of its source was made again and compared.
+
+    written is the SHA-256 of what was written after the table of its frames, if that is known.
+    """
+    values, source = hashlib.sha256(), plan.source
+    with Source(path) as coded:
+        plan.check_coded(coded, written)
+        made = compared(raw_chunks(coded, plan.origin, lambda array: values.update(array)), source)
+        if other is not None:
+            _ask_second(other, coded, plan)
+        line = {
+            "state": "compressed",
+            "frames": plan.picture.frames,
+            **_sums(source, coded, made),
+            "sha256_values": values.hexdigest(),
+            "syntax": plan.origin.syntax,
+            "pixel_vr": plan.origin.vr,
+        }
+    if plan.picture.colors == 3:
+        line["planar"] = plan.planar
+    if other is not None:
+        line["second"] = other
+    return line
+
+
+def copied_line(path: bytes, source: Source, why: str) -> Line:
+    """The line of a file that was copied, and compared with its source."""
+    with Source(path) as copy:
+        made = compared(copy.chunks(), source)
+        return {"state": "copied", "why": why, **_sums(source, copy, made)}
+
+
+def _sums(source: Source, made: Source, sha256: str) -> Line:
+    return {
+        "bytes_before": source.size,
+        "bytes_after": made.size,
+        "mtime_ns": source.stat.st_mtime_ns,
+        "sha256_before": sha256,
+        "sha256": sum_of(made),
+    }
+
+
+def compared(chunks: Iterable[bytes], source: Source) -> str:
+    """The SHA-256 of bytes that were compared with a file's. Raises Damaged if they differ."""
+    sum, at = hashlib.sha256(), 0
+    for chunk in chunks:
+        if at + len(chunk) > source.size or source.read(at, len(chunk)) != chunk:
+            raise Damaged("it has other bytes or values than its source")
+        sum.update(chunk)
+        at += len(chunk)
+    if at != source.size:
+        raise Damaged("it has fewer bytes than its source")
+    return sum.hexdigest()
+
+
+def _ask_second(name: str, coded: Source, plan: Plan) -> None:
+    """Raises Damaged if another decoder reads other values than the source has, and Left if it can't read the file."""
+    for number, (data, theirs) in enumerate(zip(plan.frames(), second.frames_by(name, coded))):
+        if not np.array_equal(plan.picture.array(data, plan.planar), theirs):
+            raise Damaged(f"{name} reads other values in frame {number}")
+
+
+def restore(job: Job, line: Line) -> Line:
+    """Makes a file of the manifest again in the tree, byte for byte as it was."""
+    assert job.tree is not None
+    path = manifest.path_in(line)
+    place = os.path.join(job.tree, path)
+    with Source(os.path.join(job.out, path)) as made:
+        there = standing(place)
+        if there is not None:
+            _same_sum(place, line["sha256_before"])
+            return {"state": "there", "bytes_before": made.size, "bytes_after": there.st_size}
+        make_folders(job.tree, os.path.dirname(path))
+        with Part(place) as part:
+            sum = hashlib.sha256()
+            for chunk in _source_chunks(made, line):
+                sum.update(chunk)
+                part.write(chunk)
+            if sum.hexdigest() != line["sha256_before"]:
+                raise Damaged("what comes back has another sum than the manifest says")
+            part.sync(made.stat)
+            _same_sum(part.path, line["sha256_before"])
+            part.settle()
+        return {"state": "restored", "bytes_before": made.size, "bytes_after": line["bytes_before"]}
+
+
+def _same_sum(path: bytes, sha256: str) -> None:
+    """Raises Taken if there is a file of another sum."""
+    with Source(path) as file:
+        if sum_of(file) != sha256:
+            raise Taken
+
+
+def _source_chunks(made: Source, line: Line, see=None) -> Iterator[bytes]:
+    """The bytes of the file that one of OUT was made of."""
+    if line["state"] != "compressed":
+        return made.chunks()
+    return raw_chunks(made, Origin(line["syntax"], line["pixel_vr"], line.get("planar", 0)), see)
+
+
+def verify(job: Job, line: Line) -> Line:
+    """Looks at a file of OUT: its sum, its values' and its source's, and its bytes if there is the tree."""
+    path = manifest.path_in(line)
+    values = hashlib.sha256()
+    with Source(os.path.join(job.out, path)) as made:
+        if made.size != line["bytes_after"] or sum_of(made) != line["sha256"]:
+            raise Damaged("its sum isn't that of the manifest")
+        chunks = _source_chunks(made, line, lambda array: values.update(array))
+        if job.tree is None:
+            sum = hashlib.sha256()
+            for chunk in chunks:
+                sum.update(chunk)
+            before = sum.hexdigest()
+        else:
+            with Source(os.path.join(job.tree, path)) as source:
+                before = compared(chunks, source)
+        if before != line["sha256_before"]:
+            raise Damaged("its source's sum isn't that of the manifest")
+        if line["state"] == "compressed" and values.hexdigest() != line["sha256_values"]:
+            raise Damaged("its values' sum isn't that of the manifest")
+        return {"state": "verified", "bytes_before": line["bytes_before"], "bytes_after": made.size}

@@ -1,0 +1,530 @@
+"""A tree of DICOM files compressed into another one, restored and verified, each file for itself.
+
+A tree that is read is never written to, and no existing file is replaced. What a run has done stays, however it ends:
+a file gets its name once it is on the disk and was compared, and its line in the manifest after that. So the next run
+of the same words goes on, and takes up a file that has no line yet if it is what it would have made.
+"""
+
+from __future__ import annotations
+
+import contextlib
+import errno
+import fcntl
+import json
+import os
+import queue
+import signal
+import stat
+import sys
+import threading
+from collections.abc import Iterator, Sequence
+from dataclasses import dataclass
+from typing import Any, Callable, Optional, Union
+
+from .._files import sync_folder, write_all
+from . import Refused, second
+from .each import Job, Line, failed
+from .manifest import KEPT, NAME, Manifest, named, path_in
+from .places import PART, make_folders, shown, standing
+from .progress import Progress
+from .work import Dask, Lost, Processes, Workers, run
+
+# How many files, and of how many bytes, a worker gets at a time: a process here, and a worker of a scheduler.
+BATCH_FILES, DASK_FILES = 16, 64
+BATCH_BYTES = 1 << 26
+# The lines of a verification that hasn't ended.
+VERIFIED = b".jlsrec-verified.jsonl"
+INTERRUPTED = 130
+
+
+@dataclass(frozen=True)
+class Words:
+    """What a command was given."""
+
+    command: str
+    out: bytes
+    tree: Optional[bytes]
+    jobs: int
+    dask: Optional[str]
+    second: Optional[str]
+    report: Optional[str]
+
+
+@dataclass(frozen=True)
+class Entry:
+    """What a folder has: a name below the tree, what it is, and why it can't be had."""
+
+    path: bytes
+    stat: Optional[os.stat_result]
+    why: str = ""
+
+    @property
+    def is_folder(self) -> bool:
+        """Whether it is a folder that has nothing."""
+        return self.stat is not None and stat.S_ISDIR(self.stat.st_mode)
+
+    @property
+    def is_file(self) -> bool:
+        """Whether it is a file, and not one that a run left before it was whole."""
+        is_regular = self.stat is not None and stat.S_ISREG(self.stat.st_mode)
+        return is_regular and not PART.fullmatch(os.path.basename(self.path))
+
+
+def walk(root: bytes, path: bytes = b"") -> Iterator[Entry]:
+    """All files, links and empty folders of a tree, folder by folder, by their names. No link is followed."""
+    try:
+        with os.scandir(os.path.join(root, path) if path else root) as found:
+            entries = sorted(found, key=lambda entry: entry.name)
+    except OSError as error:
+        if not path:
+            raise
+        yield Entry(path, None, error.strerror or str(error))
+        return
+    if not entries and path:
+        yield Entry(path, os.lstat(os.path.join(root, path)))
+    for entry in entries:
+        below = os.path.join(path, entry.name)
+        try:
+            of = entry.stat(follow_symlinks=False)
+        except OSError as error:
+            yield Entry(below, None, error.strerror or str(error))
+            continue
+        if stat.S_ISDIR(of.st_mode):
+            yield from walk(root, below)
+        else:
+            yield Entry(below, of)
+
+
+class Listing(threading.Thread):
+    """A tree's entries, found ahead of those who take them, so that it is known how many there are."""
+
+    def __init__(self, root: bytes, progress: Progress) -> None:
+        super().__init__(daemon=True)
+        self._root, self._progress = root, progress
+        self._queue: queue.SimpleQueue[Union[Entry, BaseException, None]] = queue.SimpleQueue()
+
+    def run(self) -> None:
+        try:
+            for entry in walk(self._root):
+                self._progress.files += not entry.is_folder
+                self._progress.bytes += entry.stat.st_size if entry.is_file else 0
+                self._queue.put(entry)
+            self._progress.is_counted = True
+            self._queue.put(None)
+        except BaseException as error:
+            self._queue.put(error)
+
+    def entries(self) -> Iterator[Optional[Entry]]:
+        """The entries; None where the next one is yet to be found."""
+        while True:
+            try:
+                entry = self._queue.get(timeout=0.1)
+            except queue.Empty:
+                yield None
+                continue
+            if entry is None:
+                return
+            if isinstance(entry, BaseException):
+                raise entry
+            yield entry
+
+
+class Run:
+    """A command at work: its workers, its progress, and whether it was stopped."""
+
+    def __init__(self, words: Words) -> None:
+        self.words = words
+        self.progress = Progress(words.command)
+        self.is_stopped = False
+        # Why it was stopped, and whether it was by a signal.
+        self.why = ""
+        self.status = 0
+
+    def stop(self, why: str, status: int = 1) -> None:
+        """Has no further file be begun."""
+        if not self.is_stopped:
+            self.is_stopped, self.why, self.status = True, why, status
+
+    def workers(self) -> Workers:
+        """Those that the words ask for."""
+        if self.words.dask is None:
+            return Processes(self.words.jobs)
+        workers = Dask(self.words.dask)
+        self.progress.say(f"the scheduler's workers have {workers.threads()} threads")
+        return workers
+
+    def batched(self, items: Iterator[Optional[tuple[Any, int]]]) -> Iterator[Sequence[Any]]:
+        """Items with their bytes in batches; an empty one where there is none yet."""
+        most = BATCH_FILES if self.words.dask is None else DASK_FILES
+        batch: list[Any] = []
+        count = 0
+        for item in items:
+            if self._look():
+                return
+            if item is not None:
+                batch.append(item[0])
+                count += item[1]
+            if item is None or len(batch) == most or count >= BATCH_BYTES:
+                yield batch
+                batch, count = [], 0
+        if batch:
+            yield batch
+
+    def work(self, job: Job, items: Iterator[Optional[tuple[Any, int]]], done: Callable[[list[Line]], None]) -> None:
+        """Has all items done, as far as that goes."""
+        workers = self.workers()
+        try:
+            with self._until_signalled():
+                run(workers, job, self.batched(items), self._counting(done), self._look)
+        except Lost as why:
+            self.stop(str(why))
+        finally:
+            workers.close()
+
+    def _counting(self, done: Callable[[list[Line]], None]) -> Callable[[list[Line]], None]:
+        def counted(lines: list[Line]) -> None:
+            if any([line.pop("is_full", False) for line in lines]):
+                self.stop("there is no more space")
+            try:
+                done(lines)
+            except OSError as error:
+                self.stop(f"{error.strerror or error}: no line can be added to the manifest")
+            for line in lines:
+                self.count(line)
+
+        return counted
+
+    def count(self, line: Line) -> None:
+        """Counts a file."""
+        self.progress.add(line, shown(path_in(line)))
+
+    def _look(self) -> bool:
+        self.progress.tell()
+        return self.is_stopped
+
+    @contextlib.contextmanager
+    def _until_signalled(self) -> Iterator[None]:
+        """A first INT or TERM lets what is on its way end; a second one ends this and its processes at once."""
+
+        def stop(number: int, frame: object) -> None:
+            if self.is_stopped:
+                os._exit(INTERRUPTED)
+            self.stop("interrupted", INTERRUPTED)
+
+        earlier = {number: signal.signal(number, stop) for number in (signal.SIGINT, signal.SIGTERM)}
+        try:
+            yield
+        finally:
+            for number, handler in earlier.items():
+                signal.signal(number, handler)
+
+    def end(self) -> int:
+        """Says what came of it, writes the report, and answers the status."""
+        self.progress.end()
+        if self.is_stopped:
+            self.progress.say(f"{self.why}; the same command goes on from here")
+        if self.words.report is not None:
+            self.progress.report(self.words.report, not self.is_stopped)
+        if self.is_stopped:
+            return self.status
+        return 1 if self.progress.states["failed"] else 0
+
+
+def compress(words: Words) -> int:
+    """Compresses a tree into a folder."""
+    assert words.tree is not None
+    _check_apart(words.tree, words.out)
+    _make_out(words.out)
+    with contextlib.closing(Manifest(words.out, True)) as manifest:
+        going = Run(words)
+        _remove_parts(words.out)
+        known = Known(manifest)
+        job = Job("compress", words.tree, words.out, str(manifest.token), words.second)
+        listing = Listing(words.tree, going.progress)
+        listing.start()
+        going.work(job, _to_compress(listing, known, going, manifest), manifest.add)
+        # Workers that died meanwhile leave some too.
+        _remove_parts(words.out)
+        with contextlib.suppress(OSError):
+            manifest.sync()
+        return going.end()
+
+
+class Known:
+    """What the manifest says already: of a file its bytes and time before and its bytes after; else its line."""
+
+    def __init__(self, manifest: Manifest) -> None:
+        self.files: dict[bytes, tuple[int, int, int]] = {}
+        self.others: dict[bytes, Line] = {}
+        for line in manifest.lines():
+            if line["state"] in KEPT:
+                self.files[path_in(line)] = line["bytes_before"], line["mtime_ns"], line["bytes_after"]
+            elif line["state"] != "failed":
+                self.others[path_in(line)] = line
+
+
+def _to_compress(
+    listing: Listing, known: Known, going: Run, manifest: Manifest
+) -> Iterator[Optional[tuple[bytes, int]]]:
+    """The files that are to be compressed. What else there is gets its line here."""
+    out = going.words.out
+    for entry in listing.entries():
+        if entry is None:
+            yield None
+        elif entry.is_folder:
+            with contextlib.suppress(OSError):
+                make_folders(out, entry.path)
+        elif not entry.is_file:
+            line = _other(entry, going.words)
+            if known.others.get(entry.path) == line:
+                going.progress.skip(0)
+            else:
+                _record(line, going, manifest)
+        else:
+            assert entry.stat is not None
+            there = standing(os.path.join(out, entry.path)) if entry.path in known.files else None
+            before, time, after = known.files.get(entry.path, (0, 0, 0))
+            why = "" if there is None else _difference(entry.stat, there, before, after)
+            if why:
+                _record(failed(entry.path, why), going, manifest)
+            elif there is not None and entry.stat.st_mtime_ns == time:
+                going.progress.skip(entry.stat.st_size)
+            else:
+                yield entry.path, entry.stat.st_size
+
+
+def _difference(source: os.stat_result, there: os.stat_result, before: int, after: int) -> str:
+    """Why a file that has a line isn't what that says, here or in OUT; neither is touched then."""
+    if source.st_size != before:
+        return "it isn't what was compressed; OUT has it as it was then, and was left so"
+    if not stat.S_ISREG(there.st_mode) or there.st_size != after:
+        return "OUT has another file of its name than the manifest says, which was left as it is"
+    return ""
+
+
+def _record(line: Line, going: Run, manifest: Manifest) -> None:
+    """Adds a line that no worker made."""
+    try:
+        manifest.add([line])
+    except OSError as error:
+        going.stop(f"{error.strerror or error}: no line can be added to the manifest")
+    going.count(line)
+
+
+def _other(entry: Entry, words: Words) -> Line:
+    """The line of what is no file: of a link, which is made again if it stays in the tree, or of what can't be had."""
+    if entry.stat is None:
+        return failed(entry.path, entry.why)
+    if stat.S_ISREG(entry.stat.st_mode):
+        return {**named(entry.path), "state": "left", "why": "a run that was ended left it, before it was whole"}
+    if not stat.S_ISLNK(entry.stat.st_mode):
+        return {**named(entry.path), "state": "left", "why": "it is no file, no folder and no link"}
+    try:
+        target = os.readlink(os.path.join(words.tree or b"", entry.path))
+    except OSError as error:
+        return failed(entry.path, error.strerror or str(error))
+    return _linked(words.out, entry.path, target)
+
+
+def _linked(root: bytes, path: bytes, target: bytes) -> Line:
+    """Makes a link in a tree, if it leads to a place in there, and answers its line."""
+    line = {**named(path), "state": "link", "to": target.decode("utf-8", "backslashreplace"), "to_hex": target.hex()}
+    below = os.path.normpath(os.path.join(b"/-", os.path.dirname(path), target))
+    if os.path.isabs(target) or not (below + b"/").startswith(b"/-/"):
+        return {**line, "state": "left", "why": f"it is a link that leads out of the tree, to {shown(target)}"}
+    place = os.path.join(root, path)
+    try:
+        make_folders(root, os.path.dirname(path))
+        if standing(place) is not None:
+            if os.readlink(place) != target:
+                return failed(path, "there is another link of its name, which was left as it is")
+        else:
+            os.symlink(target, place)
+            sync_folder(os.path.dirname(place))
+    except OSError as error:
+        why = "there is another file of its name, which was left as it is"
+        return failed(path, why if error.errno == errno.EINVAL else error.strerror or str(error))
+    return line
+
+
+def _check_apart(tree: bytes, out: bytes) -> None:
+    """Raises Refused if one tree is in the other, or the one that is read isn't there."""
+    if not os.path.isdir(tree):
+        raise Refused(f"{shown(tree)}: there is no such folder")
+    one, other = os.path.realpath(tree), os.path.realpath(out)
+    if os.path.commonpath([one, other]) in (one, other):
+        raise Refused(f"{shown(out)}: one folder is in the other")
+
+
+def _make_out(out: bytes) -> None:
+    if not os.path.isdir(out):
+        os.makedirs(out)
+        sync_folder(os.path.dirname(os.path.abspath(out)))
+
+
+def _remove_parts(root: bytes) -> None:
+    """Removes the files that a run left before they were whole."""
+    for folder, _, names in os.walk(root):
+        for name in names:
+            if PART.fullmatch(name):
+                with contextlib.suppress(OSError):
+                    os.unlink(os.path.join(folder, name))
+
+
+def restore(words: Words) -> int:
+    """Makes a tree again of a folder that it was compressed into."""
+    assert words.tree is not None
+    if os.path.lexists(words.tree):
+        _check_apart(words.tree, words.out)
+    with contextlib.closing(Manifest(words.out, False)) as manifest:
+        _make_out(words.tree)
+        _check_apart(words.tree, words.out)
+        going = Run(words)
+        last = manifest.last()
+        _remove_parts(words.tree)
+        for folder, _, _ in os.walk(words.out):
+            if folder != words.out:
+                make_folders(words.tree, os.path.relpath(folder, words.out))
+        job = Job("restore", words.tree, words.out, str(manifest.token))
+        links: list[Line] = []
+        going.work(job, _to_restore(manifest, last, going, links), lambda lines: None)
+        _remove_parts(words.tree)
+        for line in [] if going.is_stopped else links:
+            going.count(_linked(words.tree, path_in(line), bytes.fromhex(line["to_hex"])))
+        return going.end()
+
+
+def _lines_that_hold(manifest: Manifest, last: dict[bytes, int]) -> Iterator[Line]:
+    for number, line in enumerate(manifest.lines()):
+        if last.get(path_in(line)) == number:
+            yield line
+
+
+def _to_restore(
+    manifest: Manifest, last: dict[bytes, int], going: Run, links: list[Line]
+) -> Iterator[tuple[Line, int]]:
+    """The lines of files that OUT has. Links come after them all."""
+    going.progress.files, going.progress.is_counted = len(last), True
+    going.progress.bytes = sum(line.get("bytes_after", 0) for line in _lines_that_hold(manifest, last))
+    for line in _lines_that_hold(manifest, last):
+        if line["state"] in KEPT:
+            yield line, line["bytes_after"]
+        elif line["state"] == "link":
+            links.append(line)
+        elif line["state"] == "failed":
+            going.count(failed(path_in(line), f"OUT never had it: {line['why']}"))
+        else:
+            going.count(line)
+
+
+def verify(words: Words) -> int:
+    """Looks at every file of a folder that a tree was compressed into, and at the tree if it is named."""
+    if words.tree is not None:
+        _check_apart(words.tree, words.out)
+    with contextlib.closing(Manifest(words.out, False)) as manifest:
+        going = Run(words)
+        last = manifest.last()
+        job = Job("verify", words.tree, words.out, str(manifest.token))
+        with Verified(words.out, words.tree is not None) as verified:
+            going.work(job, _to_verify(manifest, last, going, verified), verified.add)
+            if not going.is_stopped:
+                _find_others(words.out, last, going, "the manifest doesn't name it")
+                if words.tree is not None:
+                    _find_others(words.tree, last, going, "OUT doesn't have it")
+                verified.remove()
+        return going.end()
+
+
+def _to_verify(
+    manifest: Manifest, last: dict[bytes, int], going: Run, verified: Verified
+) -> Iterator[tuple[Line, int]]:
+    """The lines of files that are to be looked at."""
+    going.progress.files, going.progress.is_counted = len(last), True
+    going.progress.bytes = sum(line.get("bytes_before", 0) for line in _lines_that_hold(manifest, last))
+    for line in _lines_that_hold(manifest, last):
+        path = path_in(line)
+        if path in verified.good:
+            going.progress.skip(line["bytes_before"])
+        elif line["state"] in KEPT:
+            yield line, line["bytes_before"]
+        elif line["state"] == "failed":
+            going.count(failed(path, f"OUT never had it: {line['why']}"))
+        elif line["state"] == "link":
+            going.count(_verified_link(going.words.out, line))
+        else:
+            going.count(line)
+
+
+def _verified_link(out: bytes, line: Line) -> Line:
+    path = path_in(line)
+    try:
+        is_same = os.readlink(os.path.join(out, path)) == bytes.fromhex(line["to_hex"])
+    except OSError:
+        is_same = False
+    return {**named(path), "state": "verified"} if is_same else failed(path, "it isn't the link that the manifest says")
+
+
+def _find_others(root: bytes, last: dict[bytes, int], going: Run, why: str) -> None:
+    """Counts what a tree has and the manifest doesn't name."""
+    is_out = root == going.words.out
+    for entry in walk(root):
+        is_ours = is_out and (entry.path in (NAME, VERIFIED) or PART.fullmatch(os.path.basename(entry.path)))
+        if entry.path not in last and not entry.is_folder and not is_ours:
+            going.count(failed(entry.path, entry.why or why))
+
+
+class Verified:
+    """What a verification has found good, so that the next one goes on if it is ended.
+
+    The file goes once all was looked at.
+    """
+
+    def __init__(self, out: bytes, with_tree: bool) -> None:
+        self.path = os.path.join(out, VERIFIED)
+        self.good: set[bytes] = set()
+        self._with_tree = with_tree
+        self._number = -1
+
+    def __enter__(self) -> Verified:
+        flags = os.O_RDWR | os.O_CREAT | os.O_APPEND | os.O_CLOEXEC | os.O_NOFOLLOW
+        try:
+            self._number = os.open(self.path, flags, 0o666)
+            fcntl.flock(self._number, fcntl.LOCK_EX | fcntl.LOCK_NB)
+        except BlockingIOError:
+            os.close(self._number)
+            raise Refused(f"{shown(self.path)}: another run is at work on it") from None
+        except OSError as error:
+            print(f"verify: {shown(self.path)}: {error.strerror}: a run that is ended will begin anew", file=sys.stderr)
+            return self
+        with open(self.path, "rb") as file:
+            for line in file:
+                with contextlib.suppress(ValueError, KeyError, TypeError, Refused):
+                    found = json.loads(line)
+                    if found["with_tree"] or not self._with_tree:
+                        self.good.add(path_in(found))
+        # A line that was torn is ended, and says nothing.
+        write_all(self._number, b"\n")
+        return self
+
+    def add(self, lines: list[Line]) -> None:
+        """Adds what was found good."""
+        if self._number >= 0:
+            good = [line for line in lines if line["state"] == "verified"]
+            data = [json.dumps({**named(path_in(line)), "with_tree": self._with_tree}) + "\n" for line in good]
+            with contextlib.suppress(OSError):
+                write_all(self._number, "".join(data).encode())
+
+    def remove(self) -> None:
+        """Ends the list: the next verification begins anew."""
+        with contextlib.suppress(OSError):
+            os.unlink(self.path)
+
+    def __exit__(self, *error: object) -> None:
+        if self._number >= 0:
+            os.close(self._number)
+
+
+def check_second(name: Optional[str]) -> None:
+    """Raises Refused if the second decoder isn't there."""
+    if name is not None:
+        second.has(name)
