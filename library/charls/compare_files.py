@@ -63,10 +63,15 @@ def drawn(path: Path, draw: random.Random) -> None:
     made.save_as(path, write_like_original=False)
 
 
-def run(words: list[str], out: str) -> tuple[int, bytes | None]:
+# What COMMAND sets for another one; it looks each time whether the drop-ins are to be built.
+libraries = subprocess.run([command, "printenv", "LD_LIBRARY_PATH"], stdout=subprocess.PIPE, check=True, text=True).stdout.strip()
+
+
+def run(words: list[str], out: str, **environment: str) -> tuple[int, bytes | None]:
     """How a command ends that writes a file, and its bytes."""
     Path(out).unlink(missing_ok=True)
-    ended = subprocess.run(words, stdout=subprocess.DEVNULL, stderr=subprocess.DEVNULL, stdin=subprocess.DEVNULL)
+    nothing = subprocess.DEVNULL
+    ended = subprocess.run(words, stdout=nothing, stderr=nothing, stdin=nothing, env={**os.environ, **environment})
     return ended.returncode, Path(out).read_bytes() if os.path.exists(out) else None
 
 
@@ -78,7 +83,7 @@ def same(name: str, words: list[str], source: str, out: str) -> None:
     if plain[1] is not None:
         shutil.move(out, kept)
         made_files += 1
-    ours = run([command, *words, source, out], out)
+    ours = run([*words, source, out], out, LD_LIBRARY_PATH=libraries)
     holds = ours == plain
     if not holds and None not in (ours[1], plain[1]):
         # Some get a UID that is drawn: then two files without the drop-ins differ too, and samples are compared.
