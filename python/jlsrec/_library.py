@@ -17,6 +17,8 @@ BAD_SIZE = 4
 BAD_MAXVAL = 6
 BAD_PRESET = (10, 11, 12, 13)
 TRUNCATED = 20
+# Of JPEG-LS that isn't decoded, and isn't damaged for that: UNSUPPORTED_MARKER to LSE_ID, and an LSE segment of a later scan.
+UNSUPPORTED = range(23, 33)
 
 _SONAME = "libjlsrec.so.0"
 _RELEASED = "libjlsrec.so.0.1.0"
