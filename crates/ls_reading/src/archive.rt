@@ -29,7 +29,7 @@ where
         output,
         console,
     } = program;
-    let Ok(buffered) = BufWriter::new(rt.alloc(), output) else {
+    let Ok(buffered) = BufWriter::new(rt.alloc(), &mut *output) else {
         return no_memory(console);
     };
     let mut lines = Counted::new(buffered);
@@ -71,7 +71,7 @@ where
         output,
         console,
     } = program;
-    let Ok(buffered) = BufWriter::new(rt.alloc(), output) else {
+    let Ok(buffered) = BufWriter::new(rt.alloc(), &mut *output) else {
         return no_memory(console);
     };
     let mut lines = Counted::new(buffered);

@@ -18,7 +18,7 @@ pub fn list<R: Host, W: Write, E: Outlet>(program: Program<'_, R, W, E>, file: &
         output,
         console,
     } = program;
-    let Ok(buffered) = BufWriter::new(rt.alloc(), output) else {
+    let Ok(buffered) = BufWriter::new(rt.alloc(), &mut *output) else {
         return no_memory(console);
     };
     let mut lines = Counted::new(buffered);
