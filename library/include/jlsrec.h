@@ -54,10 +54,10 @@ enum jlsrec_status {
     /* Bytes that can't be decoded: the first fault, from left to right. */
     JLSREC_TRUNCATED = 20,        /* the bytes end before the codestream does */
     JLSREC_NO_SOI = 21,           /* the bytes don't begin with SOI (T.81 B.2.1) */
-    JLSREC_BAD_SEGMENT = 22,      /* no marker where one is due, one in another's place, a length or a field that is wrong */
-    JLSREC_UNSUPPORTED_MARKER = 23,     /* fault.marker: none of SOI in front, SOF55, LSE, SOS, EOI, APPn and COM */
+    JLSREC_BAD_SEGMENT = 22,      /* a marker is missing or misplaced, or a length or a field is wrong */
+    JLSREC_UNSUPPORTED_MARKER = 23,     /* fault.marker: not SOI at the front, SOF55, LSE, SOS, EOI, APPn or COM */
     JLSREC_UNSUPPORTED_COMPONENTS = 24, /* fault.number components (Nf; T.87 C.2.2) */
-    JLSREC_HEIGHT_0 = 25,         /* a height that would have to be said later (Y; C.2.2) */
+    JLSREC_HEIGHT_0 = 25,         /* a height of 0, which a later segment would have to give (Y; C.2.2) */
     JLSREC_SAMPLING = 26,         /* sampling factors other than 1 (Hi, Vi; C.2.2) */
     JLSREC_MAPPING_TABLE = 27,    /* a mapping table (Tmi; C.2.3) */
     JLSREC_NEAR_LOSSLESS = 28,    /* coding with losses (NEAR; C.2.3) */
@@ -72,7 +72,7 @@ enum jlsrec_status {
     JLSREC_PRESET_T3 = 37,
     JLSREC_PRESET_RESET = 38,
     JLSREC_TOO_LARGE = 39,        /* over 2^28 samples; or a byte after the first 4,294,967,295 is there and needed */
-    JLSREC_BAD_CODE = 40,         /* the data of fault.component is what no encoder writes, or ends early at a marker */
+    JLSREC_BAD_CODE = 40,         /* the data of fault.component has a code that no encoder writes, or ends early */
     JLSREC_LEFTOVER_BITS = 41     /* after the samples of fault.component its data has 16 bits or more */
 };
 

@@ -91,13 +91,13 @@ def library_version() -> str:
 def encode(array: np.ndarray, maxval: Optional[int] = None, preset: Optional[Preset] = None) -> bytes:
     """The codestream of a picture.
 
-    array: uint8 or uint16, (height, width) or (height, width, 3), each side 1 to 65535, at most 2^28 samples. Rows may
-    stand apart, as those of a slice of columns do; any other array is copied first.
+    array: uint8 or uint16, (height, width) or (height, width, 3), each side 1 to 65535, at most 2^28 samples. There may
+    be gaps between rows, as in a slice of columns; an array of another layout is copied first.
     maxval: the greatest value that a sample may have; by default 255 for uint8 and 65535 for uint16.
     preset: T1, T2, T3 and RESET, each 0 for T.87's default; by default all are.
 
     Raises TypeError for another type or shape, JlsrecError for a picture that can't be encoded (a sample over maxval,
-    say) or parameters out of range (a ValueError, whose text names them), MemoryError where memory is refused.
+    say) or parameters out of range (a ValueError, whose text names them), MemoryError if an allocation fails.
     """
     array = np.asarray(array)
     if array.dtype.kind != "u" or array.dtype.itemsize > 2:
@@ -140,12 +140,12 @@ def encode(array: np.ndarray, maxval: Optional[int] = None, preset: Optional[Pre
 def decode(data: Data, out: Optional[np.ndarray] = None) -> np.ndarray:
     """The picture of the codestream at the front of data: uint8 where its maxval is at most 255, else uint16.
 
-    data: bytes, or what has a buffer of bytes; what stands behind the codestream isn't looked at.
+    data: bytes, or what has a buffer of bytes; what follows the codestream is ignored.
     out: an array that the picture goes into, of its shape, contiguous and writable: uint16, or uint8 where maxval is at
     most 255. Without it a new one is made.
 
-    Raises JlsrecError with the first fault of the data, ValueError if out doesn't fit, MemoryError where memory is
-    refused. After an error nothing is said of out.
+    Raises JlsrecError with the first fault of the data, ValueError if out doesn't fit, MemoryError if an allocation
+    fails. After an error the contents of out are unspecified.
     """
     return _decode(_bytes_of(data), out)[0]
 
@@ -165,20 +165,20 @@ class Recording(Sequence):
             for array in film: ...
             last = film[-1]
 
-    len() and indices go by the markers of the codestreams; no more of the file is read than is asked for. A slice is a
-    list of arrays. header(i) and data(i) are of frame i, without decoding it. A frame that can't be decoded raises
-    JlsrecError, whose text begins with "frame N: "; the others are had all the same.
+    len() and indices find codestreams by their markers, and read no more of the file than they need. A slice is a list
+    of arrays. header(i) and data(i) are of frame i, without decoding it. A frame that can't be decoded raises
+    JlsrecError, whose text begins with "frame N: "; the other frames can still be read.
 
-    Threads may share a recording. It is the file as it was when it was opened: frames that are written behind its end
-    later aren't seen, and a file that is replaced, as `write` does it, is read on. If the file has shrunk since, or was
+    Threads may share a recording. It is the file as it was when it was opened: frames appended later aren't seen, and
+    of a file that is replaced, as by `write`, the earlier one is still read. If the file has shrunk since, or was
     written over, RecordingChanged is raised, an OSError; after close() every use raises ValueError.
 
-    Where the file breaks off or is damaged between codestreams, the frames before that are there and `fault` is the
-    error, else None.
+    If the file is cut off, or damaged between codestreams, the frames before that can be read, and `fault` is the
+    error; otherwise `fault` is None.
     """
 
     def __init__(self, path: Union[str, os.PathLike]) -> None:
-        """Opens a recording. Raises OSError where it can't be opened, or isn't a regular file."""
+        """Opens a recording. Raises OSError if it can't be opened, or isn't a regular file."""
         self.path = Path(path)
         self._file: Optional[Reading] = Reading(path)
         # Where each codestream that was found begins, and where the last one ends. Only added to, under the lock.
@@ -188,7 +188,7 @@ class Recording(Sequence):
         self._window = _Window(0, b"")
 
     def close(self) -> None:
-        """Lets go of the file. A frame that was decoded stays."""
+        """Closes the file. Decoded frames stay valid."""
         self._file = None
 
     def __enter__(self) -> "Recording":
@@ -205,7 +205,7 @@ class Recording(Sequence):
         return file
 
     def _walk(self, frames: int = sys.maxsize) -> Reading:
-        """Finds where the first frames end, or all. Answers the file."""
+        """Finds where the first frames end, or all, and returns the file."""
         file, starts = self._opened(), self._starts
         if len(starts) <= frames and self._fault is None and starts[-1] < file.size:
             with self._lock:
@@ -242,7 +242,7 @@ class Recording(Sequence):
 
     @property
     def fault(self) -> Optional[JlsrecError]:
-        """Why the file holds no more frames behind the last one; None if it ends there."""
+        """Why no more frames can be read after the last one; None if the file ends there."""
         self._walk()
         return self._fault
 
@@ -251,12 +251,12 @@ class Recording(Sequence):
         return len(self._starts) - 1
 
     def _place(self, index: int) -> Optional[Place]:
-        """Where the codestream of a frame stands, counted from the first; None behind the last."""
+        """Where the codestream of a frame is, by the frame's number from 0; None after the last."""
         file, starts = self._walk(index + 1), self._starts
         return (file, starts[index], starts[index + 1]) if index + 1 < len(starts) else None
 
     def _span(self, index: int) -> Place:
-        """Where the codestream of a frame stands, or IndexError."""
+        """Where the codestream of a frame is. Raises IndexError if there is no such frame."""
         index = operator.index(index)
         if index < 0:
             index += len(self)
@@ -340,7 +340,7 @@ def write(
     preset: Optional[Preset] = None,
     replace: bool = False,
 ) -> int:
-    """Writes a recording, the joined codestreams of arrays, and answers how many there were.
+    """Writes a recording, the joined codestreams of arrays, and returns how many there were.
 
     arrays: an iterable of pictures, such as a list or a generator, or an array (frames, height, width) or (frames,
     height, width, 3). One picture is refused; so is an array (frames, height, 3), which may be one: pass list(array)
@@ -349,11 +349,11 @@ def write(
     raised, also if it came meanwhile.
 
     The recording is written to PATH.part (or PATH.part.1, .. if there is one), is synced, and then takes its place; so
-    the folder has to be writable. Until then the earlier file stands whole at PATH, and whoever has that open reads on
-    in it, as these arrays themselves may. If an array can't be encoded, or anything else fails, PATH is as it was;
-    PATH.part has the codestreams of the arrays before, which a note of the error says (`__notes__`), and is removed if
-    there were none. Without arrays the recording has no frame; it doesn't replace one that has bytes: that is a
-    ValueError.
+    the folder has to be writable. Until then the earlier file stays at PATH, unchanged; programs that have it open can
+    go on reading it, and the arrays may come from it. If an array can't be encoded, or anything else fails, PATH is as
+    it was; PATH.part has the codestreams of the arrays before, which a note of the error says (`__notes__`), and is
+    removed if there were none. Without arrays the recording has no frame; it doesn't replace one that has bytes: that
+    is a ValueError.
     """
     shape = getattr(arrays, "shape", None)
     if isinstance(shape, tuple) and (len(shape) < 3 or (len(shape) == 3 and shape[2] == 3)):
@@ -410,7 +410,7 @@ def _preset(preset: Optional[Preset]) -> tuple[int, ...]:
 
 
 def _stride(array: np.ndarray) -> Optional[int]:
-    """How many samples from row to row, if each row stands whole and rows go downwards in memory; else None."""
+    """How many samples from row to row, if each row is contiguous and rows go downwards in memory; else None."""
     size = array.itemsize
     components = 1 if array.ndim == 2 else 3
     if array.size == 0:

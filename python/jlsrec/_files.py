@@ -1,4 +1,4 @@
-"""Files that are read as they were when they were opened, and files that are put in their places once they are whole."""
+"""Files that are read as they were when they were opened, and files that take their places once they are complete."""
 
 from __future__ import annotations
 
@@ -29,12 +29,12 @@ class RecordingChanged(OSError):
 class Reading:
     """A file that is read at any place, as it was when it was opened.
 
-    What is written behind its end later isn't seen. The file is closed once nobody holds it, so that no thread reads
-    from another file that got its number.
+    What is appended later isn't seen. The file is closed once nobody uses it, so that no thread reads from another file
+    that got its number.
     """
 
     def __init__(self, path: Name) -> None:
-        """Opens a file. Raises OSError where it can't be opened, or has no places, as a pipe has none."""
+        """Opens a file. Raises OSError if it can't be opened, or can't be read at any place, as a pipe."""
         self._number = -1
         self._path = os.fsdecode(path)
         # Looked at first, since the opening and closing of a pipe would end what writes to it.
@@ -116,12 +116,12 @@ def is_same(one: Name, other: Name) -> bool:
 
 
 class NewFile:
-    """A file that is made beside its place, and is put there once it is whole.
+    """A file that is made beside its place, and takes it once it is complete.
 
     Until then it is PATH.part, or PATH.part.1, .. where that name is taken, and what stands at PATH is as it was. An
-    existing file is replaced only if that is asked for: by a rename, so that whoever has it open reads on in it. The
-    new one has its permissions, and a link to it stays one. A file that may not be written isn't replaced, nor one of
-    which another program holds a lock (flock). A pipe or a device is written to where it is.
+    existing file is replaced only if that is asked for: by a rename, so that programs that have it open can go on
+    reading it. The new one has its permissions, and a link to it stays one. A file that may not be written isn't
+    replaced, nor one of which another program holds a lock (flock). A pipe or a device is written to where it is.
 
         with NewFile(path, replace) as file:
             file.write(data)
@@ -207,7 +207,7 @@ class NewFile:
             raise OSError(error.errno, error.strerror, self.path) from None
 
     def write(self, data: Union[bytes, memoryview]) -> None:
-        """Writes bytes behind those that were written."""
+        """Appends bytes."""
         with self.named():
             write_all(self.number, data)
         self.count += len(data)
@@ -245,7 +245,7 @@ class NewFile:
                 os.close(number)
 
     def _link(self) -> None:
-        """Takes the place if nothing has come there."""
+        """Takes the place if it is still free."""
         try:
             os.link(self.part, self._place)
         except OSError as error:
@@ -274,13 +274,13 @@ class NewFile:
         return self.part if self._is_at(self.part) else None
 
     def drop(self) -> None:
-        """Takes away what was made beside."""
+        """Removes the file beside."""
         self._close()
         if self._is_at(self.part):
             os.unlink(self.part)
 
     def remove(self) -> None:
-        """Takes away what was made, also where it is in its place."""
+        """Removes the file, also if it is in its place already."""
         self.drop()
         if stat.S_ISREG(self._made.st_mode) and self._is_at(self._place):
             os.unlink(self._place)

@@ -159,7 +159,7 @@ _CALLS = {
 
 @functools.lru_cache(maxsize=None)
 def library() -> ctypes.CDLL:
-    """The library, loaded by the first call, so that what needs no codec goes without it. Raises ImportError."""
+    """The library, loaded by the first call, so that what needs no codec works without it. Raises ImportError."""
     try:
         loaded = _load()
         for name, (result, *arguments) in _CALLS.items():

@@ -137,7 +137,7 @@ def _decode(data: bytes, values: np.ndarray, name: str) -> int:
 
 
 def _extend(values: np.ndarray, bits: int) -> None:
-    """Makes two's complement of so many bits that of whole words."""
+    """Extends the sign of samples of so many bits to whole words."""
     sign = values.dtype.type(1 << bits - 1)
     values ^= sign
     values -= sign

@@ -1,4 +1,4 @@
-"""OUT/manifest.jsonl: a line of JSON for each file, behind one that says what it is.
+"""OUT/manifest.jsonl: a line of JSON for each file, after one that says what it is.
 
 Lines are only added. A file that was compressed or copied stays so, whatever a later run that failed says of it; else
 its last line holds. A last line that has no end was torn, and is cut off by the next run.

@@ -1,4 +1,4 @@
-"""Files of a tree that are only read, and files that are put in their places once they are whole.
+"""Files of a tree that are only read, and files that take their places once they are complete.
 
 Names are bytes, whatever they hold.
 """
@@ -114,7 +114,7 @@ class Part:
             os.close(number)
 
     def write(self, data: bytes) -> None:
-        """Writes bytes behind those that were written."""
+        """Appends bytes."""
         write_all(self.number, data)
 
     def write_at(self, at: int, data: bytes) -> None:
