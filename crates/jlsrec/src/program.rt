@@ -104,11 +104,12 @@ where
             }
         }
         Err(other) => {
-            answer(
-                printable(alloc, words, other),
-                program.output,
-                program.console,
-            )
+            let Program {
+                output,
+                console,
+                ..
+            } = program;
+            answer(printable(alloc, words, other), output, console)
         }
     }
 }
