@@ -1,17 +1,18 @@
 //! The program's messages about its files and devices, and the statuses that it exits with.
 //!
 //! What it hands on: a `Console` writes messages on standard error, and a progress line on a terminal. A `Program` is
-//! what each command works with: its runtime, which is a `Host`, standard output and the console. A `Reader` reads a
-//! film or a recording, and the `Cause` of a fault decides what more is said of it. `DONE`, `FAILED` and `USAGE` are
-//! the statuses; `Shown` makes a file name printable.
+//! what each command works with: its runtime, which is a `Host`, the opener of its files, standard output and the
+//! console. A `Reader` reads a film or a recording, and the `Cause` of a fault decides what more is said of it. `DONE`,
+//! `FAILED` and `USAGE` are the statuses; `Shown` makes a file name printable.
 //!
 //! ```
 //! use ls_console::{Console, DONE, Host, open_film};
+//! use ls_files::Opener;
 //! use ls_frame::Outlet;
 //!
 //! /// Opens a film, or says why it can't; answers the status.
 //! pub fn try_film<R: Host, E: Outlet>(rt: &R, file: &str, console: &mut Console<E>) -> u8 {
-//!     match open_film(rt, file, console) {
+//!     match open_film(rt.alloc(), Opener::new(rt), file, console) {
 //!         Ok(_film) => DONE,
 //!         Err(status) => status,
 //!     }
@@ -20,8 +21,9 @@
 //!
 //! In reading order: `shown` (file names and other words), `console` (standard error), `output` (standard output, and
 //! the statuses), `program` (what each command works with), `reader` (reads films and recordings, and finds the cause
-//! of a fault), `written` (makes a file, and says how one that was written ended). No contract says what is said; the
-//! tests of the whole program show it.
+//! of a fault), `written` (makes a file, and says how one that was written ended). The contracts say which status
+//! each call returns, what is written to standard output with the status `DONE`, and what a reader has left
+//! (`specs/View/Readers.antt`). What is said on standard error, the tests of the whole program show.
 #![tactic(auto)]
 
 mod console;

@@ -1,4 +1,8 @@
 //! Standard output, and the statuses that the program exits with.
+ghost use Rattle.std.specs.Prelude.{◌≡◌, ◌⊎◌, ◌==◌};
+ghost use Rattle.std.specs.Io.KnownBytes.{Appends, Keeps};
+ghost use Rattle.ls_frame.specs.View.Devices.{wrapped, failed_calls, count_after};
+
 use crate::console::Console;
 use ls_frame::{Counted, Failed, Outlet, write_bytes};
 use std::io::{BufWriter, Write};
@@ -15,7 +19,11 @@ pub fn write_text<W: Write, E: Outlet>(
     text: &[u8],
     output: &mut Counted<W>,
     console: &mut Console<E>,
-) -> u8 {
+) -> u8
+    ensures status { (result ≡ DONE) ⊎ (result ≡ FAILED) }
+    ensures written { result ≡ DONE → Appends (W.contents (wrapped output.old)) (W.contents (wrapped output.new)) text.now }
+    ensures failures { failed_calls output.new ≡ count_after (result == FAILED) (failed_calls output.old) }
+{
     match write_bytes(output, text) {
         Ok(()) => DONE,
         Err(_) => say_unwritten(output.last_failure(), console),
@@ -28,7 +36,10 @@ pub fn finish<W: Write, E: Outlet>(
     status: u8,
     output: &mut Counted<W>,
     console: &mut Console<E>,
-) -> u8 {
+) -> u8
+    ensures status { (result ≡ status) ⊎ (result ≡ FAILED) }
+    ensures bytes { Keeps (W.contents (wrapped output.old)) (W.contents (wrapped output.new)) }
+{
     if Outlet::failures(output) > 0 {
         return status;
     }
@@ -43,7 +54,9 @@ pub fn finish_lines<W: Write, E: Outlet>(
     status: u8,
     mut lines: Counted<BufWriter<&mut Counted<W>>>,
     console: &mut Console<E>,
-) -> u8 {
+) -> u8
+    ensures { (result ≡ status) ⊎ (result ≡ FAILED) }
+{
     let status = finish(status, &mut lines, console);
     // A buffer that is dropped would write again what couldn't be written.
     let (_output, _unwritten) = lines.into_inner().into_parts();
@@ -51,20 +64,26 @@ pub fn finish_lines<W: Write, E: Outlet>(
 }
 
 /// Says that standard output failed, and returns the status.
-pub fn say_unwritten<E: Outlet>(failure: Option<Failed>, console: &mut Console<E>) -> u8 {
+pub fn say_unwritten<E: Outlet>(failure: Option<Failed>, console: &mut Console<E>) -> u8
+    ensures { result ≡ FAILED }
+{
     console.say("output failed");
     console.blame("standard output", failure);
     FAILED
 }
 
 /// Says that memory ran out, and returns the status.
-pub fn no_memory<E: Outlet>(console: &mut Console<E>) -> u8 {
+pub fn no_memory<E: Outlet>(console: &mut Console<E>) -> u8
+    ensures { result ≡ FAILED }
+{
     console.say_no_memory();
     FAILED
 }
 
 /// Says a usage fault that `clap` doesn't find, and returns the status. Allocates nothing.
-pub fn misused<E: Outlet>(console: &mut Console<E>, line: &[u8]) -> u8 {
+pub fn misused<E: Outlet>(console: &mut Console<E>, line: &[u8]) -> u8
+    ensures { result ≡ USAGE }
+{
     console.write(line);
     USAGE
 }

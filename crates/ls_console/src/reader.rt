@@ -1,9 +1,12 @@
 //! Reads films and recordings from files, and says why one can't be read.
+ghost use Rattle.std.specs.Prelude.{◌≡◌, IfOk, IfErr};
+ghost use Rattle.ls_files.specs.View.Files.{left_in_source};
+ghost use Rattle.ls_console.specs.View.Readers.{unread, BeginsFileAt};
+
 use crate::console::Console;
 use crate::output::FAILED;
-use crate::program::Host;
 use crate::shown::Shown;
-use ls_files::{Opener, Opens, Source, likeness_of};
+use ls_files::{Opens, Source, likeness_of};
 use ls_frame::{Buffered, Counted, Failed, NetpbmFault, Outlet};
 use std::alloc::Global;
 
@@ -24,13 +27,20 @@ pub enum Cause {
 
 /// Opens a film or a recording; if it is a named pipe, waits until something writes to it. On failure says why and
 /// returns the status.
-pub fn open_film<'a, R: Host, E: Outlet>(
-    rt: &'a R,
+pub fn open_film<'a, O, E>(
+    alloc: Global,
+    opener: O,
     file: &'a str,
     console: &mut Console<E>,
-) -> Result<Reader<'a, Opener<'a, R>>, u8> {
-    match Source::open(Opener::new(rt), file) {
-        Ok(source) => buffered(rt.alloc(), file, source, console),
+) -> Result<Reader<'a, O>, u8>
+where
+    O: Opens + Drop,
+    E: Outlet,
+    ensures film { IfOk result (BeginsFileAt O.holds O.File.remaining opener file.now) }
+    ensures status { IfErr result (λ status. status ≡ FAILED) }
+{
+    match Source::open(opener, file) {
+        Ok(source) => buffered(alloc, file, source, console),
         Err(fault) => {
             console.say_unopened(file, &fault);
             Err(FAILED)
@@ -48,6 +58,8 @@ pub fn buffered<'a, O, E>(
 where
     O: Opens + Drop,
     E: Outlet,
+    ensures unread { IfOk result (λ reader. unread O.File.remaining reader ≡ left_in_source O.File.remaining source.entry) }
+    ensures status { IfErr result (λ status. status ≡ FAILED) }
 {
     match Buffered::new(alloc, Counted::new(source)) {
         Ok(reader) => Ok(reader),

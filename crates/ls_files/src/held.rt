@@ -1,4 +1,6 @@
 //! A file that is made for a recording, and the earlier file in its place.
+ghost use Rattle.std.specs.Prelude.{◌≡◌, IfOk};
+
 use crate::identity::{Identity, folder_of};
 use crate::opener::Makes;
 use crate::place::{Place, Standing};
@@ -117,7 +119,9 @@ impl<F: OpenFile + Drop> Held<F> {
         &mut self,
         opener: O,
         path: &'a str,
-    ) -> io::Result<Target<'a, O>> {
+    ) -> io::Result<Target<'a, O>>
+        ensures { IfOk result (λ target. target.path.now ≡ path.now) }
+    {
         match self.standing {
             Standing::Pipe(_) => Ok(Target::pipe(opener, path)),
             Standing::Other(_) => {

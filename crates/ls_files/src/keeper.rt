@@ -1,4 +1,6 @@
 //! Makes, locks and syncs the files of a recording, and keeps earlier files until they may be removed.
+ghost use Rattle.std.specs.Prelude.{◌≡◌, IfOk};
+
 use crate::held::Held;
 use crate::opener::{Makes, Opens};
 use crate::place::Place;
@@ -89,7 +91,9 @@ impl<O: Makes + Copy + Drop> Keeper<O> {
         alloc: Global,
         path: &'a str,
         index: Option<&'a str>,
-    ) -> Result<Targets<'a, O>, Unmade> {
+    ) -> Result<Targets<'a, O>, Unmade>
+        ensures { IfOk result (λ targets. targets.recording.path.now ≡ path.now) }
+    {
         match self.make_all(alloc, path, index) {
             Ok(targets) => Ok(targets),
             Err(unmade) => {
@@ -104,7 +108,9 @@ impl<O: Makes + Copy + Drop> Keeper<O> {
         alloc: Global,
         path: &'a str,
         index: Option<&'a str>,
-    ) -> Result<Targets<'a, O>, Unmade> {
+    ) -> Result<Targets<'a, O>, Unmade>
+        ensures { IfOk result (λ targets. targets.recording.path.now ≡ path.now) }
+    {
         self.clear_places(alloc)?;
         let recording = match self.recording.make(self.opener, path) {
             Ok(target) => target,

@@ -20,7 +20,7 @@
 //! ```
 //!
 //! In reading order: `identity` (identifies files), `opener` (opens and makes files, in any thread), `source` (a file
-//! that is read), `patient` (writes that are tried again), `target` (a file that is written), `place` (the place of a
+//! that is read, whose first bytes `front` keeps), `patient` (writes that are tried again), `target` (a file that is written), `place` (the place of a
 //! file that is to be made, and what is there already), `held` (a file that is made, from the lock of the earlier one to
 //! the last sync), `keeper` (a recording's file and that of its index, together), `folders` (locks the folders in which
 //! files are made), `likeness` (guesses formats). The known bytes of a source or a target are those of its file, once
@@ -29,6 +29,7 @@
 #![tactic(auto)]
 
 pub mod folders;
+mod front;
 mod held;
 pub mod identity;
 pub mod keeper;

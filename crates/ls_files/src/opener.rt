@@ -1,4 +1,6 @@
 //! Opens files in any thread.
+ghost use Rattle.std.specs.Prelude.{ℕ, List, Option, IfOk};
+
 use std::alloc::{AllocError, Global};
 use std::fs::{File, Files, Metadata, OpenFile, OpenOptions, TryLockError};
 use std::io::{Read, Write};
@@ -10,8 +12,13 @@ use std::{fs, io};
 pub trait Opens {
     type File: Read + Write + OpenFile + Drop;
 
+    /// What a file system says of the file at a path: that these may be the known bytes that are read from it. Of a disk
+    /// nothing is said.
+    ghost holds: { Self → List ℕ → Option (List ℕ) → Type 0 };
+
     /// Opens a file to read it.
-    fn open(&self, path: &str) -> io::Result<Self::File>;
+    fn open(&self, path: &str) -> io::Result<Self::File>
+        ensures { IfOk result (λ file. holds self.now path.now (Self.File.remaining file)) };
 
     /// Opens an existing file to write to it.
     fn open_to_write(&self, path: &str) -> io::Result<Self::File>;
@@ -95,6 +102,8 @@ impl<'a, R> Copy for Opener<'a, R> {}
 
 impl<'a, R: Files + Eprint> Opens for Opener<'a, R> {
     type File = R::File;
+
+    ghost holds = { λ _ _ _. Unit {0} };
 
     fn open(&self, path: &str) -> io::Result<R::File> {
         File::open(self.rt, path)

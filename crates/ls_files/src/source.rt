@@ -1,16 +1,14 @@
 //! A file that is read.
-ghost use Rattle.std.specs.Prelude.{◌≤◌, ◌≡◌, Some};
-ghost use Rattle.ls_files.specs.declared.source.TheConstants.{FRONT};
+ghost use Rattle.std.specs.Prelude.{◌≡◌, Some, IfOk};
+ghost use Rattle.ls_files.specs.View.Files.{ReadsFileAt};
 
+use crate::front::Front;
 use crate::identity::Identity;
 use crate::opener::Opens;
 use std::fs::{Files, Metadata, OpenFile};
 use std::io::Read;
 use std::os::unix::fs::{FileTypeExt, MetadataExt};
 use std::{fs, io};
-
-/// The number of first bytes that a source keeps.
-pub const FRONT: usize = 136;
 
 /// EACCES, the system's error number for a file that may not be read.
 const PERMISSION_DENIED: i32 = 13;
@@ -31,15 +29,15 @@ pub struct Source<'a, O: Opens> {
     /// Whether a read was refused since the program was asked to stop.
     is_stopped: bool,
     /// The first bytes that were read.
-    front: [u8; FRONT],
-    kept: usize,
-    ghost kept_inside: { kept ≤ FRONT },
+    front: Front,
 }
 
 impl<'a, O: Opens + Drop> Source<'a, O> {
     /// Opens a file; a named pipe only at its first read. Fails with EACCES if the permissions of the pipe don't let
     /// this process read it.
-    pub fn of<R: Files>(rt: &R, opener: O, path: &'a str) -> io::Result<Source<'a, O>> {
+    pub fn of<R: Files>(rt: &R, opener: O, path: &'a str) -> io::Result<Source<'a, O>>
+        ensures { IfOk result (ReadsFileAt O.holds O.File.remaining opener path.now) }
+    {
         let pipe = match fs::metadata(rt, path) {
             Ok(metadata) if metadata.file_type().is_fifo() => Some(metadata),
             _ => None,
@@ -55,7 +53,9 @@ impl<'a, O: Opens + Drop> Source<'a, O> {
     }
 
     /// Opens a file; if it is a named pipe, waits until something writes to it.
-    pub fn open(opener: O, path: &'a str) -> io::Result<Source<'a, O>> {
+    pub fn open(opener: O, path: &'a str) -> io::Result<Source<'a, O>>
+        ensures { IfOk result (ReadsFileAt O.holds O.File.remaining opener path.now) }
+    {
         let file = opener.open(path)?;
         let identity = match file.metadata() {
             Ok(metadata) => Some(Identity::of(&metadata)),
@@ -71,7 +71,9 @@ impl<'a, O: Opens> Source<'a, O> {
         path: &'a str,
         file: Option<O::File>,
         identity: Option<Identity>,
-    ) -> Source<'a, O> {
+    ) -> Source<'a, O>
+        ensures { result.file ≡ file }
+    {
         Source {
             opener,
             path,
@@ -79,8 +81,7 @@ impl<'a, O: Opens> Source<'a, O> {
             identity,
             notice: None,
             is_stopped: false,
-            front: [0; FRONT],
-            kept: 0,
+            front: Front::new(),
         }
     }
 
@@ -106,7 +107,7 @@ impl<'a, O: Opens> Source<'a, O> {
 
     /// The first bytes that were read, at most 136.
     pub fn front(&self) -> &[u8] {
-        &self.front[..self.kept]
+        self.front.bytes()
     }
 
     fn open_late(&mut self) -> io::Result<()>
@@ -132,16 +133,6 @@ impl<'a, O: Opens> Source<'a, O> {
         }
         Ok(())
     }
-
-    /// Adds bytes to the front until that is full.
-    fn keep(&mut self, bytes: &[u8])
-        ensures file { self.new.file ≡ self.old.file }
-    {
-        let start = self.kept;
-        let count = bytes.len().min(FRONT - start);
-        self.front[start..start + count].copy_from_slice(&bytes[..count]);
-        self.kept = start + count;
-    }
 }
 
 impl<'a, O: Opens> Read for Source<'a, O> {
@@ -162,7 +153,7 @@ impl<'a, O: Opens> Read for Source<'a, O> {
                 // A signal that comes to the camera too may end it first.
                 Ok(0) if self.opener.is_stopping() => {}
                 Ok(given) => {
-                    self.keep(&buf[..given]);
+                    self.front.keep(&buf[..given]);
                     return Ok(given);
                 }
                 Err(fault) if fault.kind() == io::ErrorKind::Interrupted => {}

@@ -1,5 +1,5 @@
 //! A file that is written.
-ghost use Rattle.std.specs.Prelude.{◌≡◌, Some};
+ghost use Rattle.std.specs.Prelude.{◌≡◌, Some, None};
 
 use crate::opener::Opens;
 use crate::patient::write_again;
@@ -20,7 +20,10 @@ pub struct Target<'a, O: Opens> {
 
 impl<'a, O: Opens> Target<'a, O> {
     /// A file or a device that is already open.
-    pub fn opened(opener: O, path: &'a str, file: O::File) -> Target<'a, O> {
+    pub fn opened(opener: O, path: &'a str, file: O::File) -> Target<'a, O>
+        ensures path { result.path.now ≡ path.now }
+        ensures file { result.file ≡ Some file }
+    {
         Target {
             opener,
             path,
@@ -31,7 +34,10 @@ impl<'a, O: Opens> Target<'a, O> {
     }
 
     /// A named pipe, which is not yet open.
-    pub fn pipe(opener: O, path: &'a str) -> Target<'a, O> {
+    pub fn pipe(opener: O, path: &'a str) -> Target<'a, O>
+        ensures path { result.path.now ≡ path.now }
+        ensures file { result.file ≡ None }
+    {
         Target {
             opener,
             path,
