@@ -36,14 +36,14 @@ fn main(rt: HostRuntime) -> ExitCode {
     let is_terminal = rt.stderr().is_terminal();
     let errors = Counted::new(Patient::new(rt.stderr()));
     let mut console = Console::new(rt.alloc(), errors, is_terminal, columns(&rt));
+    let stop = env::var(&rt, STOP).ok();
     let program = Program {
         rt: &rt,
+        opener: Opener::new(&rt).stopped_by(stop.as_deref()),
         output: &mut output,
         console: &mut console,
     };
-    let stop = env::var(&rt, STOP).ok();
-    let opener = Opener::new(&rt).stopped_by(stop.as_deref());
-    ExitCode::from(start(program, opener))
+    ExitCode::from(start(program))
 }
 
 /// The number of characters in a progress line: one less than the terminal's width, which is in the environment's

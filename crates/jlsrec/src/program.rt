@@ -22,8 +22,8 @@ use std::time::Clock;
 
 /// Reads the words, runs the program and flushes its output.
 ///
-/// The opener opens the files of the same runtime; lanes open pipes with it, in their threads.
-pub fn start<R, O, W, E>(program: Program<'_, R, W, E>, opener: O) -> u8
+/// The program's opener opens the files of its runtime; lanes open pipes with it, in their threads.
+pub fn start<R, O, W, E>(program: Program<'_, R, O, W, E>) -> u8
 where
     R: Env + Host + Clock + Threads + Wait + Sync,
     O: Makes<File = R::File> + Copy + Send,
@@ -33,6 +33,7 @@ where
 {
     let Program {
         rt,
+        opener,
         output,
         console,
     } = program;
@@ -40,10 +41,11 @@ where
         Ok(words) => {
             let program = Program {
                 rt,
+                opener,
                 output: &mut *output,
                 console: &mut *console,
             };
-            run(program, opener, &words)
+            run(program, &words)
         }
         Err(fault) if fault.kind() == io::ErrorKind::OutOfMemory => no_memory(console),
         Err(_) => match fault_of_words(rt) {
@@ -59,7 +61,7 @@ where
 ///
 /// `code` writes each codestream to the output itself, and `play` each image, so nothing is held back. `list`, `index`,
 /// `check` and `replay` write through a buffer, which is flushed at the end.
-fn run<R, O, W, E>(program: Program<'_, R, W, E>, opener: O, words: &[String]) -> u8
+fn run<R, O, W, E>(program: Program<'_, R, O, W, E>, words: &[String]) -> u8
 where
     R: Host + Clock + Threads + Wait + Sync,
     O: Makes<File = R::File> + Copy + Send,
@@ -95,7 +97,7 @@ where
                     recording,
                     workers,
                 } => verify_files(program, film, recording, workers),
-                Request::Record(asked) => record_films(program, opener, asked),
+                Request::Record(asked) => record_films(program, asked),
                 Request::Replay {
                     sources,
                     capacity,

@@ -1,4 +1,9 @@
 //! Reads the frame numbers of `--frames`.
+ghost use Rattle.std.specs.Prelude.{◌<◌, IfSome};
+ghost use Rattle.ls_command.specs.View.Asked.{AreInOrder};
+
+/// The frames of a film have numbers below this.
+pub const MOST_NUMBERS: u32 = u32::MAX;
 
 /// The frames from `first` to `last` inclusive, or to the end; numbered from 0.
 #[derive(Clone, Copy, Debug, PartialEq, Eq)]
@@ -9,7 +14,9 @@ pub struct Frames {
 
 /// Reads `A`, `A..`, `..B` or `A..B`, where A and B are numbers below 4,294,967,295 and A is no greater than B;
 /// `None` for another text.
-pub fn read_frames(text: &str) -> Option<Frames> {
+pub fn read_frames(text: &str) -> Option<Frames>
+    ensures { IfSome result AreInOrder }
+{
     match text.split_once("..") {
         None => {
             let first = number(text)?;
@@ -28,7 +35,11 @@ pub fn read_frames(text: &str) -> Option<Frames> {
 }
 
 /// The frames from one number to another, if they are in order.
-fn between(first: u32, last: u32) -> Option<Frames> {
+fn between(first: u32, last: u32) -> Option<Frames>
+    requires first { first < MOST_NUMBERS }
+    requires last { last < MOST_NUMBERS }
+    ensures { IfSome result AreInOrder }
+{
     if first > last {
         return None;
     }
@@ -39,12 +50,14 @@ fn between(first: u32, last: u32) -> Option<Frames> {
 }
 
 /// Reads a frame's number: digits, at most the greatest number that a frame has.
-fn number(text: &str) -> Option<u32> {
+fn number(text: &str) -> Option<u32>
+    ensures { IfSome result (λ number. number < MOST_NUMBERS) }
+{
     if text.starts_with('+') {
         return None;
     }
     match text.parse::<u32>() {
-        Ok(number) if number < u32::MAX => Some(number),
+        Ok(number) if number < MOST_NUMBERS => Some(number),
         _ => None,
     }
 }

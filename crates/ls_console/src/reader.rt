@@ -1,7 +1,7 @@
 //! Reads films and recordings from files, and says why one can't be read.
 ghost use Rattle.std.specs.Prelude.{◌≡◌, IfOk, IfErr};
 ghost use Rattle.ls_files.specs.View.Files.{left_in_source};
-ghost use Rattle.ls_console.specs.View.Readers.{unread, BeginsFileAt};
+ghost use Rattle.ls_console.specs.View.Readers.{unread};
 
 use crate::console::Console;
 use crate::output::FAILED;
@@ -36,7 +36,7 @@ pub fn open_film<'a, O, E>(
 where
     O: Opens + Drop,
     E: Outlet,
-    ensures film { IfOk result (BeginsFileAt O.holds O.File.remaining opener file.now) }
+    ensures film { IfOk result (λ reader. O.holds opener file.now (unread O.File.remaining reader)) }
     ensures status { IfErr result (λ status. status ≡ FAILED) }
 {
     match Source::open(opener, file) {

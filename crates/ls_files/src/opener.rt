@@ -12,8 +12,8 @@ use std::{fs, io};
 pub trait Opens {
     type File: Read + Write + OpenFile + Drop;
 
-    /// What a file system says of the file at a path: that these may be the known bytes that are read from it. Of a disk
-    /// nothing is said.
+    /// What a file system says of the file at a path: that these are the bytes to be read from it, or that they aren't
+    /// known (`None`). Of a disk nothing is said.
     ghost holds: { Self → List ℕ → Option (List ℕ) → Type 0 };
 
     /// Opens a file to read it.

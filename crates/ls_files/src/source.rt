@@ -1,6 +1,6 @@
 //! A file that is read.
 ghost use Rattle.std.specs.Prelude.{◌≡◌, Some, IfOk};
-ghost use Rattle.ls_files.specs.View.Files.{ReadsFileAt};
+ghost use Rattle.ls_files.specs.View.Files.{left_in_source, ReadsFileAt};
 
 use crate::front::Front;
 use crate::identity::Identity;
@@ -54,7 +54,7 @@ impl<'a, O: Opens + Drop> Source<'a, O> {
 
     /// Opens a file; if it is a named pipe, waits until something writes to it.
     pub fn open(opener: O, path: &'a str) -> io::Result<Source<'a, O>>
-        ensures { IfOk result (ReadsFileAt O.holds O.File.remaining opener path.now) }
+        ensures { IfOk result (λ source. O.holds opener path.now (left_in_source O.File.remaining source)) }
     {
         let file = opener.open(path)?;
         let identity = match file.metadata() {
@@ -85,13 +85,22 @@ impl<'a, O: Opens> Source<'a, O> {
         }
     }
 
+    /// The path that it was given.
+    pub fn path(&self) -> &str
+        ensures { result.now ≡ self.now.path.now }
+    {
+        self.path
+    }
+
     /// Whether it has yet to be opened.
     pub fn is_awaited(&self) -> bool {
         self.file.is_none()
     }
 
     /// Whether a read was refused since the program was asked to stop.
-    pub fn is_stopped(&self) -> bool {
+    pub fn is_stopped(&self) -> bool
+        ensures { result ≡ self.now.is_stopped }
+    {
         self.is_stopped
     }
 

@@ -54,4 +54,6 @@ pub use coding::{code_bytes, code_film};
 pub use faults::{FilmFault, MOST_FRAMES};
 pub use listing::{list_bytes, list_film};
 pub use part::{Part, PartFault, play_part};
-pub use playing::{PlayFault, play, play_by, play_bytes, play_bytes_by};
+pub use playing::{
+    PlayFault, play, play_by, play_bytes, play_bytes_by, play_recording, play_recording_by,
+};

@@ -6,6 +6,7 @@ ghost use Rattle.ls_film.specs.View.Engine.{Completes};
 ghost use Rattle.ls_film.specs.Showing.{show};
 ghost use Rattle.ls_film.specs.View.Sources.{IsShown};
 ghost use Rattle.ls_film.specs.View.Playing.{play_fault, Stops, StopsAhead, HasReadAhead, Plays, blames_reader, blames_writer};
+ghost use Rattle.ls_film.specs.View.Steps.{failed_by};
 
 use crate::ahead::SideBySide;
 use crate::codestreams::{OneByOne, Unread};
@@ -98,14 +99,9 @@ pub fn play<R: Feed, W: Outlet>(
     ensures writes { MatchResult result (λ played. W.failed_writes played.2 ≡ W.failed_writes writer)
         (λ stopped. W.failed_writes stopped.2 ≡ count_after (blames_writer stopped.0) (W.failed_writes writer)) }
 {
-    match write_text::<Image, ImageText, OneByOne, R, W>(
-        alloc,
-        &mut OneByOne,
-        &mut reader,
-        &mut writer,
-    ) {
+    match play_recording(alloc, &mut reader, &mut writer) {
         Ok(frames) => Ok((frames, reader, writer)),
-        Err(stopped) => Err((PlayFault::of(stopped), reader, writer)),
+        Err(fault) => Err((fault, reader, writer)),
     }
 }
 
@@ -130,15 +126,56 @@ pub fn play_by<Rt: Threads + Sync, R: Feed, W: Outlet>(
     ensures writes { MatchResult result (λ played. W.failed_writes played.2 ≡ W.failed_writes writer)
         (λ stopped. W.failed_writes stopped.2 ≡ count_after (blames_writer stopped.0) (W.failed_writes writer)) }
 {
+    match play_recording_by(rt, alloc, workers, &mut reader, &mut writer) {
+        Ok(frames) => Ok((frames, reader, writer)),
+        Err(fault) => Err((fault, reader, writer)),
+    }
+}
+
+/// As `play`, from a borrowed reader to a borrowed writer.
+pub fn play_recording<R: Feed, W: Outlet>(
+    alloc: Global,
+    reader: &mut R,
+    writer: &mut W,
+) -> Result<u64, PlayFault>
+    ensures completes { IfOk result (Completes Spells show
+        (R.remaining reader.old) (R.remaining reader.new) (W.contents writer.old) (W.contents writer.new)) }
+    ensures stops { IfErr result (Stops
+        (R.remaining reader.old) (R.remaining reader.new) (W.contents writer.old) (W.contents writer.new)) }
+    ensures reads { R.failed_reads reader.new ≡ count_after (failed_by blames_reader result) (R.failed_reads reader.old) }
+    ensures writes { W.failed_writes writer.new ≡ count_after (failed_by blames_writer result) (W.failed_writes writer.old) }
+{
+    match write_text::<Image, ImageText, OneByOne, R, W>(alloc, &mut OneByOne, reader, writer) {
+        Ok(frames) => Ok(frames),
+        Err(stopped) => Err(PlayFault::of(stopped)),
+    }
+}
+
+/// As `play_by`, from a borrowed reader to a borrowed writer.
+pub fn play_recording_by<Rt: Threads + Sync, R: Feed, W: Outlet>(
+    rt: &Rt,
+    alloc: Global,
+    workers: usize,
+    reader: &mut R,
+    writer: &mut W,
+) -> Result<u64, PlayFault>
+    ensures completes { IfOk result (Completes Spells show
+        (R.remaining reader.old) (R.remaining reader.new) (W.contents writer.old) (W.contents writer.new)) }
+    ensures stops { IfErr result (StopsAhead
+        (R.remaining reader.old) (W.contents writer.old) (W.contents writer.new)) }
+    ensures reads { MatchResult result (λ frames. R.failed_reads reader.new ≡ R.failed_reads reader.old)
+        (λ fault. HasReadAhead (R.failed_reads reader.old) (R.failed_reads reader.new) fault) }
+    ensures writes { W.failed_writes writer.new ≡ count_after (failed_by blames_writer result) (W.failed_writes writer.old) }
+{
     let mut source = SideBySide::new(rt, alloc, workers);
     match write_text::<Image, ImageText, SideBySide<'_, Rt, Image>, R, W>(
         alloc,
         &mut source,
-        &mut reader,
-        &mut writer,
+        reader,
+        writer,
     ) {
-        Ok(frames) => Ok((frames, reader, writer)),
-        Err(stopped) => Err((PlayFault::of(stopped), reader, writer)),
+        Ok(frames) => Ok(frames),
+        Err(stopped) => Err(PlayFault::of(stopped)),
     }
 }
 

@@ -1,13 +1,25 @@
 //! The commands `index`, `check` and `verify`: a recording is listed, checked for damage, and compared with its film.
+ghost use Rattle.std.specs.Prelude.{◌≡◌, ◌⊎◌, false, IfOk, IfErr, IfSome, length};
+ghost use Rattle.ls_frame.specs.View.Chunks.{left_in, inner_reader};
+ghost use Rattle.ls_frame.specs.View.Devices.{count_after};
+ghost use Rattle.ls_film.specs.View.Steps.{failed_by};
+ghost use Rattle.ls_archive.specs.View.Checks.{IsChecked, Stops as StopsCheck, blames_recording};
+ghost use Rattle.ls_archive.specs.View.Comparing.{FindsAhead};
+ghost use Rattle.ls_archive.specs.View.Indexing.{Completes as Indexes, Stops as StopsIndex};
+ghost use Rattle.ls_archive.specs.View.Verifying.{Stops as StopsComparison};
+ghost use Rattle.ls_reading.specs.View.Commands.{HaveSameFrames, PassesCheck};
+ghost use Rattle.ls_reading.specs.View.Statuses.{verdict_status};
+
 use crate::cause::conclude;
 use ls_archive::{
     CheckFault, Checked, Difference, Finding, Findings, IndexFault, Verdict, VerifyFault, Wanted,
     check, check_by, find_places, verify, verify_by, write_index,
 };
 use ls_console::{
-    Cause, Console, DONE, FAILED, Host, Program, Shown, explain, finish_lines, no_memory,
+    Cause, Console, DONE, FAILED, Program, Reader, Shown, explain, finish_lines, no_memory,
     open_film, say_unwritten,
 };
+use ls_files::Opens;
 use ls_frame::{Buffered, Counted, Feed, Kind, Outlet, write_bytes};
 use ls_salvage::{Gap, Gaps, NoText, SalvageFault, Salvaged, salvage};
 use std::alloc::{AllocError, Global};
@@ -18,14 +30,17 @@ use std::rt::Files;
 use std::thread::Threads;
 
 /// Writes the index of a recording.
-pub fn index<R, W, E>(program: Program<'_, R, W, E>, file: &str, sums: bool) -> u8
+pub fn index<R, O, W, E>(program: Program<'_, R, O, W, E>, file: &str, sums: bool) -> u8
 where
-    R: Host,
+    R: AllocGlobal,
+    O: Opens + Drop,
     W: Write,
     E: Outlet,
+    ensures { (result ≡ DONE) ⊎ (result ≡ FAILED) }
 {
     let Program {
         rt,
+        opener,
         output,
         console,
     } = program;
@@ -33,7 +48,7 @@ where
         return no_memory(console);
     };
     let mut lines = Counted::new(buffered);
-    let status = match open_film(rt, file, console) {
+    let status = match open_film(rt.alloc(), opener, file, console) {
         Ok(mut recording) => {
             let result = index_to(rt.alloc(), &mut recording, &mut lines, sums);
             conclude(file, result, &recording, lines.last_failure(), console)
@@ -49,25 +64,34 @@ fn index_to<R: Feed, L: Outlet>(
     recording: &mut R,
     lines: &mut L,
     sums: bool,
-) -> Result<u64, IndexFault> {
+) -> Result<u64, IndexFault>
+    ensures completes { IfOk result (Indexes sums
+        (R.remaining recording.old) (R.remaining recording.new) (L.contents lines.old) (L.contents lines.new)) }
+    ensures stops { IfErr result (StopsIndex sums
+        (R.remaining recording.old) (R.remaining recording.new) (L.contents lines.old) (L.contents lines.new)) }
+{
     write_index(alloc, recording, lines, sums)
 }
 
 /// Looks for damage in a recording, by its index if one is named, and then with this number of workers that decode.
 /// Writes a line for each finding, through a buffer.
-pub fn check_recording<R, W, E>(
-    program: Program<'_, R, W, E>,
+pub fn check_recording<R, O, W, E>(
+    program: Program<'_, R, O, W, E>,
     file: &str,
     index: Option<&str>,
     workers: u8,
 ) -> u8
 where
-    R: Host + Threads + Sync,
+    R: AllocGlobal + Files + Threads + Sync,
+    O: Opens + Copy + Drop,
     W: Write,
     E: Outlet,
+    ensures status { (result ≡ DONE) ⊎ (result ≡ FAILED) }
+    ensures good { result ≡ DONE → IfSome index.entry (λ index. PassesCheck O.holds program.entry.opener file.now index.now) }
 {
     let Program {
         rt,
+        opener,
         output,
         console,
     } = program;
@@ -77,6 +101,7 @@ where
     let mut lines = Counted::new(buffered);
     let lined = Program {
         rt,
+        opener,
         output: &mut lines,
         console: &mut *console,
     };
@@ -93,22 +118,31 @@ where
 }
 
 /// Looks for damage in a recording by its index, with this number of workers that decode.
-fn check_with<R, W, E>(program: Program<'_, R, W, E>, file: &str, index: &str, workers: u8) -> u8
+fn check_with<R, O, W, E>(
+    program: Program<'_, R, O, W, E>,
+    file: &str,
+    index: &str,
+    workers: u8,
+) -> u8
 where
-    R: Host + Threads + Sync,
+    R: AllocGlobal + Files + Threads + Sync,
+    O: Opens + Copy + Drop,
     W: Write,
     E: Outlet,
+    ensures status { (result ≡ DONE) ⊎ (result ≡ FAILED) }
+    ensures good { result ≡ DONE → PassesCheck O.holds program.entry.opener file.now index.now }
 {
     let Program {
         rt,
+        opener,
         output,
         console,
     } = program;
-    let mut recording = match open_film(rt, file, console) {
+    let mut recording = match open_film(rt.alloc(), opener, file, console) {
         Ok(recording) => recording,
         Err(status) => return status,
     };
-    let mut wanted = match open_film(rt, index, console) {
+    let mut wanted = match open_film(rt.alloc(), opener, index, console) {
         Ok(wanted) => wanted,
         Err(status) => return status,
     };
@@ -116,7 +150,7 @@ where
     let result = check_lent(rt, workers, &mut wanted, &mut recording, &mut findings);
     let mut report = Report::new(rt.alloc(), file, output);
     let fault = match result {
-        Ok(checked) => match find_moved(rt, file, &findings, checked.bytes, console) {
+        Ok(checked) => match find_moved(rt, opener, file, &findings, checked.bytes, console) {
             Ok(places) => return report.end_by(checked, &findings, &places, console),
             Err(status) => {
                 return report.tell_all(&findings, console).unwrap_or(status);
@@ -136,20 +170,29 @@ where
 /// Looks elsewhere in the recording for the codestreams that were found to be damaged: one place or none for each.
 /// Empty if none has a sum, or the recording can't be read once more. `end` is the offset at which the last one
 /// should end. On failure says why and returns the status.
-fn find_moved<R: Host, E: Outlet>(
+fn find_moved<R, O, E>(
     rt: &R,
+    opener: O,
     file: &str,
     findings: &[Finding],
     end: u64,
     console: &mut Console<E>,
-) -> Result<Vec<Option<u64>>, u8> {
+) -> Result<Vec<Option<u64>>, u8>
+where
+    R: AllocGlobal + Files,
+    O: Opens + Drop,
+    E: Outlet,
+    ensures { IfErr result (λ status. status ≡ FAILED) }
+{
+    let alloc = rt.alloc();
     if findings.iter().all(|finding| finding.sum.is_none()) || !is_read_anew(rt, file) {
-        return Ok(Vec::new(rt.alloc()));
+        return Ok(Vec::new(alloc));
     }
-    let Ok(wanted) = wanted_of(rt.alloc(), findings) else {
+    let Ok(wanted) = wanted_of(alloc, findings) else {
         return Err(no_memory(console));
     };
-    find_all(rt, file, &wanted, end, console)
+    let recording = open_film(alloc, opener, file, console)?;
+    find_all(alloc, file, recording, &wanted, end, console)
 }
 
 /// The place at which a codestream was found, unless it is its own: one at its own place is damaged itself.
@@ -177,15 +220,18 @@ fn wanted_of(alloc: Global, findings: &[Finding]) -> Result<Vec<Wanted>, AllocEr
 
 /// Looks for codestreams in a recording: one place or none for each in `wanted`. On failure says why and returns the
 /// status.
-pub fn find_all<R: Host, E: Outlet>(
-    rt: &R,
+pub fn find_all<O: Opens, E: Outlet>(
+    alloc: Global,
     file: &str,
+    mut recording: Reader<'_, O>,
     wanted: &[Wanted],
     end: u64,
     console: &mut Console<E>,
-) -> Result<Vec<Option<u64>>, u8> {
-    let mut recording = open_film(rt, file, console)?;
-    match find_lent(rt.alloc(), &mut recording, wanted, end) {
+) -> Result<Vec<Option<u64>>, u8>
+    ensures count { IfOk result (λ places. length places.items ≡ length wanted.now) }
+    ensures status { IfErr result (λ status. status ≡ FAILED) }
+{
+    match find_lent(alloc, &mut recording, wanted, end) {
         Ok(places) => Ok(places),
         Err(fault) => Err(conclude(file, Err(fault), &recording, None, console)),
     }
@@ -197,7 +243,11 @@ fn find_lent<R: Feed>(
     recording: &mut Buffered<R>,
     wanted: &[Wanted],
     end: u64,
-) -> Result<Vec<Option<u64>>, CheckFault> {
+) -> Result<Vec<Option<u64>>, CheckFault>
+    ensures count { IfOk result (λ places. length places.items ≡ length wanted.now) }
+    ensures blame { IfErr result (λ fault. (fault ≡ CheckFault.Io) ⊎ (fault ≡ CheckFault.NoMemory)) }
+    ensures reads { R.failed_reads (inner_reader recording.new) ≡ count_after (failed_by blames_recording result) (R.failed_reads (inner_reader recording.old)) }
+{
     find_places(alloc, recording, wanted, end)
 }
 
@@ -216,7 +266,10 @@ fn check_lent<Rt: AllocGlobal + Threads + Sync, I: Feed, R: Feed, F: Findings>(
     index: &mut I,
     recording: &mut R,
     findings: &mut F,
-) -> Result<Checked, CheckFault> {
+) -> Result<Checked, CheckFault>
+    ensures checked { IfOk result (IsChecked (I.remaining index.old) (R.remaining recording.old) (F.found findings.old) (F.found findings.new)) }
+    ensures stops { IfErr result (StopsCheck (I.remaining index.old) (R.remaining recording.old) (F.found findings.old) (F.found findings.new)) }
+{
     let (alloc, workers) = (rt.alloc(), usize::from(workers));
     if workers > 1 {
         check_by(rt, alloc, workers, index, recording, findings)
@@ -234,13 +287,21 @@ fn is_of_index(fault: CheckFault) -> bool {
 }
 
 /// Looks for what can't be decoded in a recording, and says that no index is named.
-fn check_alone<R: Host, W: Write, E: Outlet>(program: Program<'_, R, W, E>, file: &str) -> u8 {
+fn check_alone<R, O, W, E>(program: Program<'_, R, O, W, E>, file: &str) -> u8
+where
+    R: AllocGlobal,
+    O: Opens + Drop,
+    W: Write,
+    E: Outlet,
+    ensures { (result ≡ DONE) ⊎ (result ≡ FAILED) }
+{
     let Program {
         rt,
+        opener,
         output,
         console,
     } = program;
-    let mut recording = match open_film(rt, file, console) {
+    let mut recording = match open_film(rt.alloc(), opener, file, console) {
         Ok(recording) => recording,
         Err(status) => return status,
     };
@@ -275,27 +336,36 @@ fn decode_only<R: Feed, G: Gaps>(
 }
 
 /// Compares a recording, decoded by this number of workers, with its film, and says where they differ.
-pub fn verify_files<R, W, E>(
-    program: Program<'_, R, W, E>,
+pub fn verify_files<R, O, W, E>(
+    program: Program<'_, R, O, W, E>,
     film: &str,
     recording: &str,
     workers: u8,
 ) -> u8
 where
-    R: Host + Threads + Sync,
+    R: AllocGlobal + Threads + Sync,
+    O: Opens + Copy + Drop,
     W: Write,
     E: Outlet,
+    ensures status { (result ≡ DONE) ⊎ (result ≡ FAILED) }
+    ensures same { result ≡ DONE → HaveSameFrames O.holds program.entry.opener film.now recording.now }
 {
-    let Program { rt, console, .. } = program;
-    let mut images = match open_film(rt, film, console) {
+    let Program {
+        rt,
+        opener,
+        console,
+        ..
+    } = program;
+    let alloc = rt.alloc();
+    let mut images = match open_film(alloc, opener, film, console) {
         Ok(images) => images,
         Err(status) => return status,
     };
-    let mut codestreams = match open_film(rt, recording, console) {
+    let mut codestreams = match open_film(alloc, opener, recording, console) {
         Ok(codestreams) => codestreams,
         Err(status) => return status,
     };
-    match verify_lent(rt, rt.alloc(), workers, &mut images, &mut codestreams) {
+    match verify_lent(rt, alloc, workers, &mut images, &mut codestreams) {
         Ok(verdict) => say_verdict(recording, verdict, console),
         Err(fault @ VerifyFault::Film(..)) => conclude(film, Err(fault), &images, None, console),
         Err(fault) => conclude(recording, Err(fault), &codestreams, None, console),
@@ -309,7 +379,10 @@ fn verify_lent<Rt: Threads + Sync, F: Feed, R: Feed>(
     workers: u8,
     film: &mut F,
     recording: &mut R,
-) -> Result<Verdict, VerifyFault> {
+) -> Result<Verdict, VerifyFault>
+    ensures finds { IfOk result (FindsAhead (F.remaining film.old) (F.remaining film.new) (R.remaining recording.old)) }
+    ensures stops { IfErr result (StopsComparison (F.remaining film.old) (R.remaining recording.old)) }
+{
     let workers = usize::from(workers);
     if workers > 1 {
         verify_by(rt, alloc, workers, film, recording)
@@ -319,7 +392,9 @@ fn verify_lent<Rt: Threads + Sync, F: Feed, R: Feed>(
 }
 
 /// Says how a recording differs from its film, if it does, and returns the status.
-fn say_verdict<E: Outlet>(recording: &str, verdict: Verdict, console: &mut Console<E>) -> u8 {
+fn say_verdict<E: Outlet>(recording: &str, verdict: Verdict, console: &mut Console<E>) -> u8
+    ensures { result ≡ verdict_status verdict }
+{
     let recording = Shown(recording);
     match verdict {
         Verdict::Same(_frames) => return DONE,
@@ -404,7 +479,10 @@ impl<'l, L: Outlet> Report<'l, L> {
         findings: &[Finding],
         places: &[Option<u64>],
         console: &mut Console<E>,
-    ) -> u8 {
+    ) -> u8
+        ensures status { (result ≡ DONE) ⊎ (result ≡ FAILED) }
+        ensures good { result ≡ DONE → (checked.damaged ≡ 0) × (checked.more ≡ false) }
+    {
         match self.write_all(findings, places) {
             Ok(moved) => self.end(checked, moved, console),
             Err(AllocError) => no_memory(console),
@@ -412,11 +490,9 @@ impl<'l, L: Outlet> Report<'l, L> {
     }
 
     /// Writes a line for each finding; the status if memory runs out.
-    fn tell_all<E: Outlet>(
-        &mut self,
-        findings: &[Finding],
-        console: &mut Console<E>,
-    ) -> Option<u8> {
+    fn tell_all<E: Outlet>(&mut self, findings: &[Finding], console: &mut Console<E>) -> Option<u8>
+        ensures { IfSome result (λ status. status ≡ FAILED) }
+    {
         match self.write_all(findings, &[]) {
             Ok(_moved) => None,
             Err(AllocError) => Some(no_memory(console)),
@@ -459,7 +535,10 @@ impl<'l, L: Outlet> Report<'l, L> {
     }
 
     /// Writes the totals of a check; `moved` of the damaged codestreams were found elsewhere. Returns the status.
-    fn end<E: Outlet>(&mut self, checked: Checked, moved: u64, console: &mut Console<E>) -> u8 {
+    fn end<E: Outlet>(&mut self, checked: Checked, moved: u64, console: &mut Console<E>) -> u8
+        ensures status { (result ≡ DONE) ⊎ (result ≡ FAILED) }
+        ensures good { result ≡ DONE → (checked.damaged ≡ 0) × (checked.more ≡ false) }
+    {
         match self.write_end(checked, moved) {
             Ok(()) if checked.damaged == 0 && !checked.more => DONE,
             Ok(()) => FAILED,

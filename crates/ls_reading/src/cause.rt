@@ -1,4 +1,6 @@
 //! The causes of faults, and what is said when an engine over a file stops.
+ghost use Rattle.std.specs.Prelude.{◌≡◌, MatchResult};
+
 use ls_archive::{CheckFault, IndexFault, VerifyFault};
 use ls_console::{Cause, Console, DONE, FAILED, Reader, Shown, cause_of_input, explain};
 use ls_files::Opens;
@@ -98,6 +100,7 @@ where
     O: Opens,
     X: Caused + Copy + Display + Drop,
     E: Outlet,
+    ensures { MatchResult outcome (λ _. result ≡ DONE) (λ _. result ≡ FAILED) }
 {
     match outcome {
         Ok(_frames) => DONE,

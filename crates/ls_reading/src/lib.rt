@@ -7,20 +7,29 @@
 //!
 //! ```
 //! use ls_console::{Host, Program};
+//! use ls_files::Opens;
 //! use ls_frame::Outlet;
 //! use ls_reading::list;
 //! use std::io::Write;
 //!
 //! /// Lists a film, and answers the status.
-//! pub fn list_film<R: Host, W: Write, E: Outlet>(program: Program<'_, R, W, E>) -> u8 {
+//! pub fn list_film<R, O, W, E>(program: Program<'_, R, O, W, E>) -> u8
+//! where
+//!     R: Host,
+//!     O: Opens + Drop,
+//!     W: Write,
+//!     E: Outlet,
+//! {
 //!     list(program, "film.pgm")
 //! }
 //! ```
 //!
 //! In reading order: `cause` (the causes of faults), `films` (`list` and `code`), `indexing` (the file of an index
 //! that is written together with its recording), `playing` (`play`), `recorded` (the recorded numbers of gaps, and
-//! lost frames), `archive` (`index`, `check` and `verify`), `replaying` (`replay`). No contract says what is written
-//! and said; the tests of the whole program show it.
+//! lost frames), `archive` (`index`, `check` and `verify`), `replaying` (`replay`). The contracts say which status each
+//! returns, and what `code`, `play`, `check` and `verify` have read and written if it is 0 (`specs/View/Commands.antt`);
+//! what each engine does over any reader and writer is said at the function that calls it. What is said on standard
+//! error, the tests of the whole program show.
 #![tactic(auto)]
 
 mod archive;

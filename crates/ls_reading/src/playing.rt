@@ -1,8 +1,23 @@
 //! The command `play`: all of a recording, a part of it, or the intact frames of a damaged one.
+ghost use Rattle.std.specs.Prelude.{◌≡◌, ◌⊎◌, ◌<◌, ◌+◌, IfOk, IfErr, IfSome, IfNone};
+ghost use Rattle.ls_frame.specs.View.Chunks.{left_in};
+ghost use Rattle.ls_frame.specs.View.Devices.{wrapped};
+ghost use Rattle.ls_frame.specs.View.Known.{Tells, known};
+ghost use Rattle.ls_stream.specs.Grammar.{Spells};
+ghost use Rattle.ls_film.specs.Showing.{show as film_images};
+ghost use Rattle.ls_film.specs.View.Engine.{Completes};
+ghost use Rattle.ls_film.specs.View.Parts.{ShowsPart, StopsPart};
+ghost use Rattle.ls_film.specs.View.Playing.{StopsAhead};
+ghost use Rattle.ls_salvage.specs.View.Runs.{Completes as Salvages, Stops as StopsSalvage};
+ghost use Rattle.ls_reading.specs.View.Commands.{WritesTextOf, ShowsPartOf, IsPart};
+
 use crate::cause::conclude;
 use crate::recorded::Recorded;
 use ls_console::{Cause, Console, DONE, FAILED, Host, Program, Shown, explain, open_film};
-use ls_film::{MOST_FRAMES, Part, PartFault, play, play_by, play_part};
+use ls_files::Opens;
+use ls_film::{
+    MOST_FRAMES, Part, PartFault, PlayFault, play_part, play_recording, play_recording_by,
+};
 use ls_frame::{Buffered, Feed, Outlet};
 use ls_salvage::{Gap, Gaps, ImageText, SalvageFault, Salvaged, salvage};
 use std::alloc::{AllocError, Global};
@@ -10,61 +25,81 @@ use std::io::Write;
 use std::thread::Threads;
 
 /// Plays a recording with this number of workers, or the part of it that is asked for.
-pub fn show<R, W, E>(
-    program: Program<'_, R, W, E>,
+pub fn show<R, O, W, E>(
+    program: Program<'_, R, O, W, E>,
     file: &str,
     part: Option<Part>,
     workers: u8,
 ) -> u8
 where
-    R: Host + Threads + Sync,
+    R: AllocGlobal + Threads + Sync,
+    O: Opens + Drop,
     W: Write,
     E: Outlet,
+    ensures status { (result ≡ DONE) ⊎ (result ≡ FAILED) }
+    ensures shows { result ≡ DONE → IfNone part (WritesTextOf O.holds program.entry.opener file.now
+        (W.contents (wrapped program.entry.output.now)) (W.contents (wrapped program.exit.1.1.0.now)) Spells film_images) }
+    ensures part { result ≡ DONE → IfSome part (λ part. IsPart part → ShowsPartOf O.holds program.entry.opener file.now
+        (W.contents (wrapped program.entry.output.now)) (W.contents (wrapped program.exit.1.1.0.now)) part) }
 {
     let Program {
         rt,
+        opener,
         output,
         console,
     } = program;
-    let mut recording = match open_film(rt, file, console) {
+    let mut recording = match open_film(rt.alloc(), opener, file, console) {
         Ok(recording) => recording,
         Err(status) => return status,
     };
-    let result = match part {
-        Some(part) => play_frames(rt.alloc(), part, &mut recording, output),
-        None => play_all(rt, rt.alloc(), workers, &mut recording, output),
-    };
-    conclude(file, result, &recording, output.last_failure(), console)
+    match part {
+        Some(part) => {
+            let result = show_part(rt.alloc(), part, &mut recording, output);
+            conclude(file, result, &recording, output.last_failure(), console)
+        }
+        None => {
+            let result = show_all(rt, rt.alloc(), workers, &mut recording, output);
+            conclude(file, result, &recording, output.last_failure(), console)
+        }
+    }
 }
 
 /// Plays a recording, over any reader and writer, with this number of workers. With one, each image is written before
 /// the next codestream is read.
-fn play_all<Rt: Threads + Sync, R: Feed, W: Outlet>(
+fn show_all<Rt: Threads + Sync, R: Feed, W: Outlet>(
     rt: &Rt,
     alloc: Global,
     workers: u8,
     recording: &mut R,
     output: &mut W,
-) -> Result<u64, PartFault> {
+) -> Result<u64, PlayFault>
+    ensures completes { IfOk result (Completes Spells film_images
+        (R.remaining recording.old) (R.remaining recording.new) (W.contents output.old) (W.contents output.new)) }
+    ensures stops { IfErr result (StopsAhead (R.remaining recording.old) (W.contents output.old) (W.contents output.new)) }
+{
     let workers = usize::from(workers);
-    let played = if workers > 1 {
-        play_by(rt, alloc, workers, recording, output)
+    if workers > 1 {
+        play_recording_by(rt, alloc, workers, recording, output)
     } else {
-        play(alloc, recording, output)
-    };
-    match played {
-        Ok((frames, _, _)) => Ok(frames),
-        Err((fault, _, _)) => Err(PartFault::Play(fault)),
+        play_recording(alloc, recording, output)
     }
 }
 
 /// Plays the frames of `part`; none if they are out of order or too high, which the words can't ask for.
-fn play_frames<R: Feed, W: Outlet>(
+fn show_part<R: Feed, W: Outlet>(
     alloc: Global,
     part: Part,
     recording: &mut R,
     output: &mut W,
-) -> Result<u64, PartFault> {
+) -> Result<u64, PartFault>
+    ensures shows { IfOk result (λ count. IsPart part → ShowsPart (R.remaining recording.old) (R.remaining recording.new)
+        (W.contents output.old) (W.contents output.new) part.first count) }
+    ensures ends { IfOk result (λ count. IsPart part → IfSome part.last (λ last. part.first + count ≡ last + 1)) }
+    ensures goes_on { IfOk result (λ count. IsPart part → IfNone part.last
+        ((0 < count) × (Tells (R.remaining recording.old) → known (R.remaining recording.new) ≡ []))) }
+    ensures stops { IfErr result (StopsPart (R.remaining recording.old) (R.remaining recording.new)
+        (W.contents output.old) (W.contents output.new) part.first part.last) }
+{
     let Part { first, last } = part;
     if first >= MOST_FRAMES || last.is_some_and(|last| last < first || last >= MOST_FRAMES) {
         return Ok(0);
@@ -74,25 +109,32 @@ fn play_frames<R: Feed, W: Outlet>(
 
 /// Plays the intact frames of a recording, and reports the gaps between them. With an index, gaps have the recorded
 /// frame numbers, and lost frames are reported too.
-pub fn show_whole<R, W, E>(program: Program<'_, R, W, E>, file: &str, index: Option<&str>) -> u8
+pub fn show_whole<R, O, W, E>(
+    program: Program<'_, R, O, W, E>,
+    file: &str,
+    index: Option<&str>,
+) -> u8
 where
     R: Host,
+    O: Opens + Copy + Drop,
     W: Write,
     E: Outlet,
+    ensures { (result ≡ DONE) ⊎ (result ≡ FAILED) }
 {
     let Program {
         rt,
+        opener,
         output,
         console,
     } = program;
     let recorded = match index {
-        Some(index) => match Recorded::find(rt, file, index, console) {
+        Some(index) => match Recorded::find(rt, opener, file, index, console) {
             Ok(recorded) => Some(recorded),
             Err(status) => return status,
         },
         None => None,
     };
-    let mut recording = match open_film(rt, file, console) {
+    let mut recording = match open_film(rt.alloc(), opener, file, console) {
         Ok(recording) => recording,
         Err(status) => return status,
     };
@@ -125,7 +167,12 @@ fn play_whole<R: Feed, W: Outlet, G: Gaps>(
     recording: &mut Buffered<R>,
     output: &mut W,
     gaps: &mut G,
-) -> Result<Salvaged, SalvageFault> {
+) -> Result<Salvaged, SalvageFault>
+    ensures completes { IfOk result (Salvages film_images (W.contents output.old) (W.contents output.new) (G.told gaps.old) (G.told gaps.new)
+        (left_in R.remaining recording.old) (left_in R.remaining recording.new)) }
+    ensures stops { IfErr result (StopsSalvage film_images (W.contents output.old) (W.contents output.new) (G.told gaps.old) (G.told gaps.new)
+        (left_in R.remaining recording.old)) }
+{
     salvage::<ImageText, _, _, _>(alloc, recording, output, gaps)
 }
 

@@ -1,11 +1,18 @@
 //! Finds, by a recording's index, the recorded numbers of gaps in it, and the frames that were lost.
+ghost use Rattle.std.specs.Prelude.{◌≡◌, IfErr};
+ghost use Rattle.ls_frame.specs.View.Devices.{count_after};
+ghost use Rattle.ls_film.specs.View.Steps.{failed_by};
+ghost use Rattle.ls_archive.specs.View.Checks.{blames_index};
+
 use crate::archive::{find_all, is_read_anew};
 use crate::cause::conclude;
 use ls_archive::{CheckFault, Wanted, read_index};
-use ls_console::{Console, FAILED, Host, Shown, no_memory, open_film};
+use ls_console::{Console, FAILED, Shown, no_memory, open_film};
+use ls_files::Opens;
 use ls_frame::{Feed, Outlet};
 use ls_salvage::Gap;
 use std::alloc::{AllocError, Global};
+use std::rt::Files;
 
 /// The recorded frames, and where they are in the recording now.
 #[derive(Drop)]
@@ -24,20 +31,29 @@ pub struct Recorded {
 
 impl Recorded {
     /// Finds the frames of an index in a recording. On failure says why and returns the status.
-    pub fn find<R: Host, E: Outlet>(
+    pub fn find<R, O, E>(
         rt: &R,
+        opener: O,
         file: &str,
         index: &str,
         console: &mut Console<E>,
-    ) -> Result<Recorded, u8> {
+    ) -> Result<Recorded, u8>
+    where
+        R: AllocGlobal + Files,
+        O: Opens + Copy + Drop,
+        E: Outlet,
+        ensures { IfErr result (λ status. status ≡ FAILED) }
+    {
         if !is_read_anew(rt, file) {
             let shown = Shown(file);
             console.say(format_args!("{shown}: can't be read twice, as --index asks for"));
             return Err(FAILED);
         }
-        let lines = lines_of(rt, index, console)?;
-        let places = find_all(rt, file, &lines, 0, console)?;
-        match Recorded::new(rt.alloc(), lines, &places) {
+        let alloc = rt.alloc();
+        let lines = lines_of(alloc, opener, index, console)?;
+        let recording = open_film(alloc, opener, file, console)?;
+        let places = find_all(alloc, file, recording, &lines, 0, console)?;
+        match Recorded::new(alloc, lines, &places) {
             Ok(recorded) => Ok(recorded),
             Err(AllocError) => Err(no_memory(console)),
         }
@@ -192,13 +208,19 @@ fn say_run<E: Outlet>(file: &str, number: usize, run: usize, console: &mut Conso
 }
 
 /// Reads the lines of an index with sums. On failure says what is wrong and returns the status.
-fn lines_of<R: Host, E: Outlet>(
-    rt: &R,
+fn lines_of<O, E>(
+    alloc: Global,
+    opener: O,
     index: &str,
     console: &mut Console<E>,
-) -> Result<Vec<Wanted>, u8> {
-    let mut reader = open_film(rt, index, console)?;
-    let lines = match read_lent(rt.alloc(), &mut reader) {
+) -> Result<Vec<Wanted>, u8>
+where
+    O: Opens + Drop,
+    E: Outlet,
+    ensures { IfErr result (λ status. status ≡ FAILED) }
+{
+    let mut reader = open_film(alloc, opener, index, console)?;
+    let lines = match read_lent(alloc, &mut reader) {
         Ok(lines) => lines,
         Err(fault) => return Err(conclude(index, Err(fault), &reader, None, console)),
     };
@@ -213,6 +235,8 @@ fn lines_of<R: Host, E: Outlet>(
 }
 
 /// Reads the lines of an index, over any reader.
-fn read_lent<I: Feed>(alloc: Global, index: &mut I) -> Result<Vec<Wanted>, CheckFault> {
+fn read_lent<I: Feed>(alloc: Global, index: &mut I) -> Result<Vec<Wanted>, CheckFault>
+    ensures { I.failed_reads index.new ≡ count_after (failed_by blames_index result) (I.failed_reads index.old) }
+{
     read_index(alloc, index)
 }

@@ -1,6 +1,8 @@
 //! The command `replay`: a queue's replies to the steps of a file.
-use ls_console::{Console, DONE, FAILED, Host, Program, Shown, finish_lines, misused, no_memory};
-use ls_files::{Opener, Source};
+ghost use Rattle.std.specs.Prelude.{◌≡◌, ◌⊎◌, IfErr};
+
+use ls_console::{Console, DONE, FAILED, Program, Shown, USAGE, finish_lines, misused, no_memory};
+use ls_files::{Opens, Source};
 use ls_frame::{Counted, Outlet};
 use ls_queue::{QueueFault, Reply, replay};
 use ls_replay::{print_replies, read_steps, read_text};
@@ -8,35 +10,49 @@ use std::alloc::Global;
 use std::io::{BufWriter, Write};
 
 /// Writes the replies of a queue to the steps of a file, and returns the status.
-pub fn replay_file<R: Host, W: Write, E: Outlet>(
-    program: Program<'_, R, W, E>,
+pub fn replay_file<R, O, W, E>(
+    program: Program<'_, R, O, W, E>,
     sources: u8,
     capacity: u32,
     file: &str,
-) -> u8 {
+) -> u8
+where
+    R: AllocGlobal,
+    O: Opens + Drop,
+    W: Write,
+    E: Outlet,
+    ensures { (result ≡ DONE) ⊎ ((result ≡ FAILED) ⊎ (result ≡ USAGE)) }
+{
     let Program {
         rt,
+        opener,
         output,
         console,
     } = program;
-    match replies_to(rt, sources, capacity, file, console) {
-        Ok(replies) => write_replies(rt.alloc(), file, &replies, output, console),
+    let alloc = rt.alloc();
+    let text = match read_steps_text(alloc, opener, file, console) {
+        Ok(text) => text,
+        Err(status) => return status,
+    };
+    match replies_to(alloc, sources, capacity, file, &text, console) {
+        Ok(replies) => write_replies(alloc, file, &replies, output, console),
         Err(status) => status,
     }
 }
 
-/// The replies to the steps of a file. On failure says why and returns the status. The file is read before the
-/// numbers are checked.
-fn replies_to<R: Host, E: Outlet>(
-    rt: &R,
+/// The replies to the steps of a file, whose text this is. On failure says why and returns the status: `USAGE` exactly
+/// if the steps are right, but no queue has so many sources or places.
+fn replies_to<E: Outlet>(
+    alloc: Global,
     sources: u8,
     capacity: u32,
     file: &str,
+    text: &[u8],
     console: &mut Console<E>,
-) -> Result<Vec<Reply>, u8> {
-    let alloc = rt.alloc();
-    let text = read_steps_text(rt, file, console)?;
-    let steps = match read_steps(alloc, &text) {
+) -> Result<Vec<Reply>, u8>
+    ensures { IfErr result (λ status. (status ≡ FAILED) ⊎ (status ≡ USAGE)) }
+{
+    let steps = match read_steps(alloc, text) {
         Ok(steps) => steps,
         Err(fault) => {
             console.say(format_args!("{}: {fault}", Shown(file)));
@@ -55,19 +71,25 @@ fn replies_to<R: Host, E: Outlet>(
 }
 
 /// Reads the bytes of a steps file. On failure says why and returns the status.
-fn read_steps_text<R: Host, E: Outlet>(
-    rt: &R,
+fn read_steps_text<O, E>(
+    alloc: Global,
+    opener: O,
     file: &str,
     console: &mut Console<E>,
-) -> Result<Vec<u8>, u8> {
-    let mut reader = match Source::open(Opener::new(rt), file) {
+) -> Result<Vec<u8>, u8>
+where
+    O: Opens + Drop,
+    E: Outlet,
+    ensures { IfErr result (λ status. status ≡ FAILED) }
+{
+    let mut reader = match Source::open(opener, file) {
         Ok(source) => Counted::new(source),
         Err(fault) => {
             console.say_unopened(file, &fault);
             return Err(FAILED);
         }
     };
-    match read_text(rt.alloc(), &mut reader) {
+    match read_text(alloc, &mut reader) {
         Ok(text) => Ok(text),
         Err(fault) => {
             console.say(format_args!("{}: {fault}", Shown(file)));
@@ -88,6 +110,7 @@ fn write_replies<W, E>(
 where
     W: Write,
     E: Outlet,
+    ensures { (result ≡ DONE) ⊎ (result ≡ FAILED) }
 {
     let Ok(buffered) = BufWriter::new(alloc, output) else {
         return no_memory(console);

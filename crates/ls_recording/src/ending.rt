@@ -2,6 +2,10 @@
 pub mod report;
 mod table;
 
+ghost use Rattle.std.specs.Prelude.{◌≡◌, ◌⊎◌, true, IsOk, IfOk, IfErr};
+ghost use Rattle.std.specs.List.{AllZip};
+ghost use Rattle.ls_recording.specs.View.Films.{IsComplete, IsWhole};
+
 use crate::recording::{FilmTrack, Recorded};
 use crate::watching::Watch;
 use ls_archive::{Follower, IndexFault};
@@ -18,6 +22,21 @@ use std::alloc::{AllocError, Global};
 use std::io::Write;
 use std::time::Clock;
 
+/// The ends of all films: their files, and whether each film was recorded completely and is on the disk with its index,
+/// if it has one.
+#[derive(Drop)]
+pub struct Ends<'a, O: Opens> {
+    pub files: Vec<Targets<'a, O>>,
+    pub are_whole: bool,
+}
+
+/// The end of a film likewise.
+#[derive(Drop)]
+struct End<'a, O: Opens> {
+    files: Targets<'a, O>,
+    is_whole: bool,
+}
+
 /// Settles each film's files that aren't settled yet, says why it stopped, if it did and that wasn't said, and returns
 /// its files. If no recording began, or memory runs out, says so and returns the status.
 pub fn end_films<'a, R, O, E>(
@@ -26,15 +45,18 @@ pub fn end_films<'a, R, O, E>(
     films: &mut [Film<'_, O>],
     recorded: Recorded<'a, O>,
     console: &mut Console<E>,
-) -> Result<Vec<Targets<'a, O>>, u8>
+) -> Result<Ends<'a, O>, u8>
 where
     R: Clock,
     O: Makes + Copy,
     E: Outlet,
+    ensures whole { IfOk result (λ ends. ends.are_whole ≡ true → IfOk recorded.entry (λ recording. AllZip IsWhole recording.tracks.items ends.files.items)) }
+    ensures recorded { IfOk result (λ ends. IsOk recorded.entry) }
+    ensures status { IfErr result (λ status. status ≡ FAILED) }
 {
     match recorded {
         Ok(recording) => match end_tracks(alloc, watch, films, recording.tracks, console) {
-            Ok(files) => Ok(files),
+            Ok(ends) => Ok(ends),
             Err(AllocError) => Err(no_memory(console)),
         },
         Err((fault, _devices)) => {
@@ -47,32 +69,50 @@ where
     }
 }
 
-/// Settles each film's files that aren't settled yet, and says why it stopped, if it did and that wasn't said. Returns
-/// the films' files.
+/// Settles each film's files that aren't settled yet, and says why it stopped, if it did and that wasn't said.
 fn end_tracks<'a, R, O, E>(
     alloc: Global,
     watch: &Watch<'_, R>,
     films: &mut [Film<'_, O>],
-    tracks: Vec<FilmTrack<'a, O>>,
+    mut tracks: Vec<FilmTrack<'a, O>>,
     console: &mut Console<E>,
-) -> Result<Vec<Targets<'a, O>>, AllocError>
+) -> Result<Ends<'a, O>, AllocError>
 where
     R: Clock,
     O: Makes + Copy,
     E: Outlet,
+    ensures { IfOk result (λ ends. ends.are_whole ≡ true → AllZip IsWhole tracks.entry.items ends.files.items) }
 {
     let mut told = [false; MOST_FILMS];
     watch.told(&mut told);
-    let mut files = Vec::new(alloc);
-    for (film, track) in films.iter_mut().zip(tracks) {
+    let mut files = Vec::with_capacity(alloc, tracks.len())?;
+    let mut are_whole = true;
+    'tracks: while !tracks.is_empty() {
+        let track = tracks.remove(0);
         let number = files.len();
-        let written = watch.written(number);
-        files.push(say_end(film, track, written, is_told(&told, number), console))?;
+        // There is a film for each track.
+        let Some(film) = films.get_mut(number) else {
+            are_whole = false;
+            break;
+        };
+        let End {
+            files: ended,
+            is_whole,
+        } = say_end(
+            film,
+            track,
+            watch.written(number),
+            is_told(&told, number),
+            console,
+        );
+        files.push(ended)?;
+        are_whole = are_whole && is_whole;
     }
-    Ok(files)
+    Ok(Ends { files, are_whole })
 }
 
-/// Says the number of frames of each whole recording, unless that was said. Returns the status of all.
+/// Says the number of frames of each complete recording, unless that was said. Returns the status: `FAILED` if a line
+/// couldn't be written.
 pub fn say_counts<O, W, E>(
     alloc: Global,
     films: &[Film<'_, O>],
@@ -83,28 +123,24 @@ where
     O: Makes,
     W: Write,
     E: Outlet,
+    ensures { (result ≡ DONE) ⊎ (result ≡ FAILED) }
 {
-    let mut status = DONE;
     for film in films {
         // After a line that couldn't be written, no more are written.
         if Outlet::failures(output) > 0 {
             return FAILED;
         }
         match film.frames {
-            Some(_) if film.is_told => {}
-            Some(frames) => {
+            Some(frames) if !film.is_told => {
                 let said = say_count(alloc, film, frames, output, console);
                 if said != DONE {
                     return said;
                 }
             }
-            None => status = FAILED,
-        }
-        if film.is_index_broken {
-            status = FAILED;
+            _ => {}
         }
     }
-    status
+    DONE
 }
 
 /// Releases the files of recordings.
@@ -126,17 +162,17 @@ fn is_told(told: &[bool], film: usize) -> bool {
 }
 
 /// Settles a film's files, if they aren't settled yet, and says why it stopped, if it did and that wasn't said.
-/// Returns its files.
 fn say_end<'a, O, E>(
     film: &mut Film<'_, O>,
     track: FilmTrack<'a, O>,
     written: u64,
     was_told: bool,
     console: &mut Console<E>,
-) -> Targets<'a, O>
+) -> End<'a, O>
 where
     O: Makes + Copy + Drop,
     E: Outlet,
+    ensures { result.is_whole ≡ true → IsWhole track.entry result.files }
 {
     let Track {
         reader,
@@ -160,11 +196,17 @@ where
         }
     }
     let recording = writer.into_inner();
-    match (result, synced.recording) {
-        (Ok(frames), Ok(())) => film.frames = Some(frames),
-        (Ok(_), Err(failure)) => say_unsynced(file, &recording, failure, console),
-        (Err(_), _) => {}
-    }
+    let is_recorded = match (result, synced.recording) {
+        (Ok(frames), Ok(())) => {
+            film.frames = Some(frames);
+            true
+        }
+        (Ok(_), Err(failure)) => {
+            say_unsynced(file, &recording, failure, console);
+            false
+        }
+        (Err(_), _) => false,
+    };
     if let Some(name) = film.left_over() {
         console.mention(names.recording.as_str(), name);
     }
@@ -172,7 +214,10 @@ where
         Some(follower) => Some(end_index(film, follower, synced.index, broken, console)),
         None => None,
     };
-    Targets { recording, index }
+    End {
+        files: Targets { recording, index },
+        is_whole: is_recorded && !film.is_index_broken,
+    }
 }
 
 /// Says why the index of a film isn't whole, if it isn't, and returns its file.
@@ -202,7 +247,9 @@ where
 
 /// The outcome of a film: to its lane a stop that the program was asked for is a failed read, after the last frame that
 /// was read whole.
-fn outcome_of(outcome: Result<u64, LaneFault>, is_stopped: bool) -> Result<u64, LaneFault> {
+fn outcome_of(outcome: Result<u64, LaneFault>, is_stopped: bool) -> Result<u64, LaneFault>
+    ensures { IfOk result (IsComplete outcome is_stopped) }
+{
     match outcome {
         Err(LaneFault::Input(frames, NetpbmFault::Io)) if is_stopped => Ok(frames),
         _ => outcome,
@@ -238,6 +285,7 @@ where
     O: Makes,
     W: Write,
     E: Outlet,
+    ensures { (result ≡ DONE) ⊎ (result ≡ FAILED) }
 {
     let file = Shown(film.names.file);
     let ended = if film.is_stopped { ", stopped" } else { "" };

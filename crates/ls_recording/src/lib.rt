@@ -7,7 +7,7 @@
 //! ```
 //! use ls_command::{Request, read_words};
 //! use ls_console::{Host, Program, USAGE};
-//! use ls_files::{Locks, Opener};
+//! use ls_files::Makes;
 //! use ls_frame::Outlet;
 //! use ls_recording::record_films;
 //! use std::io::Write;
@@ -16,24 +16,25 @@
 //! use std::time::Clock;
 //!
 //! /// Records the films that words ask for, and answers the status.
-//! pub fn record<R, W, E>(program: Program<'_, R, W, E>, words: &[String]) -> u8
+//! pub fn record<R, O, W, E>(program: Program<'_, R, O, W, E>, words: &[String]) -> u8
 //! where
 //!     R: Host + Clock + Threads + Wait + Sync,
-//!     R::File: Send + Locks,
+//!     O: Makes<File = R::File> + Copy + Send,
+//!     R::File: Send,
 //!     W: Write + Send,
 //!     E: Outlet + Send,
 //! {
-//!     let rt = program.rt;
-//!     match read_words(rt.alloc(), words) {
-//!         Ok((Request::Record(asked), _reasons)) => record_films(program, Opener::new(rt), asked),
+//!     match read_words(program.rt.alloc(), words) {
+//!         Ok((Request::Record(asked), _reasons)) => record_films(program, asked),
 //!         _ => USAGE,
 //!     }
 //! }
 //! ```
 //!
 //! In reading order: `recording` (the command), `watching` (counts and times of films while they are recorded, their
-//! files settled as each ends, and progress), `ending` (says how each film ended, and writes the report). No contract
-//! says what is said; the tests of the whole program show it.
+//! files settled as each ends, and progress), `ending` (says how each film ended, and writes the report). The contract
+//! of `recording::record_to_end` says what is in the films' files if the status is 0 (`specs/View/Films.antt`). What is
+//! said meanwhile, the tests of the whole program show.
 #![tactic(auto)]
 
 mod ending;

@@ -1,13 +1,17 @@
 //! The command `record`: opens the films, records them, and says how each ended.
+ghost use Rattle.std.specs.Prelude.{◌≡◌, IfOk};
+ghost use Rattle.std.specs.List.{AllZip};
+ghost use Rattle.ls_recording.specs.View.Films.{HasTrack, IsRecorded};
+
 use crate::ending::report::{table_of, write_report};
 use crate::ending::{end_films, release, say_counts};
 use crate::watching::Watch;
 use crate::watching::progress::Teller;
 use ls_command::RecordRequest;
-use ls_console::{Host, Program, Reader, no_memory};
-use ls_files::Makes;
+use ls_console::{Console, DONE, FAILED, Host, Program, Reader, no_memory};
+use ls_files::{Makes, Opens, Targets};
 use ls_frame::Outlet;
-use ls_opening::{Devices, Opened, Writer, names_once, open_films};
+use ls_opening::{Devices, Film, Opened, Writer, names_once, open_films};
 use ls_recorder::{RecordFault, Recording as Tracks, Track, record};
 use std::io::Write;
 use std::sync::Wait;
@@ -24,13 +28,16 @@ pub type Recorded<'a, O> = Result<
     (RecordFault, Vec<Devices<'a, O>>),
 >;
 
+/// The end of a recording: the status to exit with, and the files of each film.
+#[derive(Drop)]
+struct Finished<'a, O: Opens> {
+    status: u8,
+    files: Vec<Targets<'a, O>>,
+}
+
 /// Records the films that are asked for, says how each ended, and returns the status. On a terminal progress is always
 /// shown.
-pub fn record_films<R, O, W, E>(
-    program: Program<'_, R, W, E>,
-    opener: O,
-    asked: RecordRequest<'_>,
-) -> u8
+pub fn record_films<R, O, W, E>(program: Program<'_, R, O, W, E>, asked: RecordRequest<'_>) -> u8
 where
     R: Host + Clock + Threads + Wait + Sync,
     O: Makes<File = R::File> + Copy + Send,
@@ -43,16 +50,15 @@ where
         Ok(names) => names,
         Err(refusal) => return refusal.say(program.console),
     };
-    match open_films(program.rt, opener, &asked, &names, program.console) {
-        Ok(opened) => record_opened(program, opener, &asked, opened),
+    match open_films(program.rt, program.opener, &asked, &names, program.console) {
+        Ok(opened) => record_opened(program, &asked, opened),
         Err(refusal) => refusal.say(program.console),
     }
 }
 
 /// Records films whose files are open, says how each ended, writes the report, and returns the status.
 fn record_opened<'a, R, O, W, E>(
-    program: Program<'_, R, W, E>,
-    opener: O,
+    program: Program<'_, R, O, W, E>,
     asked: &'a RecordRequest<'a>,
     opened: Opened<'a, O>,
 ) -> u8
@@ -65,6 +71,7 @@ where
 {
     let Program {
         rt,
+        opener,
         output,
         console,
     } = program;
@@ -73,32 +80,18 @@ where
         devices,
         report,
     } = opened;
-    let is_telling = asked.progress || console.is_terminal();
-    let is_timed = is_telling || report.is_some();
+    let is_timed = is_telling(asked, console) || report.is_some();
     let Ok(watch) = Watch::new(rt, rt.alloc(), films.len(), is_timed) else {
         return no_memory(console);
     };
-    let teller = Teller {
-        program: Program {
-            rt,
-            output: &mut *output,
-            console: &mut *console,
-        },
+    let program = Program {
+        rt,
         opener,
-        watch: &watch,
-        files: &asked.files,
-        films: &mut films,
-        is_telling,
+        output: &mut *output,
+        console: &mut *console,
     };
-    let recorded = record_watched(rt, asked, &watch, teller, devices);
-    let status = match end_films(rt.alloc(), &watch, &mut films, recorded, console) {
-        Ok(files) => {
-            let status = say_counts(rt.alloc(), &films, output, console);
-            release(files);
-            status
-        }
-        Err(status) => status,
-    };
+    let Finished { status, files } = record_to_end(program, asked, &watch, &mut films, devices);
+    release(files);
     match report {
         Some(report) => {
             let table = table_of(rt.alloc(), &watch, &films, asked.workers);
@@ -107,6 +100,63 @@ where
             status.max(write_report(report, table, console))
         }
         None => status,
+    }
+}
+
+/// Whether progress is said.
+fn is_telling<E: Outlet>(asked: &RecordRequest<'_>, console: &Console<E>) -> bool {
+    asked.progress || console.is_terminal()
+}
+
+/// Records films while another thread watches them, and says how each ended. The status is `DONE` only if each film was
+/// recorded to its end, or up to a stop that the program was asked for, and its files are on the disk.
+fn record_to_end<'a, R, O, W, E>(
+    program: Program<'_, R, O, W, E>,
+    asked: &'a RecordRequest<'a>,
+    watch: &Watch<'_, R>,
+    films: &mut [Film<'a, O>],
+    devices: Vec<Devices<'a, O>>,
+) -> Finished<'a, O>
+where
+    R: AllocGlobal + Clock + Threads + Wait + Sync,
+    O: Makes + Copy + Send,
+    O::File: Send,
+    W: Write + Send,
+    E: Outlet + Send,
+    ensures { result.status ≡ DONE → AllZip (IsRecorded O.File.remaining O.File.contents) devices.entry.items result.files.items }
+{
+    let Program {
+        rt,
+        opener,
+        output,
+        console,
+    } = program;
+    let is_telling = is_telling(asked, console);
+    let teller = Teller {
+        program: Program {
+            rt,
+            opener,
+            output: &mut *output,
+            console: &mut *console,
+        },
+        watch,
+        files: &asked.files,
+        films: &mut *films,
+        is_telling,
+    };
+    let recorded = record_watched(rt, asked, watch, teller, devices);
+    match end_films(rt.alloc(), watch, films, recorded, console) {
+        Ok(ended) => {
+            let said = say_counts(rt.alloc(), films, output, console);
+            Finished {
+                status: if ended.are_whole { said } else { FAILED },
+                files: ended.files,
+            }
+        }
+        Err(status) => Finished {
+            status,
+            files: Vec::new(rt.alloc()),
+        },
     }
 }
 
@@ -124,6 +174,7 @@ where
     O::File: Send,
     W: Write + Send,
     E: Outlet + Send,
+    ensures { IfOk result (λ recording. AllZip (HasTrack O.File.remaining O.File.contents) devices.entry.items recording.tracks.items) }
 {
     let alloc = rt.alloc();
     let (workers, capacity, window) = (asked.workers, asked.capacity, asked.window);
@@ -131,7 +182,9 @@ where
     let ((), recorded) = thread::join(
         rt,
         move || teller.tell(),
-        || {
+        move || -> Recorded<'a, O>
+            ensures { IfOk result (λ recording. AllZip (HasTrack O.File.remaining O.File.contents) devices.entry.items recording.tracks.items) }
+        {
             let recorded = record(rt, alloc, devices, workers, capacity, window, watch);
             watch.end();
             recorded

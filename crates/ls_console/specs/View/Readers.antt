@@ -4,7 +4,6 @@ use Rattle.ls_frame.specs.declared.buffered.Buffered.{Buffered}
 use Rattle.ls_frame.specs.declared.device.Counted.{Counted}
 use Rattle.ls_frame.specs.View.Chunks.{left_in}
 use Rattle.ls_frame.specs.View.Devices.{wrapped}
-use Rattle.ls_frame.specs.View.Known.{Tells}
 use Rattle.ls_files.specs.declared.source.Source.{Source}
 use Rattle.ls_files.specs.View.Files.{left_in_source}
 
@@ -12,7 +11,3 @@ module _ {O F : Type 0} where
   -- what is known of the bytes that a reader has left
   abbrev pub unread : (F → Option (List ℕ)) → Buffered (Counted (Source O F)) → Option (List ℕ)
   unread remaining reader = left_in (λ (c : Counted (Source O F)). left_in_source remaining (wrapped c)) reader
-
-  -- If the bytes that a reader has left are known, they are what the file system says of the file at this path.
-  abbrev pub BeginsFileAt : (O → List ℕ → Option (List ℕ) → Type 0) → (F → Option (List ℕ)) → O → List ℕ → Buffered (Counted (Source O F)) → Type 0
-  BeginsFileAt holds remaining opener path reader = Tells (unread remaining reader) → holds opener path (unread remaining reader)

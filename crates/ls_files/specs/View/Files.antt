@@ -1,5 +1,5 @@
 -- The files of sources and targets, and what is known of their bytes.
-use Rattle.std.specs.Prelude.{ℕ, List, Option, IsSome}
+use Rattle.std.specs.Prelude.{◌≡◌, ◌⊎◌, ℕ, List, Option, None}
 use Rattle.ls_files.specs.declared.source.Source.{Source}
 use Rattle.ls_files.specs.declared.target.Target.{Target}
 use Rattle.ls_files.specs.View.Opened.{known_of}
@@ -9,9 +9,9 @@ module _ {O F : Type 0} where
   abbrev pub left_in_source : (F → Option (List ℕ)) → Source O F → Option (List ℕ)
   left_in_source remaining source = known_of remaining source.file
 
-  -- If the bytes that a source has left are known, they are what the file system says of the file at this path.
+  -- A source isn't open yet; or what is known of the bytes that it has left is what the file system says of the file at this path.
   abbrev pub ReadsFileAt : (O → List ℕ → Option (List ℕ) → Type 0) → (F → Option (List ℕ)) → O → List ℕ → Source O F → Type 0
-  ReadsFileAt holds remaining opener path source = IsSome (left_in_source remaining source) → holds opener path (left_in_source remaining source)
+  ReadsFileAt holds remaining opener path source = (source.file ≡ None) ⊎ holds opener path (left_in_source remaining source)
 
   -- what is known of the bytes in a target's file
   abbrev pub held_by_target : (F → Option (List ℕ)) → Target O F → Option (List ℕ)

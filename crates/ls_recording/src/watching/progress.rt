@@ -20,8 +20,7 @@ const DUE: u64 = 450_000_000;
 /// Watches films while they are recorded, and says their progress, if that is wanted.
 #[derive(Drop)]
 pub struct Teller<'s, 'a, R, O: Makes, W, E> {
-    pub program: Program<'s, R, W, E>,
-    pub opener: O,
+    pub program: Program<'s, R, O, W, E>,
     pub watch: &'s Watch<'s, R>,
     /// The films' names.
     pub files: &'s [&'s str],
@@ -47,7 +46,6 @@ where
     pub fn tell(self) {
         let Teller {
             program,
-            opener,
             watch,
             files,
             films,
@@ -55,6 +53,7 @@ where
         } = self;
         let Program {
             rt,
+            opener,
             output,
             console,
         } = program;

@@ -1,0 +1,61 @@
+-- What a command has done that read the file at a path and wrote to standard output. What the file system holds at a path, and the known
+-- bytes of the output before and after, are parameters.
+use Rattle.std.specs.Prelude.{◌≡◌, ◌+◌, ◌<◌, ◌≤◌, ℕ, false, List, [], Option, IfSome, IfNone}
+use Rattle.ls_frame.specs.Picture.{Picture}
+use Rattle.ls_frame.specs.View.Known.{Tells, known}
+use Rattle.ls_film.specs.declared.part.Part.{Part}
+use Rattle.ls_film.specs.Film.{most_frames}
+use Rattle.ls_film.specs.View.Engine.{Completes}
+use Rattle.ls_film.specs.View.Parts.{ShowsPart}
+use Rattle.ls_archive.specs.declared.checking.Checked.{Checked}
+use Rattle.ls_archive.specs.declared.checking.Finding.{Finding}
+use Rattle.ls_archive.specs.View.Checks.{IsChecked}
+use Rattle.ls_archive.specs.View.Verifying.{AreSame}
+
+module _ {O : Type 0} (holds : O → List ℕ → Option (List ℕ) → Type 0) (opener : O) (path : List ℕ) (written written' : Option (List ℕ)) where
+  -- What the file at the path holds is a film, as far as it is known, and the text of its frames was written and nothing else.
+  pub record WritesTextOf (IsImage : List ℕ → Picture → Type 0) (text : List Picture → List ℕ) : Type 0 where
+    pub read : Option (List ℕ)
+    pub left : Option (List ℕ)
+    pub count : ℕ
+    pub file : holds opener path read
+    pub run : Completes IsImage text read left written written' count
+
+  -- The same for a part of a recording: the codestreams before it were passed over, and the images of its frames were written.
+  pub record ShowsPartOf (part : Part) : Type 0 where
+    pub read : Option (List ℕ)
+    pub left : Option (List ℕ)
+    pub count : ℕ
+    pub file : holds opener path read
+    pub run : ShowsPart read left written written' part.first count
+    pub ends : IfSome part.last (λ last. part.first + count ≡ last + 1)
+    pub goes_on : IfNone part.last ((0 < count) × (Tells read → known left ≡ []))
+
+-- a part that there can be: its frames have numbers that frames may have, and are in order
+abbrev pub IsPart : Part → Type 0
+IsPart part = (part.first < most_frames) × IfSome part.last (λ last. (part.first ≤ last) × (last < most_frames))
+
+module _ {O : Type 0} (holds : O → List ℕ → Option (List ℕ) → Type 0) (opener : O) where
+  -- What the files at these two paths hold is a film and a recording of the same frames, as far as it is known.
+  pub record HaveSameFrames (film recording : List ℕ) : Type 0 where
+    pub images : Option (List ℕ)
+    pub images_left : Option (List ℕ)
+    pub codestreams : Option (List ℕ)
+    pub codestreams_left : Option (List ℕ)
+    pub count : ℕ
+    pub film_file : holds opener film images
+    pub recording_file : holds opener recording codestreams
+    pub same : AreSame images images_left codestreams codestreams_left count
+
+  -- What the files at these two paths hold is a recording and an index of it, as far as it is known: a check found no damage and nothing more.
+  pub record PassesCheck (recording index : List ℕ) : Type 0 where
+    pub codestreams : Option (List ℕ)
+    pub lines : Option (List ℕ)
+    pub before : Option (List Finding)
+    pub after : Option (List Finding)
+    pub checked : Checked
+    pub recording_file : holds opener recording codestreams
+    pub index_file : holds opener index lines
+    pub run : IsChecked lines codestreams before after checked
+    pub undamaged : checked.damaged ≡ 0
+    pub complete : checked.more ≡ false
