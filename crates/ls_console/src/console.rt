@@ -46,6 +46,11 @@ impl<E: Outlet> Console<E> {
         self.reasons = self.reasons || reasons;
     }
 
+    /// Returns what the messages were written to.
+    pub fn into_errors(self) -> E {
+        self.errors
+    }
+
     pub fn is_terminal(&self) -> bool {
         self.is_terminal
     }

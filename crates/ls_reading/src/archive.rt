@@ -220,7 +220,7 @@ fn wanted_of(alloc: Global, findings: &[Finding]) -> Result<Vec<Wanted>, AllocEr
 
 /// Looks for codestreams in a recording: one place or none for each in `wanted`. On failure says why and returns the
 /// status.
-pub fn find_all<O: Opens, E: Outlet>(
+pub fn find_all<O: Opens + Drop, E: Outlet>(
     alloc: Global,
     file: &str,
     mut recording: Reader<'_, O>,

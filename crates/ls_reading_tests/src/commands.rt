@@ -1,0 +1,107 @@
+//! Commands over one file in memory.
+ghost use Rattle.std.specs.Prelude.{◌≡◌, ℕ};
+ghost use Rattle.ls_film.specs.Coding.{default_file};
+ghost use Rattle.ls_film.specs.View.Memory.{IsTextOf};
+ghost use Rattle.ls_film.specs.View.Playing.{IsShownOf};
+
+use crate::files::OneFile;
+use ls_console::{COLUMNS, Console, DONE, Program};
+use ls_frame::Counted;
+use ls_reading::{code, show};
+use std::sync::Wait;
+use std::thread::Threads;
+
+/// The status of a command, and what it wrote to standard output and to standard error.
+#[derive(Drop)]
+pub struct Answered {
+    pub status: u8,
+    pub output: Vec<u8>,
+    pub errors: Vec<u8>,
+}
+
+/// The name of the file.
+const FILE: &str = "film";
+
+/// `jlsrec code` of a film in memory: with status 0, exactly the codestreams of its frames were written.
+pub fn code_in_memory<R: AllocGlobal>(rt: &R, film: &[u8]) -> Answered
+    ensures { result.status ≡ DONE → (count : ℕ) × IsTextOf default_file film.now result.output.items count }
+{
+    let alloc = rt.alloc();
+    let mut output = Counted::new(Vec::new(alloc));
+    let mut console = Console::new(alloc, Counted::new(Vec::new(alloc)), false, COLUMNS);
+    let program = Program {
+        rt,
+        opener: OneFile {
+            path: FILE,
+            bytes: film,
+        },
+        output: &mut output,
+        console: &mut console,
+    };
+    let status = code(program, FILE);
+    Answered {
+        status,
+        output: output.into_inner(),
+        errors: console.into_errors().into_inner(),
+    }
+}
+
+/// `jlsrec play` of a recording in memory: with status 0, exactly the images of its frames were written.
+pub fn play_in_memory<R: AllocGlobal + Threads + Sync>(
+    rt: &R,
+    recording: &[u8],
+    workers: u8,
+) -> Answered
+    ensures { result.status ≡ DONE → (count : ℕ) × IsShownOf recording.now result.output.items count }
+{
+    let alloc = rt.alloc();
+    let mut output = Counted::new(Vec::new(alloc));
+    let mut console = Console::new(alloc, Counted::new(Vec::new(alloc)), false, COLUMNS);
+    let program = Program {
+        rt,
+        opener: OneFile {
+            path: FILE,
+            bytes: recording,
+        },
+        output: &mut output,
+        console: &mut console,
+    };
+    let status = show(program, FILE, None, workers);
+    Answered {
+        status,
+        output: output.into_inner(),
+        errors: console.into_errors().into_inner(),
+    }
+}
+
+#[cfg(test)]
+mod tests {
+    use super::{Answered, code_in_memory, play_in_memory};
+    use ls_testing::films::{ANNEX_H, BLACK, FILM, FILM_CODESTREAMS};
+
+    fn check(answered: &Answered, want: (u8, &[u8], &[u8])) {
+        let is = (
+            answered.status,
+            answered.output.as_slice(),
+            answered.errors.as_slice(),
+        );
+        assert_eq!(is, want);
+    }
+
+    #[test]
+    fn films_are_coded(rt: HostRuntime) {
+        check(&code_in_memory(&rt, FILM), (0, FILM_CODESTREAMS, b""));
+        check(&code_in_memory(&rt, b""), (0, b"", b""));
+        let torn = (1, b"", b"jlsrec: film: frame 0: truncated\n");
+        check(&code_in_memory(&rt, &BLACK[..BLACK.len() - 1]), torn);
+    }
+
+    #[test]
+    fn recordings_are_played(rt: HostRuntime) {
+        for workers in [1, 2] {
+            check(&play_in_memory(&rt, FILM_CODESTREAMS, workers), (0, FILM, b""));
+            let torn = (1, b"", b"jlsrec: film: frame 0: truncated\n");
+            check(&play_in_memory(&rt, &ANNEX_H[..40], workers), torn);
+        }
+    }
+}
