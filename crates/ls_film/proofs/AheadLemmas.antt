@@ -109,8 +109,8 @@ module _ {T : Type 0} (made : Picture → T → Type 0) (place read : Option (Li
   pub fault-ahead : (ahead : Ahead T) (fault : Unread) → ahead.jobs.items ≡ [] → ahead.after ≡ Fault fault → IsAhead made place read ahead → GivesAhead made place read ahead (Err fault)
   fault-ahead ahead fault none after is =
       let same : place ≡ is.mid = rw none at is.taken in
-      let at : IsUnread fault is.mid = rw after at is.after in
-      (place, is, subst (IsUnread fault) (sym same) at)
+      let at : IsUnread fault is.mid read = rw after at is.after in
+      (place, is, subst (λ r. IsUnread fault r read) (sym same) at)
 
   -- a job comes next
   module _ (ahead rest : Ahead T) (job : Fetched T) (are : ahead.jobs.items ≡ job ∷ rest.jobs.items) (same : rest.after ≡ ahead.after) (is : IsAhead made place read ahead) where
@@ -136,4 +136,4 @@ module _ {T : Type 0} (made : Picture → T → Type 0) (place read : Option (Li
     pub gives-fault : (fault : StreamFault) → job.made ≡ Err fault → GivesAhead made place read rest (Err (Stream fault))
     gives-fault fault err =
         let of : IsUnmade job.bytes.items fault = rw err at worked-first.0 in
-        (taken-first.0, left, taken_fault place taken-first.0 job.bytes.items taken-first.1 fault of)
+        (taken-first.0, left, taken_fault place taken-first.0 job.bytes.items taken-first.1 fault read of)

@@ -1,5 +1,5 @@
 -- The next codestream of a recording: what is made of it, or its fault, says the same of what the reader had left.
-use Rattle.std.proofs.Common.{◌≡◌, ◌⊎◌, ◌≤◌, ℕ, inl, inr, List, [], ◌∷◌, ◌++◌, take, length, Option, refl, ap, ◌∙◌, arith, append-nil}
+use Rattle.std.proofs.Common.{◌≡◌, ◌⊎◌, ℕ, inl, inr, List, [], ◌∷◌, ◌++◌, take, length, Option, refl, ap, ◌∙◌, arith, append-nil}
 use Rattle.std.proofs.lemmas.List.Concat.{flat_map-append}
 use Rattle.ls_frame.specs.Canonical.{canonical}
 use Rattle.ls_frame.specs.Picture.{Picture, IsFrame}
@@ -9,37 +9,39 @@ use Rattle.ls_stream.specs.declared.faults.StreamFault.TheVariants as stream
 use Rattle.ls_stream.specs.declared.next.NextFault.{NextFault}
 use Rattle.ls_stream.specs.declared.next.NextFault.TheVariants as next
 use Rattle.ls_stream.specs.Grammar.{Spells, most_bytes}
-use Rattle.ls_stream.specs.View.Extents.{IsNext}
+use Rattle.ls_stream.specs.View.Extents.{IsNext, BeginsEndless}
 use Rattle.ls_stream.specs.View.Outlines.{IsFirstFault}
 use Rattle.ls_film.specs.Showing.{show}
-use Rattle.ls_film.specs.View.Codestreams.{BeginsWithNone, IsTaken, IsUnmade, IsUnread, IsUntaken, unread_of}
+use Rattle.ls_film.specs.View.Codestreams.{BeginsWithNone, IsTaken, IsUnmade, IsUnread, IsUntaken, FailsReading, unread_of}
 use Rattle.ls_film.specs.declared.codestreams.Unread.{Unread}
 use Rattle.ls_film.specs.declared.codestreams.Unread.TheVariants.{Stream, Io}
-use Rattle.ls_film.proofs.NextLemmas.{gave_codestream, gave_some, gave_most, too_large, breaks_by}
+use Rattle.ls_film.proofs.NextLemmas.{gave_codestream, gave_some, too_large, breaks_by}
 
 -- bytes that are too large for a codestream begin with none of a frame
 too-large : (read read' : Option (List ℕ)) → Gave read read' (λ bytes. length bytes ≡ most_bytes)
     → (Tells read → (front rest : List ℕ) (f : Picture) → known read ≡ front ++ rest → Spells front f → (next.TooLarge ≡ next.Io) ⊎ (next.TooLarge ≡ next.NoMemory))
-    → Tells read → BeginsWithNone (known read) × (most_bytes ≤ length (known read))
-too-large read read' large complete told = (
+    → (Tells read → BeginsEndless (known read)) → Tells read → BeginsWithNone (known read) × BeginsEndless (known read)
+too-large read read' large complete endless told = (
   record {
     some = gave_some read read' _ large (λ bytes all. omega (arith, all)) told;
     none = λ front rest f split spells. too_large (complete told front rest f split spells);
   },
-  gave_most read read' large told,
+  endless told,
 )
 
 -- why the next can't be taken
 pub untaken : (read read' : Option (List ℕ)) (fault : NextFault) → (fault ≡ next.TooLarge → Gave read read' (λ bytes. length bytes ≡ most_bytes))
-    → (Tells read → (front rest : List ℕ) (f : Picture) → known read ≡ front ++ rest → Spells front f → (fault ≡ next.Io) ⊎ (fault ≡ next.NoMemory)) → (fault ≡ next.NoMemory → HadBytes read) → IsUntaken (unread_of fault) read
-untaken read read' next.TooLarge large complete memory = inr (refl, too-large read read' (large refl) complete)
-untaken read read' next.Io large complete memory = tt
-untaken read read' next.NoMemory large complete memory = inl (refl, memory refl)
+    → (Tells read → (front rest : List ℕ) (f : Picture) → known read ≡ front ++ rest → Spells front f → (fault ≡ next.Io) ⊎ (fault ≡ next.NoMemory))
+    → (fault ≡ next.TooLarge → Tells read → BeginsEndless (known read)) → (fault ≡ next.Io → FailsReading read read') → (fault ≡ next.NoMemory → HadBytes read)
+    → IsUntaken (unread_of fault) read read'
+untaken read read' next.TooLarge large complete endless io memory = inr (refl, too-large read read' (large refl) complete (endless refl))
+untaken read read' next.Io large complete endless io memory = io refl
+untaken read read' next.NoMemory large complete endless io memory = inl (refl, memory refl)
 
-pub unread : (fault : Unread) (read : Option (List ℕ)) → IsUntaken fault read → IsUnread fault read
-unread (Stream fault) read (inl memory) = inl memory
-unread (Stream fault) read (inr large) = inr (λ told. let is = large.1 told in (is.0, inr (large.0, is.1)))
-unread Io read is = tt
+pub unread : (fault : Unread) (read read' : Option (List ℕ)) → IsUntaken fault read read' → IsUnread fault read read'
+unread (Stream fault) read read' (inl memory) = inl memory
+unread (Stream fault) read read' (inr large) = inr (λ told. let is = large.1 told in (is.0, inr (large.0, is.1)))
+unread Io read read' is = is
 
 module _ (read read' : Option (List ℕ)) (bytes : List ℕ) (taken : IsTaken read read' bytes) where
   -- what was taken had bytes
@@ -51,9 +53,9 @@ module _ (read read' : Option (List ℕ)) (bytes : List ℕ) (taken : IsTaken re
   taken_frame used f spells = (spells.frame, gave_codestream read read' bytes used f (λ front. IsNext front (known read')) taken.gave taken.complete spells)
 
   -- a fault of what was taken is one of all that the reader had
-  pub taken_fault : (fault : StreamFault) → IsUnmade bytes fault → IsUnread (Stream fault) read
-  taken_fault fault (inl memory) = inl (memory, had-bytes)
-  taken_fault fault (inr why) =
+  pub taken_fault : (fault : StreamFault) (left : Option (List ℕ)) → IsUnmade bytes fault → IsUnread (Stream fault) read left
+  taken_fault fault left (inl memory) = inl (memory, had-bytes)
+  taken_fault fault left (inr why) =
       breaks_by (Tells read) ((fault ≡ stream.NoMemory) × HadBytes read) (known read) bytes fault had-bytes
       taken.complete taken.fault (inr why.0) (inr why.1)
 

@@ -7,7 +7,7 @@ use Rattle.std.proofs.lemmas.List.{length-append, length_push}
 use Rattle.ls_frame.specs.Picture.{Picture, IsFrame}
 use Rattle.ls_frame.specs.View.Known.{Gave, WasAtEnd}
 use Rattle.ls_film.specs.Film.{most_frames}
-use Rattle.ls_film.specs.View.Engine.{Completes, StopsAtOutput, StopsForMemory, StopsAtMost, HasRun}
+use Rattle.ls_film.specs.View.Engine.{Completes, StopsAtOutput, StopsInFrame, StopsAtMost, HasRun}
 use Rattle.ls_film.specs.View.Steps.{IsSomeImage}
 use Rattle.ls_film.proofs.FilmLemmas.{all-more, GaveFrames-none, GaveFrames-more, GaveFrames-and, GaveFilm-end}
 
@@ -70,7 +70,7 @@ module _ (IsImage : List ℕ → Picture → Type 0) (text : List Picture → Li
 
   -- an allocation failed for the chunk of a frame that was read
   pub HasRun-no_chunk : (read mid new written out : Option (List ℕ)) (n bytes : ℕ) (f : Picture) → HasRun IsImage text read mid written out n bytes
-      → IsFrame f × Gave mid new (λ image. IsImage image f) → StopsForMemory IsImage text read new written out (IsSomeImage IsImage)
+      → IsFrame f × Gave mid new (λ image. IsImage image f) → StopsInFrame IsImage text read new written out (IsSomeImage IsImage)
   HasRun-no_chunk read mid new written out n bytes f run next = record {
     frames = run.frames;
     few = run.few;

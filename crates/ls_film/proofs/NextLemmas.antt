@@ -1,11 +1,11 @@
 -- The next codestream of a recording, and what decoding it says of all that is left.
-use Rattle.std.proofs.Common.{◌≡◌, ◌⊎◌, ◌<◌, ◌≤◌, ℕ, length, arith, inl, inr, List, [], ◌++◌, take, drop, Option, sym, ap, subst, ◌∙◌, append_assoc, append-nil}
+use Rattle.std.proofs.Common.{◌≡◌, ◌⊎◌, ◌<◌, ℕ, length, arith, inl, inr, List, [], ◌++◌, take, drop, Option, sym, ap, subst, ◌∙◌, append_assoc, append-nil}
 use Rattle.std.proofs.lemmas.List.{length-append, take-append-drop}
 use Rattle.std.specs.Prelude.{◌↔◌}
 use Rattle.ls_bits.specs.Bits.{AreBytes}
 use Rattle.ls_frame.specs.Picture.{Picture}
 use Rattle.ls_frame.specs.View.Known.{Tells, Gave, known}
-use Rattle.ls_stream.specs.Grammar.{Spells, most_bytes}
+use Rattle.ls_stream.specs.Grammar.{Spells}
 use Rattle.ls_stream.specs.View.Outlines.{IsFirstFault}
 use Rattle.ls_stream.specs.declared.faults.StreamFault.{StreamFault}
 use Rattle.ls_stream.specs.declared.next.NextFault.TheVariants as next_fault
@@ -49,10 +49,6 @@ pub gave_some : (read read' : Option (List ℕ)) (P : List ℕ → Type 0) → G
 gave_some read read' P gives some told =
     let gave = gives told in
     omega (arith, ap length gave.2, length-append gave.1 (known read'), some gave.1 gave.3)
-
--- as many bytes were given as a codestream may have
-pub gave_most : (read read' : Option (List ℕ)) → Gave read read' (λ bytes. length bytes ≡ most_bytes) → Tells read → most_bytes ≤ length (known read)
-gave_most read read' gives told = let gave = gives told in omega (arith, ap length gave.2, length-append gave.1 (known read'), gave.3)
 
 -- a codestream that is too large is neither a failed read nor a failed allocation
 pub too_large : (next_fault.TooLarge ≡ next_fault.Io) ⊎ (next_fault.TooLarge ≡ next_fault.NoMemory) → ⊥

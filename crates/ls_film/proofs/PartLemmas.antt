@@ -12,7 +12,10 @@ use Rattle.ls_film.specs.Showing.{show}
 use Rattle.ls_stream.proofs.ExtentLaws.{next_is}
 use Rattle.ls_film.specs.Film.{most_frames, IsFilm}
 use Rattle.ls_film.specs.View.Engine.{Completes, HasRun}
-use Rattle.ls_film.specs.View.Playing.{Stops}
+use Rattle.ls_film.specs.View.Playing.{Stops, stream_fault}
+use Rattle.ls_film.specs.View.Codestreams.{IsUntaken}
+use Rattle.ls_film.specs.declared.codestreams.Unread.TheVariants as unread
+use Rattle.ls_stream.specs.declared.faults.StreamFault.{StreamFault}
 use Rattle.ls_film.specs.View.Parts.{joined, ArePassed, GavePassed, ShowsNext, ShowsPart, EndsEarly, StopsPassing, LacksPart, StopsShowing, IsShortOf, IsNoneOfStreams, later}
 use Rattle.ls_film.specs.declared.playing.PlayFault.{PlayFault}
 use Rattle.ls_film.specs.declared.playing.PlayFault.TheVariants.{Stream, Io, Output, NoMemory, TooMuch}
@@ -152,14 +155,14 @@ module _ (only : (one other rest : List ℕ) (f g : Picture) → Spells one f �
             (omega (arith, all, ends.count)))) ends.shows.shows.wrote;
       }
 
-  pub part-unpassed : (first : ℕ) (fault : PlayFault) → StopsPassing read first fault → IsNoneOfStreams fault
-  part-unpassed first fault stops = elim stops.fault_is [
+  pub part-unpassed : (read' : Option (List ℕ)) (first : ℕ) (fault : PlayFault) → StopsPassing read read' first fault → IsNoneOfStreams fault
+  part-unpassed read' first fault stops = elim stops.fault_is [
     | inl large ↦
         let rest = rest_film read stops.mid stops.m frames told film stops.passed in
         absurd (no_break only same (known stops.mid) (drop stops.m frames) rest.2 (large.1 rest.0).0)
     | inr other ↦ elim other [
-      | inl io ↦ rw io tt
-      | inr memory ↦ rw memory tt
+      | inl io ↦ rw io.0 tt
+      | inr memory ↦ rw memory.0 tt
     ]
   ]
 
@@ -224,3 +227,22 @@ shows-run read read' written written' false n all some =
     let run = ran.1.2 in
     subst (λ r. ShowsNext read r written written' n) ran.1.1
     (record { frames = run.frames; count = run.count; lawful = run.lawful; gave = run.gave; wrote = run.wrote })
+
+-- ---- why passing over the first codestreams stopped
+
+pub stops-passing : (read mid read' : Option (List ℕ)) (first m : ℕ) (fault : StreamFault) → m < first → GavePassed read mid m → IsUntaken (unread.Stream fault) mid read'
+    → StopsPassing read read' first (stream_fault m fault)
+stops-passing read mid read' first m fault before passed (inl memory) = record {
+  m = m;
+  before = before;
+  mid = mid;
+  passed = passed;
+  fault_is = inr (inr (ap (stream_fault m) memory.0, memory.1));
+}
+stops-passing read mid read' first m fault before passed (inr large) = record {
+  m = m;
+  before = before;
+  mid = mid;
+  passed = passed;
+  fault_is = inl (ap (stream_fault m) large.0, λ told. let is = large.1 told in (is.0, inr (refl, is.1)));
+}

@@ -7,7 +7,7 @@ use Rattle.ls_frame.specs.Netpbm.{IsImageOf, IsWholeHeading}
 use Rattle.ls_frame.specs.Faults.{IsBroken, blames_bytes, blames_memory}
 use Rattle.ls_frame.specs.View.Known.{Gave}
 use Rattle.ls_film.specs.Film.{most_frames}
-use Rattle.ls_film.specs.View.Engine.{HasRun, StopsAtInput, StopsForMemory}
+use Rattle.ls_film.specs.View.Engine.{HasRun, StopsAtInput, StopsInFrame}
 use Rattle.ls_film.specs.View.Steps.{IsSomeImage, HasStopped, StopsChunk}
 use Rattle.ls_film.specs.View.Stopping.{IsUnread, IsHeadingOrImage, Stops, film_fault}
 use Rattle.ls_film.specs.declared.engine.Stopped.{Stopped}
@@ -19,14 +19,14 @@ use Rattle.ls_film.proofs.FilmLemmas.{GaveFrames-and, IsBrokenAfter-next, Begins
 
 module _ {E : Type 0} (IsImage : List ℕ → Picture → Type 0) (Unread : E → Option (List ℕ) → Option (List ℕ) → Type 0) (text : List Picture → List ℕ) where
   -- an end at the chunk of a frame
-  pub stops-chunk : (read mid new written midway out : Option (List ℕ)) (n bytes : ℕ) (f : Picture) (chunk : List ℕ) (stopped : Stopped E)
+  pub stops-chunk : (read mid new left written midway out : Option (List ℕ)) (n bytes : ℕ) (f : Picture) (chunk : List ℕ) (stopped : Stopped E)
       (run : HasRun IsImage text read mid written midway n bytes) → n < most_frames → IsFrame f × Gave mid new (λ image. IsImage image f) → text (run.frames ++ f ∷ []) ≡ text run.frames ++ chunk
-      → StopsChunk midway out bytes chunk stopped → HasStopped IsImage Unread text read new written out stopped
-  stops-chunk read mid new written midway out n bytes f chunk (Input m fault) run room next grows why = absurd why
-  stops-chunk read mid new written midway out n bytes f chunk (Output count) run room next grows why =
+      → StopsChunk midway out bytes chunk stopped → HasStopped IsImage Unread text read new left written out stopped
+  stops-chunk read mid new left written midway out n bytes f chunk (Input m fault) run room next grows why = absurd why
+  stops-chunk read mid new left written midway out n bytes f chunk (Output count) run room next grows why =
       rw why.1 (HasRun-output IsImage text read mid new written midway out n bytes why.0 f chunk run room next grows why.2 why.3)
-  stops-chunk read mid new written midway out n bytes f chunk NoMemory run room next grows why = absurd why
-  stops-chunk read mid new written midway out n bytes f chunk TooMany run room next grows why = absurd why
+  stops-chunk read mid new left written midway out n bytes f chunk NoMemory run room next grows why = absurd why
+  stops-chunk read mid new left written midway out n bytes f chunk TooMany run room next grows why = absurd why
 
 -- ---- Netpbm images
 
@@ -35,7 +35,7 @@ other_than_memory fault other is = let memory : blames_memory fault ≡ true = a
 
 module _ (text : List Picture → List ℕ) (read read' written written' : Option (List ℕ)) where
   -- an image can't be read, for another cause than memory
-  at_input : (m : ℕ) (fault : NetpbmFault) → blames_memory fault ≡ false → HasStopped IsImageOf IsUnread text read read' written written' (Input m fault)
+  at_input : (m : ℕ) (fault : NetpbmFault) → blames_memory fault ≡ false → HasStopped IsImageOf IsUnread text read read' read' written written' (Input m fault)
       → StopsAtInput IsImageOf text read read' written written' m (λ rest. IsTrue (blames_bytes fault) → IsBroken rest fault) × (fault ≡ netpbm.NoMemory → ⊥)
   at_input m fault other stopped =
       let run = stopped.2 in (
@@ -53,8 +53,8 @@ module _ (text : List Picture → List ℕ) (read read' written written' : Optio
       )
 
   -- an allocation failed for an image whose header had been read
-  at_heading : (m : ℕ) → HasStopped IsImageOf IsUnread text read read' written written' (Input m netpbm.NoMemory)
-      → StopsForMemory IsImageOf text read read' written written' IsHeadingOrImage
+  at_heading : (m : ℕ) → HasStopped IsImageOf IsUnread text read read' read' written written' (Input m netpbm.NoMemory)
+      → StopsInFrame IsImageOf text read read' written written' IsHeadingOrImage
   at_heading m stopped =
       let run = stopped.2 in
       record {
@@ -66,8 +66,8 @@ module _ (text : List Picture → List ℕ) (read read' written written' : Optio
       }
 
   -- an allocation failed for the chunk of a frame
-  at_chunk : StopsForMemory IsImageOf text read read' written written' (IsSomeImage IsImageOf)
-      → StopsForMemory IsImageOf text read read' written written' IsHeadingOrImage
+  at_chunk : StopsInFrame IsImageOf text read read' written written' (IsSomeImage IsImageOf)
+      → StopsInFrame IsImageOf text read read' written written' IsHeadingOrImage
   at_chunk run = record {
     frames = run.frames;
     few = run.few;
@@ -77,7 +77,7 @@ module _ (text : List Picture → List ℕ) (read read' written written' : Optio
   }
 
   -- the engine's end, to a film
-  pub film-stops : (stopped : Stopped NetpbmFault) → HasStopped IsImageOf IsUnread text read read' written written' stopped
+  pub film-stops : (stopped : Stopped NetpbmFault) → HasStopped IsImageOf IsUnread text read read' read' written written' stopped
       → Stops text read read' written written' (film_fault stopped)
   film-stops (Input m netpbm.BadMagic) why = at_input m netpbm.BadMagic refl why
   film-stops (Input m netpbm.BadHeader) why = at_input m netpbm.BadHeader refl why
@@ -94,6 +94,6 @@ module _ (text : List Picture → List ℕ) (read read' written written' : Optio
 
 -- the same, where the engine's source ends where its reader is
 pub film-stops-at : (text : List Picture → List ℕ) (read place read' written written' : Option (List ℕ)) (stopped : Stopped NetpbmFault) → place ≡ read'
-    → HasStopped IsImageOf IsUnread text read place written written' stopped → Stops text read read' written written' (film_fault stopped)
+    → HasStopped IsImageOf IsUnread text read place read' written written' stopped → Stops text read read' written written' (film_fault stopped)
 film-stops-at text read place read' written written' stopped is why =
-    subst (λ p. Stops text read p written written' (film_fault stopped)) is (film-stops text read place written written' stopped why)
+    film-stops text read read' written written' stopped (subst (λ p. HasStopped IsImageOf IsUnread text read p read' written written' stopped) is why)

@@ -97,7 +97,7 @@ impl<'rt, Rt: Threads + Sync> Images<Image> for SideBySide<'rt, Rt, Image> {
 
     ghost image = { Spells };
 
-    ghost unread = { λ fault place place'. IsUnread fault place };
+    ghost unread = { IsUnread };
 
     ghost of_device = { is_io };
 
@@ -115,7 +115,7 @@ impl<'rt, Rt: Threads + Sync> Images<Image> for SideBySide<'rt, Rt, Image> {
 impl<'rt, Rt: Threads + Sync> Recorded<Image> for SideBySide<'rt, Rt, Image> {
     ghost image_is = { λ bytes f is. is };
 
-    ghost unread_is = { λ fault place place' is. is };
+    ghost unread_is = { λ fault place read is. is };
 
     ghost of_device_is = { refl };
 }
@@ -125,7 +125,7 @@ impl<'rt, Rt: Threads + Sync> Images<Frame> for SideBySide<'rt, Rt, Frame> {
 
     ghost image = { Spells };
 
-    ghost unread = { λ fault place place'. IsUnread fault place };
+    ghost unread = { IsUnread };
 
     ghost of_device = { is_io };
 
@@ -143,7 +143,7 @@ impl<'rt, Rt: Threads + Sync> Images<Frame> for SideBySide<'rt, Rt, Frame> {
 impl<'rt, Rt: Threads + Sync> Recorded<Frame> for SideBySide<'rt, Rt, Frame> {
     ghost image_is = { λ bytes f is. is };
 
-    ghost unread_is = { λ fault place place' is. is };
+    ghost unread_is = { λ fault place read is. is };
 
     ghost of_device_is = { refl };
 }

@@ -37,12 +37,12 @@ impl Unread {
 
 /// Takes the bytes of the next codestream off a reader, and not a byte more; `None` exactly at the end.
 ///
-/// Its fault is `Io`, or `TooLarge` or `NoMemory` of a codestream.
+/// Its fault is `Io`, if a read failed before the codestream was read whole, or `TooLarge` or `NoMemory` of a codestream.
 pub fn take_codestream<R: Feed>(alloc: Global, reader: &mut R) -> Result<Option<Vec<u8>>, Unread>
     ensures taken { IfOk result (λ next. IfSome next (λ bytes. IsTaken (R.remaining reader.old) (R.remaining reader.new) bytes.items)) }
     ensures end { IfOk result (λ next. IfNone next (WasAtEnd (R.remaining reader.old) (R.remaining reader.new))) }
-    ensures stops { IfErr result (λ fault. IsUnread fault (R.remaining reader.old)) }
-    ensures untaken { IfErr result (λ fault. IsUntaken fault (R.remaining reader.old)) }
+    ensures stops { IfErr result (λ fault. IsUnread fault (R.remaining reader.old) (R.remaining reader.new)) }
+    ensures untaken { IfErr result (λ fault. IsUntaken fault (R.remaining reader.old) (R.remaining reader.new)) }
     ensures failures { R.failed_reads reader.new ≡ count_after (failed_by is_io result) (R.failed_reads reader.old) }
 {
     match next_stream(alloc, reader) {
@@ -74,7 +74,7 @@ pub fn made_of<T: Made>(alloc: Global, bytes: &[u8]) -> Result<T, StreamFault>
 pub trait Recorded<T: Made>: Images<T, Fault = Unread> {
     ghost image_is: { (bytes : List ℕ) (f : Picture) → Self.Images.image bytes f → Spells bytes f };
 
-    ghost unread_is: { (fault : Unread) (place place' : Option (List ℕ)) → Self.Images.unread fault place place' → IsUnread fault place };
+    ghost unread_is: { (fault : Unread) (place read : Option (List ℕ)) → Self.Images.unread fault place read → IsUnread fault place read };
 
     ghost of_device_is: { Self.Images.of_device ≡ is_io };
 }
@@ -88,7 +88,7 @@ impl<T: Made> Images<T> for OneByOne {
 
     ghost image = { Spells };
 
-    ghost unread = { λ fault place place'. IsUnread fault place };
+    ghost unread = { IsUnread };
 
     ghost of_device = { is_io };
 
@@ -114,7 +114,7 @@ impl<T: Made> Images<T> for OneByOne {
 impl<T: Made> Recorded<T> for OneByOne {
     ghost image_is = { λ bytes f is. is };
 
-    ghost unread_is = { λ fault place place' is. is };
+    ghost unread_is = { λ fault place read is. is };
 
     ghost of_device_is = { refl };
 }

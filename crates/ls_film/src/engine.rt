@@ -43,7 +43,7 @@ pub trait Images<T: Made> {
     /// What an image is of a frame.
     ghost image: { List ℕ → Picture → Type 0 };
 
-    /// What a fault says of the known bytes from the place of the image at fault on, and from where it stands after it.
+    /// What a fault says of the known bytes from the place of the image at fault on, and of those that the reader has left.
     ghost unread: { Self.Fault → Option (List ℕ) → Option (List ℕ) → Type 0 };
 
     /// Whether a fault is of the reader's device.
@@ -135,7 +135,7 @@ pub fn write_text<T: Made + Drop, X: Text<T>, I: Images<T>, R: Feed, W: Outlet>(
         → IfOk result (Completes I.image X.text place (R.remaining reader.new) (W.contents writer.old) (W.contents writer.new)) }
     ensures stops { (place : Option (List ℕ)) → I.stands source.old place (R.remaining reader.old)
         → IfErr result (λ stopped. (place' : Option (List ℕ)) × I.stands source.new place' (R.remaining reader.new)
-        × HasStopped I.image I.unread X.text place place' (W.contents writer.old) (W.contents writer.new) stopped) }
+        × HasStopped I.image I.unread X.text place place' (R.remaining reader.new) (W.contents writer.old) (W.contents writer.new) stopped) }
     ensures reads { (failed : ℕ) → R.failed_reads reader.old ≡ count_after (I.owes source.old) failed
         → R.failed_reads reader.new ≡ count_after (failed_by (blames_reader I.of_device) result || I.owes source.new) failed }
     ensures ended { OnOk result (I.owes source.new ≡ false) }
@@ -173,7 +173,7 @@ pub fn write_at_most<T: Made + Drop, X: Text<T>, I: Images<T>, R: Feed, W: Outle
     ensures lacks { IfOk result (λ run. IsTrue run.ended → (run.frames < most) × (I.owes source.new ≡ false)) }
     ensures stops { (place : Option (List ℕ)) → I.stands source.old place (R.remaining reader.old)
         → IfErr result (λ stopped. (place' : Option (List ℕ)) × I.stands source.new place' (R.remaining reader.new)
-        × HasStopped I.image I.unread X.text place place' (W.contents writer.old) (W.contents writer.new) stopped) }
+        × HasStopped I.image I.unread X.text place place' (R.remaining reader.new) (W.contents writer.old) (W.contents writer.new) stopped) }
     ensures few { IfErr result (λ stopped. stopped ≢ Stopped.TooMany) }
     ensures reads { (failed : ℕ) → R.failed_reads reader.old ≡ count_after (I.owes source.old) failed
         → R.failed_reads reader.new ≡ count_after (failed_by (blames_reader I.of_device) result || I.owes source.new) failed }

@@ -48,7 +48,7 @@ pub enum PartFault {
 /// The codestreams before the part are passed over by their markers, so faults that only decoding would show aren't
 /// found in them. Each image is written before the next codestream is read, and no codestream after the part is read.
 /// If the bytes of reader and writer are known (as in memory), the clauses say which were read and written. After
-/// `Stream`, `Io` and `NoMemory` the reader's place is unspecified.
+/// `Stream` and `NoMemory` the reader's place is unspecified; `Io` and `NoMemory` are as for `play`.
 ///
 /// Requires a first frame below `MOST_FRAMES`, and a last one, if any, below it too and not before the first.
 pub fn play_part<R: Feed, W: Outlet>(
@@ -137,7 +137,7 @@ fn pass_streams<R: Feed>(alloc: Global, reader: &mut R, count: u64) -> Result<Ru
     ensures most { IfOk result (λ run. (run.frames ≤ count) × (run.ended ≡ false → run.frames ≡ count)) }
     ensures lacks { IfOk result (λ run. IsTrue run.ended → run.frames < count) }
     ensures ended { IfOk result (λ run. IsTrue run.ended → Tells (R.remaining reader.old) → known (R.remaining reader.new) ≡ []) }
-    ensures stops { IfErr result (StopsPassing (R.remaining reader.old) count) }
+    ensures stops { IfErr result (StopsPassing (R.remaining reader.old) (R.remaining reader.new) count) }
     ensures failures { R.failed_reads reader.new ≡ count_after (failed_play result) (R.failed_reads reader.old) }
 {
     for number in 0..count {
@@ -150,7 +150,9 @@ fn pass_streams<R: Feed>(alloc: Global, reader: &mut R, count: u64) -> Result<Ru
                 });
             }
             Err(Unread::Io) => return Err(PlayFault::Io(0)),
-            Err(fault) => return Err(PlayFault::of(Stopped::Input(number, fault))),
+            Err(Unread::Stream(fault)) => {
+                return Err(PlayFault::of(Stopped::Input(number, Unread::Stream(fault))));
+            }
         }
     }
     Ok(Run {

@@ -83,8 +83,9 @@ impl PlayFault {
 /// reader and the writer.
 ///
 /// Each image is written before the next codestream is read. If the bytes of reader and writer are known (as in
-/// memory), the clauses say which were read and written. After `Stream`, `Io` and `NoMemory` the reader's place is
-/// unspecified.
+/// memory), the clauses say which were read and written. After `Io` these are the codestreams of the frames written, and
+/// no whole one after them. After `Stream` and `NoMemory` the reader's place is unspecified; `NoMemory` is never
+/// returned at the end.
 pub fn play<R: Feed, W: Outlet>(
     alloc: Global,
     mut reader: R,
@@ -108,8 +109,9 @@ pub fn play<R: Feed, W: Outlet>(
 /// As `play`, with at most `workers` threads that decode codestreams side by side.
 ///
 /// Twice as many codestreams as workers are taken at once, and their images are written in order before the next are
-/// taken. If no thread can be started, the calling one decodes them all; no workers count as one. After a fault the
-/// reader's place is unspecified, and a read after the codestream at fault may have failed.
+/// taken. If no thread can be started, the calling one decodes them all; no workers count as one. `Io` is returned once
+/// all frames that were read before are written. After another fault the reader's place is unspecified, and a read after
+/// the codestream at fault may have failed.
 pub fn play_by<Rt: Threads + Sync, R: Feed, W: Outlet>(
     rt: &Rt,
     alloc: Global,
@@ -120,7 +122,7 @@ pub fn play_by<Rt: Threads + Sync, R: Feed, W: Outlet>(
     ensures completes { IfOk result (λ played. Completes Spells show
         (R.remaining reader) (R.remaining played.1) (W.contents writer) (W.contents played.2) played.0) }
     ensures stops { IfErr result (λ stopped. StopsAhead
-        (R.remaining reader) (W.contents writer) (W.contents stopped.2) stopped.0) }
+        (R.remaining reader) (R.remaining stopped.1) (W.contents writer) (W.contents stopped.2) stopped.0) }
     ensures reads { MatchResult result (λ played. R.failed_reads played.1 ≡ R.failed_reads reader)
         (λ stopped. HasReadAhead (R.failed_reads reader) (R.failed_reads stopped.1) stopped.0) }
     ensures writes { MatchResult result (λ played. W.failed_writes played.2 ≡ W.failed_writes writer)
@@ -162,7 +164,7 @@ pub fn play_recording_by<Rt: Threads + Sync, R: Feed, W: Outlet>(
     ensures completes { IfOk result (Completes Spells show
         (R.remaining reader.old) (R.remaining reader.new) (W.contents writer.old) (W.contents writer.new)) }
     ensures stops { IfErr result (StopsAhead
-        (R.remaining reader.old) (W.contents writer.old) (W.contents writer.new)) }
+        (R.remaining reader.old) (R.remaining reader.new) (W.contents writer.old) (W.contents writer.new)) }
     ensures reads { MatchResult result (λ frames. R.failed_reads reader.new ≡ R.failed_reads reader.old)
         (λ fault. HasReadAhead (R.failed_reads reader.old) (R.failed_reads reader.new) fault) }
     ensures writes { W.failed_writes writer.new ≡ count_after (failed_by blames_writer result) (W.failed_writes writer.old) }

@@ -75,7 +75,8 @@ fn show_all<Rt: Threads + Sync, R: Feed, W: Outlet>(
 ) -> Result<u64, PlayFault>
     ensures completes { IfOk result (Completes Spells film_images
         (R.remaining recording.old) (R.remaining recording.new) (W.contents output.old) (W.contents output.new)) }
-    ensures stops { IfErr result (StopsAhead (R.remaining recording.old) (W.contents output.old) (W.contents output.new)) }
+    ensures stops { IfErr result (StopsAhead (R.remaining recording.old) (R.remaining recording.new)
+        (W.contents output.old) (W.contents output.new)) }
 {
     let workers = usize::from(workers);
     if workers > 1 {

@@ -1,6 +1,6 @@
 -- The bytes of the next codestream, found by its markers alone, and what decoding finds in them: the same as in all remaining bytes.
-use Rattle.std.proofs.Common.{◌≡◌, ◌⊎◌, ℕ, ◌+◌, ◌-◌, ◌<◌, ◌≤◌, ltb, List, [], ◌∷◌, ◌++◌, length, take, drop, inl, inr, Option, None, Some, Result, Ok, Err, MatchResult, refl, sym, ap, ◌∙◌, arith, append_assoc, append-nil, length-append, take-append-drop}
-use Rattle.std.specs.Prelude.{MatchOption, IfOk, IfSome}
+use Rattle.std.proofs.Common.{◌≡◌, ◌⊎◌, ℕ, ◌+◌, ◌-◌, ◌<◌, ◌≤◌, ltb, List, [], ◌∷◌, ◌++◌, length, take, drop, inl, inr, Option, None, Some, Result, Ok, Err, MatchResult, refl, sym, ap, subst, ◌∙◌, arith, append_assoc, append-nil, length-append, take-append-drop}
+use Rattle.std.specs.Prelude.{MatchOption, IfOk, IfErr, IfSome}
 use Rattle.std.proofs.lemmas.Bool.{cases_Bool, cond-true, cond-false, le-ltb, ltb-true, ltb-false}
 use Rattle.std.proofs.lemmas.List.{take-append-le, take_all, drop_all, take_at}
 use Rattle.ls_frame.specs.Picture.{Picture}
@@ -12,7 +12,7 @@ use Rattle.ls_stream.specs.declared.next.NextFault.TheVariants as next_fault
 use Rattle.ls_stream.specs.Grammar.{Spells, most_bytes}
 use Rattle.ls_stream.specs.View.Reading.{Take, start_at}
 use Rattle.ls_stream.specs.View.Outlines.{Outline, past_most, fault_of, of_all, outline_at, outline_of}
-use Rattle.ls_stream.specs.View.Extents.{Left, extent_at, IsNext, with_left, SpellingsHaveExtents, OutlinesHaveExtents, TooFewForBoth, OneIsNext}
+use Rattle.ls_stream.specs.View.Extents.{Left, extent_at, IsNext, IsEndless, BeginsEndless, with_left, SpellingsHaveExtents, OutlinesHaveExtents, TooFewForBoth, OneIsNext}
 use Rattle.ls_stream.specs.View.Places.{IsTooLong, GivesNext}
 use Rattle.ls_stream.proofs.StepLemmas.{same_ok, same_fault}
 use Rattle.ls_stream.proofs.BreakLemmas.{no_err}
@@ -226,3 +226,18 @@ outline_given view old new (Ok (Some bytes)) gives = λ told.
     let given : Tells new × Both (known old) (view bytes) (known new) = gives told in
     ap outline_of given.1.0 ∙ next_outline (view bytes) (known new) given.1.1
 outline_given view old new (Err fault) gives = tt
+
+-- the most bytes were read, undecided: the old bytes begin with them
+endless_front : (old new : List ℕ) → IsTooLong old new → BeginsEndless old
+endless_front old new long =
+    let front : take most_bytes old ≡ long.read = ap (take most_bytes) long.whole ∙ take_at long.read new most_bytes long.most in
+    subst IsEndless (sym front)
+    (long.most, ap extent_at (sym (take_all (length long.read) long.read (omega arith))) ∙ long.undecided (length long.read) (omega arith))
+
+pub endless_given : {X : Type 0} (view : X → List ℕ) (old new : Option (List ℕ)) (result : Result (Option X) NextFault) → GivesNext view old new result
+    → IfErr result (λ fault. fault ≡ next_fault.TooLarge → Tells old → BeginsEndless (known old))
+endless_given view old new (Ok next) gives = tt
+endless_given view old new (Err next_fault.TooLarge) gives = λ is told.
+    let given : Tells new × IsTooLong (known old) (known new) = gives told in endless_front (known old) (known new) given.1
+endless_given view old new (Err next_fault.Io) gives = λ is. absurd cc
+endless_given view old new (Err next_fault.NoMemory) gives = λ is. absurd cc

@@ -1,12 +1,14 @@
 -- Bytes that are taken from a reader up to a marker, after those that were taken before, and the place to which they lead.
-use Rattle.std.proofs.Common.{◌≡◌, ℕ, suc, Bool, true, false, ◌-◌, ◌<◌, ◌≤◌, List, [], ◌∷◌, ◌++◌, ◌⊎◌, inl, inr, length, get_or, Option, Some, IfSome, refl, sym, ap, subst, ◌∙◌, arith, append_assoc, append-nil, length-append}
+use Rattle.std.proofs.Common.{◌≡◌, ℕ, suc, Bool, true, false, ◌-◌, ◌<◌, ◌≤◌, List, [], ◌∷◌, ◌++◌, ◌⊎◌, inl, inr, length, get_or, Option, Some, None, IfSome, refl, sym, ap, subst, ◌∙◌, arith, append_assoc, append-nil, length-append}
 use Rattle.std.proofs.lemmas.Bool.{cases_order}
-use Rattle.ls_frame.specs.View.Known.{Tells, TakesPast, ArePassed, known}
+use Rattle.std.proofs.lemmas.List.{take_all}
+use Rattle.std.specs.Io.KnownBytes.{Keeps}
+use Rattle.ls_frame.specs.View.Known.{Tells, Gave, TakesPast, ArePassed, known}
 use Rattle.ls_frame.proofs.KnownLemmas.{known-consumed}
 use Rattle.ls_stream.specs.declared.next.awaited.Awaited.{Awaited}
 use Rattle.ls_stream.specs.declared.next.awaited.Awaited.TheVariants as awaited
 use Rattle.ls_stream.specs.Grammar.{most_bytes}
-use Rattle.ls_stream.specs.View.Extents.{IsNext}
+use Rattle.ls_stream.specs.View.Extents.{IsNext, IsUndecided, extent_at}
 use Rattle.ls_stream.specs.View.Places.{GoesOn, Ends, IsPlaceAfter, read_on}
 use Rattle.ls_stream.proofs.ExtentLemmas.{one_more, ended}
 use Rattle.ls_stream.proofs.PlaceLemmas.{data_ff, data_other, code_low}
@@ -110,3 +112,17 @@ length_with place first new after last one = let few = one.few in omega (arith, 
 -- what is known of a returned value
 pub if_some : {A : Type 0} (P : A → Type 0) (next : Option A) (x : A) → next ≡ Some x → IfSome next P → P x
 if_some P next x is holds = let found : IfSome (Some x) P = subst (λ o. IfSome o P) is holds in found
+
+-- a read that failed took nothing, after bytes that were read and from which reading goes on
+kept : (old new : Option (List ℕ)) → Keeps old new → Tells old → Tells new × (known new ≡ known old)
+kept None new keeps told = let clash : ⊥ = cc in absurd clash
+kept (Some bytes) None keeps told = absurd keeps
+kept (Some bytes) (Some others) keeps told = (told, keeps)
+
+pub failed_in : (place : Awaited) (first old new : Option (List ℕ)) (bytes after : List ℕ) → IsPlaceAfter place bytes → length bytes < most_bytes
+    → (Tells first → Tells old × (known first ≡ bytes ++ known old)) → after ≡ bytes → Keeps old new → Gave first new (λ read. (after ≡ read) × IsUndecided read)
+failed_in place first old new bytes after reached few read same keeps told =
+    let before = read told in
+    let now = kept old new keeps before.0 in
+    let undecided : IsUndecided bytes = (few, ap extent_at (sym (take_all (length bytes) bytes (omega arith))) ∙ reached.undecided (length bytes) (omega arith)) in
+    (now.0, bytes, before.1 ∙ ap (λ bs. bytes ++ bs) (sym now.1), (same, undecided))

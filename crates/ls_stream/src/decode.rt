@@ -47,7 +47,8 @@ pub struct Decoded {
 ///
 /// NoMemory comes only for bytes that begin with a complete legal opening: SOI, the frame header, the segments before
 /// the first scan and its header, with legal coding parameters. It allocates two lines, a table of 2 * MAXVAL + 1
-/// bytes, and the samples.
+/// bytes, and the samples, and decodes only then: whether an allocation failed, no clause can see, so none says that a
+/// fault after the opening isn't replaced by NoMemory.
 pub fn decode_frame(alloc: Global, bytes: &[u8]) -> Result<Decoded, StreamFault>
     ensures ok { IfOk result (λ decoded. (decoded.used ≤ length bytes.now) × Spells (take decoded.used bytes.now) decoded.frame) }
     ensures fault { IfErr result (λ fault. (fault ≡ StreamFault.NoMemory)
@@ -62,21 +63,43 @@ pub fn decode_frame(alloc: Global, bytes: &[u8]) -> Result<Decoded, StreamFault>
         Ok(opening) => opening,
         Err(fault) => return Err(fault),
     };
-    let (Ok(mut lines), Ok(regions), Ok(mut samples)) = (
+    let (Ok(mut lines), Ok(regions), Ok(samples)) = (
         Lines::new(alloc, opening.form().width),
         Regions::new(alloc, opening.presets()),
         vec![in alloc; 0u16; opening.sample_count()],
     ) else {
         return Err(StreamFault::NoMemory);
     };
-    let used = match opening.decode(&mut lines, &regions, &mut samples) {
-        Ok(used) => used,
-        Err(fault) => return Err(fault),
-    };
-    Ok(Decoded {
-        frame: opening.frame_of(samples),
-        used,
-    })
+    decode_into(&opening, &mut lines, &regions, samples)
+}
+
+/// Decodes the frame of an opening, once all that it needs is allocated: so its fault is never NoMemory. It requires
+/// what `Opening::decode` does.
+fn decode_into(
+    opening: &Opening,
+    lines: &mut Lines,
+    regions: &Regions,
+    mut samples: Vec<u16>,
+) -> Result<Decoded, StreamFault>
+    requires regions { regions.now ≡ opening.now.parameters }
+    requires width { opening.now.width ≤ lines.old }
+    requires fits { opening.now.parameters.maxval ≤ 65535 }
+    requires samples { length samples.items ≡ sample_count opening.now.kind opening.now.width opening.now.height }
+    requires small { (k : ℕ) → slice_index samples.items k ≤ opening.now.parameters.maxval }
+    ensures ok { IfOk result (λ decoded. (decoded.used ≤ length opening.now.bytes) × Spells (take decoded.used opening.now.bytes) decoded.frame) }
+    ensures complete { (front rest : List ℕ) (f : Picture) → opening.now.bytes ≡ front ++ rest → Spells front f
+        → MatchResult result (λ decoded. (decoded.frame ≡ f) × (decoded.used ≡ length front)) (λ fault. ⊥) }
+    ensures none { IfErr result (λ fault. (front rest : List ℕ) (f : Picture) → opening.now.bytes ≡ front ++ rest → Spells front f → ⊥) }
+    ensures first { IfErr result (λ fault. IsFirstFault opening.now.bytes fault) }
+    ensures memory { IfErr result (λ fault. fault ≢ StreamFault.NoMemory) }
+{
+    match opening.decode(lines, regions, &mut samples) {
+        Ok(used) => Ok(Decoded {
+            frame: opening.frame_of(samples),
+            used,
+        }),
+        Err(fault) => Err(fault),
+    }
 }
 
 /// The part of a codestream before the data of its first scan: SOI, the frame header, the coding parameters and the
@@ -173,7 +196,8 @@ impl<'a> Opening<'a> {
     ///
     /// It requires as many `samples` as the frame has, of a type that can store numbers up to maxval, with none over
     /// maxval beforehand (zeros will do); lines at least as wide as the frame; and the regions of the opening's
-    /// parameters. A fault is as for `decode_frame`, but never NoMemory; the samples are then unspecified.
+    /// parameters. A fault is as for `decode_frame`, but never NoMemory; the samples are then unspecified. The width of
+    /// the lines stays as it was.
     pub fn decode<S: Sample>(
         &self,
         lines: &mut Lines,
@@ -190,6 +214,7 @@ impl<'a> Opening<'a> {
             → MatchResult result (λ used. (picture_of (opened_form self.now) (S.numbers samples.new) ≡ f) × (used ≡ length front)) (λ fault. ⊥) }
         ensures first { IfErr result (λ fault. IsFirstFault self.now.bytes fault) }
         ensures memory { IfErr result (λ fault. fault ≢ StreamFault.NoMemory) }
+        ensures lines { lines.new ≡ lines.old }
     {
         let first = first_bytes(self.bytes);
         match decode_opened(
@@ -253,6 +278,7 @@ fn decode_opened<S: Sample>(
     ensures none { IfErr result (λ fault. (o : Outline) (left : List ℕ) (f : Picture) → outline_at bytes.now ≡ Ok (o, left)
         → IsFrame f → IsOutlineOf f o → ⊥) }
     ensures stops { IfErr result (λ fault. DecodingStops bytes.now fault) }
+    ensures lines { lines.new ≡ lines.old }
 {
     let (header, presets, rest) = opening;
     prove!(presets.maxval() > 0);
@@ -287,6 +313,7 @@ fn decode_scans<'a, S: Sample>(
     ensures stops { IfErr result (λ fault. ScansStop presets.now header.now.width header.now.height 0 (drop 1 (ids_in header.now)) bytes.now fault) }
     ensures small { (k : ℕ) → slice_index (S.numbers samples.new) k ≤ presets.now.maxval }
     ensures len { length (S.numbers samples.new) ≡ length (S.numbers samples.old) }
+    ensures lines { lines.new ≡ lines.old }
 {
     let shape = shape_of(header);
     let last = shape.components - 1;

@@ -1,14 +1,15 @@
 //! Taking one codestream at a time from a reader, by its markers alone.
 mod awaited;
 
-ghost use Rattle.std.specs.Prelude.{◌≡◌, ◌≢◌, ◌↔◌, ◌<◌, ◌⊎◌, ◌++◌, ℕ, List, length, IfOk, IfErr, IfSome, IfNone, MatchResult, MatchOption};
+ghost use Rattle.std.specs.Prelude.{◌≡◌, ◌≢◌, ◌↔◌, ◌<◌, ◌⊎◌, ◌++◌, ℕ, List, [], length, IfOk, IfErr, OnErr, IfSome, IfNone, MatchResult, MatchOption};
+ghost use Rattle.std.specs.Io.KnownBytes.{Keeps};
 ghost use Rattle.ls_frame.specs.Picture.{Picture};
 ghost use Rattle.ls_frame.specs.View.Devices.{count_after};
 ghost use Rattle.ls_frame.specs.View.Known.{Tells, Gave, WasAtEnd, HadBytes, TakesPast, known};
 ghost use Rattle.ls_bits.specs.Bits.{AreBytes};
 ghost use Rattle.ls_stream.specs.declared.faults.StreamFault.{StreamFault};
 ghost use Rattle.ls_stream.specs.Grammar.{Spells, most_bytes};
-ghost use Rattle.ls_stream.specs.View.Extents.{IsNext, with_left, failed_feed};
+ghost use Rattle.ls_stream.specs.View.Extents.{IsNext, IsUndecided, BeginsEndless, with_left, failed_feed};
 ghost use Rattle.ls_stream.specs.View.Places.{GivesNext};
 ghost use Rattle.ls_stream.specs.View.Outlines.{outline_of, IsFirstFault};
 
@@ -40,8 +41,8 @@ pub enum NextFault {
 /// is a codestream of a frame, these bytes are that front; otherwise both have the same first fault.
 ///
 /// If the bytes are known (as in memory), the clauses say which were read. `TooLarge` comes after exactly 4,294,967,295
-/// bytes that show neither an end nor a fault. `Io` comes exactly if a read failed, and `NoMemory` never at the end of
-/// input; after these two the reader's place is unspecified.
+/// bytes that show neither an end nor a fault. `Io` comes exactly if a read failed, after fewer bytes than that, which
+/// show neither. `NoMemory` never comes at the end of input; after it the reader's place is unspecified.
 pub fn next_stream<R: Feed>(alloc: Global, reader: &mut R) -> Result<Option<Vec<u8>>, NextFault>
     // The bytes are the next codestream, and exactly they were read.
     ensures stream { IfOk result (λ next. IfSome next (λ bytes. Gave (R.remaining reader.old) (R.remaining reader.new)
@@ -60,40 +61,53 @@ pub fn next_stream<R: Feed>(alloc: Global, reader: &mut R) -> Result<Option<Vec<
         → (fault : StreamFault) → IsFirstFault bytes.items fault ↔ IsFirstFault (known (R.remaining reader.old)) fault)) }
     ensures too_large { IfErr result (λ fault. fault ≡ NextFault.TooLarge →
         Gave (R.remaining reader.old) (R.remaining reader.new) (λ read. length read ≡ most_bytes)) }
-    ensures memory { IfErr result (λ fault. fault ≡ NextFault.NoMemory → HadBytes (R.remaining reader.old)) }
-    ensures failures { R.failed_reads reader.new ≡ count_after (failed_feed result) (R.failed_reads reader.old) }
-{
-    read_stream(alloc, reader)
-}
-
-/// Takes the bytes of the next codestream, or nothing at the end of input.
-fn read_stream<R: Feed>(alloc: Global, reader: &mut R) -> Result<Option<Vec<u8>>, NextFault>
-    ensures bytes { GivesNext (λ bytes. bytes.items) (R.remaining reader.old) (R.remaining reader.new) result }
+    ensures endless { IfErr result (λ fault. fault ≡ NextFault.TooLarge → Tells (R.remaining reader.old) → BeginsEndless (known (R.remaining reader.old))) }
+    // Before a read failed, no whole codestream was read.
+    ensures io { IfErr result (λ fault. fault ≡ NextFault.Io → Gave (R.remaining reader.old) (R.remaining reader.new) IsUndecided) }
     ensures memory { IfErr result (λ fault. fault ≡ NextFault.NoMemory → HadBytes (R.remaining reader.old)) }
     ensures failures { R.failed_reads reader.new ≡ count_after (failed_feed result) (R.failed_reads reader.old) }
 {
     let mut bytes = Vec::new(alloc);
+    match read_stream(reader, &mut bytes) {
+        Ok(Some(())) => Ok(Some(bytes)),
+        Ok(None) => Ok(None),
+        Err(fault) => Err(fault),
+    }
+}
+
+/// Takes the bytes of the next codestream into `bytes`, which must be empty; `None` at the end of input.
+///
+/// After `NoMemory` the bytes taken show neither an end nor a fault, and are fewer than a codestream may have.
+fn read_stream<R: Feed>(reader: &mut R, bytes: &mut Vec<u8>) -> Result<Option<()>, NextFault>
+    requires { bytes.old.items ≡ [] }
+    ensures bytes { GivesNext (λ _. bytes.new.items) (R.remaining reader.old) (R.remaining reader.new) result }
+    ensures memory { IfErr result (λ fault. fault ≡ NextFault.NoMemory → HadBytes (R.remaining reader.old)) }
+    ensures io { IfErr result (λ fault. fault ≡ NextFault.Io → Gave (R.remaining reader.old) (R.remaining reader.new)
+        (λ read. (bytes.new.items ≡ read) × IsUndecided read)) }
+    ensures undecided { IfErr result (λ fault. fault ≡ NextFault.NoMemory → IsUndecided bytes.new.items) }
+    ensures failures { R.failed_reads reader.new ≡ count_after (failed_feed result) (R.failed_reads reader.old) }
+{
     let mut place = Awaited::Start;
     'steps: while bytes.len() < MOST_BYTES {
         let most = place.most_at_once(MOST_BYTES - bytes.len());
-        let last = match next_bytes(reader, most, &mut bytes)? {
+        let last = match next_bytes(reader, most, bytes)? {
             Some(last) => last,
             None if bytes.is_empty() => return Ok(None),
-            None => return Ok(Some(bytes)),
+            None => return Ok(Some(())),
         };
         match place.after(last) {
             Some(next) => place = next,
-            None => return Ok(Some(bytes)),
+            None => return Ok(Some(())),
         }
     }
     Err(NextFault::TooLarge)
 }
 
-/// The bytes of capacity that are reserved after the first byte.
+/// The bytes of capacity that are reserved once the first byte is there.
 const FIRST_ROOM: usize = 65_536;
 
 /// Takes from 1 to `most` bytes, in which each 0xFF but a last one is followed by a byte below 0x80. Returns the last
-/// of them; `None` at the end of input.
+/// of them; `None` at the end of input. On a fault none is appended.
 fn next_bytes<R: Feed>(
     reader: &mut R,
     most: usize,
@@ -104,25 +118,27 @@ fn next_bytes<R: Feed>(
         (TakesPast 255 128 most (R.remaining reader.old) (R.remaining reader.new) bytes.old.items bytes.new.items)) }
     ensures end { IfOk result (λ next. IfNone next
         ((bytes.new.items ≡ bytes.old.items) × WasAtEnd (R.remaining reader.old) (R.remaining reader.new))) }
+    ensures nothing { OnErr result (bytes.new.items ≡ bytes.old.items) }
     ensures fault { IfErr result (λ fault. fault ≢ NextFault.TooLarge) }
-    ensures memory { IfErr result (λ fault. fault ≡ NextFault.NoMemory → HadBytes (R.remaining reader.old)) }
+    ensures keeps { IfErr result (λ fault. fault ≡ NextFault.Io → Keeps (R.remaining reader.old) (R.remaining reader.new)) }
+    ensures memory { IfErr result (λ fault. fault ≡ NextFault.NoMemory → (0 < length bytes.old.items) ⊎ HadBytes (R.remaining reader.old)) }
     ensures failures { R.failed_reads reader.new ≡ count_after (failed_feed result) (R.failed_reads reader.old) }
 {
+    if make_room(bytes).is_err() {
+        return Err(NextFault::NoMemory);
+    }
     match reader.feed_past(0xFF, 0x80, most, bytes) {
-        Ok(Some(last)) => match make_room(bytes) {
-            Ok(()) => Ok(Some(last)),
-            Err(AllocError) => Err(NextFault::NoMemory),
-        },
-        Ok(None) => Ok(None),
+        Ok(next) => Ok(next),
         Err(FeedFault::Io) => Err(NextFault::Io),
         Err(FeedFault::NoMemory) => Err(NextFault::NoMemory),
     }
 }
 
-/// Reserves capacity after the first byte. All codestreams grow alike from there on, so memory that one has freed fits
-/// the next.
+/// Reserves capacity once the first byte is there. All codestreams grow alike from there on, so memory that one has
+/// freed fits the next.
 fn make_room(bytes: &mut Vec<u8>) -> Result<(), AllocError>
-    ensures { bytes.new.items ≡ bytes.old.items }
+    ensures same { bytes.new.items ≡ bytes.old.items }
+    ensures first { OnErr result (0 < length bytes.old.items) }
 {
     if bytes.len() == 1 {
         bytes.reserve(FIRST_ROOM)?;

@@ -31,7 +31,7 @@ AreTaken read read' (bytes ∷ more) = (mid : Option (List ℕ)) × IsTaken read
 abbrev pub ComesAfter : Option (List ℕ) → Option (List ℕ) → After → Type 0
 ComesAfter read read' More = read ≡ read'
 ComesAfter read read' End = WasAtEnd read read'
-ComesAfter read read' (Fault fault) = IsUnread fault read
+ComesAfter read read' (Fault fault) = IsUnread fault read read'
 
 -- A reader gave these codestreams, and then what comes after them.
 pub record IsBatch {T : Type 0} (read read' : Option (List ℕ)) (batch : Ahead T) : Type 0 where
@@ -62,4 +62,4 @@ module _ {T : Type 0} (made : Picture → T → Type 0) where
   -- what the next codestream at this place gives
   abbrev pub GivesAhead : Option (List ℕ) → Option (List ℕ) → Ahead T → Result (Option T) Unread → Type 0
   GivesAhead place read ahead result =
-      GivesImage Spells made (λ fault here after. IsUnread fault here) (λ jobs here now. IsAhead here now jobs) place read ahead result
+      GivesImage Spells made IsUnread (λ jobs here now. IsAhead here now jobs) place read ahead result

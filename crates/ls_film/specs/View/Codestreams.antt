@@ -1,5 +1,5 @@
 -- The next codestream of a recording: what is taken off a reader, what is made of its frame, and why there is none.
-use Rattle.std.specs.Prelude.{◌≡◌, ◌⊎◌, ◌↔◌, ◌<◌, ◌≤◌, ℕ, Bool, true, false, List, ◌++◌, length, take, Option}
+use Rattle.std.specs.Prelude.{◌≡◌, ◌⊎◌, ◌↔◌, ◌<◌, ℕ, Bool, true, false, List, ◌++◌, length, take, Option}
 use Rattle.ls_bits.specs.Bits.{AreBytes}
 use Rattle.ls_frame.specs.Picture.{Picture}
 use Rattle.ls_frame.specs.View.Known.{Tells, Gave, HadBytes, known}
@@ -7,8 +7,8 @@ use Rattle.ls_stream.specs.declared.faults.StreamFault.{StreamFault}
 use Rattle.ls_stream.specs.declared.faults.StreamFault.TheVariants as stream
 use Rattle.ls_stream.specs.declared.next.NextFault.{NextFault}
 use Rattle.ls_stream.specs.declared.next.NextFault.TheVariants as next_fault
-use Rattle.ls_stream.specs.Grammar.{Spells, most_bytes}
-use Rattle.ls_stream.specs.View.Extents.{IsNext, with_left}
+use Rattle.ls_stream.specs.Grammar.{Spells}
+use Rattle.ls_stream.specs.View.Extents.{IsNext, IsUndecided, BeginsEndless, with_left}
 use Rattle.ls_stream.specs.View.Outlines.{outline_of, IsFirstFault}
 use Rattle.ls_film.specs.declared.codestreams.Unread.{Unread}
 use Rattle.ls_film.specs.declared.codestreams.Unread.TheVariants.{Stream, Io}
@@ -20,26 +20,30 @@ pub record BeginsWithNone (bytes : List ℕ) : Type 0 where
   pub some : 0 < length bytes
   pub none : (front rest : List ℕ) (f : Picture) → bytes ≡ front ++ rest → Spells front f → ⊥
 
--- It is the first fault of the bytes; or there are at least as many as a codestream may have, and it says that they are too many. (If there are
--- exactly that many, and they show no other fault, their first fault is that they are truncated.)
+-- It is the first fault of the bytes; or as many of them as a codestream may have show by their markers neither an end nor a fault, and it says that
+-- they are too many. (If there are exactly that many, their first fault is that they are truncated.)
 abbrev pub IsFaultOf : List ℕ → StreamFault → Type 0
-IsFaultOf bytes fault = (AreBytes bytes → IsFirstFault bytes fault) ⊎ ((fault ≡ stream.TooLarge) × (most_bytes ≤ length bytes))
+IsFaultOf bytes fault = (AreBytes bytes → IsFirstFault bytes fault) ⊎ ((fault ≡ stream.TooLarge) × BeginsEndless bytes)
 
 -- They begin with no codestream, and have this fault.
 abbrev pub BreaksBy : StreamFault → List ℕ → Type 0
 BreaksBy fault bytes = BeginsWithNone bytes × IsFaultOf bytes fault
 
--- What a fault says of the known bytes that were left: they begin with no codestream, and have this fault; or an allocation failed, of which
--- there is none at the end, or a read.
-abbrev pub IsUnread : Unread → Option (List ℕ) → Type 0
-IsUnread (Stream fault) read = ((fault ≡ stream.NoMemory) × HadBytes read) ⊎ (Tells read → BreaksBy fault (known read))
-IsUnread Io read = Unit {0}
+-- A read failed before the next codestream was read whole.
+abbrev pub FailsReading : Option (List ℕ) → Option (List ℕ) → Type 0
+FailsReading read read' = Gave read read' IsUndecided
+
+-- What a fault says of the known bytes that were left, and of what a reader left of these: they begin with no codestream, and have this fault; or an
+-- allocation failed, of which there is none at the end; or a read failed.
+abbrev pub IsUnread : Unread → Option (List ℕ) → Option (List ℕ) → Type 0
+IsUnread (Stream fault) read read' = ((fault ≡ stream.NoMemory) × HadBytes read) ⊎ (Tells read → BreaksBy fault (known read))
+IsUnread Io read read' = FailsReading read read'
 
 -- The same of a codestream that can't be taken: the bytes that were left are too many for one, and begin with none.
-abbrev pub IsUntaken : Unread → Option (List ℕ) → Type 0
-IsUntaken (Stream fault) read =
-    ((fault ≡ stream.NoMemory) × HadBytes read) ⊎ ((fault ≡ stream.TooLarge) × (Tells read → BeginsWithNone (known read) × (most_bytes ≤ length (known read))))
-IsUntaken Io read = Unit {0}
+abbrev pub IsUntaken : Unread → Option (List ℕ) → Option (List ℕ) → Type 0
+IsUntaken (Stream fault) read read' =
+    ((fault ≡ stream.NoMemory) × HadBytes read) ⊎ ((fault ≡ stream.TooLarge) × (Tells read → BeginsWithNone (known read) × BeginsEndless (known read)))
+IsUntaken Io read read' = FailsReading read read'
 
 abbrev pub is_io : Unread → Bool
 is_io (Stream fault) = false

@@ -37,8 +37,8 @@ module _ (IsImage : List ℕ → Picture → Type 0) (text : List Picture → Li
     pub part : bytes < length (text frames)
     pub wrote : Appends written written' (take bytes (text frames))
 
-  -- An allocation failed for a frame: exactly the text of the frames before it was written, and P holds of the bytes of it that were read.
-  pub record StopsForMemory (P : List ℕ → Type 0) : Type 0 where
+  -- It stopped in a frame: exactly the text of the frames before it was written, and P holds of the bytes of it that were read.
+  pub record StopsInFrame (P : List ℕ → Type 0) : Type 0 where
     pub frames : List Picture
     pub few : length frames ≤ most_frames
     pub lawful : AllByRecursion IsFrame frames

@@ -30,6 +30,10 @@ pub record IsTextBefore (text : List Picture → List ℕ) (film out : List ℕ)
   pub begins : BeginsFilm film frames P
   pub wrote : out ≡ text frames
 
+-- at least one byte
+abbrev pub HasBytes : List ℕ → Type 0
+HasBytes bytes = 0 < length bytes
+
 -- no condition on the bytes
 abbrev pub AnyBytes : List ℕ → Type 0
 AnyBytes bytes = Unit {0}

@@ -3,7 +3,7 @@ use Rattle.std.specs.Prelude.{◌≡◌, ◌⊎◌, ◌<◌, ◌≤◌, ◌+◌,
 use Rattle.std.specs.Io.KnownBytes.{Appends}
 use Rattle.std.specs.List.{AllByRecursion}
 use Rattle.ls_frame.specs.Picture.{Picture, IsFrame}
-use Rattle.ls_frame.specs.View.Known.{Tells, Gave, known}
+use Rattle.ls_frame.specs.View.Known.{Tells, Gave, HadBytes, known}
 use Rattle.ls_stream.specs.declared.faults.StreamFault.TheVariants as stream
 use Rattle.ls_stream.specs.Grammar.{Spells}
 use Rattle.ls_stream.specs.View.Extents.{IsNext}
@@ -13,7 +13,7 @@ use Rattle.ls_film.specs.declared.playing.PlayFault.{PlayFault}
 use Rattle.ls_film.specs.declared.playing.PlayFault.TheVariants.{Stream, Io, Output, NoMemory, TooMuch}
 use Rattle.ls_film.specs.Showing.{show}
 use Rattle.ls_film.specs.View.Given.{GaveFrames}
-use Rattle.ls_film.specs.View.Codestreams.{BreaksBy}
+use Rattle.ls_film.specs.View.Codestreams.{BreaksBy, FailsReading}
 use Rattle.ls_film.specs.View.Playing.{Stops, blames_reader as reader_at_fault, blames_writer as writer_at_fault}
 use Rattle.ls_film.specs.View.Steps.{failed_by}
 
@@ -32,14 +32,15 @@ ArePassed (codestream ∷ more) rest = IsNext codestream (joined more ++ rest) �
 abbrev pub GavePassed : Option (List ℕ) → Option (List ℕ) → ℕ → Type 0
 GavePassed old new n = Gave old new (λ bytes. (streams : List (List ℕ)) × (length streams ≡ n) × (bytes ≡ joined streams) × ArePassed streams (known new))
 
--- Passing over the first codestreams stopped at codestream m: there are as many bytes as a codestream may have, and no codestream of a
--- frame at their front; or a read or an allocation failed.
-pub record StopsPassing (read : Option (List ℕ)) (first : ℕ) (fault : PlayFault) : Type 0 where
+-- Passing over the first codestreams stopped at codestream m: as many bytes as a codestream may have show no end of one, and no codestream of a
+-- frame is at their front; or a read failed in it; or an allocation failed for it.
+pub record StopsPassing (read read' : Option (List ℕ)) (first : ℕ) (fault : PlayFault) : Type 0 where
   pub m : ℕ
   pub before : m < first
   pub mid : Option (List ℕ)
   pub passed : GavePassed read mid m
-  pub fault_is : ((fault ≡ Stream m stream.TooLarge) × (Tells mid → BreaksBy stream.TooLarge (known mid))) ⊎ (fault ≡ Io 0) ⊎ (fault ≡ NoMemory)
+  pub fault_is : ((fault ≡ Stream m stream.TooLarge) × (Tells mid → BreaksBy stream.TooLarge (known mid)))
+      ⊎ ((fault ≡ Io 0) × FailsReading mid read') ⊎ ((fault ≡ NoMemory) × HadBytes mid)
 
 -- ---- the part
 
@@ -103,7 +104,7 @@ pub record StopsShowing (read read' written written' : Option (List ℕ)) (first
 -- what each fault says of the run
 abbrev pub StopsPart : Option (List ℕ) → Option (List ℕ) → Option (List ℕ) → Option (List ℕ) → ℕ → Option ℕ → PartFault → Type 0
 StopsPart read read' written written' first last (Play fault) =
-    (StopsPassing read first fault × Appends written written' []) ⊎ StopsShowing read read' written written' first fault
+    (StopsPassing read read' first fault × Appends written written' []) ⊎ StopsShowing read read' written written' first fault
 StopsPart read read' written written' first last (TooFew m) = EndsEarly read read' written written' first last m
 
 -- ---- a recording that is codestreams of frames

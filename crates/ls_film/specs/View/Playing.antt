@@ -10,8 +10,9 @@ use Rattle.ls_stream.specs.Grammar.{Spells}
 use Rattle.ls_film.specs.Coding.{file}
 use Rattle.ls_film.specs.Film.{most_frames, IsFilm}
 use Rattle.ls_film.specs.View.Codestreams.{BreaksBy}
-use Rattle.ls_film.specs.View.Engine.{StopsAtInput, StopsAtOutput, StopsAtMost}
-use Rattle.ls_film.specs.View.Memory.{AnyBytes}
+use Rattle.ls_stream.specs.View.Extents.{IsUndecided}
+use Rattle.ls_film.specs.View.Engine.{StopsAtInput, StopsInFrame, StopsAtOutput, StopsAtMost}
+use Rattle.ls_film.specs.View.Memory.{HasBytes}
 use Rattle.ls_film.specs.declared.engine.Stopped.{Stopped}
 use Rattle.ls_film.specs.declared.engine.Stopped.TheVariants as engine
 use Rattle.ls_film.specs.declared.codestreams.Unread.{Unread}
@@ -45,9 +46,9 @@ play_fault engine.TooMany = TooMuch
 -- What each fault says of the run: of the reader's bytes before and after it, and of the writer's.
 abbrev pub Stops : Option (List ℕ) → Option (List ℕ) → Option (List ℕ) → Option (List ℕ) → PlayFault → Type 0
 Stops read read' written written' (Stream m fault) = StopsAtInput Spells show read read' written written' m (BreaksBy fault) × (fault ≢ stream.NoMemory)
-Stops read read' written written' (Io m) = StopsAtInput Spells show read read' written written' m AnyBytes
+Stops read read' written written' (Io m) = (stop : StopsInFrame Spells show read read' written written' IsUndecided) × (length stop.frames ≡ m)
 Stops read read' written written' (Output bytes) = StopsAtOutput Spells show read read' written written' bytes
-Stops read read' written written' NoMemory = (m : ℕ) × StopsAtInput Spells show read read' written written' m AnyBytes
+Stops read read' written written' NoMemory = (m : ℕ) × StopsAtInput Spells show read read' written written' m HasBytes
 Stops read read' written written' TooMuch = StopsAtMost Spells show read read' written written'
 
 -- whether a run failed by its reader's device, and by its writer's
@@ -65,9 +66,10 @@ blames_writer (Output bytes) = true
 blames_writer NoMemory = false
 blames_writer TooMuch = false
 
--- What playing codestream by codestream says of this fault, but for the reader's place: it may be further on.
-abbrev pub StopsAhead : Option (List ℕ) → Option (List ℕ) → Option (List ℕ) → PlayFault → Type 0
-StopsAhead read written written' fault = (place : Option (List ℕ)) × Stops read place written written' fault
+-- What playing codestream by codestream says of this fault, but for the reader's place: it may be further on, unless a read failed.
+abbrev pub StopsAhead : Option (List ℕ) → Option (List ℕ) → Option (List ℕ) → Option (List ℕ) → PlayFault → Type 0
+StopsAhead read read' written written' fault =
+    (place : Option (List ℕ)) × (blames_reader fault ≡ true → place ≡ read') × Stops read place written written' fault
 
 -- The reads that failed: one where the fault is a failed read; else none, or one after the codestream at fault.
 abbrev pub HasReadAhead : ℕ → ℕ → PlayFault → Type 0

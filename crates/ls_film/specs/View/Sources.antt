@@ -14,7 +14,7 @@ GivesImage IsImage made Unread stands place read source (Ok (Some item)) =
     (place' : Option (List ℕ)) × stands source place' read × (f : Picture) × (IsFrame f × Gave place place' (λ bytes. IsImage bytes f)) × made f item
 GivesImage IsImage made Unread stands place read source (Ok None) = WasAtEnd place read
 GivesImage IsImage made Unread stands place read source (Err fault) =
-    (place' : Option (List ℕ)) × stands source place' read × Unread fault place place'
+    (place' : Option (List ℕ)) × stands source place' read × Unread fault place read
 
 -- The source, which stood at the first place, stands after n frames, whose text, of this many bytes, was written.
 abbrev pub StandsAfter : {S : Type 0} → (List ℕ → Picture → Type 0) → (List Picture → List ℕ) → (S → Option (List ℕ) → Option (List ℕ) → Type 0)

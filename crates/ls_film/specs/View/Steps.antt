@@ -1,9 +1,9 @@
 -- Where the engine stops, whatever its images are, and what its steps say then. What an image of a frame is, and what a fault says of the
--- reader's known bytes before and after it, are parameters.
+-- known bytes from its place on and of those that the reader has left, are parameters.
 use Rattle.std.specs.Prelude.{◌≡◌, ℕ, ◌+◌, ◌<◌, Bool, true, false, List, length, take, Option, Result, Ok, Err}
 use Rattle.std.specs.Io.KnownBytes.{Appends}
 use Rattle.ls_frame.specs.Picture.{Picture}
-use Rattle.ls_film.specs.View.Engine.{HasRun, StopsAtOutput, StopsForMemory, StopsAtMost}
+use Rattle.ls_film.specs.View.Engine.{HasRun, StopsAtOutput, StopsInFrame, StopsAtMost}
 use Rattle.ls_film.specs.declared.engine.Stopped.{Stopped}
 use Rattle.ls_film.specs.declared.engine.Stopped.TheVariants.{Input, Output, NoMemory, TooMany}
 
@@ -30,13 +30,13 @@ abbrev pub IsSomeImage : (List ℕ → Picture → Type 0) → List ℕ → Type
 IsSomeImage IsImage bytes = (f : Picture) × IsImage bytes f
 
 module _ {E : Type 0} (IsImage : List ℕ → Picture → Type 0) (Unread : E → Option (List ℕ) → Option (List ℕ) → Type 0) where
-  -- what each stop says of the reader's bytes before and after the run, and of the writer's
-  abbrev pub HasStopped : (List Picture → List ℕ) → Option (List ℕ) → Option (List ℕ) → Option (List ℕ) → Option (List ℕ) → Stopped E → Type 0
-  HasStopped text read read' written written' (Input m fault) =
-      (mid : Option (List ℕ)) × (bytes : ℕ) × HasRun IsImage text read mid written written' m bytes × Unread fault mid read'
-  HasStopped text read read' written written' (Output bytes) = StopsAtOutput IsImage text read read' written written' bytes
-  HasStopped text read read' written written' NoMemory = StopsForMemory IsImage text read read' written written' (IsSomeImage IsImage)
-  HasStopped text read read' written written' TooMany = StopsAtMost IsImage text read read' written written'
+  -- what each stop says of the bytes from the source's place on before and after the run, of those that its reader has left, and of the writer's
+  abbrev pub HasStopped : (List Picture → List ℕ) → Option (List ℕ) → Option (List ℕ) → Option (List ℕ) → Option (List ℕ) → Option (List ℕ) → Stopped E → Type 0
+  HasStopped text place place' read' written written' (Input m fault) =
+      (mid : Option (List ℕ)) × (bytes : ℕ) × HasRun IsImage text place mid written written' m bytes × Unread fault mid read'
+  HasStopped text place place' read' written written' (Output bytes) = StopsAtOutput IsImage text place place' written written' bytes
+  HasStopped text place place' read' written written' NoMemory = StopsInFrame IsImage text place place' written written' (IsSomeImage IsImage)
+  HasStopped text place place' read' written written' TooMany = StopsAtMost IsImage text place place' written written'
 
 -- what a stop at a chunk, written after this many bytes of text, says: only the first bytes of the chunk were written
 abbrev pub StopsChunk : {E : Type 0} → Option (List ℕ) → Option (List ℕ) → ℕ → List ℕ → Stopped E → Type 0

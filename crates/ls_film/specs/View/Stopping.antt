@@ -6,7 +6,7 @@ use Rattle.ls_frame.specs.Picture.{Picture}
 use Rattle.ls_frame.specs.Netpbm.{IsImageOf, IsWholeHeading}
 use Rattle.ls_frame.specs.Faults.{IsBroken, blames_bytes, blames_device}
 use Rattle.ls_frame.specs.View.Known.{Tells, Gave, known}
-use Rattle.ls_film.specs.View.Engine.{StopsAtInput, StopsAtOutput, StopsForMemory, StopsAtMost}
+use Rattle.ls_film.specs.View.Engine.{StopsAtInput, StopsAtOutput, StopsInFrame, StopsAtMost}
 use Rattle.ls_film.specs.View.Steps.{IsSomeImage}
 use Rattle.ls_film.specs.declared.engine.Stopped.{Stopped}
 use Rattle.ls_film.specs.declared.engine.Stopped.TheVariants as engine
@@ -46,7 +46,7 @@ abbrev pub Stops : (List Picture → List ℕ) → Option (List ℕ) → Option 
 Stops text read read' written written' (Input m fault) =
     StopsAtInput IsImageOf text read read' written written' m (λ rest. IsTrue (blames_bytes fault) → IsBroken rest fault) × (fault ≢ netpbm.NoMemory)
 Stops text read read' written written' (Output bytes) = StopsAtOutput IsImageOf text read read' written written' bytes
-Stops text read read' written written' NoMemory = StopsForMemory IsImageOf text read read' written written' IsHeadingOrImage
+Stops text read read' written written' NoMemory = StopsInFrame IsImageOf text read read' written written' IsHeadingOrImage
 Stops text read read' written written' TooMany = StopsAtMost IsImageOf text read read' written written'
 
 -- whether a run failed because a read did, and because a write did

@@ -71,6 +71,18 @@ abbrev pub with_left : {X : Type 0} → List ℕ → Take X → Take X
 with_left rest (Ok found) = Ok (found.0, found.1 ++ rest)
 with_left rest (Err fault) = Err fault
 
+-- Fewer bytes than a codestream may have, which show neither an end nor a fault by their markers.
+abbrev pub IsUndecided : List ℕ → Type 0
+IsUndecided bytes = (length bytes < most_bytes) × (extent_at bytes ≡ Err Truncated)
+
+-- As many bytes as a codestream may have, which show neither.
+abbrev pub IsEndless : List ℕ → Type 0
+IsEndless bytes = (length bytes ≡ most_bytes) × (extent_at bytes ≡ Err Truncated)
+
+-- the first of these bytes are so
+abbrev pub BeginsEndless : List ℕ → Type 0
+BeginsEndless bytes = IsEndless (take most_bytes bytes)
+
 -- ---- faults
 
 -- Decoding bytes stops with this fault. TooLarge stands for Truncated if there are more bytes than a codestream may have.

@@ -14,7 +14,8 @@ returns-in-Ok-Some-clause-taken g c =
 
 pub returns-in-Err-clause-untaken : goal.returns-in-Err-clause-untaken
 returns-in-Err-clause-untaken g c =
-    rw c.of.ensures (untaken (g.R.Read.remaining c.args.reader.now) (g.R.Read.remaining c.next_stream.new.reader) c.in-Err.fault c.in-Err.ensures.too_large c.in-Err.ensures.complete c.in-Err.ensures.memory)
+    rw c.of.ensures (untaken (g.R.Read.remaining c.args.reader.now) (g.R.Read.remaining c.next_stream.new.reader) c.in-Err.fault c.in-Err.ensures.too_large c.in-Err.ensures.complete
+    c.in-Err.ensures.endless c.in-Err.ensures.io c.in-Err.ensures.memory)
 
 pub returns-in-Err-clause-stops : goal.returns-in-Err-clause-stops
-returns-in-Err-clause-stops g c = unread c.of.result (g.R.Read.remaining c.args.reader.now) (returns-in-Err-clause-untaken g c)
+returns-in-Err-clause-stops g c = unread c.of.result (g.R.Read.remaining c.args.reader.now) (g.R.Read.remaining c.next_stream.new.reader) (returns-in-Err-clause-untaken g c)

@@ -40,7 +40,7 @@ returns-in_err-written-clause-stops g c = λ place stands.
     rw (p.1, p.2) (
       next.0,
       next.1,
-      stops-chunk g.I.Images.image g.I.Images.unread g.X.Text.text place i.0 next.0 _ _ _ c.loop-number.number c.loop-number.written next.2 c.deref.result.now _ i.2 (omega arith) next.3 grows c.in_err-written.ensures.stops,
+      stops-chunk g.I.Images.image g.I.Images.unread g.X.Text.text place i.0 next.0 (g.R.Read.remaining c.next.new.reader) _ _ _ c.loop-number.number c.loop-number.written next.2 c.deref.result.now _ i.2 (omega arith) next.3 grows c.in_err-written.ensures.stops,
     )
 
 pub loop-number-preserved : goal.loop-number-preserved

@@ -1,5 +1,7 @@
-use Rattle.std.proofs.Common.{rules}
-use Rattle.ls_film.proofs.PartLemmas.{passed-more}
+use Rattle.std.proofs.Common.{rules, arith}
+use Rattle.ls_film.specs.View.Codestreams.{IsUntaken}
+use Rattle.ls_film.specs.declared.codestreams.Unread.TheVariants as unread
+use Rattle.ls_film.proofs.PartLemmas.{passed-more, stops-passing}
 use Rattle.ls_film.proofs.part.pass_streams.Goals as goal
 
 pub loop-number-preserved : goal.loop-number-preserved
@@ -9,3 +11,12 @@ loop-number-preserved g c =
       passed = passed-more _ _ _ c.loop-number.number c.in-Ok-Some.field-0-0.items c.loop-number.invariant.passed taken.gave;
       reads = search rules;
     }
+
+pub returns-in-Err-Stream-clause-stops : goal.returns-in-Err-Stream-clause-stops
+returns-in-Err-Stream-clause-stops g c =
+    let read = g.R.Read.remaining c.loop-number.reader in
+    let read' = g.R.Read.remaining c.take_codestream.new.reader in
+    let fault = c.in-Err-Stream.fault in
+    let untaken : IsUntaken (unread.Stream fault) read read' = rw c.in-Err-Stream.field-0-is at c.in-Err-Stream.ensures.untaken in
+    rw (c.of.ensures, c.in-Err-Stream.field-0-is)
+    (stops-passing (g.R.Read.remaining c.args.reader.now) read read' c.args.count c.loop-number.number fault (omega arith) c.loop-number.invariant.passed untaken)

@@ -1,14 +1,18 @@
 use Rattle.std.specs.Prelude.{IsTrue}
-use Rattle.std.proofs.Common.{◌+◌, ap, arith, subst, rules}
+use Rattle.std.proofs.KnownBytes.{Appends-nil}
+use Rattle.std.proofs.Common.{◌+◌, inl, ap, arith, subst, rules}
 use Rattle.ls_film.specs.declared.engine.Run.{Run}
 use Rattle.ls_film.specs.View.Parts.{GavePassed, LacksPart}
 use Rattle.ls_film.proofs.part.play_part.Goals.{then-is_none+else-run-gt0, else-is_none}
 use Rattle.ls_film.proofs.PartLemmas.{lacks-first, lacks-last, ends-early, early-shown, part-shown, part-few, part-unpassed, part-unshown}
 use Rattle.ls_film.proofs.part.play_part.Goals as goal
 
+pub returns-in-Err-clause-stops : goal.returns-in-Err-clause-stops
+returns-in-Err-clause-stops g c = inl (c.in-Err.ensures.stops, Appends-nil (g.W.Write.contents c.args.writer.now))
+
 pub returns-in-Err-clause-film : goal.returns-in-Err-clause-film
 returns-in-Err-clause-film g c = λ frames few told film.
-    part-unpassed c.no_codestream_begins_another.ensures c.one_frame_each.ensures _ frames few told film c.args.part.first c.in-Err.fault c.in-Err.ensures.stops
+    part-unpassed c.no_codestream_begins_another.ensures c.one_frame_each.ensures _ frames few told film _ c.args.part.first c.in-Err.fault c.in-Err.ensures.stops
 
 pub returns-then-passed-clause-stops : goal.returns-then-passed-clause-stops
 returns-then-passed-clause-stops g c = ends-early _ _ _ c.args.part.first c.in-Ok.run'.frames c.args.part.last (c.in-Ok.ensures.lacks c.if-passed.true) c.requires.last c.in-Ok.ensures.passed (c.in-Ok.ensures.ended c.if-passed.true)

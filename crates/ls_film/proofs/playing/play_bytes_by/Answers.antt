@@ -11,4 +11,4 @@ returns-in-Ok g c =
 pub returns-in-Err : goal.returns-in-Err
 returns-in-Err g c =
     plays-stopped c.no_codestream_begins_another.ensures c.one_frame_each.ensures c.codestreams_spell_their_frames.ensures c.args.recording.now _ _ c.into_inner-in-Err.result.items _
-    (ap (λ v. v.items) c.new-2.ensures.inner ∙ c.new.ensures.items) (ap (λ v. v.items) c.into_inner-in-Err.ensures) c.in-Err.fault (none-failed c.in-Err.fault c.in-Err.ensures.reads) c.in-Err.ensures.stops.1
+    (ap (λ v. v.items) c.new-2.ensures.inner ∙ c.new.ensures.items) (ap (λ v. v.items) c.into_inner-in-Err.ensures) c.in-Err.fault (none-failed c.in-Err.fault c.in-Err.ensures.reads) c.in-Err.ensures.stops.2

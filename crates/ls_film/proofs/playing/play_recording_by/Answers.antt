@@ -1,7 +1,7 @@
 use Rattle.std.proofs.Common.{refl}
 use Rattle.ls_film.specs.View.Sources.{IsShown}
 use Rattle.ls_film.proofs.AheadLemmas.{ahead-none}
-use Rattle.ls_film.proofs.PlayLemmas.{play-stops}
+use Rattle.ls_film.proofs.PlayLemmas.{play-stops-ahead}
 use Rattle.ls_film.proofs.playing.play_recording_by.Goals as goal
 
 pub returns-in-Ok-clause-completes : goal.returns-in-Ok-clause-completes
@@ -17,4 +17,4 @@ pub returns-clause-stops : goal.returns-clause-stops
 returns-clause-stops g c =
     let place = g.R.Read.remaining c.args.reader.now in
     let why = c.in-Err.ensures.stops place (ahead-none IsShown place place c.new-source.result.ahead c.new-source.ensures.jobs c.new-source.ensures.after) in
-    rw c.of.ensures (why.0, play-stops _ _ _ _ c.in-Err.stopped why.2)
+    rw c.of.ensures (play-stops-ahead place why.0 _ _ _ c.in-Err.stopped why.2)

@@ -1,13 +1,14 @@
 use Rattle.std.proofs.Common.{◌++◌, length, sym, ap, subst, ◌∙◌, refl, arith}
+use Rattle.std.proofs.lemmas.Result.{err_from_is_err_and}
 use Rattle.ls_frame.specs.View.Known.{TakesPast, known}
 use Rattle.ls_stream.specs.View.Places.{IsPlaceAfter}
 use Rattle.ls_stream.proofs.ExtentLemmas.{none_reached}
-use Rattle.ls_stream.proofs.FeedLemmas.{if_some, IsOneMore, taken_on, on_with, ended_with, length_with}
+use Rattle.ls_stream.proofs.FeedLemmas.{if_some, IsOneMore, taken_on, on_with, ended_with, length_with, failed_in}
 use Rattle.ls_stream.proofs.next.read_stream.Goals as goal
 
 pub steps-init : goal.steps-init
 steps-init g c =
-    let empty = c.new-bytes.ensures.items in record {
+    let empty = c.requires in record {
       failures = refl;
       few = omega (arith, ap length empty);
       place = subst (IsPlaceAfter _) (sym empty) none_reached;
@@ -45,3 +46,12 @@ returns-in-None-after-clause-bytes g c = λ told.
     (omega (arith, most.ensures.most)) taken in
     let read = one.read told in
     (read.0, (read.1, ended_with c.steps.place (remaining c.args.reader.now) (remaining new.reader) new.bytes.items (known (remaining new.reader)) last one c.in-None-after.ensures.ends))
+
+pub returns-in_err-last-clause-io : goal.returns-in_err-last-clause-io
+returns-in_err-last-clause-io g c =
+    let remaining = g.R.Read.remaining in
+    let before = c.steps.invariant in
+    let p = err_from_is_err_and c.from_residual.result c.from_residual.ensures.1 in
+    rw (p.1, p.2) (λ is.
+    failed_in c.steps.place (remaining c.args.reader.now) (remaining c.steps.reader) (remaining c.next_bytes.new.reader) c.steps.bytes.items c.next_bytes.new.bytes.items
+    before.place (omega arith) before.read c.in_err-last.ensures.nothing (c.in_err-last.ensures.keeps is))

@@ -19,4 +19,4 @@ returns-clause-gives g c = λ place is.
     let bytes = c.in-Ok-Some.bytes.items in
     let taken : IsTaken read read' bytes = rw c.in-Ok-Some.field-0-is at c.in-Ok-Some.ensures.taken in
     let fault : IsUnmade bytes c.in-Err-made_of.fault = subst (λ (s : List ℕ). IsUnmade s c.in-Err-made_of.fault) c.deref.ensures.value c.in-Err-made_of.ensures in
-    rw is (read', refl, taken_fault read read' bytes taken c.in-Err-made_of.fault fault)
+    rw is (read', refl, taken_fault read read' bytes taken c.in-Err-made_of.fault read' fault)
