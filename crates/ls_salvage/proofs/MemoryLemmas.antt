@@ -28,6 +28,18 @@ pub no_failed_read : (result : Result Salvaged SalvageFault) → 0 ≡ count_aft
 no_failed_read (Ok salvaged) same = tt
 no_failed_read (Err fault) same = never_blamed (blames_reader fault) same
 
+-- no bytes
+pub no_bytes : (bytes : List ℕ) → length bytes ≡ 0 → bytes ≡ []
+no_bytes [] is = refl
+no_bytes (byte ∷ bytes) is = absurd (omega (arith, is))
+
+-- they are codestreams of no frames
+pub whole_none : (n : ℕ) (recording out : List ℕ) (gaps : List Gap) (frames : List Picture) → n ≡ 0 → recording ≡ [] → out ≡ [] → gaps ≡ [] → IsFilm Spells recording frames
+    → (n ≡ length frames) × (n ≡ n) × (out ≡ show frames) × (gaps ≡ [])
+whole_none n recording out gaps [] zero none no_text no_gaps film = (zero, refl, no_text, no_gaps)
+whole_none n recording out gaps (f ∷ frames) zero none no_text no_gaps film =
+    absurd (omega (arith, ap length none, ap length film.2, length-append film.0 film.1, some_bytes film.0 f film.3))
+
 module _ (only : (one other rest : List ℕ) (f g : Picture) → Spells one f → Spells other g → other ≡ one ++ rest → rest ≡ [])
     (same : (bytes : List ℕ) (f g : Picture) → Spells bytes f → Spells bytes g → f ≡ g) where
   pub salvage_of : (recording start out final : List ℕ) (none gaps : List Gap) (read read' : Option (List ℕ)) (salvaged : Salvaged)
@@ -46,6 +58,18 @@ module _ (only : (one other rest : List ℕ) (f g : Picture) → Spells one f �
         gap_count = whole.gaps ∙ sym (ap length gaps_are);
         each_is_shown = λ before front rest f split spells. whole_ones only same recording before front rest f whole.parts split spells all;
       }
+
+  -- nothing has nothing to salvage
+  pub salvage_of_none : (recording out : List ℕ) (gaps : List Gap) → recording ≡ [] → out ≡ [] → gaps ≡ [] → IsSalvageOf recording out gaps (record { frames = 0; gaps = 0 })
+  salvage_of_none recording out gaps none no_text no_gaps = record {
+    parts = [];
+    salvage = none;
+    shown = no_text;
+    gaps_are = no_gaps;
+    frame_count = refl;
+    gap_count = sym (ap length no_gaps);
+    each_is_shown = λ before front rest f split spells. whole_ones only same recording before front rest f [] split spells none;
+  }
 
   -- ---- no damage
 

@@ -4,7 +4,7 @@ use Rattle.std.proofs.lemmas.List.{length-append, length-take, take-append-drop,
 use Rattle.std.specs.Io.KnownBytes.{prepend_known}
 use Rattle.ls_bits.specs.Bits.{AreBytes}
 use Rattle.ls_frame.specs.Picture.{Picture}
-use Rattle.ls_frame.specs.View.Known.{Tells, Gave, known}
+use Rattle.ls_frame.specs.View.Known.{Tells, Gave, HadBytes, known}
 use Rattle.ls_stream.specs.Grammar.{Spells}
 use Rattle.ls_stream.specs.View.Outlines.{IsFirstFault}
 use Rattle.ls_stream.specs.declared.faults.StreamFault.{StreamFault}
@@ -74,10 +74,16 @@ gave_bytes read read' bytes items P gives some is = λ told.
 
 -- ---- a codestream that can't be taken
 
-pub no_end : (fault : Unread) (read : Option (List ℕ)) → IsUntaken fault read → read_fault fault ≡ read_faults.NoEnd → Tells read → HasNoEnd (known read)
-no_end (unread.Stream fault) read (inl memory) is told = let no : ⊥ = cc in absurd no
-no_end (unread.Stream fault) read (inr large) is told = large.1 told
-no_end unread.Io read untaken is told = let no : ⊥ = cc in absurd no
+pub no_end : (fault : Unread) (read read' : Option (List ℕ)) → IsUntaken fault read read' → read_fault fault ≡ read_faults.NoEnd → Tells read → HasNoEnd (known read)
+no_end (unread.Stream fault) read read' (inl memory) is told = let no : ⊥ = cc in absurd no
+no_end (unread.Stream fault) read read' (inr large) is told = large.1 told
+no_end unread.Io read read' untaken is told = let no : ⊥ = cc in absurd no
+
+-- an allocation failed, and there was a byte
+pub no_memory : (fault : Unread) (read read' : Option (List ℕ)) → IsUntaken fault read read' → read_fault fault ≡ read_faults.NoMemory → HadBytes read
+no_memory (unread.Stream fault) read read' (inl memory) is = memory.1
+no_memory (unread.Stream fault) read read' (inr large) is = let no : ⊥ = cc in absurd no
+no_memory unread.Io read read' untaken is = let no : ⊥ = cc in absurd no
 
 not_too_much : (refused : Bool) → cond refused read_faults.NoMemory read_faults.NoEnd ≡ read_faults.TooMuch → ⊥
 not_too_much true is = let no : ⊥ = cc in absurd no

@@ -1,12 +1,13 @@
 -- A salvage, part by part, and why it stops.
-use Rattle.std.proofs.Common.{◌≡◌, inl, inr, ℕ, ◌+◌, ◌<◌, ◌≤◌, List, [], ◌∷◌, ◌++◌, length, take, Option, None, Some, refl, sym, ap, subst, ◌∙◌, arith, append_assoc, append-nil}
+use Rattle.std.proofs.Common.{◌≡◌, inl, inr, ℕ, ◌+◌, ◌<◌, ◌≤◌, List, [], ◌∷◌, ◌++◌, length, take, drop, Option, None, Some, refl, sym, ap, subst, ◌∙◌, arith, append_assoc, append-nil}
 use Rattle.std.specs.Io.KnownBytes.{Appends}
 use Rattle.std.specs.List.{AllByRecursion}
 use Rattle.std.proofs.KnownBytes.{Appends-nil, Appends-trans}
 use Rattle.std.proofs.Math.Seq.{take-append-add}
 use Rattle.std.proofs.lemmas.List.{length-append, length_push, take-append-drop}
 use Rattle.ls_frame.specs.Picture.{Picture}
-use Rattle.ls_frame.specs.View.Known.{Tells, WasAtEnd, known}
+use Rattle.ls_frame.specs.View.Known.{Tells, WasAtEnd, HadBytes, known}
+use Rattle.ls_film.specs.View.Memory.{HasBytes}
 use Rattle.ls_stream.specs.declared.faults.StreamFault.{StreamFault}
 use Rattle.ls_salvage.specs.declared.faults.ReadFault.{ReadFault}
 use Rattle.ls_salvage.specs.declared.faults.ReadFault.TheVariants as read_fault
@@ -19,8 +20,8 @@ use Rattle.ls_salvage.specs.View.Salvaged.{AreParts}
 use Rattle.ls_salvage.specs.View.Ends.{most_place, salvage_fault}
 use Rattle.ls_salvage.specs.View.Parts.{GavePart, IsLawful, HasNoEnd, HasLongGap}
 use Rattle.ls_salvage.specs.View.Telling.{TellsMore}
-use Rattle.ls_salvage.specs.View.Runs.{Completes, HasRun, StopsAfter, Anything, BeginsWithOne, IsEndless, IsTooMuch, Stops, IsSmall, no_progress, after_frame, after_gap, HandsOn, StopsHandingOn}
-use Rattle.ls_salvage.proofs.SalvageLemmas.{parts_then, bytes_of-append, frames_of-append, gaps_after-append}
+use Rattle.ls_salvage.specs.View.Runs.{Completes, HasRun, StopsAfter, Anything, HasMore, BeginsWithOne, IsEndless, IsTooMuch, Stops, IsSmall, no_progress, after_frame, after_gap, HandsOn, StopsHandingOn}
+use Rattle.ls_salvage.proofs.SalvageLemmas.{some_bytes, parts_then, bytes_of-append, frames_of-append, gaps_after-append}
 
 -- ---- gaps that were reported
 
@@ -137,12 +138,13 @@ module _ (text : List Picture → List ℕ) (read : Option (List ℕ)) (written 
     }
 
     pub stops_reading : (fault : ReadFault) → (fault ≡ read_fault.NoEnd → Tells mid → HasNoEnd (known mid)) → (fault ≡ read_fault.TooMuch → Tells mid → HasLongGap (known mid))
+        → (fault ≡ read_fault.NoMemory → HadBytes mid)
         → Stops text written midway told half read (salvage_fault before.frames fault)
     unfolding stops_here
-    stops_reading read_fault.Io endless much = (stops_here Anything (λ tells. tt), sym run.frames)
-    stops_reading read_fault.NoMemory endless much = stops_here Anything (λ tells. tt)
-    stops_reading read_fault.NoEnd endless much = stops_here IsEndless (λ tells. endless refl tells)
-    stops_reading read_fault.TooMuch endless much = stops_here IsTooMuch (λ tells. inr (inr (much refl tells)))
+    stops_reading read_fault.Io endless much memory = (stops_here Anything (λ tells. tt), sym run.frames)
+    stops_reading read_fault.NoMemory endless much memory = stops_here HasMore (λ tells. memory refl tells)
+    stops_reading read_fault.NoEnd endless much memory = stops_here IsEndless (λ tells. endless refl tells)
+    stops_reading read_fault.TooMuch endless much memory = stops_here IsTooMuch (λ tells. inr (inr (much refl tells)))
 
     pub stops_far : most_place ≤ before.place → Stops text written midway told half read TooMuch
     stops_far far = stops_here IsTooMuch (λ tells. inr (inl (omega (arith, far, run.place))))
@@ -154,6 +156,13 @@ module _ (text : List Picture → List ℕ) (read : Option (List ℕ)) (written 
 
       one_more : (count : ℕ) (f : Picture) → GavePart mid new (frame count f) → Tells mid → BeginsWithOne (known mid)
       one_more count f gave tells = let next = (gave tells).1 in (take count (known mid), _, f, sym (take-append-drop count (known mid)), next.1)
+
+      -- a part has bytes
+      some_part : (part : Part) → GavePart mid new part → Tells mid → HasBytes (known mid)
+      some_part (frame count f) gave tells =
+          let next = (gave tells).1 in
+          omega (arith, some_bytes (take count (known mid)) f next.1, length-append (take count (known mid)) (drop count (known mid)), ap length (take-append-drop count (known mid)))
+      some_part (gap count fault) gave tells = (gave tells).1.1.none.some
 
       pub stops_handing_on : (part : Part) (fault : SalvageFault) → GavePart mid new part → IsLawful part → StopsHandingOn text midway out half full before part fault
           → Stops text written out told full read fault
@@ -179,7 +188,7 @@ module _ (text : List Picture → List ℕ) (read : Option (List ℕ)) (written 
             tells = subst (λ s. TellsMore told s (gaps_of parts)) (sym stops.6) run.handed_on.tells;
           }
       stops_handing_on (gap count cause) (Output bytes) gave lawful stops = absurd stops
-      stops_handing_on part NoMemory gave lawful stops = stops_kept Anything stops.0 stops.1 (λ tells. tt)
+      stops_handing_on part NoMemory gave lawful stops = stops_kept HasMore stops.0 stops.1 (some_part part gave)
       stops_handing_on part NoEnd gave lawful stops = absurd stops
       stops_handing_on (frame count f) TooMuch gave lawful stops =
           stops_kept IsTooMuch stops.0 stops.1 (λ tells. inl (sym run.frames ∙ stops.2, one_more count f gave tells))

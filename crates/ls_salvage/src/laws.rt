@@ -21,8 +21,7 @@ pub fn one_salvage()
 }
 
 /// Wherever a complete codestream of a frame stands in a recording, its frame is shown; or a codestream that is shown
-/// begins before it and ends after its beginning, and so holds it (in a segment, since in coded data FF is followed by
-/// a byte below 0x80).
+/// begins before it and ends after its beginning, and so holds it.
 pub fn whole_ones_are_shown()
     ensures { (bytes before front rest : List ℕ) (f : Picture) (parts : List Part) → bytes ≡ before ++ (front ++ rest) → Spells front f
         → IsSalvaged bytes parts → IsShownAt parts (length before) (length front) f ⊎ IsHeld parts (length before) }

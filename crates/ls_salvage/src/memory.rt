@@ -39,6 +39,10 @@ pub fn salvage_bytes(
     no_codestream_begins_another();
     one_frame_each();
     let mut gaps = Vec::new(alloc);
+    if recording.is_empty() {
+        let none = Salvaged { frames: 0, gaps: 0 };
+        return (Vec::new(alloc), gaps, Ok(none));
+    }
     let Ok(mut reader) = Buffered::new(alloc, recording) else {
         return (Vec::new(alloc), gaps, Err(SalvageFault::NoMemory));
     };

@@ -2,7 +2,7 @@
 ghost use Rattle.std.specs.Prelude.{◌≡◌, ◌≢◌, ◌<◌, ◌≤◌, ◌^◌, ◌++◌, length, drop, IfOk, IfErr, IfSome, IfNone};
 ghost use Rattle.ls_frame.specs.View.Chunks.{left_in, inner_reader};
 ghost use Rattle.ls_frame.specs.View.Devices.{count_after};
-ghost use Rattle.ls_frame.specs.View.Known.{Tells, WasAtEnd, known};
+ghost use Rattle.ls_frame.specs.View.Known.{Tells, WasAtEnd, HadBytes, known};
 ghost use Rattle.ls_film.specs.View.Steps.{failed_by};
 ghost use Rattle.ls_salvage.specs.Salvage.{size_of};
 ghost use Rattle.ls_salvage.specs.View.Ends.{most_place, is_io};
@@ -35,10 +35,10 @@ pub enum NextPart {
 
 /// Takes the next part of a recording off a reader, and not a byte more; `None` exactly at the end.
 ///
-/// A part has at least one byte and fewer than 2^63. `Io` and `NoMemory` say that a read or an allocation failed;
-/// `NoEnd`, that as many bytes as a codestream may have show neither its end nor a fault; `TooMuch`, that no codestream
-/// begins here, 2^62 bytes or more are left, and the search for the next start gave up. After a fault nothing is said
-/// of the reader's position.
+/// A part has at least one byte and fewer than 2^63. `Io` and `NoMemory` say that a read or an allocation failed, the
+/// latter never at the end; `NoEnd`, that as many bytes as a codestream may have show neither its end nor a fault;
+/// `TooMuch`, that no codestream begins here, 2^62 bytes or more are left, and the search for the next start gave up.
+/// After a fault nothing is said of the reader's position.
 pub fn next_part<R: Feed>(
     alloc: Global,
     reader: &mut Buffered<R>,
@@ -53,6 +53,7 @@ pub fn next_part<R: Feed>(
         → HasNoEnd (known (left_in R.remaining reader.old))) }
     ensures too_much { IfErr result (λ fault. fault ≡ ReadFault.TooMuch → Tells (left_in R.remaining reader.old)
         → HasLongGap (known (left_in R.remaining reader.old))) }
+    ensures memory { IfErr result (λ fault. fault ≡ ReadFault.NoMemory → HadBytes (left_in R.remaining reader.old)) }
     ensures failures { R.failed_reads (inner_reader reader.new) ≡ count_after (failed_by is_io result) (R.failed_reads (inner_reader reader.old)) }
 {
     match find_next(alloc, reader)? {
@@ -73,6 +74,7 @@ fn find_next<R: Feed>(alloc: Global, reader: &mut R) -> Result<Option<Found>, Re
     ensures no_end { IfErr result (λ fault. fault ≡ ReadFault.NoEnd → Tells (R.remaining reader.old)
         → HasNoEnd (known (R.remaining reader.old))) }
     ensures few { IfErr result (λ fault. fault ≢ ReadFault.TooMuch) }
+    ensures memory { IfErr result (λ fault. fault ≡ ReadFault.NoMemory → HadBytes (R.remaining reader.old)) }
     ensures failures { R.failed_reads reader.new ≡ count_after (failed_by is_io result) (R.failed_reads reader.old) }
 {
     let bytes = match take_codestream(alloc, reader) {

@@ -48,8 +48,8 @@ struct Progress {
 /// After bytes that begin with no codestream it goes on at the next start after the first of them: SOI, and FF with a
 /// code that may follow it. The search for a start gives up after 2^62 bytes (`TooMuch`). With no damage it writes what
 /// `ls_film::play` does. A frame is written completely before the next part is read. If the bytes of reader and writer
-/// are known (as in memory), and the gaps reported, the clauses say which they were. After a fault nothing is said of
-/// the reader's position.
+/// are known (as in memory), and the gaps reported, the clauses say which they were. `NoMemory` is never returned at the
+/// end. After a fault nothing is said of the reader's position.
 ///
 /// Holds in memory the bytes of one codestream, or what was read of a damaged one, and its frame. Bytes at fault are
 /// held twice while they are put back: all but the first are read again, to find the next start.

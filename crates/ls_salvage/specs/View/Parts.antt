@@ -3,7 +3,8 @@ use Rattle.std.specs.Prelude.{◌≡◌, ◌≢◌, ℕ, ◌<◌, ◌≤◌, ◌
 use Rattle.ls_frame.specs.Picture.{IsFrame}
 use Rattle.ls_frame.specs.View.Known.{Tells, Gave, known}
 use Rattle.ls_stream.specs.declared.faults.StreamFault.TheVariants as stream
-use Rattle.ls_stream.specs.Grammar.{Spells, most_bytes}
+use Rattle.ls_stream.specs.Grammar.{Spells}
+use Rattle.ls_stream.specs.View.Extents.{BeginsEndless}
 use Rattle.ls_film.specs.View.Codestreams.{BeginsWithNone}
 use Rattle.ls_salvage.specs.declared.parts.Found.{Found}
 use Rattle.ls_salvage.specs.declared.parts.Found.TheVariants as found
@@ -38,9 +39,9 @@ abbrev pub IsLawful : Part → Type 0
 IsLawful (frame count f) = IsFrame f
 IsLawful (gap count fault) = fault ≢ stream.NoMemory
 
--- No codestream begins the bytes, and there are at least as many as a codestream may have.
+-- No codestream begins the bytes, and as many of them as a codestream may have show neither an end nor a fault.
 abbrev pub HasNoEnd : List ℕ → Type 0
-HasNoEnd bytes = BeginsWithNone bytes × (most_bytes ≤ length bytes)
+HasNoEnd bytes = BeginsWithNone bytes × BeginsEndless bytes
 
 -- No codestream begins the bytes, and there are at least 2^62.
 abbrev pub HasLongGap : List ℕ → Type 0

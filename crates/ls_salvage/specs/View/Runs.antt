@@ -6,6 +6,7 @@ use Rattle.ls_frame.specs.Picture.{Picture}
 use Rattle.ls_frame.specs.View.Known.{Tells, known}
 use Rattle.ls_stream.specs.Grammar.{Spells}
 use Rattle.ls_film.specs.Film.{most_frames}
+use Rattle.ls_film.specs.View.Memory.{HasBytes}
 use Rattle.ls_film.specs.View.Texts.{GrowsBy}
 use Rattle.ls_salvage.specs.declared.faults.SalvageFault.{SalvageFault}
 use Rattle.ls_salvage.specs.declared.faults.SalvageFault.TheVariants.{Io, Output, NoMemory, NoEnd, TooMuch}
@@ -71,11 +72,15 @@ module _ (text : List Picture → List ℕ) (written written' : Option (List ℕ
 abbrev pub Anything : List Part → List ℕ → Type 0
 Anything parts rest = Unit {0}
 
+-- at least one byte follows
+abbrev pub HasMore : List Part → List ℕ → Type 0
+HasMore parts rest = HasBytes rest
+
 -- some front of the bytes is a codestream of a frame
 abbrev pub BeginsWithOne : List ℕ → Type 0
 BeginsWithOne bytes = (front : List ℕ) × (rest : List ℕ) × (f : Picture) × (bytes ≡ front ++ rest) × Spells front f
 
--- What follows has no end: no codestream begins it, and it has at least as many bytes as a codestream may have.
+-- What follows has no end: no codestream begins it, and as many of its bytes as a codestream may have show neither an end nor a fault.
 abbrev pub IsEndless : List Part → List ℕ → Type 0
 IsEndless parts rest = HasNoEnd rest
 
@@ -88,7 +93,7 @@ IsTooMuch parts rest = ((length (frames_of parts) ≡ most_frames) × BeginsWith
 abbrev pub Stops : (List Picture → List ℕ) → Option (List ℕ) → Option (List ℕ) → Option (List Gap) → Option (List Gap) → Option (List ℕ) → SalvageFault → Type 0
 Stops text written written' told told' read (Io frames) = (stop : StopsAfter text written written' told told' read Anything) × (length (frames_of stop.parts) ≡ frames)
 Stops text written written' told told' read (Output bytes) = StopsAtOutput text written written' told told' read bytes
-Stops text written written' told told' read NoMemory = StopsAfter text written written' told told' read Anything
+Stops text written written' told told' read NoMemory = StopsAfter text written written' told told' read HasMore
 Stops text written written' told told' read NoEnd = StopsAfter text written written' told told' read IsEndless
 Stops text written written' told told' read TooMuch = StopsAfter text written written' told told' read IsTooMuch
 

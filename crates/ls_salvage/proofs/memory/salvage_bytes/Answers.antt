@@ -1,11 +1,11 @@
-use Rattle.std.proofs.Common.{refl, sym, ap, ◌∙◌, rules}
+use Rattle.std.proofs.Common.{◌≡◌, length, refl, sym, ap, ◌∙◌, rules}
 use Rattle.std.proofs.lemmas.Result.{IfOk-weaker}
-use Rattle.ls_salvage.proofs.MemoryLemmas.{salvage_of, salvaged_whole, no_failed_read}
+use Rattle.ls_salvage.proofs.MemoryLemmas.{salvage_of, salvage_of_none, salvaged_whole, whole_none, no_bytes, no_failed_read}
 use Rattle.ls_salvage.proofs.memory.salvage_bytes.Goals as goal
 
 pub returns-clause-completes : goal.returns-clause-completes
 returns-clause-completes c =
-    let empty = ap (λ v. v.items) c.new-writer.ensures.inner ∙ c.new-2.ensures.items in
+    let empty = ap (λ v. v.items) c.new-writer.ensures.inner ∙ c.new-3.ensures.items in
     let out = sym (ap (λ v. v.items) c.into_inner.ensures) in
     IfOk-weaker c.salvage-salvaged.result _ _
     (λ salvaged. salvage_of c.no_codestream_begins_another.ensures c.one_frame_each.ensures c.args.recording.now _ _ c.into_inner.result.items _ _ _ _ salvaged c.in-Ok.ensures empty out c.new-gaps.ensures.items)
@@ -27,3 +27,14 @@ returns-in_default-clause-device c = refl
 
 pub returns-in_default-clause-undamaged : goal.returns-in_default-clause-undamaged
 returns-in_default-clause-undamaged c = λ frames few short film. tt
+
+-- no bytes
+pub returns-then-is_empty-clause-completes : goal.returns-then-is_empty-clause-completes
+returns-then-is_empty-clause-completes c =
+    let size : length c.args.recording.now ≡ 0 = search rules in
+    salvage_of_none c.no_codestream_begins_another.ensures c.one_frame_each.ensures c.args.recording.now _ _ (no_bytes c.args.recording.now size) c.new.ensures.items c.new-gaps.ensures.items
+
+pub returns-then-is_empty-clause-undamaged : goal.returns-then-is_empty-clause-undamaged
+returns-then-is_empty-clause-undamaged c = λ frames few short film.
+    let size : length c.args.recording.now ≡ 0 = search rules in
+    whole_none 0 c.args.recording.now _ _ frames refl (no_bytes c.args.recording.now size) c.new.ensures.items c.new-gaps.ensures.items film

@@ -1,12 +1,23 @@
 use Rattle.std.proofs.Common.{◌≡◌, ◌<◌, ◌^◌, ◌∙◌, length, refl, sym, ap, arith}
 use Rattle.ls_film.specs.View.Codestreams.{IsTaken}
+use Rattle.ls_film.proofs.CodestreamLemmas.{had-bytes}
 use Rattle.ls_frame.specs.View.Devices.{count_after}
-use Rattle.ls_salvage.proofs.PartLemmas.{no_refusal, gave_frame, some_taken, breaks, gave_bytes, no_end, few, same_io, first_alike}
+use Rattle.ls_salvage.proofs.PartLemmas.{no_refusal, gave_frame, some_taken, breaks, gave_bytes, no_end, no_memory, few, same_io, first_alike}
 use Rattle.ls_stream.specs.declared.faults.StreamFault.TheVariants as stream
 use Rattle.ls_salvage.proofs.parts.find_next.Goals as goal
 
 pub returns-in-Err-clause-no_end : goal.returns-in-Err-clause-no_end
-returns-in-Err-clause-no_end g c = rw c.of.ensures (no_end c.in-Err.fault (g.R.Read.remaining c.args.reader.now) c.in-Err.ensures.untaken)
+returns-in-Err-clause-no_end g c = rw c.of.ensures (no_end c.in-Err.fault (g.R.Read.remaining c.args.reader.now) (g.R.Read.remaining c.take_codestream.new.reader) c.in-Err.ensures.untaken)
+
+pub returns-in-Err-clause-memory : goal.returns-in-Err-clause-memory
+returns-in-Err-clause-memory g c = rw c.of.ensures (no_memory c.in-Err.fault (g.R.Read.remaining c.args.reader.now) (g.R.Read.remaining c.take_codestream.new.reader) c.in-Err.ensures.untaken)
+
+pub returns-in-Err-decode_frame-clause-memory : goal.returns-in-Err-decode_frame-clause-memory
+returns-in-Err-decode_frame-clause-memory g c = λ is.
+    let read = g.R.Read.remaining c.args.reader.now in
+    let read' = g.R.Read.remaining c.take_codestream.new.reader in
+    let taken : IsTaken read read' c.in-Ok-Some.bytes.items = rw c.in-Ok-Some.field-0-is at c.in-Ok-Some.ensures.taken in
+    had-bytes read read' c.in-Ok-Some.bytes.items taken
 
 pub returns-in-Err-clause-few : goal.returns-in-Err-clause-few
 returns-in-Err-clause-few g c = rw c.of.ensures (few c.in-Err.fault)

@@ -14,7 +14,7 @@ parts-init g c = rw c.none-progress.ensures (record {
 
 pub returns-in-Err-clause-stops : goal.returns-in-Err-clause-stops
 returns-in-Err-clause-stops g c =
-    rw c.of.ensures (stops_reading g.T.Text.text _ _ _ _ _ _ c.parts.progress c.parts.invariant.run c.in-Err.fault c.in-Err.ensures.no_end c.in-Err.ensures.too_much)
+    rw c.of.ensures (stops_reading g.T.Text.text _ _ _ _ _ _ c.parts.progress c.parts.invariant.run c.in-Err.fault c.in-Err.ensures.no_end c.in-Err.ensures.too_much c.in-Err.ensures.memory)
 
 pub returns-in_err-progress-clause-stops : goal.returns-in_err-progress-clause-stops
 returns-in_err-progress-clause-stops g c =
