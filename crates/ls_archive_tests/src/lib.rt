@@ -1,4 +1,5 @@
-//! The tests of `ls_archive` and of `ls_salvage`, through what they make public.
+//! The tests of `ls_archive` and of `ls_salvage`, through what they make public; and commands of `ls_reading` over a file
+//! in memory (`commands`), where their contracts say exactly what was written.
 //!
 //! They stand in a crate of their own because a crate's tests are proved together with the whole crate.
 #![tactic(auto)]
@@ -6,11 +7,15 @@
 #[cfg(test)]
 mod checking;
 #[cfg(test)]
+mod commands;
+#[cfg(test)]
 mod damage;
 #[cfg(test)]
 mod devices;
 #[cfg(test)]
 mod faults;
+#[cfg(test)]
+mod files;
 #[cfg(test)]
 mod following;
 #[cfg(test)]

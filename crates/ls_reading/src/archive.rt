@@ -33,7 +33,7 @@ use std::thread::Threads;
 pub fn index<R, O, W, E>(program: Program<'_, R, O, W, E>, file: &str, sums: bool) -> u8
 where
     R: AllocGlobal,
-    O: Opens + Drop,
+    O: Opens + Copy + Drop,
     W: Write,
     E: Outlet,
     ensures { (result ≡ DONE) ⊎ (result ≡ FAILED) }
@@ -180,7 +180,7 @@ fn find_moved<R, O, E>(
 ) -> Result<Vec<Option<u64>>, u8>
 where
     R: AllocGlobal + Files,
-    O: Opens + Drop,
+    O: Opens + Copy + Drop,
     E: Outlet,
     ensures { IfErr result (λ status. status ≡ FAILED) }
 {
@@ -290,7 +290,7 @@ fn is_of_index(fault: CheckFault) -> bool {
 fn check_alone<R, O, W, E>(program: Program<'_, R, O, W, E>, file: &str) -> u8
 where
     R: AllocGlobal,
-    O: Opens + Drop,
+    O: Opens + Copy + Drop,
     W: Write,
     E: Outlet,
     ensures { (result ≡ DONE) ⊎ (result ≡ FAILED) }

@@ -25,7 +25,7 @@ use std::io::{BufWriter, Write};
 pub fn list<R, O, W, E>(program: Program<'_, R, O, W, E>, file: &str) -> u8
 where
     R: AllocGlobal,
-    O: Opens + Drop,
+    O: Opens + Copy + Drop,
     W: Write,
     E: Outlet,
     ensures { (result ≡ DONE) ⊎ (result ≡ FAILED) }
@@ -67,7 +67,7 @@ fn list_to<R: Feed, W: Outlet>(alloc: Global, film: &mut R, lines: &mut W) -> Re
 pub fn code<R, O, W, E>(program: Program<'_, R, O, W, E>, file: &str) -> u8
 where
     R: AllocGlobal,
-    O: Opens + Drop,
+    O: Opens + Copy + Drop,
     W: Write,
     E: Outlet,
     ensures status { (result ≡ DONE) ⊎ (result ≡ FAILED) }

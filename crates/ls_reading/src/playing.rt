@@ -1,5 +1,5 @@
 //! The command `play`: all of a recording, a part of it, or the intact frames of a damaged one.
-ghost use Rattle.std.specs.Prelude.{◌≡◌, ◌⊎◌, ◌<◌, ◌+◌, IfOk, IfErr, IfSome, IfNone};
+ghost use Rattle.std.specs.Prelude.{◌≡◌, ◌⊎◌, ◌<◌, ◌+◌, [], IfOk, IfErr, IfSome, IfNone};
 ghost use Rattle.ls_frame.specs.View.Chunks.{left_in};
 ghost use Rattle.ls_frame.specs.View.Devices.{wrapped};
 ghost use Rattle.ls_frame.specs.View.Known.{Tells, known};
@@ -33,7 +33,7 @@ pub fn show<R, O, W, E>(
 ) -> u8
 where
     R: AllocGlobal + Threads + Sync,
-    O: Opens + Drop,
+    O: Opens + Copy + Drop,
     W: Write,
     E: Outlet,
     ensures status { (result ≡ DONE) ⊎ (result ≡ FAILED) }

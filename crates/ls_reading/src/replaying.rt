@@ -18,7 +18,7 @@ pub fn replay_file<R, O, W, E>(
 ) -> u8
 where
     R: AllocGlobal,
-    O: Opens + Drop,
+    O: Opens + Copy + Drop,
     W: Write,
     E: Outlet,
     ensures { (result ≡ DONE) ⊎ ((result ≡ FAILED) ⊎ (result ≡ USAGE)) }
@@ -78,7 +78,7 @@ fn read_steps_text<O, E>(
     console: &mut Console<E>,
 ) -> Result<Vec<u8>, u8>
 where
-    O: Opens + Drop,
+    O: Opens + Copy + Drop,
     E: Outlet,
     ensures { IfErr result (λ status. status ≡ FAILED) }
 {

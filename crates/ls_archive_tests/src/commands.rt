@@ -8,22 +8,22 @@ use crate::files::OneFile;
 use ls_console::{COLUMNS, Console, DONE, Program};
 use ls_frame::Counted;
 use ls_reading::{code, show};
-use std::sync::Wait;
+use ls_testing::films::{ANNEX_H, BLACK, FILM, FILM_CODESTREAMS};
 use std::thread::Threads;
 
 /// The status of a command, and what it wrote to standard output and to standard error.
 #[derive(Drop)]
-pub struct Answered {
-    pub status: u8,
-    pub output: Vec<u8>,
-    pub errors: Vec<u8>,
+struct Answered {
+    status: u8,
+    output: Vec<u8>,
+    errors: Vec<u8>,
 }
 
 /// The name of the file.
 const FILE: &str = "film";
 
 /// `jlsrec code` of a film in memory: with status 0, exactly the codestreams of its frames were written.
-pub fn code_in_memory<R: AllocGlobal>(rt: &R, film: &[u8]) -> Answered
+fn code_in_memory<R: AllocGlobal>(rt: &R, film: &[u8]) -> Answered
     ensures { result.status ≡ DONE → (count : ℕ) × IsTextOf default_file film.now result.output.items count }
 {
     let alloc = rt.alloc();
@@ -47,7 +47,7 @@ pub fn code_in_memory<R: AllocGlobal>(rt: &R, film: &[u8]) -> Answered
 }
 
 /// `jlsrec play` of a recording in memory: with status 0, exactly the images of its frames were written.
-pub fn play_in_memory<R: AllocGlobal + Threads + Sync>(
+fn play_in_memory<R: AllocGlobal + Threads + Sync>(
     rt: &R,
     recording: &[u8],
     workers: u8,
@@ -74,34 +74,31 @@ pub fn play_in_memory<R: AllocGlobal + Threads + Sync>(
     }
 }
 
-#[cfg(test)]
-mod tests {
-    use super::{Answered, code_in_memory, play_in_memory};
-    use ls_testing::films::{ANNEX_H, BLACK, FILM, FILM_CODESTREAMS};
+fn check(answered: &Answered, want: (u8, &[u8], &[u8])) {
+    let is = (
+        answered.status,
+        answered.output.as_slice(),
+        answered.errors.as_slice(),
+    );
+    assert_eq!(is, want);
+}
 
-    fn check(answered: &Answered, want: (u8, &[u8], &[u8])) {
-        let is = (
-            answered.status,
-            answered.output.as_slice(),
-            answered.errors.as_slice(),
+#[test]
+fn films_are_coded(rt: HostRuntime) {
+    check(&code_in_memory(&rt, FILM), (0, FILM_CODESTREAMS, b""));
+    check(&code_in_memory(&rt, b""), (0, b"", b""));
+    let torn = (1, b"", b"jlsrec: film: frame 0: truncated\n");
+    check(&code_in_memory(&rt, &BLACK[..BLACK.len() - 1]), torn);
+}
+
+#[test]
+fn recordings_are_played(rt: HostRuntime) {
+    for workers in [1, 2] {
+        check(
+            &play_in_memory(&rt, FILM_CODESTREAMS, workers),
+            (0, FILM, b""),
         );
-        assert_eq!(is, want);
-    }
-
-    #[test]
-    fn films_are_coded(rt: HostRuntime) {
-        check(&code_in_memory(&rt, FILM), (0, FILM_CODESTREAMS, b""));
-        check(&code_in_memory(&rt, b""), (0, b"", b""));
         let torn = (1, b"", b"jlsrec: film: frame 0: truncated\n");
-        check(&code_in_memory(&rt, &BLACK[..BLACK.len() - 1]), torn);
-    }
-
-    #[test]
-    fn recordings_are_played(rt: HostRuntime) {
-        for workers in [1, 2] {
-            check(&play_in_memory(&rt, FILM_CODESTREAMS, workers), (0, FILM, b""));
-            let torn = (1, b"", b"jlsrec: film: frame 0: truncated\n");
-            check(&play_in_memory(&rt, &ANNEX_H[..40], workers), torn);
-        }
+        check(&play_in_memory(&rt, &ANNEX_H[..40], workers), torn);
     }
 }
