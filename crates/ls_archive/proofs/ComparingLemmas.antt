@@ -40,9 +40,9 @@ compared stands film film' place read source n image None verdict gave next is =
 )
 
 -- the next codestream can't be decoded
-pub stops-ahead : (place : Option (List ℕ)) (n : ℕ) (fault : StreamFault) → IsUnread (Stream fault) place → StopsRecording place n (recording_fault n fault)
-stops-ahead place n fault (inl memory) = stops_coded place n fault memory.1 (inl memory.0)
-stops-ahead place n fault (inr breaks) = stops_coded place n fault (λ told. (breaks told).0.some) (inr breaks)
+pub stops-ahead : (place read : Option (List ℕ)) (n : ℕ) (fault : StreamFault) → IsUnread (Stream fault) place read → StopsRecording place n (recording_fault n fault)
+stops-ahead place read n fault (inl memory) = stops_coded place n fault memory.1 (inl memory.0)
+stops-ahead place read n fault (inr breaks) = stops_coded place n fault (λ told. (breaks told).0.some) (inr breaks)
 
 -- a source that ends where its reader is
 pub found-here : (film film' recording recording' : Option (List ℕ)) (verdict : Verdict)

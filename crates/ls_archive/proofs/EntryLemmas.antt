@@ -15,7 +15,8 @@ use Rattle.ls_stream.proofs.ExtentLaws.{outlines_have_extents}
 use Rattle.ls_film.specs.View.Codestreams.{IsUntaken}
 use Rattle.ls_film.specs.declared.codestreams.Unread.TheVariants.{Stream}
 use Rattle.ls_archive.specs.declared.entry.Headers.{Headers}
-use Rattle.ls_archive.specs.View.Entries.{GaveEntry, BreaksBy, HasBytes, entry_of, HasHeaders}
+use Rattle.ls_film.specs.View.Memory.{HasBytes}
+use Rattle.ls_archive.specs.View.Entries.{GaveEntry, BreaksBy, entry_of, HasHeaders}
 use Rattle.ls_archive.specs.View.Indexing.{StopsNext, index_fault}
 
 -- ---- outlines
@@ -113,8 +114,8 @@ stops_by read n (stream.LeftoverBits component) some breaks = (refl, (λ is. let
 stops_by read n stream.NoMemory some breaks = some
 
 -- and for a codestream that can't be taken
-pub stops_untaken : (read : Option (List ℕ)) (n : ℕ) (fault : StreamFault) → IsUntaken (Stream fault) read → StopsNext read n (index_fault n fault)
-stops_untaken read n fault (inl memory) = subst (λ f. StopsNext read n (index_fault n f)) (sym memory.0) memory.1
-stops_untaken read n fault (inr large) =
+pub stops_untaken : (read read' : Option (List ℕ)) (n : ℕ) (fault : StreamFault) → IsUntaken (Stream fault) read read' → StopsNext read n (index_fault n fault)
+stops_untaken read read' n fault (inl memory) = subst (λ f. StopsNext read n (index_fault n f)) (sym memory.0) memory.1
+stops_untaken read read' n fault (inr large) =
     subst (λ f. StopsNext read n (index_fault n f)) (sym large.0)
     (refl, (λ is. let clash : ⊥ = cc in clash), (λ told. let is = large.1 told in (is.0, inr (refl, is.1))))

@@ -10,7 +10,8 @@ use Rattle.ls_film.proofs.FilmLemmas.{all-more}
 use Rattle.ls_archive.specs.declared.faults.IndexFault.{IndexFault}
 use Rattle.ls_archive.specs.declared.faults.IndexFault.TheVariants.{Stream, Io, Output, NoMemory, TooMany}
 use Rattle.ls_archive.specs.Index.{Entry, joined, line, lines_from, lines}
-use Rattle.ls_archive.specs.View.Entries.{IsEntry, AreEntriesOf, GaveEntries, GaveEntry, HasBytes}
+use Rattle.ls_film.specs.View.Memory.{HasBytes}
+use Rattle.ls_archive.specs.View.Entries.{IsEntry, AreEntriesOf, GaveEntries, GaveEntry}
 use Rattle.ls_archive.specs.View.Indexing.{Completes, StopsAt, StopsAtMost, HasRun, Stops, StopsNext, StopsLine}
 
 -- ---- lines, one more at a time

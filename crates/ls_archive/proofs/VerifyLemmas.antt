@@ -12,17 +12,17 @@ use Rattle.ls_frame.specs.declared.netpbm.NetpbmFault.{NetpbmFault}
 use Rattle.ls_stream.specs.declared.faults.StreamFault.{StreamFault}
 use Rattle.ls_stream.specs.declared.faults.StreamFault.TheVariants as stream
 use Rattle.ls_stream.specs.Grammar.{Spells}
+use Rattle.ls_stream.specs.View.Extents.{IsUndecided}
 use Rattle.ls_film.specs.Film.{most_frames}
-use Rattle.ls_film.specs.View.Memory.{AnyBytes}
+use Rattle.ls_film.specs.View.Memory.{AnyBytes, HasBytes}
 use Rattle.ls_film.specs.View.Codestreams.{BreaksBy}
-use Rattle.ls_film.proofs.FilmLemmas.{GaveFrames-none, GaveFrames-more, GaveFilm-end, IsBrokenAfter-next}
+use Rattle.ls_film.proofs.FilmLemmas.{GaveFrames-none, GaveFrames-more, GaveFilm-end, IsBrokenAfter-next, GaveFrames-and}
 use Rattle.ls_archive.specs.declared.faults.VerifyFault.{VerifyFault}
 use Rattle.ls_archive.specs.declared.faults.VerifyFault.TheVariants.{Film, Recording, RecordingIo, NoMemory, TooMany}
-use Rattle.ls_archive.specs.View.Entries.{HasBytes}
 use Rattle.ls_archive.specs.declared.verifying.Verdict.{Verdict}
 use Rattle.ls_archive.specs.declared.verifying.Verdict.TheVariants.{Same, Differs, Missing, Extra}
 use Rattle.ls_archive.specs.Verify.{difference_of}
-use Rattle.ls_archive.specs.View.Verifying.{BeginsWithImage, HaveRun, Finds, StopsAfter, Stops, GaveNext, verdict_at, IsCompared, at_most, StopsFilm, StopsRecording, film_fault, recording_fault}
+use Rattle.ls_archive.specs.View.Verifying.{BeginsWithImage, HaveRun, Finds, StopsAfter, Stops, GaveNext, verdict_at, IsCompared, at_most, StopsFilm, StopsRecording, FailsAfter, FailsNext, film_fault, recording_fault}
 
 -- before the first frame
 pub HaveRun-none : (film recording : Option (List ℕ)) → HaveRun film film recording recording 0
@@ -232,3 +232,42 @@ stops_coded read n stream.TooLarge some why = coded_fault read n stream.TooLarge
 stops_coded read n (stream.BadCode component) some why = coded_fault read n (stream.BadCode component) (λ is. let clash : ⊥ = cc in clash) why
 stops_coded read n (stream.LeftoverBits component) some why = coded_fault read n (stream.LeftoverBits component) (λ is. let clash : ⊥ = cc in clash) why
 stops_coded read n stream.NoMemory some why = some
+
+-- ---- failed reads of the recording
+
+-- a fault of the film is none
+pub film-unfailed : (film place read : Option (List ℕ)) (n : ℕ) (fault : VerifyFault) → StopsFilm film n fault → FailsNext place read n fault
+film-unfailed film place read n (Film m fault) why = tt
+film-unfailed film place read n (Recording m fault) why = tt
+film-unfailed film place read n (RecordingIo m) why = absurd why
+film-unfailed film place read n NoMemory why = tt
+film-unfailed film place read n TooMany why = tt
+
+-- nor is a fault of a codestream
+pub coded-unfailed : (place read : Option (List ℕ)) (n : ℕ) (fault : StreamFault) → FailsNext place read n (recording_fault n fault)
+coded-unfailed place read n stream.Truncated = tt
+coded-unfailed place read n stream.NotSoi = tt
+coded-unfailed place read n stream.BadSegment = tt
+coded-unfailed place read n (stream.Unsupported what) = tt
+coded-unfailed place read n (stream.BadPresets fault) = tt
+coded-unfailed place read n stream.TooLarge = tt
+coded-unfailed place read n (stream.BadCode component) = tt
+coded-unfailed place read n (stream.LeftoverBits component) = tt
+coded-unfailed place read n stream.NoMemory = tt
+
+-- after the frames that were compared
+pub run-fails : (film mid recording midway read : Option (List ℕ)) (n : ℕ) → HaveRun film mid recording midway n → (fault : VerifyFault) → FailsNext midway read n fault → FailsAfter recording read fault
+run-fails film mid recording midway read n run (Film m fault) why = tt
+run-fails film mid recording midway read n run (Recording m fault) why = tt
+run-fails film mid recording midway read n run (RecordingIo m) why =
+    (run.frames, run.count ∙ sym why.0, GaveFrames-and Spells recording midway read run.frames IsUndecided IsUndecided run.recording_gave why.1 (λ last is. is))
+run-fails film mid recording midway read n run NoMemory why = tt
+run-fails film mid recording midway read n run TooMany why = tt
+
+-- the most frames
+pub most-fails : (recording read : Option (List ℕ)) (v : Option Verdict) → IfErr (at_most v) (FailsAfter recording read)
+most-fails recording read None = tt
+most-fails recording read (Some (Same n)) = tt
+most-fails recording read (Some (Differs n what)) = tt
+most-fails recording read (Some (Missing n)) = tt
+most-fails recording read (Some (Extra n)) = tt

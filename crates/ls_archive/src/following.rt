@@ -9,7 +9,7 @@ ghost use Rattle.ls_film.specs.View.Steps.{failed_by};
 ghost use Rattle.ls_archive.specs.View.Entries.{IsEntry};
 ghost use Rattle.ls_archive.specs.View.Indexing.{blames_writer};
 ghost use Rattle.ls_archive.specs.View.Followed.{nothing, holding, stepped};
-ghost use Rattle.ls_archive.specs.View.Following.{index_of, followed, recording_of, following, broken, HasFollowed, SpellNoFrame, FollowsOn, StopsFollowing, IsTold};
+ghost use Rattle.ls_archive.specs.View.Following.{index_of, followed, recording_of, following, broken, HasFollowed, SpellNoFrame, FollowsOn, StopsFollowing, IsOfWriting, IsUntold, IsTold};
 
 use crate::entry::Indexed;
 use crate::faults::IndexFault;
@@ -127,6 +127,7 @@ impl<I: Outlet> Follower<I> {
         ensures waits { OnOk result (SpellNoFrame (followed self.new).pending) }
         ensures stops { IfErr result (StopsFollowing bytes.now
             (I.contents (index_of self.old)) (I.contents (index_of self.new)) (followed self.old)) }
+        ensures kinds { IfErr result IsOfWriting }
         ensures failures { I.failed_writes (index_of self.new)
             ≡ count_after (failed_by blames_writer result) (I.failed_writes (index_of self.old)) }
     {
@@ -159,9 +160,9 @@ impl<I: Outlet> Follower<I> {
 
 /// A recording's writer that also writes an index of the recording, if one is to be written.
 ///
-/// As a writer it is the recording's: it takes bytes and fails as the recording's writer does. If the index fails, the
-/// recording goes on without it; `into_parts` returns why. That the index follows all that is written through this
-/// writer, call by call, is tested; `Follower::follow` promises it of one call.
+/// As a writer it is the recording's: it takes bytes and fails as the recording's writer does. Exactly the bytes that
+/// the recording's writer takes of each call are followed. If the index fails, the recording goes on without it;
+/// `into_parts` returns why.
 #[derive(Drop)]
 pub struct Indexing<W, I> {
     recording: W,
@@ -210,13 +211,21 @@ impl<W: Outlet, I: Outlet> Indexing<W, I> {
 impl<W: Outlet, I: Outlet> Write for Indexing<W, I> {
     ghost contents = { λ i. W.contents (recording_of i) };
 
-    fn write(&mut self, buf: &[u8]) -> io::Result<usize> {
+    fn write(&mut self, buf: &[u8]) -> io::Result<usize>
+        ensures bound { WritesAtMost result buf.now }
+        ensures bytes { WriteAppends (W.contents (recording_of self.old)) (W.contents (recording_of self.new)) result buf.now }
+        ensures told { IfOk result (λ taken. IsTold I.contents (take taken buf.now) (following self.old) (broken self.old) (following self.new) (broken self.new)) }
+        ensures untold { OnErr result (IsUntold self.old self.new) }
+    {
         let taken = self.recording.write(buf)?;
         self.tell(&buf[..taken]);
         Ok(taken)
     }
 
-    fn flush(&mut self) -> io::Result<()> {
+    fn flush(&mut self) -> io::Result<()>
+        ensures bytes { Keeps (W.contents (recording_of self.old)) (W.contents (recording_of self.new)) }
+        ensures untold { IsUntold self.old self.new }
+    {
         self.recording.flush()
     }
 }
@@ -224,7 +233,14 @@ impl<W: Outlet, I: Outlet> Write for Indexing<W, I> {
 impl<W: Outlet, I: Outlet> Outlet for Indexing<W, I> {
     ghost failed_writes = { λ i. W.failed_writes (recording_of i) };
 
-    fn give(&mut self, buf: &[u8]) -> Result<usize, Failed> {
+    fn give(&mut self, buf: &[u8]) -> Result<usize, Failed>
+        ensures bound { WritesAtMost result buf.now }
+        ensures takes { 0 < length buf.now → IfOk result (λ taken. 0 < taken) }
+        ensures bytes { WriteAppends (W.contents (recording_of self.old)) (W.contents (recording_of self.new)) result buf.now }
+        ensures failures { W.failed_writes (recording_of self.new) ≡ count_after (is_err result) (W.failed_writes (recording_of self.old)) }
+        ensures told { IfOk result (λ taken. IsTold I.contents (take taken buf.now) (following self.old) (broken self.old) (following self.new) (broken self.new)) }
+        ensures untold { OnErr result (IsUntold self.old self.new) }
+    {
         let taken = self.recording.give(buf)?;
         self.tell(&buf[..taken]);
         Ok(taken)

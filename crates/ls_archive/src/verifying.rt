@@ -8,7 +8,7 @@ ghost use Rattle.ls_film.specs.Film.{most_frames, IsFilm};
 ghost use Rattle.ls_film.specs.View.Steps.{failed_by};
 ghost use Rattle.ls_archive.specs.Verify.{Compares, difference_of};
 ghost use Rattle.ls_archive.specs.View.Comparing.{GivesCoded, HasCompared, HasFound, FindsAhead, HasReadAhead};
-ghost use Rattle.ls_archive.specs.View.Verifying.{Finds, Stops, GaveNext, StopsFilm, StopsRecording, verdict_at, at_most, blames_film, blames_recording, FindsIn, StopsIn};
+ghost use Rattle.ls_archive.specs.View.Verifying.{FailsAfter, FailsNext, Finds, Stops, GaveNext, StopsFilm, StopsRecording, verdict_at, at_most, blames_film, blames_recording, FindsIn, StopsIn};
 
 use crate::faults::VerifyFault;
 use ls_film::MOST_FRAMES;
@@ -61,6 +61,7 @@ pub fn verify<F: Feed, R: Feed>(
     ensures finds { IfOk result (Finds
         (F.remaining film.old) (F.remaining film.new) (R.remaining recording.old) (R.remaining recording.new)) }
     ensures stops { IfErr result (Stops (F.remaining film.old) (R.remaining recording.old)) }
+    ensures io { IfErr result (FailsAfter (R.remaining recording.old) (R.remaining recording.new)) }
     ensures film_reads { F.failed_reads film.new ≡ count_after (failed_by blames_film result) (F.failed_reads film.old) }
     ensures recording_reads { R.failed_reads recording.new ≡ count_after (failed_by blames_recording result) (R.failed_reads recording.old) }
 {
@@ -70,7 +71,7 @@ pub fn verify<F: Feed, R: Feed>(
 /// As `verify`, with at most `workers` threads that decode the recording's codestreams side by side.
 ///
 /// The recording may be read further than the verdict says, and a read of it after the frames compared may have failed.
-/// No workers count as one.
+/// `RecordingIo` is returned once all frames that were read before are compared. No workers count as one.
 pub fn verify_by<Rt: Threads + Sync, F: Feed, R: Feed>(
     rt: &Rt,
     alloc: Global,
@@ -81,6 +82,7 @@ pub fn verify_by<Rt: Threads + Sync, F: Feed, R: Feed>(
     ensures finds { IfOk result (FindsAhead
         (F.remaining film.old) (F.remaining film.new) (R.remaining recording.old)) }
     ensures stops { IfErr result (Stops (F.remaining film.old) (R.remaining recording.old)) }
+    ensures io { IfErr result (FailsAfter (R.remaining recording.old) (R.remaining recording.new)) }
     ensures film_reads { F.failed_reads film.new ≡ count_after (failed_by blames_film result) (F.failed_reads film.old) }
     ensures recording_reads { HasReadAhead (R.failed_reads recording.old) (R.failed_reads recording.new) result }
 {
@@ -122,6 +124,8 @@ fn compare_all<S: Recorded<Frame>, F: Feed, R: Feed>(
         → IfOk result (HasFound S.Images.stands (F.remaining film.old) (F.remaining film.new) place (R.remaining recording.new) source.new) }
     ensures stops { (place : Option (List ℕ)) → S.Images.stands source.old place (R.remaining recording.old)
         → IfErr result (Stops (F.remaining film.old) place) }
+    ensures io { (place : Option (List ℕ)) → S.Images.stands source.old place (R.remaining recording.old)
+        → IfErr result (FailsAfter place (R.remaining recording.new)) }
     ensures film_reads { F.failed_reads film.new ≡ count_after (failed_by blames_film result) (F.failed_reads film.old) }
     ensures recording_reads { (failed : ℕ) → R.failed_reads recording.old ≡ count_after (S.Images.owes source.old) failed
         → R.failed_reads recording.new ≡ count_after (failed_by blames_recording result || S.Images.owes source.new) failed }
@@ -151,6 +155,8 @@ fn compare<S: Recorded<Frame>, F: Feed, R: Feed>(
         → IfOk result (HasCompared S.Images.stands (F.remaining film.old) (F.remaining film.new) place (R.remaining recording.new) source.new number) }
     ensures stops { (place : Option (List ℕ)) → S.Images.stands source.old place (R.remaining recording.old)
         → IfErr result (λ fault. StopsFilm (F.remaining film.old) number fault ⊎ StopsRecording place number fault) }
+    ensures io { (place : Option (List ℕ)) → S.Images.stands source.old place (R.remaining recording.old)
+        → IfErr result (FailsNext place (R.remaining recording.new) number) }
     ensures film_reads { F.failed_reads film.new ≡ count_after (failed_by blames_film result) (F.failed_reads film.old) }
     ensures recording_reads { (failed : ℕ) → R.failed_reads recording.old ≡ count_after (S.Images.owes source.old) failed
         → R.failed_reads recording.new ≡ count_after (failed_by blames_recording result || S.Images.owes source.new) failed }
@@ -188,6 +194,8 @@ fn next_coded<S: Recorded<Frame>, R: Feed>(
         → IfOk result (GivesCoded S.Images.stands place (R.remaining recording.new) source.new) }
     ensures stops { (place : Option (List ℕ)) → S.Images.stands source.old place (R.remaining recording.old)
         → IfErr result (StopsRecording place number) }
+    ensures io { (place : Option (List ℕ)) → S.Images.stands source.old place (R.remaining recording.old)
+        → IfErr result (FailsNext place (R.remaining recording.new) number) }
     ensures film_reads { failed_by blames_film result ≡ false }
     ensures recording_reads { (failed : ℕ) → R.failed_reads recording.old ≡ count_after (S.Images.owes source.old) failed
         → R.failed_reads recording.new ≡ count_after (failed_by blames_recording result || S.Images.owes source.new) failed }

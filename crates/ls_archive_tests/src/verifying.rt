@@ -239,3 +239,21 @@ fn a_failed_read_of_the_film_ends_the_comparison_with_ample_memory(rt: HostRunti
         check_film_read(&rt, rt.alloc(), call);
     }
 }
+
+/// Checks which read ends a comparison if the reads of these numbers fail, of the film and of the recording.
+fn check_both(rt: &impl Abort, alloc: Global, calls: (usize, usize), want: Outcome) {
+    let film = Pieces::new(TWO_IMAGES, 1, Some(calls.0));
+    let recording = Pieces::new(TWO_CODESTREAMS, 1, Some(calls.1));
+    let got = outcome_of(alloc, film, recording);
+    check_outcome(rt, "a read of each", got, want, true);
+}
+
+#[test]
+fn film_and_recording_are_read_in_turn_with_ample_memory(rt: HostRuntime) {
+    let first_image = (Err(VerifyFault::Film(0, NetpbmFault::Io)), 1, 0);
+    check_both(&rt, rt.alloc(), (0, 0), first_image);
+    let first_codestream = (Err(VerifyFault::RecordingIo(0)), 0, 1);
+    check_both(&rt, rt.alloc(), (12, 27), first_codestream);
+    let second_image = (Err(VerifyFault::Film(1, NetpbmFault::Io)), 1, 0);
+    check_both(&rt, rt.alloc(), (12, 28), second_image);
+}

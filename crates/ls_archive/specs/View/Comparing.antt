@@ -13,7 +13,7 @@ use Rattle.ls_archive.specs.View.Verifying.{Finds, IsCompared, blames_recording}
 module _ {S : Type 0} (stands : S → Option (List ℕ) → Option (List ℕ) → Type 0) where
   -- what the next codestream gives: its frame, or nothing at the end
   abbrev pub GivesCoded : Option (List ℕ) → Option (List ℕ) → S → Option Picture → Type 0
-  GivesCoded place read source next = GivesImage Spells (λ f same. same ≡ f) (λ fault here after. IsUnread fault here) stands place read source (Ok next)
+  GivesCoded place read source next = GivesImage Spells (λ f same. same ≡ f) IsUnread stands place read source (Ok next)
 
   -- Both gave their next, the recording at this place, and this is the verdict on it. Where it is none, the source stands after that
   -- codestream; else there, or its reader is at the end.

@@ -3,6 +3,7 @@ use Rattle.std.specs.Prelude.{◌≡◌, ◌⊎◌, ℕ, ◌+◌, ◌<◌, ◌�
 use Rattle.std.specs.List.{AllByRecursion}
 use Rattle.ls_frame.specs.Picture.{Picture}
 use Rattle.ls_frame.specs.View.Known.{Tells, Gave, known}
+use Rattle.ls_stream.specs.View.Extents.{BeginsEndless}
 use Rattle.ls_stream.specs.declared.faults.StreamFault.{StreamFault}
 use Rattle.ls_stream.specs.declared.faults.StreamFault.TheVariants as stream
 use Rattle.ls_stream.specs.Grammar.{most_bytes}
@@ -61,17 +62,13 @@ BeginsWithEntries old entries P = Tells old →
 
 -- ---- the next codestream
 
--- The first fault of the bytes' markers and headers; or `TooLarge`, if there are as many bytes as a codestream may have.
+-- The first fault of the bytes' markers and headers; or `TooLarge`, if as many of the bytes as a codestream may have show neither an end nor a fault.
 abbrev pub IsFaultBy : List ℕ → StreamFault → Type 0
-IsFaultBy bytes fault = (outline_of bytes ≡ Err fault) ⊎ ((fault ≡ stream.TooLarge) × (most_bytes ≤ length bytes))
+IsFaultBy bytes fault = (outline_of bytes ≡ Err fault) ⊎ ((fault ≡ stream.TooLarge) × BeginsEndless bytes)
 
 -- The bytes don't begin with a codestream of a frame, and have this fault.
 abbrev pub BreaksBy : StreamFault → List ℕ → Type 0
 BreaksBy fault bytes = BeginsWithNone bytes × IsFaultBy bytes fault
-
--- there are bytes
-abbrev pub HasBytes : List ℕ → Type 0
-HasBytes bytes = 0 < length bytes
 
 -- ---- headers
 

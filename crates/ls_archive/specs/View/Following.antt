@@ -5,6 +5,7 @@ use Rattle.ls_stream.specs.Grammar.{Spells}
 use Rattle.ls_archive.specs.declared.following.Follower.{Follower}
 use Rattle.ls_archive.specs.declared.following.Indexing.{Indexing}
 use Rattle.ls_archive.specs.declared.faults.IndexFault.{IndexFault}
+use Rattle.ls_archive.specs.declared.faults.IndexFault.TheVariants.{Stream, Io, Output, NoMemory, TooMany}
 use Rattle.ls_archive.specs.View.Followed.{Followed}
 use Rattle.ls_archive.specs.View.Indexing.{HasRun, Stops}
 
@@ -30,6 +31,10 @@ module _ {W I : Type 0} where
   abbrev pub broken : Indexing W I → Option IndexFault
   broken i = i.fault
 
+-- nothing was followed, and the index didn't stop
+abbrev pub IsUntold : {W I : Type 0} → Indexing W I → Indexing W I → Type 0
+IsUntold old new = (following new ≡ following old) × (broken new ≡ broken old)
+
 -- The bytes are codestreams and then those held back, and exactly the lines of these codestreams were written.
 abbrev pub HasFollowed : List ℕ → Option (List ℕ) → Option (List ℕ) → Followed → Type 0
 HasFollowed bytes index index' state = HasRun true (Some bytes) (Some state.pending) index index' state.number state.offset state.written
@@ -47,6 +52,14 @@ module _ (bytes : List ℕ) (between new : Option (List ℕ)) where
   abbrev pub StopsFollowing : Followed → IndexFault → Type 0
   StopsFollowing old' fault = (before : List ℕ) (index : Option (List ℕ)) → HasFollowed before index between old' → Stops true (Some (before ++ bytes)) (Some []) index new fault
 
+-- a write or an allocation failed, or there are too many codestreams
+abbrev pub IsOfWriting : IndexFault → Type 0
+IsOfWriting (Stream m fault) = ⊥
+IsOfWriting (Io m) = ⊥
+IsOfWriting (Output bytes) = Unit {0}
+IsOfWriting NoMemory = Unit {0}
+IsOfWriting TooMany = Unit {0}
+
 module _ {I : Type 0} (contents : I → Option (List ℕ)) (bytes : List ℕ) where
   -- What becomes of the index when the recording's next bytes are written: it goes on, or stops; one that stopped before isn't changed.
   abbrev pub IsTold : Option (Follower I) → Option IndexFault → Option (Follower I) → Option IndexFault → Type 0
@@ -55,4 +68,4 @@ module _ {I : Type 0} (contents : I → Option (List ℕ)) (bytes : List ℕ) wh
   IsTold (Some f) None None why = ⊥
   IsTold (Some f) None (Some g) None =
       FollowsOn bytes (contents (index_of f)) (contents (index_of g)) (followed f) (followed g) × SpellNoFrame (followed g).pending
-  IsTold (Some f) None (Some g) (Some fault) = StopsFollowing bytes (contents (index_of f)) (contents (index_of g)) (followed f) fault
+  IsTold (Some f) None (Some g) (Some fault) = StopsFollowing bytes (contents (index_of f)) (contents (index_of g)) (followed f) fault × IsOfWriting fault

@@ -7,11 +7,11 @@ use Rattle.ls_frame.specs.View.Known.{Tells, known}
 use Rattle.ls_stream.specs.declared.faults.StreamFault.{StreamFault}
 use Rattle.ls_stream.specs.declared.faults.StreamFault.TheVariants as stream
 use Rattle.ls_film.specs.Film.{most_frames}
-use Rattle.ls_film.specs.View.Memory.{AnyBytes}
+use Rattle.ls_film.specs.View.Memory.{AnyBytes, HasBytes}
 use Rattle.ls_archive.specs.declared.faults.IndexFault.{IndexFault}
 use Rattle.ls_archive.specs.declared.faults.IndexFault.TheVariants.{Stream, Io, Output, NoMemory, TooMany}
 use Rattle.ls_archive.specs.Index.{Entry, joined, lines}
-use Rattle.ls_archive.specs.View.Entries.{AreEntriesOf, IsOfFrame, GaveEntries, GaveIndexed, BeginsWithEntries, BreaksBy, HasBytes}
+use Rattle.ls_archive.specs.View.Entries.{AreEntriesOf, IsOfFrame, GaveEntries, GaveIndexed, BeginsWithEntries, BreaksBy}
 
 module _ (sums : Bool) (read read' written written' : Option (List ℕ)) where
   -- The reader is at its end, it gave n codestreams, and their lines were written and nothing else.

@@ -10,12 +10,12 @@ use Rattle.ls_stream.specs.declared.faults.StreamFault.{StreamFault}
 use Rattle.ls_stream.specs.declared.faults.StreamFault.TheVariants as stream
 use Rattle.ls_stream.specs.Grammar.{Spells}
 use Rattle.ls_film.specs.Film.{most_frames}
-use Rattle.ls_film.specs.View.Given.{GaveFrames, GaveFilm, IsBrokenAfter}
-use Rattle.ls_film.specs.View.Memory.{AnyBytes}
-use Rattle.ls_film.specs.View.Codestreams.{BreaksBy}
+use Rattle.ls_film.specs.View.Given.{GaveFrames, GaveFramesAnd, GaveFilm, IsBrokenAfter}
+use Rattle.ls_film.specs.View.Memory.{AnyBytes, HasBytes}
+use Rattle.ls_film.specs.View.Codestreams.{BreaksBy, FailsReading}
+use Rattle.ls_stream.specs.View.Extents.{IsUndecided}
 use Rattle.ls_archive.specs.declared.faults.VerifyFault.{VerifyFault}
 use Rattle.ls_archive.specs.declared.faults.VerifyFault.TheVariants.{Film, Recording, RecordingIo, NoMemory, TooMany}
-use Rattle.ls_archive.specs.View.Entries.{HasBytes}
 use Rattle.ls_archive.specs.declared.verifying.Difference.{Difference}
 use Rattle.ls_archive.specs.declared.verifying.Verdict.{Verdict}
 use Rattle.ls_archive.specs.declared.verifying.Verdict.TheVariants.{Same, Differs, Missing, Extra}
@@ -163,6 +163,24 @@ StopsRecording recording n (Recording m fault) = (m ≡ n) × (fault ≢ stream.
 StopsRecording recording n (RecordingIo m) = m ≡ n
 StopsRecording recording n NoMemory = Tells recording → HasBytes (known recording)
 StopsRecording recording n TooMany = ⊥
+
+-- ---- failed reads
+
+-- what a failed read of the recording says: it gave codestreams of as many frames as were compared, and no whole one after them
+abbrev pub FailsAfter : Option (List ℕ) → Option (List ℕ) → VerifyFault → Type 0
+FailsAfter recording recording' (Film m fault) = Unit {0}
+FailsAfter recording recording' (Recording m fault) = Unit {0}
+FailsAfter recording recording' (RecordingIo m) = (frames : List Picture) × (length frames ≡ m) × GaveFramesAnd Spells recording recording' frames IsUndecided
+FailsAfter recording recording' NoMemory = Unit {0}
+FailsAfter recording recording' TooMany = Unit {0}
+
+-- the same at codestream n
+abbrev pub FailsNext : Option (List ℕ) → Option (List ℕ) → ℕ → VerifyFault → Type 0
+FailsNext recording recording' n (Film m fault) = Unit {0}
+FailsNext recording recording' n (Recording m fault) = Unit {0}
+FailsNext recording recording' n (RecordingIo m) = (m ≡ n) × FailsReading recording recording'
+FailsNext recording recording' n NoMemory = Unit {0}
+FailsNext recording recording' n TooMany = Unit {0}
 
 -- ---- devices
 

@@ -1,6 +1,7 @@
 use Rattle.std.proofs.Common.{inr}
 use Rattle.std.proofs.lemmas.Result.{err_from_is_err_and}
 use Rattle.ls_archive.proofs.ComparingLemmas.{compared}
+use Rattle.ls_archive.proofs.VerifyLemmas.{film-unfailed}
 use Rattle.ls_archive.proofs.verifying.compare.Goals as goal
 
 pub returns-clause-compared : goal.returns-clause-compared
@@ -12,3 +13,13 @@ pub returns-in_err-coded-clause-stops : goal.returns-in_err-coded-clause-stops
 returns-in_err-coded-clause-stops g c = λ place is.
     let p = err_from_is_err_and c.from_residual-in_err-coded.result c.from_residual-in_err-coded.ensures.1 in
     rw (p.1, p.2) (inr (c.in_err-coded.ensures.stops place is))
+
+pub returns-in_err-image-clause-io : goal.returns-in_err-image-clause-io
+returns-in_err-image-clause-io g c = λ place is.
+    let p = err_from_is_err_and c.from_residual.result c.from_residual.ensures.1 in
+    rw (p.1, p.2) (film-unfailed (g.F.Read.remaining c.args.film.now) place (g.R.Read.remaining c.args.recording.now) c.args.number _ c.in_err-image.ensures.stops)
+
+pub returns-in_err-coded-clause-io : goal.returns-in_err-coded-clause-io
+returns-in_err-coded-clause-io g c = λ place is.
+    let p = err_from_is_err_and c.from_residual-in_err-coded.result c.from_residual-in_err-coded.ensures.1 in
+    rw (p.1, p.2) (c.in_err-coded.ensures.io place is)

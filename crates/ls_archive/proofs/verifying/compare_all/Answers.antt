@@ -2,7 +2,7 @@ use Rattle.std.proofs.Common.{◌≡◌, subst, arith, rules, refl}
 use Rattle.std.proofs.lemmas.Result.{err_from_is_err_and, IfOk-weaker}
 use Rattle.ls_film.specs.Film.{most_frames}
 use Rattle.ls_archive.specs.View.Verifying.{HaveRun, at_most}
-use Rattle.ls_archive.proofs.VerifyLemmas.{HaveRun-none, run-more, run-ends, run-stops, most-ends, most-stops}
+use Rattle.ls_archive.proofs.VerifyLemmas.{HaveRun-none, run-more, run-ends, run-stops, run-fails, most-ends, most-stops, most-fails}
 use Rattle.ls_archive.proofs.verifying.compare_all.Goals as goal
 
 pub loop-number-init : goal.loop-number-init
@@ -67,3 +67,15 @@ returns-then-number-eq-MOST_FRAMES-clause-stops g c = λ begun stands.
     rw c.at_most.ensures
     (most-stops (g.F.Read.remaining c.args.film.now) (g.F.Read.remaining c.loop-number.film) (g.F.Read.remaining c.compare.new.film)
     begun i.0 has.0 run c.in_ok-compared.compared has.1)
+
+pub returns-in_err-compared-clause-io : goal.returns-in_err-compared-clause-io
+returns-in_err-compared-clause-io g c = λ begun stands.
+    let p = err_from_is_err_and c.from_residual.result c.from_residual.ensures.1 in
+    let i = c.loop-number.invariant.run begun stands in
+    rw (p.1, p.2)
+    (run-fails (g.F.Read.remaining c.args.film.now) (g.F.Read.remaining c.loop-number.film) begun i.0 (g.R.Read.remaining c.compare.new.recording)
+    c.loop-number.number i.2 _ (c.in_err-compared.ensures.io i.0 i.1))
+
+pub returns-then-number-eq-MOST_FRAMES-clause-io : goal.returns-then-number-eq-MOST_FRAMES-clause-io
+returns-then-number-eq-MOST_FRAMES-clause-io g c = λ begun stands.
+    rw c.at_most.ensures (most-fails begun (g.R.Read.remaining c.compare.new.recording) c.in_ok-compared.compared)

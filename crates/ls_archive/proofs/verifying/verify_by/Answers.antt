@@ -13,3 +13,8 @@ pub returns-clause-stops : goal.returns-clause-stops
 returns-clause-stops g c =
     let place = g.R.Read.remaining c.args.recording.now in
     c.compare_all.ensures.stops place (ahead-none IsItself place place c.new-source.result.ahead c.new-source.ensures.jobs c.new-source.ensures.after)
+
+pub returns-clause-io : goal.returns-clause-io
+returns-clause-io g c =
+    let place = g.R.Read.remaining c.args.recording.now in
+    c.compare_all.ensures.io place (ahead-none IsItself place place c.new-source.result.ahead c.new-source.ensures.jobs c.new-source.ensures.after)

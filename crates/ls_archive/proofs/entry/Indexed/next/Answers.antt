@@ -6,7 +6,7 @@ use Rattle.ls_archive.proofs.entry.Indexed.next.Goals as goal
 pub returns-in-Err-Stream-clause-stops : goal.returns-in-Err-Stream-clause-stops
 returns-in-Err-Stream-clause-stops g c =
     let untaken = rw c.in-Err-Stream.field-0-is at c.in-Err-Stream.ensures.untaken in
-    rw c.of.ensures (stops_untaken (g.R.Read.remaining c.args.reader.now) c.args.number c.in-Err-Stream.fault untaken)
+    rw c.of.ensures (stops_untaken (g.R.Read.remaining c.args.reader.now) (g.R.Read.remaining c.take_codestream.new.reader) c.args.number c.in-Err-Stream.fault untaken)
 
 pub returns-in-Ok-clause-entry : goal.returns-in-Ok-clause-entry
 returns-in-Ok-clause-entry g c =
