@@ -1,15 +1,14 @@
 //! The command `play`: all of a recording, a part of it, or the intact frames of a damaged one.
-ghost use Rattle.std.specs.Prelude.{◌≡◌, ◌⊎◌, ◌<◌, ◌+◌, [], IfOk, IfErr, IfSome, IfNone};
+ghost use Rattle.std.specs.Prelude.{◌≡◌, ◌⊎◌, IfOk, IfErr, IfSome, IfNone};
 ghost use Rattle.ls_frame.specs.View.Chunks.{left_in};
 ghost use Rattle.ls_frame.specs.View.Devices.{wrapped};
-ghost use Rattle.ls_frame.specs.View.Known.{Tells, known};
 ghost use Rattle.ls_stream.specs.Grammar.{Spells};
 ghost use Rattle.ls_film.specs.Showing.{show as film_images};
 ghost use Rattle.ls_film.specs.View.Engine.{Completes};
-ghost use Rattle.ls_film.specs.View.Parts.{ShowsPart, StopsPart};
+ghost use Rattle.ls_film.specs.View.Parts.{StopsPart};
 ghost use Rattle.ls_film.specs.View.Playing.{StopsAhead};
 ghost use Rattle.ls_salvage.specs.View.Runs.{Completes as Salvages, Stops as StopsSalvage};
-ghost use Rattle.ls_reading.specs.View.Commands.{WritesTextOf, ShowsPartOf, IsPart};
+ghost use Rattle.ls_reading.specs.View.Commands.{WritesTextOf, ShowsPartOf, PlaysPart, IsPart};
 
 use crate::cause::conclude;
 use crate::recorded::Recorded;
@@ -93,11 +92,8 @@ fn show_part<R: Feed, W: Outlet>(
     recording: &mut R,
     output: &mut W,
 ) -> Result<u64, PartFault>
-    ensures shows { IfOk result (λ count. IsPart part → ShowsPart (R.remaining recording.old) (R.remaining recording.new)
-        (W.contents output.old) (W.contents output.new) part.first count) }
-    ensures ends { IfOk result (λ count. IsPart part → IfSome part.last (λ last. part.first + count ≡ last + 1)) }
-    ensures goes_on { IfOk result (λ count. IsPart part → IfNone part.last
-        ((0 < count) × (Tells (R.remaining recording.old) → known (R.remaining recording.new) ≡ []))) }
+    ensures shows { IfOk result (λ count. IsPart part → PlaysPart part (R.remaining recording.old) (R.remaining recording.new)
+        (W.contents output.old) (W.contents output.new) count) }
     ensures stops { IfErr result (StopsPart (R.remaining recording.old) (R.remaining recording.new)
         (W.contents output.old) (W.contents output.new) part.first part.last) }
 {

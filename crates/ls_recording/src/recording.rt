@@ -182,7 +182,7 @@ where
     let ((), recorded) = thread::join(
         rt,
         move || teller.tell(),
-        move || -> Recorded<'a, O>
+        move || -> Recorded<'_, O>
             ensures { IfOk result (λ recording. AllZip (HasTrack O.File.remaining O.File.contents) devices.entry.items recording.tracks.items) }
         {
             let recorded = record(rt, alloc, devices, workers, capacity, window, watch);

@@ -12,6 +12,12 @@ use Rattle.ls_archive.specs.declared.checking.Finding.{Finding}
 use Rattle.ls_archive.specs.View.Checks.{IsChecked}
 use Rattle.ls_archive.specs.View.Verifying.{AreSame}
 
+-- The codestreams before a part of a recording were passed over, and the images of the part's frames were written and nothing else.
+pub record PlaysPart (part : Part) (read left written written' : Option (List ℕ)) (count : ℕ) : Type 0 where
+  pub shows : ShowsPart read left written written' part.first count
+  pub ends : IfSome part.last (λ last. part.first + count ≡ last + 1)
+  pub goes_on : IfNone part.last ((0 < count) × (Tells read → known left ≡ []))
+
 module _ {O : Type 0} (holds : O → List ℕ → Option (List ℕ) → Type 0) (opener : O) (path : List ℕ) (written written' : Option (List ℕ)) where
   -- What the file at the path holds is a film, as far as it is known, and the text of its frames was written and nothing else.
   pub record WritesTextOf (IsImage : List ℕ → Picture → Type 0) (text : List Picture → List ℕ) : Type 0 where
@@ -21,15 +27,13 @@ module _ {O : Type 0} (holds : O → List ℕ → Option (List ℕ) → Type 0) 
     pub file : holds opener path read
     pub run : Completes IsImage text read left written written' count
 
-  -- The same for a part of a recording: the codestreams before it were passed over, and the images of its frames were written.
+  -- The same for a part of a recording.
   pub record ShowsPartOf (part : Part) : Type 0 where
     pub read : Option (List ℕ)
     pub left : Option (List ℕ)
     pub count : ℕ
     pub file : holds opener path read
-    pub run : ShowsPart read left written written' part.first count
-    pub ends : IfSome part.last (λ last. part.first + count ≡ last + 1)
-    pub goes_on : IfNone part.last ((0 < count) × (Tells read → known left ≡ []))
+    pub run : PlaysPart part read left written written' count
 
 -- a part that there can be: its frames have numbers that frames may have, and are in order
 abbrev pub IsPart : Part → Type 0
