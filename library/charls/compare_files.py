@@ -103,7 +103,7 @@ counts = Path("counts").resolve()
 os.environ["JLSREC_CHARLS_COUNTS"] = str(counts)
 with tempfile.TemporaryDirectory() as folder:
     os.chdir(folder)
-    files = sorted(Path(path) for path in pydicom.data.get_testdata_files("*.dcm"))
+    files = sorted(Path(pydicom.data.__file__).with_name("test_files").glob("*.dcm"))
     for number in range(40):
         path = Path(f"drawn{number}.dcm").resolve()
         drawn(path, draw)

@@ -2,7 +2,9 @@
 
 The recording's codestreams take the place of the files' pixel data, in the order in which the files made the film:
 transfer syntax 1.2.840.10008.1.2.4.80 (JPEG-LS lossless), a fragment a frame, with a basic or an extended offset table.
-All other attributes stay, but group lengths, which DICOM has retired.
+Bits Allocated is 8 where samples have up to 8 bits: GDCM ends with an assertion over such samples for words of 16, and
+DCMTK refuses them. High Bit is Bits Stored - 1, to which `film` shifted the values. All other attributes stay, but group
+lengths, which DICOM has retired.
 
 Each codestream is decoded and compared with the values that its file stores. If these can't be read, or the C library
 can't be loaded, a line says so, and only size, components and precision are compared.
@@ -71,9 +73,9 @@ def header_of(codestream: bytes) -> tuple[int, int, int, int]:
 def put_into(dataset: pydicom.Dataset, frames: list[bytes], extended: bool) -> None:
     """Puts codestreams in the place of a file's pixel data."""
     signed = int(dataset.get("PixelRepresentation", 0)) == 1
+    wanted = int(dataset.BitsAllocated) if signed else max(int(dataset.BitsStored), 2)
     for number, frame in enumerate(frames):
         bits, rows, columns, colors = header_of(frame)
-        wanted = int(dataset.BitsAllocated) if signed else max(int(dataset.BitsStored), 2)
         if (rows, columns, colors) != (dataset.Rows, dataset.Columns, dataset.SamplesPerPixel):
             raise Refused(f"frame {number} is {columns} by {rows} of {colors}, and the file's {dataset.Columns} by {dataset.Rows}")
         if bits != wanted:
@@ -92,6 +94,8 @@ def put_into(dataset: pydicom.Dataset, frames: list[bytes], extended: bool) -> N
     dataset["PixelData"].is_undefined_length = True
     dataset["PixelData"].VR = "OB"
     dataset.file_meta.TransferSyntaxUID = JPEG_LS_LOSSLESS
+    dataset.BitsAllocated = 8 if wanted <= 8 else 16
+    dataset.HighBit = int(dataset.BitsStored) - 1
     if dataset.SamplesPerPixel > 1:
         dataset.PlanarConfiguration = 0
     dataset.is_little_endian, dataset.is_implicit_VR = True, False

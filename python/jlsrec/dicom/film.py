@@ -13,6 +13,7 @@ import os
 import stat
 import sys
 import tempfile
+import zlib
 from collections.abc import Sequence
 
 import numpy as np
@@ -23,7 +24,14 @@ from . import Refused
 
 # What pydicom raises of a file that it can't read.
 UNREADABLE = (
-    OSError, AttributeError, NotImplementedError, RuntimeError, TypeError, ValueError, pydicom.errors.InvalidDicomError
+    OSError,
+    AttributeError,
+    NotImplementedError,
+    RuntimeError,
+    TypeError,
+    ValueError,
+    pydicom.errors.InvalidDicomError,
+    zlib.error,
 )
 
 # The photometric interpretations whose samples are all stored.
@@ -66,6 +74,10 @@ def stored(dataset: pydicom.Dataset) -> tuple[np.ndarray, int, bool]:
         raise Refused(f"it has {colors} samples a pixel")
     if str(dataset.get("PhotometricInterpretation", "")) not in WHOLE:
         raise Refused(f"its photometric interpretation is {dataset.get('PhotometricInterpretation')}")
+    syntax = dataset.file_meta.get("TransferSyntaxUID")
+    if syntax is not None and syntax.is_compressed and not dataset["PixelData"].is_undefined_length:
+        # GDCM would answer what its memory held.
+        raise Refused(f"its pixel data aren't fragments, as those of {syntax} are")
     frames = int(dataset.get("NumberOfFrames", 1))
     signed = int(dataset.get("PixelRepresentation", 0)) == 1
     shape = (frames, int(dataset.Rows), int(dataset.Columns)) + ((3,) if colors == 3 else ())
