@@ -71,6 +71,32 @@ module _ {A : Type 0} where
   pub sum_added : (f : A → ℕ) (l : List A) (i : ℕ) (a b c : A) → get_elem? l i ≡ some a → sum_by f (set l i b ++ c ∷ []) + f a ≡ sum_by f l + f b + f c
   sum_added f l i a b c e = let s = sum_set f l i a b e in omega (arith, sum_by_push f (set l i b) c)
 
+  -- the parts of a sum
+  pub at_most : (f : A → ℕ) (views : List A) (p : ℕ) (v : A) → get_elem? views p ≡ some v → f v ≤ sum_by f views
+  at_most f [] p v e = absurd (some-ne-none v (sym e))
+  at_most f (x ∷ xs) zero v e = let s : f x ≡ f v = ap f (some-injective x v e) in omega (arith, sum_by-cons f x xs)
+  at_most f (x ∷ xs) (suc p) v e = let s = at_most f xs p v e in omega (arith, sum_by-cons f x xs)
+
+  pub two_of : (f : A → ℕ) (views : List A) (p q : ℕ) (v u : A) → q ≢ p → get_elem? views p ≡ some v → get_elem? views q ≡ some u → f v + f u ≤ sum_by f views
+  two_of f [] p q v u n e e' = absurd (some-ne-none v (sym e))
+  two_of f (x ∷ xs) zero zero v u n e e' = absurd (n refl)
+  two_of f (x ∷ xs) zero (suc q) v u n e e' = let s : f x ≡ f v = ap f (some-injective x v e) in let t = at_most f xs q u e' in omega (arith, sum_by-cons f x xs)
+  two_of f (x ∷ xs) (suc p) zero v u n e e' = let s : f x ≡ f u = ap f (some-injective x u e') in let t = at_most f xs p v e in omega (arith, sum_by-cons f x xs)
+  two_of f (x ∷ xs) (suc p) (suc q) v u n e e' = let t = two_of f xs p q v u (λ i. n (ap suc i)) e e' in omega (arith, sum_by-cons f x xs)
+
+  pub all_zero : (f : A → ℕ) (views : List A) → ((q : ℕ) (u : A) → get_elem? views q ≡ some u → f u ≡ 0) → sum_by f views ≡ 0
+  all_zero f [] zeros = refl
+  all_zero f (x ∷ xs) zeros = let a = zeros 0 x refl in let b = all_zero f xs (λ q u e. zeros (suc q) u e) in omega (arith, sum_by-cons f x xs)
+
+  -- if all other parts are 0, a sum is the remaining part
+  pub only_one : (f : A → ℕ) (views : List A) (p : ℕ) (v : A) → get_elem? views p ≡ some v
+      → ((q : ℕ) (u : A) → q ≢ p → get_elem? views q ≡ some u → f u ≡ 0) → sum_by f views ≡ f v
+  only_one f [] p v e zeros = absurd (some-ne-none v (sym e))
+  only_one f (x ∷ xs) zero v e zeros =
+      let s : f x ≡ f v = ap f (some-injective x v e) in let t = all_zero f xs (λ q u e'. zeros (suc q) u (λ i. omega arith) e') in omega (arith, sum_by-cons f x xs)
+  only_one f (x ∷ xs) (suc p) v e zeros =
+      let s = zeros 0 x (λ i. omega arith) refl in let t = only_one f xs p v e (λ q u n e'. zeros (suc q) u (λ i. n (omega arith)) e') in omega (arith, sum_by-cons f x xs)
+
 head_else : {A : Type 0} → A → List A → A
 head_else a [] = a
 head_else a (x ∷ xs) = x

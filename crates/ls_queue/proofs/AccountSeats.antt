@@ -13,7 +13,7 @@ use Rattle.ls_queue.specs.declared.views.Puts.{Puts}
 use Rattle.ls_queue.specs.declared.views.Takes.{Takes}
 use Rattle.ls_queue.specs.declared.views.View.{View}
 use Rattle.ls_queue.specs.View.Account.{numbered, jobs_of, jobs_in, marks_in, IsWithin, weight_put, weight_taken, marks_taken, Past, FitsPuts, FitsTakes, Fits, Counts, Kept, source_view, worker_view, first_view, source_made, worker_made, after_mark, joined, spent_view, IsCounted, IsEmpty, IsSettled}
-use Rattle.ls_queue.proofs.AccountLists.{all_append, all_map, all_none, at_set, each_set, each_added, sum_set, sum_added, length-numbered, one_more_mark, jobs_in-append, jobs_in-all, all_gone}
+use Rattle.ls_queue.proofs.AccountLists.{all_append, all_map, all_none, at_set, each_set, each_added, sum_set, sum_added, two_of, only_one, length-numbered, one_more_mark, jobs_in-append, jobs_in-all, all_gone}
 use Rattle.ls_queue.proofs.AccountSteps.{false_true}
 
 -- the pass that keeps a source, where source n is new in pass q
@@ -269,32 +269,6 @@ module _ {X : Type 0} where
             })
             (λ q u not_other e. now q u e not_other);
       }
-
-  -- the parts of a sum
-  at_most : (f : View X → ℕ) (views : List (View X)) (p : ℕ) (v : View X) → get_elem? views p ≡ some v → f v ≤ sum_by f views
-  at_most f [] p v e = absurd (some-ne-none v (sym e))
-  at_most f (x ∷ xs) zero v e = let s : f x ≡ f v = ap f (some-injective x v e) in omega (arith, sum_by-cons f x xs)
-  at_most f (x ∷ xs) (suc p) v e = let s = at_most f xs p v e in omega (arith, sum_by-cons f x xs)
-
-  two_of : (f : View X → ℕ) (views : List (View X)) (p q : ℕ) (v u : View X) → q ≢ p → get_elem? views p ≡ some v → get_elem? views q ≡ some u → f v + f u ≤ sum_by f views
-  two_of f [] p q v u n e e' = absurd (some-ne-none v (sym e))
-  two_of f (x ∷ xs) zero zero v u n e e' = absurd (n refl)
-  two_of f (x ∷ xs) zero (suc q) v u n e e' = let s : f x ≡ f v = ap f (some-injective x v e) in let t = at_most f xs q u e' in omega (arith, sum_by-cons f x xs)
-  two_of f (x ∷ xs) (suc p) zero v u n e e' = let s : f x ≡ f u = ap f (some-injective x u e') in let t = at_most f xs p v e in omega (arith, sum_by-cons f x xs)
-  two_of f (x ∷ xs) (suc p) (suc q) v u n e e' = let t = two_of f xs p q v u (λ i. n (ap suc i)) e e' in omega (arith, sum_by-cons f x xs)
-
-  all_zero : (f : View X → ℕ) (views : List (View X)) → ((q : ℕ) (u : View X) → get_elem? views q ≡ some u → f u ≡ 0) → sum_by f views ≡ 0
-  all_zero f [] zeros = refl
-  all_zero f (x ∷ xs) zeros = let a = zeros 0 x refl in let b = all_zero f xs (λ q u e. zeros (suc q) u e) in omega (arith, sum_by-cons f x xs)
-
-  -- if all other parts are 0, a sum is the remaining part
-  only_one : (f : View X → ℕ) (views : List (View X)) (p : ℕ) (v : View X) → get_elem? views p ≡ some v
-      → ((q : ℕ) (u : View X) → q ≢ p → get_elem? views q ≡ some u → f u ≡ 0) → sum_by f views ≡ f v
-  only_one f [] p v e zeros = absurd (some-ne-none v (sym e))
-  only_one f (x ∷ xs) zero v e zeros =
-      let s : f x ≡ f v = ap f (some-injective x v e) in let t = all_zero f xs (λ q u e'. zeros (suc q) u (λ i. omega arith) e') in omega (arith, sum_by-cons f x xs)
-  only_one f (x ∷ xs) (suc p) v e zeros =
-      let s = zeros 0 x (λ i. omega arith) refl in let t = only_one f xs p v e (λ q u n e'. zeros (suc q) u (λ i. n (omega arith)) e') in omega (arith, sum_by-cons f x xs)
 
   all_marked : (us : List (Takes X)) → AllByRecursion (λ (u : Takes X). u.marked ≡ true) us → sum_by (λ (u : Takes X). if u.marked then 1 else 0) us ≡ length us
   all_marked [] all = refl

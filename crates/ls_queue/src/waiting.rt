@@ -2,7 +2,7 @@
 ghost use Rattle.std.specs.Prelude.{◌≡◌, MatchResult};
 ghost use Rattle.crossbeam_channel.specs.Claims.{view, IsSeatAt};
 ghost use Rattle.crossbeam_channel.specs.Ends.{receives_on};
-ghost use Rattle.crossbeam_channel.specs.Fifo.{Pops, Learns};
+ghost use Rattle.crossbeam_channel.specs.Fifo.{Pops, Learns, Held};
 ghost use Rattle.ls_queue.specs.View.Waiting.{most_looks, looks_after_service, looks_after_sleep};
 
 use crossbeam_channel::protocol::{Lesson, Outcome, Protocol};
@@ -52,7 +52,9 @@ impl Patience {
 }
 
 /// Receives a message as `recv_as` does, but polls as often as `patience` says before it sleeps. `pass` must be of this
-/// channel, and the step `M` must keep the rule `P`. If it fails, the pass's view is unchanged.
+/// channel, and the step `M` must keep the rule `P`. If it fails, the pass's view is unchanged, and at one moment of the
+/// call the channel was empty, so what `M` learns is learned of no messages. (It waits until a message comes or all
+/// senders are gone, but the channel's contract doesn't say so.)
 pub fn receive<T: Drop, V, P: Protocol<T, V>, M: Outcome<T, V> + Lesson<T, V>, R: Wait>(
     rt: &R,
     receiver: &RuledReceiver<T, V, P>,
@@ -62,7 +64,7 @@ pub fn receive<T: Drop, V, P: Protocol<T, V>, M: Outcome<T, V> + Lesson<T, V>, R
     requires channel { IsSeatAt (receives_on receiver.now) pass.old }
     requires rule { Pops P.holds pass.old.id (view pass.old) (M.then (view pass.old)) × Learns P.holds pass.old.id (view pass.old) (M.fact (view pass.old)) }
     ensures channel { IsSeatAt (receives_on receiver.now) pass.new × (pass.new.id ≡ pass.old.id) }
-    ensures rule { MatchResult result (λ message. M.then (view pass.old) message (view pass.new)) (λ _. view pass.new ≡ view pass.old) }
+    ensures rule { MatchResult result (λ message. M.then (view pass.old) message (view pass.new)) (λ _. (view pass.new ≡ view pass.old) × Held 0 (M.fact (view pass.old))) }
 {
     for look in 0..patience.looks {
         match receiver.try_recv_as::<M, R>(rt, pass) {

@@ -15,8 +15,8 @@ use Rattle.ls_film.proofs.FilmLemmas.{GaveFrames-more, GaveFilm-end, IsBrokenAft
 use Rattle.ls_pieces.specs.Orders.{Ordered}
 use Rattle.ls_recorder.specs.declared.lane.LaneFault.{LaneFault}
 use Rattle.ls_recorder.specs.declared.lane.LaneFault.TheVariants.{Input, Output, NoMemory, Misfit, Lost, NotStarted, TooMany, Tuning as BadTuning}
-use Rattle.ls_recorder.specs.View.Lanes.{tuned_file, WroteFront, StopsWriting, StopsReading, Records, HasPut, StopsLane, ReadsSo, blames_reader, blames_writer, failed_reader, failed_writer}
-use Rattle.ls_recorder.specs.View.Halves.{HasRead, HasReadAll, HasReadSome, WasNotStarted}
+use Rattle.ls_recorder.specs.View.Lanes.{tuned_file, WroteFront, WroteButWindow, StopsWriting, StopsReading, Records, HasPut, StopsLane, ReadsSo, blames_reader, blames_writer, failed_reader, failed_writer, WasNotStarted}
+use Rattle.ls_recorder.specs.View.Halves.{HasRead, HasReadAll, HasReadSome}
 use Rattle.ls_recorder.proofs.ReadingLemmas.{HasRead-none, lawful-frames, count-put}
 use Rattle.std.proofs.lemmas.List.{take_all}
 
@@ -244,3 +244,10 @@ begins-without-memory tuning items read written none = (
   HasPut-read tuning items read read 0 read written written (HasRead-none tuning items read none) (omega arith),
   record { count = 0; front = omega arith; wrote = Appends-nil written },
 )
+
+pub begins-with-window : (items : List Ordered) (window : ℕ) (start : Option (List ℕ)) → items ≡ [] → WroteButWindow items start start window
+begins-with-window items window start none = record {
+  count = 0;
+  within = omega (arith, ap length none);
+  wrote = record { few = omega arith; rest = []; wrote = Appends-nil start };
+}

@@ -1,7 +1,7 @@
 -- What a lane put and what it wrote of it, step by step.
 use Rattle.std.proofs.Common.{◌≡◌, ℕ, ◌+◌, ◌-◌, ◌<◌, Bool, true, false, cond, List, [], ◌∷◌, ◌++◌, length, map, take, drop, Option, Some, None, IfSome, refl, sym, ap, subst, ◌∙◌, arith, append_assoc, append-nil}
 use Rattle.std.specs.Io.KnownBytes.{Appends}
-use Rattle.std.proofs.KnownBytes.{Appends-trans}
+use Rattle.std.proofs.KnownBytes.{Appends-nil, Appends-trans}
 use Rattle.std.proofs.Math.Seq.{map-set_same, take-append-add, take-append_seam}
 use Rattle.std.proofs.lemmas.List.{length-append, length-set, length-map, length_push, map-append, take-append-le}
 use Rattle.std.proofs.lemmas.Bool.{ne_eqb}
@@ -11,7 +11,7 @@ use Rattle.ls_queue.specs.declared.replies.Job.{Job}
 use Rattle.ls_pieces.specs.declared.collector.Slot.{Slot}
 use Rattle.ls_pieces.specs.Orders.{Ordered, coded}
 use Rattle.ls_pieces.specs.Collecting.{Collection, booked, misfit_of, after_accept, is_full, after_book, first_piece, next_reply, after_reply, after_next, job_of, ArePieces, IsCollection}
-use Rattle.ls_recorder.specs.View.Lanes.{WroteFront, WroteFewer, WrotePart, orders_in, IsWriting}
+use Rattle.ls_recorder.specs.View.Lanes.{WroteFront, WroteFewer, WrotePart, WroteFirst, orders_in, IsWriting}
 use Rattle.ls_pieces.proofs.CollectorLemmas.{fits}
 
 -- ---- codestreams, one more at a time
@@ -121,6 +121,7 @@ module _ (items : List Ordered) (start : Option (List ℕ)) where
     done = writing.done ++ piece.item ∷ [];
     items_are = writing.items_are ∙ ap (λ l. writing.done ++ l) out.orders ∙ sym (append_assoc writing.done (piece.item ∷ []) (orders_in c'));
     wrote = subst (Appends start now') (sym (file-push writing.done piece.item)) (Appends-trans start now now' (file writing.done) (coded piece.item) writing.wrote wrote);
+    first_is = omega (arith, out.first, writing.first_is, length_push writing.done piece.item);
     bytes_are = ap (λ k. k + length (coded piece.item)) writing.bytes_are ∙ sym (length-append (file writing.done) (coded piece.item)) ∙ sym (ap length (file-push writing.done piece.item));
   }
 
@@ -147,6 +148,7 @@ module _ (items : List Ordered) (start : Option (List ℕ)) where
     done = writing.done;
     items_are = writing.items_are ∙ ap (λ l. writing.done ++ l) (sym kept.orders);
     wrote = writing.wrote;
+    first_is = kept.first ∙ writing.first_is;
     bytes_are = writing.bytes_are;
   }
 
@@ -173,3 +175,20 @@ module _ (items : List Ordered) (start : Option (List ℕ)) where
     front = omega (arith, size-items now c bytes writing);
     wrote = front-items now c bytes writing;
   }
+
+  -- the first orders are written, and perhaps a part of the next one
+  pub writes-first : (now now' : Option (List ℕ)) (c : Collection) (bytes : ℕ) (part : List ℕ) → Appends now now' part → IsWriting items start now c bytes → WroteFirst items start now' c.first
+  writes-first now now' c bytes part wrote writing =
+      let front : take c.first items ≡ writing.done = ap (λ k. take k items) writing.first_is ∙ ap (take (length writing.done)) writing.items_are ∙ take-append_seam writing.done (orders_in c) in
+      record {
+        few = omega (arith, size-items now c bytes writing, writing.first_is);
+        rest = part;
+        wrote = subst (λ l. Appends start now' (file l ++ part)) (sym front) (Appends-trans start now now' (file writing.done) part writing.wrote wrote);
+      }
+
+  pub writes-first-at : (now now' : Option (List ℕ)) (c : Collection) (bytes count : ℕ) (part : List ℕ) → count ≡ c.first → Appends now now' part → IsWriting items start now c bytes
+      → WroteFirst items start now' count
+  writes-first-at now now' c bytes count part is wrote writing = subst (λ k. WroteFirst items start now' k) (sym is) (writes-first now now' c bytes part wrote writing)
+
+  pub wrote-first : (now : Option (List ℕ)) (c : Collection) (bytes count : ℕ) → count ≡ c.first → IsWriting items start now c bytes → WroteFirst items start now count
+  wrote-first now c bytes count is writing = subst (λ k. WroteFirst items start now k) (sym is) (writes-first now now c bytes [] (Appends-nil now) writing)

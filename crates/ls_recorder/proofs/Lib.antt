@@ -3,6 +3,7 @@ pub mod HandedOverLemmas
 pub mod LaneEndLemmas
 pub mod LaneLemmas
 pub mod ListLemmas
+pub mod PlaceLemmas
 pub mod ReadingLemmas
 pub mod RecordingLemmas
 pub mod WritingLemmas

@@ -5,9 +5,10 @@ use Rattle.std.proofs.lemmas.List.{length_push}
 use Rattle.ls_queue.specs.declared.running.WorkerSeat.{WorkerSeat}
 use Rattle.std.specs.Prelude.{slice_index_or, Option, Result, Ok, Err, IfOk, IfErr, MatchResult, map}
 use Rattle.ls_frame.specs.Picture.{Picture}
+use Rattle.ls_recorder.specs.declared.lane.LaneEnd.{LaneEnd}
 use Rattle.ls_recorder.specs.declared.lane.LaneFault.{LaneFault}
 use Rattle.ls_recorder.specs.declared.lane.LaneFault.TheVariants.{NotStarted}
-use Rattle.ls_recorder.specs.View.Lanes.{Records, with_tuning}
+use Rattle.ls_recorder.specs.View.Lanes.{Records, StopsLane, IsLaneEnd, with_tuning}
 use Rattle.std.proofs.lemmas.Bool.Decides.{eqb_tells}
 use Rattle.std.proofs.Math.Nat.{eq-or-lt_of_le}
 use Rattle.ls_queue.specs.declared.running.Ended.{Ended}
@@ -25,7 +26,7 @@ use Rattle.crossbeam_channel.specs.Ends.{sends_on, receives_on}
 use Rattle.ls_recorder.specs.declared.delivery.ends.InboxSender.{InboxSender}
 use Rattle.ls_recorder.specs.declared.delivery.ends.Outbox.{Outbox}
 use Rattle.ls_recorder.specs.View.Boxes.{AreFrom, LeadTo}
-use Rattle.ls_recorder.specs.View.Recordings.{IsTrack, IsLaneEnd, IsStarted, AreStarted, AreDone, AreTracks, AreCounted, LeadToAll}
+use Rattle.ls_recorder.specs.View.Recordings.{IsTrack, IsStarted, AreStarted, AreDone, AreTracks, AreCounted, LeadToAll}
 
 and_both : (a b : Bool) → a ≡ true → b ≡ true → (a && b) ≡ true
 and_both true b is is' = is'
@@ -133,6 +134,43 @@ inbox-first n inboxes rest inbox first all =
     let both : AreFrom n (inbox ∷ rest) = subst (AreFrom n) first all in
     (both.0, subst (λ k. AreFrom k rest) (omega arith) both.1)
 
+-- ---- the result of a lane
+
+-- it wasn't started, or it ended in one of two ways
+did-lane : {A B C D : Type 0} (P : A → Type 0) (Q : LaneFault → Type 0) (r : Result A LaneFault) → IfOk r P → IfErr r (λ fault. ((fault ≡ NotStarted) × B × C × D) ⊎ Q fault)
+    → ((r ≡ Err NotStarted) × B × C × D) ⊎ MatchResult r P Q
+did-lane P Q (Ok x) ok err = inr ok
+did-lane P Q (Err fault) ok (inl none) = inl (ap Err none.0, none.1, none.2, none.3)
+did-lane P Q (Err fault) ok (inr some) = inr some
+
+length-with_tuning : (tuning : Tuning) (frames : List Picture) → length (with_tuning tuning frames) ≡ length frames
+length-with_tuning tuning [] = refl
+length-with_tuning tuning (f ∷ fs) = ap suc (length-with_tuning tuning fs)
+
+recorded-count : (tuning : Tuning) (items : List Ordered) (read read' written written' : Option (List ℕ)) (r : Result ℕ LaneFault) (count : ℕ) → count ≡ length items
+    → IfOk r (Records tuning items read read' written written') → IfOk r (λ n. count ≡ n)
+recorded-count tuning items read read' written written' (Ok n) count is records =
+    is ∙ (ap length records.put.0 ∙ (length-with_tuning tuning records.run.frames ∙ records.run.count))
+recorded-count tuning items read read' written written' (Err fault) count is records = records
+
+module _ {R W : Type 0} (remaining : R → Option (List ℕ)) (failed_reads : R → ℕ) (contents : W → Option (List ℕ)) (failed_writes : W → ℕ) (queue : Queue Ordered) (s : ℕ)
+    (film : R × W × Tuning) (end : LaneEnd R W) (is : IsLaneEnd remaining failed_reads contents failed_writes queue s film.2 film.0 film.1 end) where
+  -- its track
+  lane-track : IsTrack remaining failed_reads contents failed_writes film end.ended.count (record { reader = end.reader; writer = end.writer; result = end.result })
+  lane-track = record {
+    items = items_ended end.ended;
+    put = is.count;
+    did = did-lane
+        (Records film.2 (items_ended end.ended) (remaining film.0) (remaining end.reader) (contents film.1) (contents end.writer))
+        (StopsLane film.2 (items_ended end.ended) (remaining film.0) (remaining end.reader) (contents film.1) (contents end.writer)) end.result is.completes is.stops;
+    reads = is.reads;
+    writes = is.writes;
+  }
+
+  -- of a film that was recorded completely, all frames were put
+  lane-count : IfOk end.result (λ n. end.ended.count ≡ n)
+  lane-count = recorded-count film.2 (items_ended end.ended) (remaining film.0) (remaining end.reader) (contents film.1) (contents end.writer) end.result end.ended.count is.count is.completes
+
 -- ---- lanes that ended
 
 module _ {R W : Type 0} (remaining : R → Option (List ℕ)) (failed_reads : R → ℕ) (contents : W → Option (List ℕ)) (failed_writes : W → ℕ) (queue : Queue Ordered) where
@@ -198,7 +236,7 @@ module _ {R W : Type 0} (remaining : R → Option (List ℕ)) (failed_reads : R 
   done-counted counts s (f ∷ fs) (e ∷ es) [] all counted = absurd all
   done-counted counts s (f ∷ fs) (e ∷ es) (t ∷ ts) all counted = (
     ok-both t.result (λ n. e.count ≡ n) (λ n. slice_index_or counts s 0 ≡ n)
-        (λ n is. count-here counts s f fs e es t ts all (counted s (omega arith) (omega arith)) ∙ (sym all.0.ended.count ∙ is)) all.0.count,
+        (λ n is. count-here counts s f fs e es t ts all (counted s (omega arith) (omega arith)) ∙ (sym all.0.ended.count ∙ is)) (lane-count remaining failed_reads contents failed_writes queue s f _ all.0),
     done-counted counts (suc s) fs es ts all.1 (counts-later counts s (length fs) e es all.0.source counted),
   )
 
@@ -211,7 +249,7 @@ module _ {R W : Type 0} (remaining : R → Option (List ℕ)) (failed_reads : R 
   done-tracks counts s (f ∷ fs) (e ∷ es) [] all counted = absurd all
   done-tracks counts s (f ∷ fs) (e ∷ es) (t ∷ ts) all counted = (
     subst (λ n. IsTrack remaining failed_reads contents failed_writes f n t)
-        (all.0.ended.count ∙ sym (count-here counts s f fs e es t ts all (counted s (omega arith) (omega arith)))) all.0.track,
+        (all.0.ended.count ∙ sym (count-here counts s f fs e es t ts all (counted s (omega arith) (omega arith)))) (lane-track remaining failed_reads contents failed_writes queue s f _ all.0),
     done-tracks counts (suc s) fs es ts all.1 (counts-later counts s (length fs) e es all.0.source counted),
   )
 
@@ -228,25 +266,6 @@ each-track remaining failed_reads contents failed_writes counts s (f ∷ fs) (t 
 pub new-workers : {X : Type 0} (channel : Channel X) (seats : List (WorkerSeat X)) → AreNewWorkers channel seats → AllByRecursion (IsWorkerAt channel) seats
 new-workers channel [] all = _
 new-workers channel (s ∷ ss) all = (all.0.0, new-workers channel ss all.1)
-
--- ---- the result of a lane
-
--- it wasn't started, or it ended in one of two ways
-pub did-lane : {A B C D : Type 0} (P : A → Type 0) (Q : LaneFault → Type 0) (r : Result A LaneFault) → IfOk r P → IfErr r (λ fault. ((fault ≡ NotStarted) × B × C × D) ⊎ Q fault)
-    → ((r ≡ Err NotStarted) × B × C × D) ⊎ MatchResult r P Q
-did-lane P Q (Ok x) ok err = inr ok
-did-lane P Q (Err fault) ok (inl none) = inl (ap Err none.0, none.1, none.2, none.3)
-did-lane P Q (Err fault) ok (inr some) = inr some
-
-length-with_tuning : (tuning : Tuning) (frames : List Picture) → length (with_tuning tuning frames) ≡ length frames
-length-with_tuning tuning [] = refl
-length-with_tuning tuning (f ∷ fs) = ap suc (length-with_tuning tuning fs)
-
-pub recorded-count : (tuning : Tuning) (items : List Ordered) (read read' written written' : Option (List ℕ)) (r : Result ℕ LaneFault) (count : ℕ) → count ≡ length items
-    → IfOk r (Records tuning items read read' written written') → IfOk r (λ n. count ≡ n)
-recorded-count tuning items read read' written written' (Ok n) count is records =
-    is ∙ (ap length records.put.0 ∙ (length-with_tuning tuning records.run.frames ∙ records.run.count))
-recorded-count tuning items read read' written written' (Err fault) count is records = records
 
 -- ---- each outbox has a sender to each inbox
 

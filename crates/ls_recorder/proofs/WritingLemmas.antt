@@ -17,8 +17,8 @@ use Rattle.ls_recorder.specs.declared.lane.LaneFault.{LaneFault}
 use Rattle.ls_recorder.specs.declared.lane.LaneFault.TheVariants as fault
 use Rattle.ls_recorder.specs.declared.lane.writing.Halt.{Halt}
 use Rattle.ls_recorder.specs.declared.lane.writing.Halt.TheVariants as halt
-use Rattle.ls_recorder.specs.View.Lanes.{WroteFront, WroteFewer, WrotePart, orders_in, IsWriting, StopsWriting}
-use Rattle.ls_recorder.specs.View.Halves.{orders_taken, IsAhead, RefusesPiece, HaltsWriting}
+use Rattle.ls_recorder.specs.View.Lanes.{WroteFront, WroteFewer, WrotePart, WroteFirst, orders_in, IsWriting, StopsWriting}
+use Rattle.ls_recorder.specs.View.Halves.{orders_taken, TakesMore, IsAhead, RefusesPiece, HaltsWriting}
 use Rattle.ls_recorder.proofs.LaneLemmas.{file-append, take-front, writes-fewer, writes-front}
 
 -- ---- orders that are taken
@@ -28,6 +28,21 @@ orders-more seat seat' j more = ap (map (λ (k : Job Ordered). k.item)) more ∙
 
 pub orders-many : (seat : WorkerSeat Ordered) → length (orders_taken seat) ≡ length (jobs_taken seat)
 orders-many seat = length-map (jobs_taken seat) (λ (k : Job Ordered). k.item)
+
+pub takes-none : (seat : WorkerSeat Ordered) → TakesMore seat seat
+takes-none seat = record { more = []; taken = sym (append-nil (orders_taken seat)) }
+
+pub takes-one : (seat seat' : WorkerSeat Ordered) (j : Job Ordered) → jobs_taken seat' ≡ jobs_taken seat ++ j ∷ [] → TakesMore seat seat'
+takes-one seat seat' j more = record { more = j.item ∷ []; taken = orders-more seat seat' j more }
+
+pub takes-both : (a b c : WorkerSeat Ordered) → TakesMore a b → TakesMore b c → TakesMore a c
+takes-both a b c first next = record {
+  more = first.more ++ next.more;
+  taken = next.taken ∙ ap (λ l. l ++ next.more) first.taken ∙ append_assoc (orders_taken a) first.more next.more;
+}
+
+pub takes-longer : (seat seat' : WorkerSeat Ordered) → TakesMore seat seat' → length (jobs_taken seat) ≤ length (jobs_taken seat')
+takes-longer seat seat' more = omega (arith, orders-many seat, orders-many seat', ap length more.taken, length-append (orders_taken seat) more.more)
 
 -- all is written
 none-left : (slots : List Slot) → length slots ≤ 0 → map (λ (slot : Slot). slot.order) slots ≡ []
@@ -62,6 +77,17 @@ later-part items more start now bytes wrote =
       wrote = subst (Appends start now) (sym (ap (take bytes) all ∙ take-front bytes (file items) (file more) wrote.part)) wrote.wrote;
     }
 
+later-first : (items more : List Ordered) (start now : Option (List ℕ)) (count : ℕ) → WroteFirst items start now count → WroteFirst (items ++ more) start now count
+later-first items more start now count first = record {
+  few = omega (arith, length-append items more, first.few);
+  rest = first.rest;
+  wrote = subst (λ l. Appends start now (file l ++ first.rest)) (sym (take-append-le count items more first.few)) first.wrote;
+}
+
+pub more-first : (seat seat' : WorkerSeat Ordered) (start now : Option (List ℕ)) (count : ℕ) → TakesMore seat seat' → WroteFirst (orders_taken seat) start now count
+    → WroteFirst (orders_taken seat') start now count
+more-first seat seat' start now count more first = subst (λ l. WroteFirst l start now count) (sym more.taken) (later-first (orders_taken seat) more.more start now count first)
+
 -- the collector with more orders, as if it had room for them
 abbrev slots-of : List Ordered → List Slot
 slots-of more = map (λ (o : Ordered). record { order = o; piece = None }) more
@@ -83,6 +109,7 @@ later-writing items more start now c bytes writing = record {
   items_are = ap (λ l. l ++ more) writing.items_are ∙ append_assoc writing.done (orders_in c) more
       ∙ ap (λ l. writing.done ++ l) (sym (map-append (λ (slot : Slot). slot.order) c.slots (slots-of more) ∙ ap (λ l. orders_in c ++ l) (orders-of-slots more)));
   wrote = writing.wrote;
+  first_is = writing.first_is;
   bytes_are = writing.bytes_are;
 }
 

@@ -1,4 +1,5 @@
 //! Boxes: channels that carry results from any worker to the lane of their source.
+mod answers;
 mod ends;
 
 ghost use Rattle.std.specs.Prelude.{◌≡◌, ◌<◌, ◌⊎◌, None, Some, length, IfOk, MatchResult};
@@ -9,11 +10,11 @@ ghost use Rattle.ls_recorder.specs.View.Boxes.{AreFrom, HaveCapacity, LeadTo, Le
 
 use crate::faults::RecordFault;
 use crate::sizes::Sizes;
+pub use answers::Answer;
+use answers::{BoxRule, BoxView, SenderMade};
 use crossbeam_channel::bounded_with;
-use crossbeam_channel::protocol::Free;
-pub(crate) use ends::Another;
 use ends::InboxSender;
-pub use ends::{Answer, Inbox, Outbox};
+pub use ends::{Inbox, Outbox};
 use ls_queue::Patience;
 use std::alloc::{AllocError, Global};
 use std::sync::Wait;
@@ -60,10 +61,10 @@ fn channels(
     let mut inboxes = Vec::new(alloc);
     let mut senders = Vec::new(alloc);
     for source in 0..sources {
-        let (channel, receiver, mut pass) = bounded_with::<Answer, (), Free, Global>(
+        let (channel, receiver, mut pass) = bounded_with::<Answer, BoxView, BoxRule, Global>(
             alloc, window,
         )?;
-        let other = channel.another::<Another>(&mut pass);
+        let other = channel.another::<SenderMade>(&mut pass);
         inboxes.push(Inbox {
             source,
             receiver,

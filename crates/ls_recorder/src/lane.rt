@@ -15,8 +15,8 @@ ghost use Rattle.ls_frame.specs.View.Devices.{count_after};
 ghost use Rattle.ls_queue.specs.View.Running.{IsSourceSeat, IsWorkerSeat, IsEnded, IsFinished, items_put, items_ended, is_done, puts_of, parts_of, sources_of, workers_of};
 ghost use Rattle.ls_pieces.specs.Orders.{Ordered};
 ghost use Rattle.ls_pieces.specs.Collecting.{most_window};
-ghost use Rattle.ls_recorder.specs.View.Lanes.{Records, StopsLane, ReadsSo, failed_writer};
-ghost use Rattle.ls_recorder.specs.View.Halves.{WasNotStarted, ArePartsOf, MayRead, IsReadingEnd, MayWrite, IsWritingEnd, orders_taken};
+ghost use Rattle.ls_recorder.specs.View.Lanes.{IsLaneEnd, WroteButWindow};
+ghost use Rattle.ls_recorder.specs.View.Halves.{ArePartsOf, MayRead, IsReadingEnd, MayWrite, IsWritingEnd, orders_taken};
 
 use crate::delivery::Inbox;
 use crate::gate::{Gate, Notice, OpenGate};
@@ -82,8 +82,8 @@ pub struct LaneEnd<F, W> {
 
 /// Records the film of a source: reads its frames, makes an order of each with the parameters that the tuning gives for
 /// it, puts the orders into the queue, and writes the codestreams that come out of the inbox in frame order, each once
-/// all before it are written. At most `window` frames are in progress, that is, read and not yet written. (The window's
-/// places are made so; no clause says it.)
+/// all before it are written. At most `window` frames are in progress, that is, read and not yet written. Its end says
+/// so; at each moment before it the rule of the window's places does (`specs/View/Backs.antt`).
 ///
 /// Requires that the seat is of this queue and has put nothing, and that the window is 1 to 64. The inbox should be of
 /// the seat's source: coded frames of another source don't fit.
@@ -110,14 +110,8 @@ pub fn lane<F: Feed + Drop, W: Outlet + Send + Drop, R: Threads + Wait + Sync>(
     requires new { items_put seat ≡ [] }
     requires window { 1 ≤ window }
     requires narrow { window ≤ most_window }
-    ensures ended { IsEnded queue.now result.ended × (result.ended.source ≡ seat.source) × (result.ended.count ≡ length (items_ended result.ended)) }
-    ensures completes { IfOk result.result (Records tuning (items_ended result.ended)
-        (F.remaining reader) (F.remaining result.reader) (W.contents writer) (W.contents result.writer)) }
-    ensures stops { IfErr result.result (λ fault. WasNotStarted (items_ended result.ended) reader result.reader writer result.writer fault
-        ⊎ StopsLane tuning (items_ended result.ended) (F.remaining reader) (F.remaining result.reader) (W.contents writer) (W.contents result.writer) fault) }
-    ensures reads { MatchResult result.result (λ frames. F.failed_reads result.reader ≡ F.failed_reads reader)
-        (λ fault. ReadsSo fault (F.failed_reads reader) (F.failed_reads result.reader)) }
-    ensures writes { W.failed_writes result.writer ≡ count_after (failed_writer result.result) (W.failed_writes writer) }
+    ensures end { IsLaneEnd F.remaining F.failed_reads W.contents W.failed_writes queue.now seat.source tuning reader writer result }
+    ensures window { WroteButWindow (items_ended result.ended) (W.contents writer) (W.contents result.writer) window }
 {
     let start = Start {
         seat,
@@ -170,14 +164,8 @@ pub fn watched_lane<F: Feed + Drop, W: Outlet + Send + Drop, R: Threads + Wait +
     requires new { items_put start.seat ≡ [] }
     requires window { 1 ≤ start.window }
     requires narrow { start.window ≤ most_window }
-    ensures ended { IsEnded queue.now result.ended × (result.ended.source ≡ start.seat.source) × (result.ended.count ≡ length (items_ended result.ended)) }
-    ensures completes { IfOk result.result (Records start.film.2 (items_ended result.ended)
-        (F.remaining start.film.0) (F.remaining result.reader) (W.contents start.film.1) (W.contents result.writer)) }
-    ensures stops { IfErr result.result (λ fault. WasNotStarted (items_ended result.ended) start.film.0 result.reader start.film.1 result.writer fault
-        ⊎ StopsLane start.film.2 (items_ended result.ended) (F.remaining start.film.0) (F.remaining result.reader) (W.contents start.film.1) (W.contents result.writer) fault) }
-    ensures reads { MatchResult result.result (λ frames. F.failed_reads result.reader ≡ F.failed_reads start.film.0)
-        (λ fault. ReadsSo fault (F.failed_reads start.film.0) (F.failed_reads result.reader)) }
-    ensures writes { W.failed_writes result.writer ≡ count_after (failed_writer result.result) (W.failed_writes start.film.1) }
+    ensures end { IsLaneEnd F.remaining F.failed_reads W.contents W.failed_writes queue.now start.seat.source start.film.2 start.film.0 start.film.1 result }
+    ensures window { WroteButWindow (items_ended result.ended) (W.contents start.film.1) (W.contents result.writer) start.window }
 {
     let Start {
         seat,
@@ -236,6 +224,7 @@ pub fn watched_lane<F: Feed + Drop, W: Outlet + Send + Drop, R: Threads + Wait +
     };
     let (read, wrote) = run_in_scope(&setting, reading, writing);
     hand_over(rt, bookings, read.finished, seats, wrote.seat);
+    read.places.compare(wrote.returns);
     let result = outcome(read.result, wrote.result);
     gate.notice(source, Notice::Ended(result));
     LaneEnd {
@@ -310,13 +299,13 @@ fn parts_for<R: Wait>(
 #[derive(Drop)]
 pub struct WritingOf<W: Outlet> {
     pub bookings: Snapshot<Queue<Order>>,
-    pub writer: Snapshot<W>,
+    pub writing: Snapshot<Writing<W>>,
 }
 
 impl<W: Outlet + Drop> Promise<WritingEnd<W>> for WritingOf<W> {
     ghost use Rattle.ls_recorder.specs.View.Halves.{IsWritingEnd};
 
-    ghost kept_by = { λ p end. IsWritingEnd W.contents W.failed_writes p.bookings.value p.writer.value end };
+    ghost kept_by = { λ p end. IsWritingEnd W.contents W.failed_writes p.bookings.value p.writing.value end };
 }
 
 /// Calls `run_halves` in a scope of its own.
@@ -327,16 +316,16 @@ fn run_in_scope<F: Feed + Drop, W: Outlet + Send + Drop, R: Threads + Wait + Syn
 ) -> (ReadingEnd<F>, WritingEnd<W>)
     requires reading { MayRead setting.now.queue.now setting.now.bookings.now reading }
     requires writing { MayWrite setting.now.bookings.now setting.now.window writing }
-    ensures read { IsReadingEnd F.remaining F.failed_reads setting.now.queue.now setting.now.bookings.now setting.now.tuning reading.seat reading.reader result.0 }
-    ensures wrote { IsWritingEnd W.contents W.failed_writes setting.now.bookings.now writing.writer result.1 }
+    ensures read { IsReadingEnd F.remaining F.failed_reads setting.now.queue.now setting.now.bookings.now setting.now.tuning reading result.0 }
+    ensures wrote { IsWritingEnd W.contents W.failed_writes setting.now.bookings.now writing result.1 }
 {
     thread::scope(
         thread::scope_env(),
         setting.rt,
         move |scope| -> (ReadingEnd<F>, WritingEnd<W>)
             requires { MayRead setting.now.queue.now setting.now.bookings.now reading × MayWrite setting.now.bookings.now setting.now.window writing }
-            ensures { IsReadingEnd F.remaining F.failed_reads setting.entry.now.queue.now setting.entry.now.bookings.now setting.entry.now.tuning reading.seat reading.reader result.0
-                × IsWritingEnd W.contents W.failed_writes setting.entry.now.bookings.now writing.writer result.1 }
+            ensures { IsReadingEnd F.remaining F.failed_reads setting.entry.now.queue.now setting.entry.now.bookings.now setting.entry.now.tuning reading result.0
+                × IsWritingEnd W.contents W.failed_writes setting.entry.now.bookings.now writing result.1 }
         { run_halves(scope, setting, reading, writing) },
     )
 }
@@ -358,18 +347,18 @@ fn run_halves<
 ) -> (ReadingEnd<F>, WritingEnd<W>)
     requires reading { MayRead setting.now.queue.now setting.now.bookings.now reading }
     requires writing { MayWrite setting.now.bookings.now setting.now.window writing }
-    ensures read { IsReadingEnd F.remaining F.failed_reads setting.now.queue.now setting.now.bookings.now setting.now.tuning reading.seat reading.reader result.0 }
-    ensures wrote { IsWritingEnd W.contents W.failed_writes setting.now.bookings.now writing.writer result.1 }
+    ensures read { IsReadingEnd F.remaining F.failed_reads setting.now.queue.now setting.now.bookings.now setting.now.tuning reading result.0 }
+    ensures wrote { IsWritingEnd W.contents W.failed_writes setting.now.bookings.now writing result.1 }
 {
     let promise = WritingOf {
         bookings: Snapshot::of(setting.bookings),
-        writer: Snapshot::of(&writing.writer),
+        writing: Snapshot::of(&writing),
     };
     let started = scope.spawn_with(
         promise,
         move || -> WritingEnd<W>
             requires { MayWrite setting.now.bookings.now setting.now.window writing }
-            ensures { IsWritingEnd W.contents W.failed_writes setting.entry.now.bookings.now writing.writer result }
+            ensures { IsWritingEnd W.contents W.failed_writes setting.entry.now.bookings.now writing result }
         { write_film(setting, writing) },
     );
     match started {

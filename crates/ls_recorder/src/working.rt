@@ -1,6 +1,7 @@
 //! A worker: it takes jobs, codes them, and sends the results to the inboxes of their sources.
 ghost use Rattle.std.specs.Prelude.{◌≡◌, ◌+◌, ◌≤◌, true, length};
 ghost use Rattle.ls_queue.specs.View.Running.{IsWorkerSeat, jobs_taken, is_done, sources_of};
+ghost use Rattle.ls_recorder.specs.View.Boxes.{AnswersAll};
 
 use crate::delivery::Outbox;
 use crate::gate::{Gate, Moment};
@@ -14,13 +15,16 @@ use std::sync::Wait;
 pub struct Worked {
     /// Its seat, whose last take returned Done.
     pub seat: WorkerSeat<Order>,
+    /// Its senders, by which it sent the results.
+    pub outbox: Outbox,
     /// The number of jobs it coded; it stops counting at 2^64 - 1.
     pub coded: u64,
     /// The number of results that came back because the lane of their source was gone; it stops counting at 2^64 - 1.
     pub undelivered: u64,
 }
 
-/// Takes jobs until the queue is done, codes each, and sends the result to the inbox of its source. Calls the gate
+/// Takes jobs until the queue is done, codes each, and sends the result to the inbox of its source: each job has one
+/// result, which was sent or came back. Calls the gate
 /// before and after each coding. If a job can't be coded, its result is `Uncoded`.
 ///
 /// Requires that the seat is of this queue, and that the outbox is for at least as many sources as the queue has. Waits
@@ -38,7 +42,7 @@ pub fn work<R: Wait, G: Gate>(
     ensures seat { IsWorkerSeat queue.now result.seat }
     ensures done { is_done result.seat ≡ true }
     ensures coded { length (jobs_taken seat) + result.coded ≤ length (jobs_taken result.seat) }
-    ensures undelivered { length (jobs_taken seat) + result.undelivered ≤ length (jobs_taken result.seat) }
+    ensures answered { AnswersAll seat result.seat outbox result.outbox result.undelivered }
 {
     let mut coded: u64 = 0;
     let mut undelivered: u64 = 0;
@@ -46,6 +50,7 @@ pub fn work<R: Wait, G: Gate>(
         let Taken::Job(job) = queue.take(rt, &mut seat) else {
             return Worked {
                 seat,
+                outbox,
                 coded,
                 undelivered,
             };

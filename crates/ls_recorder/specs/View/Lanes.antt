@@ -1,5 +1,5 @@
 -- What a lane did: the known bytes of its reader and of its writer, before and after, and the orders that its seat put.
-use Rattle.std.specs.Prelude.{◌≡◌, ◌≢◌, ◌⊎◌, ℕ, ◌<◌, ◌≤◌, Bool, true, false, IsTrue, List, [], ◌∷◌, ◌++◌, length, map, take, Option, Some, Result, Ok, Err}
+use Rattle.std.specs.Prelude.{◌≡◌, ◌≢◌, ◌⊎◌, ℕ, ◌+◌, ◌<◌, ◌≤◌, Bool, true, false, IsTrue, List, [], ◌∷◌, ◌++◌, length, map, take, Option, Some, Result, Ok, Err, IfOk, IfErr, MatchResult}
 use Rattle.std.specs.Io.KnownBytes.{Appends}
 use Rattle.std.specs.List.{AllByRecursion}
 use Rattle.ls_frame.specs.declared.tuning.Tuning.{Tuning}
@@ -23,6 +23,9 @@ use Rattle.ls_pieces.specs.declared.collector.Slot.{Slot}
 use Rattle.ls_pieces.specs.Collecting.{Collection, misfit_of}
 use Rattle.ls_pieces.specs.declared.collector.Misfit.{Misfit as Cause}
 use Rattle.ls_queue.specs.declared.replies.Job.{Job}
+use Rattle.ls_queue.specs.declared.running.Queue.{Queue}
+use Rattle.ls_queue.specs.View.Running.{IsEnded, items_ended}
+use Rattle.ls_recorder.specs.declared.lane.LaneEnd.{LaneEnd}
 use Rattle.ls_recorder.specs.declared.lane.LaneFault.{LaneFault}
 use Rattle.ls_recorder.specs.declared.lane.LaneFault.TheVariants.{Input, Output, NoMemory, Misfit, Lost, NotStarted, TooMany, Tuning as BadTuning}
 
@@ -62,6 +65,18 @@ module _ (items : List Ordered) (start now : Option (List ℕ)) where
     pub part : bytes < length (file items)
     pub wrote : Appends start now (take bytes (file items))
 
+  -- the codestreams of the first items were written, of this number of them; perhaps more was
+  pub record WroteFirst (count : ℕ) : Type 0 where
+    pub few : count ≤ length items
+    pub rest : List ℕ
+    pub wrote : Appends start now (file (take count items) ++ rest)
+
+  -- the codestreams of all items were written but of the last ones, of which there are at most as many as a window has places
+  pub record WroteButWindow (window : ℕ) : Type 0 where
+    pub count : ℕ
+    pub within : length items ≤ window + count
+    pub wrote : WroteFirst count
+
 -- the orders in a collector: booked and not handed out
 abbrev pub orders_in : Collection → List Ordered
 orders_in c = map (λ (slot : Slot). slot.order) c.slots
@@ -71,6 +86,7 @@ pub record IsWriting (items : List Ordered) (start now : Option (List ℕ)) (c :
   pub done : List Ordered
   pub items_are : items ≡ done ++ orders_in c
   pub wrote : Appends start now (file done)
+  pub first_is : c.first ≡ length done
   pub bytes_are : bytes ≡ length (file done)
 
 module _ (items : List Ordered) (start now : Option (List ℕ)) where
@@ -202,3 +218,25 @@ failed_reader (Err fault) = blames_reader fault
 abbrev pub failed_writer : {X : Type 0} → Result X LaneFault → Bool
 failed_writer (Ok x) = false
 failed_writer (Err fault) = blames_writer fault
+
+-- ---- the end of a lane
+
+-- nothing was read, put or written
+abbrev pub WasNotStarted : {R W : Type 0} → List Ordered → R → R → W → W → LaneFault → Type 0
+WasNotStarted items reader reader' writer writer' fault = (fault ≡ NotStarted) × (items ≡ []) × (reader' ≡ reader) × (writer' ≡ writer)
+
+module _ {R W : Type 0} (remaining : R → Option (List ℕ)) (failed_reads : R → ℕ) (contents : W → Option (List ℕ)) (failed_writes : W → ℕ) where
+  -- how the lane of source s ended, with the film of this tuning, reader and writer
+  pub record IsLaneEnd (queue : Queue Ordered) (s : ℕ) (tuning : Tuning) (reader : R) (writer : W) (end : LaneEnd R W) : Type 0 where
+    -- its source has ended, and counts the items that its seat put
+    pub ended : IsEnded queue end.ended
+    pub source : end.ended.source ≡ s
+    pub count : end.ended.count ≡ length (items_ended end.ended)
+    -- after Ok the film was read to its end, its frames are these items, and their codestreams were written
+    pub completes : IfOk end.result (Records tuning (items_ended end.ended) (remaining reader) (remaining end.reader) (contents writer) (contents end.writer))
+    -- a fault says which frames were put, and what was written of them
+    pub stops : IfErr end.result (λ fault. WasNotStarted (items_ended end.ended) reader end.reader writer end.writer fault
+        ⊎ StopsLane tuning (items_ended end.ended) (remaining reader) (remaining end.reader) (contents writer) (contents end.writer) fault)
+    -- how many calls of the reader failed, and how many of the writer
+    pub reads : MatchResult end.result (λ frames. failed_reads end.reader ≡ failed_reads reader) (λ fault. ReadsSo fault (failed_reads reader) (failed_reads end.reader))
+    pub writes : failed_writes end.writer ≡ count_after (failed_writer end.result) (failed_writes writer)

@@ -22,7 +22,7 @@ use Rattle.ls_recorder.specs.declared.recording.lanes.Lane.{Lane}
 use Rattle.ls_recorder.specs.declared.recording.lanes.Lane.TheVariants as lane
 use Rattle.ls_recorder.specs.View.Boxes.{AreFrom}
 use Rattle.ls_pieces.specs.Orders.{Ordered}
-use Rattle.ls_recorder.specs.View.Lanes.{Records, StopsLane, ReadsSo, failed_writer}
+use Rattle.ls_recorder.specs.View.Lanes.{Records, StopsLane, ReadsSo, IsLaneEnd, failed_writer}
 
 -- ---- films and their tracks. A film is a reader, a writer for its recording, and a tuning.
 
@@ -50,18 +50,11 @@ module _ {R W : Type 0} (remaining : R → Option (List ℕ)) (failed_reads : R 
   AreTracks counts s (f ∷ fs) [] = ⊥
   AreTracks counts s (f ∷ fs) (t ∷ ts) = IsTrack f (slice_index_or counts s 0) t × AreTracks counts (suc s) fs ts
 
-  -- how the lane of source s ended: its track, and the number of items that it put
-  pub record IsLaneEnd (queue : Queue Ordered) (s : ℕ) (tuning : Tuning) (reader : R) (writer : W) (end : LaneEnd R W) : Type 0 where
-    pub ended : IsEnded queue end.ended
-    pub source : end.ended.source ≡ s
-    pub track : IsTrack (reader, writer, tuning) end.ended.count (record { reader = end.reader; writer = end.writer; result = end.result })
-    pub count : IfOk end.result (λ n. end.ended.count ≡ n)
-
   -- the lane of a film was started with that film, or it has ended
   abbrev pub IsStarted : Queue Ordered → ℕ → R × W × Tuning → Lane R W → Type 0
   IsStarted queue s film (lane.Running h) = (h.promise.queue.value ≡ queue) × (h.promise.source ≡ s) × (h.promise.tuning ≡ film.2)
       × (h.promise.reader.value ≡ film.0) × (h.promise.writer.value ≡ film.1)
-  IsStarted queue s film (lane.Refused end) = IsLaneEnd queue s film.2 film.0 film.1 end
+  IsStarted queue s film (lane.Refused end) = IsLaneEnd remaining failed_reads contents failed_writes queue s film.2 film.0 film.1 end
 
   -- a lane for each film, in order from source s on
   abbrev pub AreStarted : Queue Ordered → ℕ → List (R × W × Tuning) → List (Lane R W) → Type 0
@@ -78,7 +71,7 @@ module _ {R W : Type 0} (remaining : R → Option (List ℕ)) (failed_reads : R 
   AreDone queue s (f ∷ fs) [] ts = ⊥
   AreDone queue s (f ∷ fs) (e ∷ es) [] = ⊥
   AreDone queue s (f ∷ fs) (e ∷ es) (t ∷ ts) =
-      IsLaneEnd queue s f.2 f.0 f.1 (record { ended = e; reader = t.reader; writer = t.writer; result = t.result }) × AreDone queue (suc s) fs es ts
+      IsLaneEnd remaining failed_reads contents failed_writes queue s f.2 f.0 f.1 (record { ended = e; reader = t.reader; writer = t.writer; result = t.result }) × AreDone queue (suc s) fs es ts
 
   -- How the threads ended: each film has its lane's track, all sources ended, and each worker's last take returned Done.
   pub record HasRun (queue : Queue Ordered) (films : List (R × W × Tuning)) (ran : Ran R W) : Type 0 where

@@ -1,6 +1,7 @@
 //! The reading half of a lane: it reads the frames of a film, books each for the writing half, and puts it into the
 //! queue.
 ghost use Rattle.std.specs.Prelude.{◌≡◌, ◌<◌, ◌≤◌, ◌++◌, ◌∷◌, ◌⊎◌, [], ℕ, length, Ok, IfOk, IfErr, OnOk, IfSome, IfNone, MatchResult};
+ghost use Rattle.crossbeam_channel.specs.Ends.{receives_on};
 ghost use Rattle.ls_frame.specs.Netpbm.{IsImageOf};
 ghost use Rattle.ls_frame.specs.Picture.{IsFrame};
 ghost use Rattle.ls_frame.specs.Parameters.{explicit_parameters};
@@ -34,12 +35,13 @@ pub struct Reading<F> {
     pub reader: F,
 }
 
-/// The result of the reading half: its seat at the queue, the finished bookings, the reader, and the number of frames
-/// in the film, or why reading stopped.
+/// The result of the reading half: its seat at the queue, the finished bookings, the places, the reader, and the number
+/// of frames in the film, or why reading stopped.
 #[derive(Drop)]
 pub struct ReadingEnd<F> {
     pub seat: SourceSeat<Order>,
     pub finished: Finished<Order>,
+    pub places: Places,
     pub reader: F,
     pub result: Result<u64, LaneFault>,
 }
@@ -52,7 +54,7 @@ pub fn read_booked<F: Feed, R: Wait, G: Gate>(
     started: bool,
 ) -> ReadingEnd<F>
     requires { MayRead setting.now.queue.now setting.now.bookings.now reading }
-    ensures { IsReadingEnd F.remaining F.failed_reads setting.now.queue.now setting.now.bookings.now setting.now.tuning reading.seat reading.reader result }
+    ensures { IsReadingEnd F.remaining F.failed_reads setting.now.queue.now setting.now.bookings.now setting.now.tuning reading result }
 {
     let Reading {
         mut seat,
@@ -75,6 +77,7 @@ pub fn read_booked<F: Feed, R: Wait, G: Gate>(
     ReadingEnd {
         seat,
         finished,
+        places,
         reader,
         result,
     }
@@ -83,7 +86,7 @@ pub fn read_booked<F: Feed, R: Wait, G: Gate>(
 /// Reads the film, each frame once a place in the window is free. The same orders are put by `booked` and by `seat`.
 ///
 /// Returns the number of frames, with the reader at its end. A fault is that of the next frame; or `NoMemory`, also if
-/// nobody is left to give places back.
+/// the writing half has stopped.
 fn read_film<F: Feed, R: Wait, G: Gate>(
     setting: &Setting<'_, R, G>,
     seat: &mut SourceSeat<Order>,
@@ -100,6 +103,8 @@ fn read_film<F: Feed, R: Wait, G: Gate>(
     ensures completes { IfOk result (HasReadAll setting.now.tuning (items_put seat.new) (F.remaining reader.old) (F.remaining reader.new)) }
     ensures stops { IfErr result (HasReadSome setting.now.tuning (items_put seat.new) (F.remaining reader.old) (F.remaining reader.new)) }
     ensures failures { F.failed_reads reader.new ≡ count_after (failed_reader result) (F.failed_reads reader.old) }
+    ensures taken { length (items_put seat.new) ≤ places.new.taken }
+    ensures places { (places.new.window ≡ places.old.window) × (receives_on places.new.receiver ≡ receives_on places.old.receiver) }
 {
     for number in 0..MOST_FRAMES + 1 {
         if !places.take(setting.rt) {

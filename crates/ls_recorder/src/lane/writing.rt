@@ -1,14 +1,15 @@
 //! The writing half of a lane: it takes the booked orders, receives their coded frames, and writes these in order.
-ghost use Rattle.std.specs.Prelude.{◌≡◌, ◌<◌, ◌≤◌, ◌+◌, ◌*◌, ◌^◌, ◌++◌, ◌⊎◌, [], ℕ, None, List, Option, true, false, length, take, IfOk, IfErr, OnOk};
+ghost use Rattle.std.specs.Prelude.{◌≡◌, ◌<◌, ◌≤◌, ◌+◌, ◌*◌, ◌^◌, ◌++◌, ◌⊎◌, [], ℕ, nat_lt, None, List, Option, true, false, length, take, IfOk, IfErr, OnOk};
 ghost use Rattle.std.specs.Io.KnownBytes.{Appends};
+ghost use Rattle.crossbeam_channel.specs.Ends.{sends_on};
 ghost use Rattle.ls_frame.specs.View.Devices.{count_after};
 ghost use Rattle.ls_film.specs.Film.{most_frames};
 ghost use Rattle.ls_film.specs.Coding.{file};
 ghost use Rattle.ls_queue.specs.View.Running.{IsWorkerSeat, is_done, jobs_taken};
 ghost use Rattle.ls_pieces.specs.Orders.{Ordered, coded};
 ghost use Rattle.ls_pieces.specs.Collecting.{booked, new_collection, misfit_of, after_accept};
-ghost use Rattle.ls_recorder.specs.View.Lanes.{GoesOn, StopsWriting, blames_writer};
-ghost use Rattle.ls_recorder.specs.View.Halves.{orders_taken, MayWrite, IsWritingEnd, HasTaken, Books, RefusesPiece, HaltsSo, HaltsWriting, halts_for_writer, halted_writer};
+ghost use Rattle.ls_recorder.specs.View.Lanes.{WroteFirst, GoesOn, StopsWriting, blames_writer};
+ghost use Rattle.ls_recorder.specs.View.Halves.{orders_taken, MayWrite, IsWritingEnd, HasTaken, TakesMore, fault_after, WroteFirstSo, Books, RefusesPiece, HaltsSo, HaltsWriting, Receives, halts_for_writer, halted_writer};
 
 use crate::delivery::Inbox;
 use crate::gate::{Gate, Notice};
@@ -37,12 +38,13 @@ pub struct Arrivals {
     pub returns: Returns,
 }
 
-/// The result of the writing half: its seat, whose last take returned Done, the writer, and why writing stopped, if it
-/// did.
+/// The result of the writing half: its seat, whose last take returned Done, the writer, the end that gave places back,
+/// and why writing stopped, if it did.
 #[derive(Drop)]
 pub struct WritingEnd<W> {
     pub seat: WorkerSeat<Order>,
     pub writer: W,
+    pub returns: Returns,
     pub result: Result<(), LaneFault>,
 }
 
@@ -61,7 +63,7 @@ pub fn write_film<W: Outlet, R: Wait, G: Gate>(
     start: Writing<W>,
 ) -> WritingEnd<W>
     requires { MayWrite setting.now.bookings.now setting.now.window start }
-    ensures { IsWritingEnd W.contents W.failed_writes setting.now.bookings.now start.writer result }
+    ensures { IsWritingEnd W.contents W.failed_writes setting.now.bookings.now start result }
 {
     let Writing {
         mut seat,
@@ -69,19 +71,27 @@ pub fn write_film<W: Outlet, R: Wait, G: Gate>(
         mut writer,
     } = start;
     let written = write_booked(setting, &mut seat, &mut arrivals, &mut writer);
-    // From here on nobody waits for the inbox or for places.
-    drop(arrivals);
+    let Arrivals {
+        inbox,
+        mut returns,
+        ..
+    } = arrivals;
+    // From here on no worker waits for the inbox.
+    drop(inbox);
     match written {
         Ok(()) => WritingEnd {
             seat,
             writer,
+            returns,
             result: Ok(()),
         },
         Err(halt) => {
+            returns.stop(setting.rt);
             let fault = take_the_rest(setting, &mut seat, halt);
             WritingEnd {
                 seat,
                 writer,
+                returns,
                 result: Err(fault),
             }
         }
@@ -97,7 +107,7 @@ fn take_the_rest<R: Wait, G: Gate>(
     requires seat { IsWorkerSeat setting.now.bookings.now seat.old }
     ensures seat { IsWorkerSeat setting.now.bookings.now seat.new }
     ensures done { is_done seat.new ≡ true }
-    ensures more { length (jobs_taken seat.old) ≤ length (jobs_taken seat.new) }
+    ensures fault { (more : List Ordered) × (orders_taken seat.new ≡ orders_taken seat.old ++ more) × (result ≡ fault_after halt (length more)) }
     ensures stops { (start now : Option (List ℕ)) → HaltsWriting (orders_taken seat.old) start now halt → StopsWriting (orders_taken seat.new) start now result }
     ensures device { blames_writer result ≡ halts_for_writer halt }
 {
@@ -138,6 +148,8 @@ fn write_booked<W: Outlet, R: Wait, G: Gate>(
     ensures halts { IfErr result (HaltsWriting (orders_taken seat.new) (W.contents writer.old) (W.contents writer.new)) }
     ensures failures { W.failed_writes writer.new ≡ count_after (halted_writer result) (W.failed_writes writer.old) }
     ensures untouched { length (jobs_taken seat.new) ≡ 0 → writer.new ≡ writer.old }
+    ensures returned { WroteFirst (orders_taken seat.new) (W.contents writer.old) (W.contents writer.new) arrivals.new.returns.returned }
+    ensures returns { sends_on arrivals.new.returns.sender ≡ sends_on arrivals.old.returns.sender }
 {
     let mut written = 0;
     for _ in setting.rt.forever() {
@@ -166,6 +178,7 @@ fn some_waits<R: Wait, G: Gate>(
     ensures some { IfOk result (λ some. some ≡ true → 0 < length collector.new.slots) }
     ensures done { IfOk result (λ some. some ≡ false → (is_done seat.new ≡ true) × (length collector.new.slots ≡ 0)) }
     ensures halts { IfErr result (λ halt. (halt ≡ Halt.Fault LaneFault.TooMany) × (most_frames < length (orders_taken seat.new))) }
+    ensures more { TakesMore seat.old seat.new }
 {
     if collector.waiting() > 0 {
         return Ok(true);
@@ -185,9 +198,10 @@ fn book_next<R: Wait, G: Gate>(
     ensures seat { IsWorkerSeat setting.now.bookings.now seat.new }
     ensures taken { OnOk result (HasTaken setting.now.bookings.now setting.now.window seat.new collector.new) }
     ensures books { OnOk result (Books seat.old collector.old seat.new collector.new) }
-    ensures more { IfOk result (λ more. more ≡ true → 0 < length collector.new.slots) }
+    ensures some { IfOk result (λ some. some ≡ true → 0 < length collector.new.slots) }
     ensures done { IfOk result (λ more. more ≡ false → (is_done seat.new ≡ true) × (collector.new ≡ collector.old)) }
     ensures halts { IfErr result (λ halt. (halt ≡ Halt.Fault LaneFault.TooMany) × (most_frames < length (orders_taken seat.new))) }
+    ensures more { TakesMore seat.old seat.new }
 {
     let job = match setting.bookings.take(setting.rt, seat) {
         Taken::Job(job) => job,
@@ -216,6 +230,7 @@ fn book_until<R: Wait, G: Gate>(
     ensures taken { OnOk result (HasTaken setting.now.bookings.now setting.now.window seat.new collector.new) }
     ensures books { OnOk result (Books seat.old collector.old seat.new collector.new) }
     ensures halts { IfErr result (λ halt. (halt ≡ Halt.Fault LaneFault.TooMany) × (most_frames < length (orders_taken seat.new))) }
+    ensures more { TakesMore seat.old seat.new }
 {
     for _ in setting.rt.forever() {
         if number < collector.booked() || collector.waiting() == setting.window {
@@ -228,10 +243,10 @@ fn book_until<R: Wait, G: Gate>(
     unreachable!()
 }
 
-/// Receives the next coded frame from a worker. Fails with `NoMemory` if a worker couldn't code one, and with `Lost` if
-/// no worker is left.
+/// Receives the next coded frame from a worker. Fails with `NoMemory` if a worker couldn't code one; and with `Lost` if
+/// no worker is left, with nothing received.
 fn receive<R: Wait>(rt: &R, inbox: &mut Inbox) -> Result<Coded, Halt>
-    ensures halts { IfErr result (λ halt. (halt ≡ Halt.Fault LaneFault.NoMemory) ⊎ (halt ≡ Halt.Fault LaneFault.Lost)) }
+    ensures { Receives inbox.old result inbox.new }
 {
     match inbox.recv(rt) {
         Some(Ok(piece)) => Ok(piece),
@@ -267,8 +282,11 @@ fn write_ready<W: Outlet, R: Wait, G: Gate>(
     ensures goes_on { IfOk result (λ now. GoesOn (W.contents writer.old) arrivals.old.collector written (W.contents writer.new) arrivals.new.collector now) }
     ensures small { IfOk result (λ now. now ≤ 2 ^ 32 * arrivals.new.collector.first) }
     ensures returned { OnOk result (arrivals.new.returns.returned ≡ arrivals.new.collector.first) }
+    ensures handed_back { OnOk result (arrivals.new.returns.kept ≡ 0) }
+    ensures returns { sends_on arrivals.new.returns.sender ≡ sends_on arrivals.old.returns.sender }
     ensures same { OnOk result ((booked arrivals.new.collector ≡ booked arrivals.old.collector) × (arrivals.new.collector.window ≡ arrivals.old.collector.window)) }
     ensures halts { IfErr result (HaltsSo (W.contents writer.old) arrivals.old.collector written (W.contents writer.new)) }
+    ensures first { IfErr result (λ _. WroteFirstSo (W.contents writer.old) arrivals.old.collector written (W.contents writer.new) arrivals.new.returns.returned) }
     ensures failures { W.failed_writes writer.new ≡ count_after (halted_writer result) (W.failed_writes writer.old) }
 {
     let mut written = written;
@@ -307,7 +325,7 @@ fn drain<R: Wait>(rt: &R, bookings: &Queue<Order>, seat: &mut WorkerSeat<Order>,
     requires seat { IsWorkerSeat bookings.now seat.old }
     ensures seat { IsWorkerSeat bookings.now seat.new }
     ensures done { is_done seat.new ≡ true }
-    ensures more { (more : List Ordered) × (orders_taken seat.new ≡ orders_taken seat.old ++ more) × (result ≡ false → length more ≤ most) }
+    ensures more { (more : List Ordered) × (orders_taken seat.new ≡ orders_taken seat.old ++ more) × (result ≡ nat_lt most (length more)) }
 {
     let mut left = most;
     let mut beyond = false;

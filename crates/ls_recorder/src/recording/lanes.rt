@@ -4,7 +4,8 @@ ghost use Rattle.std.specs.Prelude.{◌≡◌, ℕ, List, ◌<◌, ◌≤◌, []
 ghost use Rattle.ls_queue.specs.View.Running.{AreAllSources, sources_of};
 ghost use Rattle.ls_pieces.specs.Collecting.{most_window};
 ghost use Rattle.ls_recorder.specs.View.Boxes.{AreFrom};
-ghost use Rattle.ls_recorder.specs.View.Recordings.{IsLaneEnd, IsStarted, AreStarted, AreDone};
+ghost use Rattle.ls_recorder.specs.View.Recordings.{IsStarted, AreStarted, AreDone};
+ghost use Rattle.ls_recorder.specs.View.Lanes.{IsLaneEnd};
 ghost use Rattle.ls_recorder.specs.View.Halves.{MayStart};
 
 use crate::delivery::Inbox;
@@ -31,7 +32,7 @@ pub struct LaneOf<R: Feed + Drop, W: Outlet + Drop> {
 }
 
 impl<R: Feed + Drop, W: Outlet + Drop> Promise<LaneEnd<R, W>> for LaneOf<R, W> {
-    ghost use Rattle.ls_recorder.specs.View.Recordings.{IsLaneEnd};
+    ghost use Rattle.ls_recorder.specs.View.Lanes.{IsLaneEnd};
 
     ghost kept_by = { λ p end. IsLaneEnd R.remaining R.failed_reads W.contents W.failed_writes p.queue.value p.source p.tuning p.reader.value p.writer.value end };
 }

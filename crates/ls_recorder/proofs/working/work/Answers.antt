@@ -1,7 +1,8 @@
-use Rattle.std.proofs.Common.{◌≡◌, ℕ, ◌+◌, ◌≤◌, length, min, ap, ◌∙◌, arith}
+use Rattle.std.proofs.Common.{◌≡◌, ℕ, ◌+◌, ◌≤◌, length, min, refl, ap, ◌∙◌, arith, rules}
 use Rattle.std.proofs.lemmas.List.{length_push}
 use Rattle.ls_queue.specs.View.Running.{jobs_taken}
 use Rattle.ls_recorder.proofs.working.work.Goals.{then-is_ok, else-is_ok}
+use Rattle.ls_recorder.proofs.BoxLemmas.{answers-none, answers-sent, answers-lost}
 use Rattle.ls_recorder.proofs.working.work.Goals as goal
 
 -- one more job was taken, and at most one more is counted
@@ -21,7 +22,7 @@ loop-preserved g c =
         | then-is_ok w ↦ one-more _ _ _ _ _ _ size (w.coded-is ∙ w.saturating_add-coded.ensures) inv.coded
         | else-is_ok w ↦ omega (arith, inv.coded, size, w.coded-is)
       ];
-      undelivered = omega (arith, inv.undelivered, size);
+      answered = answers-sent _ _ _ _ _ _ _ _ inv.answered c.in-Job.job c.in-Job.ensures.taken.2 c.make-answer.result c.make-answer.ensures (search rules) refl;
     }
 
 pub loop-preserved-then-is_err : goal.loop-preserved-then-is_err
@@ -37,5 +38,15 @@ loop-preserved-then-is_err g c =
         | then-is_ok w ↦ one-more _ _ _ _ _ _ size (w.coded-is ∙ w.saturating_add-coded.ensures) inv.coded
         | else-is_ok w ↦ omega (arith, inv.coded, size, w.coded-is)
       ];
-      undelivered = one-more _ _ _ _ _ _ size c.saturating_add-undelivered.ensures inv.undelivered;
+      answered = answers-lost _ _ _ _ _ _ _ _ inv.answered c.in-Job.job c.in-Job.ensures.taken.2 (search rules) c.saturating_add-undelivered.ensures;
     }
+
+pub loop-init : goal.loop-init
+loop-init g c = record {
+  next = tt;
+  goes_on = tt;
+  seat = c.requires.seat;
+  boxes = c.requires.boxes;
+  coded = omega arith;
+  answered = answers-none _ _;
+}

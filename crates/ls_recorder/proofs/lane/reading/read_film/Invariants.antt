@@ -1,3 +1,4 @@
+use Rattle.crossbeam_channel.specs.Ends.{receives_on}
 use Rattle.std.proofs.Common.{◌≡◌, ◌-◌, ◌^◌, ◌≤◌, length}
 use Rattle.ls_queue.specs.View.Running.{IsSourceSeat, items_put}
 use Rattle.ls_recorder.specs.View.Halves.{HasRead}
@@ -14,5 +15,7 @@ invariant-loop-number g l = record {
   few : l.number ≤ 2 ^ 32 - 1;
   many : length (items_put l.seat) ≡ l.number;
   read : HasRead l.setting.tuning (items_put l.seat) (g.F.Read.remaining l.fn.reader) (g.F.Read.remaining l.reader) l.number;
+  taken : length (items_put l.seat) ≤ l.places.taken;
+  places : (l.places.window ≡ l.fn.places.window) × (receives_on l.places.receiver ≡ receives_on l.fn.places.receiver);
   reads : g.F.Feed.failed_reads l.reader ≡ g.F.Feed.failed_reads l.fn.reader;
 }

@@ -1,4 +1,4 @@
-use Rattle.std.proofs.Common.{◌≡◌, ◌+◌, ◌≤◌, ◌++◌, List, false, length}
+use Rattle.std.proofs.Common.{◌≡◌, ◌+◌, ◌<◌, ◌++◌, List, true, false, length}
 use Rattle.ls_queue.specs.View.Running.{IsWorkerSeat}
 use Rattle.ls_pieces.specs.Orders.{Ordered}
 use Rattle.ls_recorder.specs.View.Halves.{orders_taken}
@@ -10,5 +10,6 @@ invariant-loop g l = record {
   seat : IsWorkerSeat l.bookings l.seat;
   more : List Ordered;
   taken : orders_taken l.seat ≡ orders_taken l.fn.seat ++ more;
-  few : l.beyond ≡ false → length more + l.left ≤ l.most;
+  few : l.beyond ≡ false → length more + l.left ≡ l.most;
+  far : l.beyond ≡ true → l.most < length more;
 }

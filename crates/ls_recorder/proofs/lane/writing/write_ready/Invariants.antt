@@ -1,3 +1,4 @@
+use Rattle.crossbeam_channel.specs.Ends.{sends_on}
 use Rattle.std.proofs.Common.{◌≡◌, ◌*◌, ◌^◌, ◌≤◌, length}
 use Rattle.ls_pieces.specs.Collecting.{booked}
 use Rattle.ls_recorder.specs.View.Lanes.{GoesOn}
@@ -11,6 +12,7 @@ invariant-loop-piece g l = record {
   returned : l.arrivals.returns.returned ≡ l.arrivals.collector.first;
   booked : booked l.arrivals.collector ≡ booked l.fn.arrivals.collector;
   window : l.arrivals.collector.window ≡ l.fn.arrivals.collector.window;
+  returns : sends_on l.arrivals.returns.sender ≡ sends_on l.fn.arrivals.returns.sender;
   writes : g.W.Outlet.failed_writes l.writer ≡ g.W.Outlet.failed_writes l.fn.writer;
 }
 
