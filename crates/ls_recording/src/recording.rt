@@ -110,10 +110,10 @@ fn is_telling<E: Outlet>(asked: &RecordRequest<'_>, console: &Console<E>) -> boo
 
 /// Records films while another thread watches them, and says how each ended. The status is `DONE` only if each film was
 /// recorded to its end, or up to a stop that the program was asked for, and its files are on the disk.
-fn record_to_end<'a, R, O, W, E>(
-    program: Program<'_, R, O, W, E>,
+fn record_to_end<'s, 'a, R, O, W, E>(
+    program: Program<'s, R, O, W, E>,
     asked: &'a RecordRequest<'a>,
-    watch: &Watch<'_, R>,
+    watch: &'s Watch<'s, R>,
     films: &mut [Film<'a, O>],
     devices: Vec<Devices<'a, O>>,
 ) -> Finished<'a, O>
