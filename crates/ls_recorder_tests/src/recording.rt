@@ -333,6 +333,83 @@ fn a_frame_is_written_whatever_its_reader_does_next_with_ample_memory(rt: HostRu
     }
 }
 
+/// Thirteen black pixels: more than three windows of four.
+const THIRTEEN: &[u8] = b"P5\n1 1\n255\n\x00P5\n1 1\n255\n\x00P5\n1 1\n255\n\x00P5\n1 1\n255\n\x00\
+P5\n1 1\n255\n\x00P5\n1 1\n255\n\x00P5\n1 1\n255\n\x00P5\n1 1\n255\n\x00P5\n1 1\n255\n\x00\
+P5\n1 1\n255\n\x00P5\n1 1\n255\n\x00P5\n1 1\n255\n\x00P5\n1 1\n255\n\x00";
+
+/// A gate that holds the first frame before it is coded, and the lane after each frame it writes, each for a while: so
+/// the reader gets as far ahead as it may. It notes if a frame is read too early, that is, before all but a window of
+/// the frames up to it are written.
+#[derive(Drop)]
+struct Held {
+    window: u64,
+    written: AtomicU64,
+    early: AtomicBool,
+}
+
+/// Spins for a while, or until a flag is set.
+fn hold(flag: &AtomicBool) {
+    for _turn in 0..2_000_000u32 {
+        if flag.load(Ordering::SeqCst) {
+            return;
+        }
+        spin_loop();
+    }
+}
+
+impl Gate for Held {
+    fn pass(&self, _source: u8, number: u64, moment: Moment) {
+        if number == 0 && moment == Moment::Before {
+            hold(&self.early);
+        }
+    }
+
+    fn notice(&self, _source: u8, notice: Notice) {
+        match notice {
+            Notice::Reading(number) => {
+                let written = self.written.load(Ordering::SeqCst);
+                if number >= written.saturating_add(self.window) {
+                    self.early.store(true, Ordering::SeqCst);
+                }
+            }
+            Notice::Written { .. } => {
+                self.written.fetch_add(1, Ordering::SeqCst);
+                hold(&self.early);
+            }
+            _ => {}
+        }
+    }
+}
+
+/// Whether thirteen frames are recorded through this gate, with this window. `None` if memory or threads are refused.
+fn records_thirteen<R: Threads + Wait + Sync, G: Gate>(
+    rt: &R,
+    alloc: Global,
+    window: usize,
+    gate: &G,
+) -> Option<bool> {
+    let films = copies_of(alloc, 1, THIRTEEN, 4096)?;
+    match record(rt, alloc, films, 2, 8, window, gate) {
+        Ok(mut recording) => Some(recording.tracks.pop()?.result == Ok(13)),
+        Err(_) => None,
+    }
+}
+
+#[test]
+fn no_frame_is_read_before_the_window_allows_it_with_ample_memory(rt: HostRuntime) {
+    for window in [1, 3, 4] {
+        let gate = Held {
+            window: window as u64,
+            written: AtomicU64::new(0),
+            early: AtomicBool::new(false),
+        };
+        let right = records_thirteen(&rt, rt.alloc(), window, &gate);
+        check(&rt, "thirteen frames", right, true);
+        check(&rt, "not early", Some(!gate.early.into_inner()), true);
+    }
+}
+
 /// A gate that counts the events of a film.
 #[derive(Drop)]
 struct Counts {

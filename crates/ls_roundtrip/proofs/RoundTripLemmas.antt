@@ -188,13 +188,13 @@ module _ (maxval : (maxval : ℕ) → (default_parameters maxval).maxval ≡ max
               (elim done.did [
                 | inl refused ↦ subst (λ x. MatchResult x back short) (sym refused.0)
                     (let none = same_Some _ _ (sym played.recording ∙ ap held_by refused.3 ∙ fresh.empty) in
-                    (inl (refl, none), unstarted r.recording.items r.shown.items film.1 r.played none played.plays))
+                    (inl (refl, none), unstarted r.recording.items r.shown.items film.1 r.played none played.plays.recorded))
                 | inr ran ↦ MatchResult-weaker track.result
                     (rw (ap (λ (b : Bor (List ℕ)). b.now) fresh.reader, fresh.tuning, fresh.empty, played.recording) at ran)
-                    (λ n records. whole_film bytes r.recording.items r.shown.items _ film.1 done.items r.played n records played.plays)
-                    (λ fault stops. (inr (done.items, _, stops), stopped_film bytes r.recording.items r.shown.items _ film.1 done.items r.played fault stops played.plays))
+                    (λ n records. whole_film bytes r.recording.items r.shown.items _ film.1 done.items r.played n records played.plays.recorded)
+                    (λ fault stops. (inr (done.items, _, stops), stopped_film bytes r.recording.items r.shown.items _ film.1 done.items r.played fault stops played.plays.recorded))
               ]),
-          played.shows,
+          played.plays,
         )
 
     pub all_back : (films : List (Bor (List ℕ) × Tuning)) (lanes : List (Bor (List ℕ) × IntoMemory × Tuning)) (counts : List ℕ) (s : ℕ) (tracks : List (Track (Bor (List ℕ)) IntoMemory)) (played_back : List PlayedBack)

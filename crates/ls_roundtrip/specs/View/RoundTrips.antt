@@ -1,5 +1,5 @@
 -- What results from recording films in memory side by side, and playing back the recordings.
-use Rattle.std.specs.Prelude.{◌≡◌, ◌⊎◌, ◌≤◌, ℕ, List, [], length, Option, Some, Result, IfOk, MatchResult, Vec}
+use Rattle.std.specs.Prelude.{◌≡◌, ◌⊎◌, ◌≤◌, ℕ, List, [], length, Option, Some, Result, MatchResult, Vec}
 use Rattle.std.specs.List.{AllByRecursion, AllZip}
 use Rattle.std.specs.Borrow.{Bor}
 use Rattle.std.specs.declared.alloc.Global.{Global}
@@ -20,7 +20,7 @@ use Rattle.ls_roundtrip.specs.declared.round_trip.PlayedBack.{PlayedBack}
 use Rattle.ls_pieces.specs.Orders.{Ordered}
 use Rattle.ls_film.specs.Showing.{show}
 use Rattle.ls_recorder.specs.View.Lanes.{tuned_file, StopsLane}
-use Rattle.ls_film.specs.View.Playing.{IsShownOf, IsOutOfMemory, IsCodable, frames_of}
+use Rattle.ls_film.specs.View.Playing.{Plays, IsOutOfMemory, IsCodable, frames_of}
 
 -- every parameter has its default
 abbrev pub by_default : Tuning
@@ -59,12 +59,12 @@ PlaysFront tuning recording shown played NotStarted = ShowsFront tuning recordin
 PlaysFront tuning recording shown played TooMany = ShowsFront tuning recording shown played
 PlaysFront tuning recording shown played (BadTuning m fault) = ShowsFront tuning recording shown played
 
--- The result for a film: if it was recorded completely, it comes back, else its lane stopped short; and if playing completed, it showed what the
--- recording shows.
+-- The result for a film: if it was recorded completely, it comes back, else its lane stopped short; and the recording was played (`Plays`): if
+-- playing completed, all that it shows was shown, and a fault says what was shown before.
 abbrev pub CameOf : Bor (List ℕ) × Tuning → PlayedBack → Type 0
 CameOf film r =
     MatchResult r.recorded (ComesBack film.0.now film.1 r.recording.items r.shown.items r.played) (λ fault. StopsShort film.0.now film.1 r.recording.items fault × PlaysFront film.1 r.recording.items r.shown.items r.played fault)
-    × IfOk r.played (IsShownOf r.recording.items r.shown.items)
+    × Plays r.recording.items r.shown.items r.played
 
 -- each film has its result
 abbrev pub ComeBack : List (Bor (List ℕ) × Tuning) → List PlayedBack → Type 0
@@ -94,5 +94,4 @@ pub record IsUnrecorded (film : Bor (List ℕ) × Tuning) (lane : Bor (List ℕ)
 pub record IsPlayed (track : Track (Bor (List ℕ)) IntoMemory) (played_back : PlayedBack) : Type 0 where
   pub recorded : played_back.recorded ≡ track.result
   pub recording : held_by track.writer ≡ Some played_back.recording.items
-  pub plays : PlaysBack played_back.recording.items played_back.shown.items played_back.played
-  pub shows : IfOk played_back.played (IsShownOf played_back.recording.items played_back.shown.items)
+  pub plays : Plays played_back.recording.items played_back.shown.items played_back.played
