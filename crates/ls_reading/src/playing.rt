@@ -65,6 +65,7 @@ where
 
 /// Plays a recording, over any reader and writer, with this number of workers. With one, each image is written before
 /// the next codestream is read.
+#[tactic(auto, using(crate::proofs::StatusLemmas::stops_ahead))]
 fn show_all<Rt: Threads + Sync, R: Feed, W: Outlet>(
     rt: &Rt,
     alloc: Global,

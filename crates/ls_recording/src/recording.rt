@@ -1,14 +1,15 @@
 //! The command `record`: opens the films, records them, and says how each ended.
-ghost use Rattle.std.specs.Prelude.{◌≡◌, IfOk};
+ghost use Rattle.std.specs.Prelude.{◌≡◌, List, IfOk};
 ghost use Rattle.std.specs.List.{AllZip};
-ghost use Rattle.ls_recording.specs.View.Films.{HasTrack, IsRecorded};
+ghost use Rattle.ls_frame.specs.declared.tuning.Tuning.{Tuning};
+ghost use Rattle.ls_recording.specs.View.Films.{FilmReader, FilmWriter, HasTrack, IsRecorded};
 
 use crate::ending::report::{table_of, write_report};
 use crate::ending::{end_films, release, say_counts};
 use crate::watching::Watch;
 use crate::watching::progress::Teller;
 use ls_command::RecordRequest;
-use ls_console::{Console, DONE, FAILED, Host, Program, Reader, no_memory};
+use ls_console::{DONE, FAILED, Host, Program, Reader, no_memory};
 use ls_files::{Makes, Opens, Targets};
 use ls_frame::Outlet;
 use ls_opening::{Devices, Film, Opened, Writer, names_once, open_films};
@@ -80,17 +81,31 @@ where
         devices,
         report,
     } = opened;
-    let is_timed = is_telling(asked, console) || report.is_some();
+    let is_telling = asked.progress || console.is_terminal();
+    let is_timed = is_telling || report.is_some();
     let Ok(watch) = Watch::new(rt, rt.alloc(), films.len(), is_timed) else {
         return no_memory(console);
     };
+    let teller = Teller {
+        program: Program {
+            rt,
+            opener,
+            output: &mut *output,
+            console: &mut *console,
+        },
+        watch: &watch,
+        files: &asked.files,
+        films: &mut films,
+        is_telling,
+    };
+    let recorded = record_watched(rt, asked, &watch, teller, devices);
     let program = Program {
         rt,
         opener,
         output: &mut *output,
         console: &mut *console,
     };
-    let Finished { status, files } = record_to_end(program, asked, &watch, &mut films, devices);
+    let Finished { status, files } = finish_films(program, &watch, &mut films, recorded);
     release(files);
     match report {
         Some(report) => {
@@ -100,63 +115,6 @@ where
             status.max(write_report(report, table, console))
         }
         None => status,
-    }
-}
-
-/// Whether progress is said.
-fn is_telling<E: Outlet>(asked: &RecordRequest<'_>, console: &Console<E>) -> bool {
-    asked.progress || console.is_terminal()
-}
-
-/// Records films while another thread watches them, and says how each ended. The status is `DONE` only if each film was
-/// recorded to its end, or up to a stop that the program was asked for, and its files are on the disk.
-fn record_to_end<'s, 'a, R, O, W, E>(
-    program: Program<'s, R, O, W, E>,
-    asked: &'a RecordRequest<'a>,
-    watch: &'s Watch<'s, R>,
-    films: &mut [Film<'a, O>],
-    devices: Vec<Devices<'a, O>>,
-) -> Finished<'a, O>
-where
-    R: AllocGlobal + Clock + Threads + Wait + Sync,
-    O: Makes + Copy + Send,
-    O::File: Send,
-    W: Write + Send,
-    E: Outlet + Send,
-    ensures { result.status ≡ DONE → AllZip (IsRecorded O.File.remaining O.File.contents) devices.entry.items result.files.items }
-{
-    let Program {
-        rt,
-        opener,
-        output,
-        console,
-    } = program;
-    let is_telling = is_telling(asked, console);
-    let teller = Teller {
-        program: Program {
-            rt,
-            opener,
-            output: &mut *output,
-            console: &mut *console,
-        },
-        watch,
-        files: &asked.files,
-        films: &mut *films,
-        is_telling,
-    };
-    let recorded = record_watched(rt, asked, watch, teller, devices);
-    match end_films(rt.alloc(), watch, films, recorded, console) {
-        Ok(ended) => {
-            let said = say_counts(rt.alloc(), films, output, console);
-            Finished {
-                status: if ended.are_whole { said } else { FAILED },
-                files: ended.files,
-            }
-        }
-        Err(status) => Finished {
-            status,
-            files: Vec::new(rt.alloc()),
-        },
     }
 }
 
@@ -191,4 +149,42 @@ where
         },
     );
     recorded
+}
+
+/// Says how each film ended. The status is `DONE` only if each was recorded to its end, or up to a stop that the program
+/// was asked for, its files are on the disk, and what was to be said of it on standard output was written.
+fn finish_films<'a, R, O, W, E>(
+    program: Program<'_, R, O, W, E>,
+    watch: &Watch<'_, R>,
+    films: &mut [Film<'_, O>],
+    recorded: Recorded<'a, O>,
+) -> Finished<'a, O>
+where
+    R: AllocGlobal + Clock,
+    O: Makes + Copy,
+    W: Write,
+    E: Outlet,
+    ensures { (devices : List (FilmReader O O.File × FilmWriter O O.File × Tuning))
+        → IfOk recorded.entry (λ recording. AllZip (HasTrack O.File.remaining O.File.contents) devices recording.tracks.items)
+        → result.status ≡ DONE → AllZip (IsRecorded O.File.remaining O.File.contents) devices result.files.items }
+{
+    let Program {
+        rt,
+        output,
+        console,
+        ..
+    } = program;
+    match end_films(rt.alloc(), watch, films, recorded, console) {
+        Ok(ends) => {
+            let said = say_counts(rt.alloc(), films, output, console);
+            Finished {
+                status: if ends.are_whole { said } else { FAILED },
+                files: ends.files,
+            }
+        }
+        Err(status) => Finished {
+            status,
+            files: Vec::new(rt.alloc()),
+        },
+    }
 }

@@ -28,6 +28,10 @@ module _ (O F : Type 0) where
   abbrev pub FilmWriter : Type 0
   FilmWriter = Indexing (Counted (Target O F)) (Counted (Target O F))
 
+-- A film was recorded to its end; or up to a failed read, because the program was asked to stop: then this many frames of it.
+abbrev pub IsComplete : Result ℕ LaneFault → Bool → ℕ → Type 0
+IsComplete result stopped frames = (result ≡ Ok frames) ⊎ ((result ≡ Err (Input frames Io)) × (stopped ≡ true))
+
 module _ {O F : Type 0} where
   -- the file that a recording is written to
   abbrev pub target_of : FilmWriter O F → Target O F
@@ -40,10 +44,6 @@ module _ {O F : Type 0} where
   -- what is known of the bytes in a recording
   abbrev pub held_by : (F → Option (List ℕ)) → FilmWriter O F → Option (List ℕ)
   held_by contents writer = held_by_target contents (target_of writer)
-
-  -- A film was recorded to its end; or up to a failed read, because the program was asked to stop: then this many frames of it.
-  abbrev pub IsComplete : Result ℕ LaneFault → Bool → ℕ → Type 0
-  IsComplete result stopped frames = (result ≡ Ok frames) ⊎ ((result ≡ Err (Input frames Io)) × (stopped ≡ true))
 
   -- The track of a film that was recorded completely, and its files.
   pub record IsWhole (track : Track (FilmReader O F) (FilmWriter O F)) (files : Targets O F) : Type 0 where
