@@ -1,17 +1,25 @@
 -- What the results of engines say of a command.
 use Rattle.std.proofs.Common.{◌≡◌, ℕ, List, Option, Result, Ok, Err, IfOk, IfErr, MatchResult, refl, arith}
+use Rattle.ls_archive.specs.declared.verifying.Verdict.{Verdict}
+use Rattle.ls_archive.specs.declared.verifying.Verdict.TheVariants.{Same, Differs, Missing, Extra}
+use Rattle.ls_archive.specs.View.Comparing.{FindsAhead}
 use Rattle.ls_console.specs.declared.output.TheConstants.{DONE, FAILED}
 use Rattle.ls_film.specs.declared.part.Part.{Part}
 use Rattle.ls_film.specs.declared.part.PartFault.{PartFault}
 use Rattle.ls_film.specs.declared.playing.PlayFault.{PlayFault}
 use Rattle.ls_film.specs.View.Playing.{Stops, StopsAhead}
-use Rattle.ls_reading.specs.View.Commands.{IsPart, PlaysPart, ShowsPartOf}
+use Rattle.ls_reading.specs.View.Commands.{IsPart, PlaysPart, ShowsPartOf, HaveSameFrames}
+use Rattle.ls_reading.specs.View.Statuses.{verdict_status}
 
 -- playing one by one stops as playing ahead does
 pub stops_ahead : (read read' written written' : Option (List ℕ)) (outcome : Result ℕ PlayFault) → IfErr outcome (Stops read read' written written')
     → IfErr outcome (StopsAhead read read' written written')
 stops_ahead read read' written written' (Ok count) none = _
 stops_ahead read read' written written' (Err fault) stops = (read', (λ device. refl), stops)
+
+-- the two statuses differ
+not-both : (status : ℕ) → status ≡ FAILED → status ≡ DONE → ⊥
+not-both status failed done = let one : status ≡ 1 = failed in let zero : status ≡ 0 = done in omega (arith, one, zero)
 
 -- a part was shown if the status is 0
 module _ {O : Type 0} (holds : O → List ℕ → Option (List ℕ) → Type 0) (opener : O) (path : List ℕ) (written written' : Option (List ℕ)) where
@@ -20,5 +28,24 @@ module _ {O : Type 0} (holds : O → List ℕ → Option (List ℕ) → Type 0) 
       → status ≡ DONE → IsPart part → ShowsPartOf holds opener path written written' part
   part-shown part read left (Ok count) status file is shows done lawful =
       record { read = read; left = left; count = count; file = file; run = shows lawful }
-  part-shown part read left (Err fault) status file is shows done lawful =
-      let one : status ≡ 1 = is in let zero : status ≡ 0 = done in absurd (omega (arith, one, zero))
+  part-shown part read left (Err fault) status file is shows done lawful = absurd (not-both status is done)
+
+-- the frames are the same if the status is 0
+module _ {O : Type 0} (holds : O → List ℕ → Option (List ℕ) → Type 0) (opener : O) where
+  pub same-frames : (film recording : List ℕ) (images left codestreams : Option (List ℕ)) (verdict : Verdict) (status : ℕ) → holds opener film images
+      → holds opener recording codestreams → FindsAhead images left codestreams verdict → status ≡ verdict_status verdict → status ≡ DONE
+      → HaveSameFrames holds opener film recording
+  same-frames film recording images left codestreams (Same count) status one other finds is done =
+      record {
+        images = images;
+        images_left = left;
+        codestreams = codestreams;
+        codestreams_left = finds.0;
+        count = count;
+        film_file = one;
+        recording_file = other;
+        same = finds.1;
+      }
+  same-frames film recording images left codestreams (Differs number what) status one other finds is done = absurd (not-both status is done)
+  same-frames film recording images left codestreams (Missing number) status one other finds is done = absurd (not-both status is done)
+  same-frames film recording images left codestreams (Extra number) status one other finds is done = absurd (not-both status is done)

