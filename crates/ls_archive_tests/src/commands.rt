@@ -74,31 +74,35 @@ fn play_in_memory<R: AllocGlobal + Threads + Sync>(
     }
 }
 
-fn check(answered: &Answered, want: (u8, &[u8], &[u8])) {
-    let is = (
+/// What a command answers: its status, and what it writes to standard output and to standard error.
+type Want<'w> = (u8, &'w [u8], &'w [u8]);
+
+fn check(rt: &impl Abort, answered: &Answered, want: Want<'_>) {
+    let is: Want<'_> = (
         answered.status,
         answered.output.as_slice(),
         answered.errors.as_slice(),
     );
-    assert_eq!(is, want);
+    assert_eq!(rt; is, want);
 }
+
+const TORN: Want<'static> = (1, b"", b"jlsrec: film: frame 0: truncated\n");
 
 #[test]
 fn films_are_coded(rt: HostRuntime) {
-    check(&code_in_memory(&rt, FILM), (0, FILM_CODESTREAMS, b""));
-    check(&code_in_memory(&rt, b""), (0, b"", b""));
-    let torn = (1, b"", b"jlsrec: film: frame 0: truncated\n");
-    check(&code_in_memory(&rt, &BLACK[..BLACK.len() - 1]), torn);
+    check(&rt, &code_in_memory(&rt, FILM), (0, FILM_CODESTREAMS, b""));
+    check(&rt, &code_in_memory(&rt, b""), (0, b"", b""));
+    check(&rt, &code_in_memory(&rt, &BLACK[..BLACK.len() - 1]), TORN);
 }
 
 #[test]
 fn recordings_are_played(rt: HostRuntime) {
     for workers in [1, 2] {
         check(
+            &rt,
             &play_in_memory(&rt, FILM_CODESTREAMS, workers),
             (0, FILM, b""),
         );
-        let torn = (1, b"", b"jlsrec: film: frame 0: truncated\n");
-        check(&play_in_memory(&rt, &ANNEX_H[..40], workers), torn);
+        check(&rt, &play_in_memory(&rt, &ANNEX_H[..40], workers), TORN);
     }
 }
