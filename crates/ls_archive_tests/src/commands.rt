@@ -9,6 +9,7 @@ use ls_console::{COLUMNS, Console, DONE, Program};
 use ls_frame::Counted;
 use ls_reading::{code, show};
 use ls_testing::films::{ANNEX_H, BLACK, FILM, FILM_CODESTREAMS};
+use std::process::Abort;
 use std::thread::Threads;
 
 /// The status of a command, and what it wrote to standard output and to standard error.
