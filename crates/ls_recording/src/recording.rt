@@ -1,12 +1,10 @@
 //! The command `record`: opens the films, records them, and says how each ended.
-ghost use Rattle.std.specs.Prelude.{◌≡◌, ◌⊎◌};
-
 use crate::ending::report::{table_of, write_report};
 use crate::ending::{end_films, release, say_counts};
 use crate::watching::Watch;
 use crate::watching::progress::Teller;
 use ls_command::RecordRequest;
-use ls_console::{DONE, FAILED, Host, Program, Reader, no_memory};
+use ls_console::{FAILED, Host, Program, Reader, no_memory};
 use ls_files::{Makes, Opens, Targets};
 use ls_frame::Outlet;
 use ls_opening::{Devices, Film, Opened, Writer, names_once, open_films};
@@ -158,7 +156,6 @@ where
     O: Makes + Copy,
     W: Write,
     E: Outlet,
-    ensures { (result.status ≡ DONE) ⊎ (result.status ≡ FAILED) }
 {
     let Program {
         rt,
