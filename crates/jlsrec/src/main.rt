@@ -10,7 +10,7 @@ mod program;
 mod streams;
 mod words;
 
-use ls_console::{COLUMNS, Console, Program};
+use ls_console::{COLUMNS, Console};
 use ls_files::{Opener, Patient};
 use ls_frame::Counted;
 use program::start;
@@ -37,13 +37,8 @@ fn main(rt: HostRuntime) -> ExitCode {
     let errors = Counted::new(Patient::new(rt.stderr()));
     let mut console = Console::new(rt.alloc(), errors, is_terminal, columns(&rt));
     let stop = env::var(&rt, STOP).ok();
-    let program = Program {
-        rt: &rt,
-        opener: Opener::new(&rt).stopped_by(stop.as_deref()),
-        output: &mut output,
-        console: &mut console,
-    };
-    ExitCode::from(start(program))
+    let opener = Opener::new(&rt).stopped_by(stop.as_deref());
+    ExitCode::from(start(&rt, opener, &mut output, &mut console))
 }
 
 /// The number of characters in a progress line: one less than the terminal's width, which is in the environment's

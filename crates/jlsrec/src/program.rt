@@ -22,8 +22,8 @@ use std::time::Clock;
 
 /// Reads the words, runs the program and flushes its output.
 ///
-/// The program's opener opens the files of its runtime; lanes open pipes with it, in their threads.
-pub fn start<R, O, W, E>(program: Program<'_, R, O, W, E>) -> u8
+/// The opener opens the files of the same runtime; lanes open pipes with it, in their threads.
+pub fn start<R, O, W, E>(rt: &R, opener: O, output: &mut Counted<W>, console: &mut Console<E>) -> u8
 where
     R: Env + Host + Clock + Threads + Wait + Sync,
     O: Makes<File = R::File> + Copy + Send,
@@ -31,12 +31,6 @@ where
     W: Write + Send,
     E: Outlet + Send,
 {
-    let Program {
-        rt,
-        opener,
-        output,
-        console,
-    } = program;
     let status = match words(rt) {
         Ok(words) => {
             let program = Program {
