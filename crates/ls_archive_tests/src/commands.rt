@@ -1,11 +1,7 @@
 //! Commands over one file in memory.
-ghost use Rattle.std.specs.Prelude.{◌≡◌, ℕ};
-ghost use Rattle.ls_film.specs.Coding.{default_file};
-ghost use Rattle.ls_film.specs.View.Memory.{IsTextOf};
-ghost use Rattle.ls_film.specs.View.Playing.{IsShownOf};
 
 use crate::files::OneFile;
-use ls_console::{COLUMNS, Console, DONE, Program};
+use ls_console::{COLUMNS, Console, Program};
 use ls_frame::Counted;
 use ls_reading::{code, show};
 use ls_testing::films::{ANNEX_H, BLACK, FILM, FILM_CODESTREAMS};
@@ -23,10 +19,8 @@ struct Answered {
 /// The name of the file.
 const FILE: &str = "film";
 
-/// `jlsrec code` of a film in memory: with status 0, exactly the codestreams of its frames were written.
-fn code_in_memory<R: AllocGlobal>(rt: &R, film: &[u8]) -> Answered
-    ensures { result.status ≡ DONE → (count : ℕ) × IsTextOf default_file film.now result.output.items count }
-{
+/// `jlsrec code` of a film in memory.
+fn code_in_memory<R: AllocGlobal>(rt: &R, film: &[u8]) -> Answered {
     let alloc = rt.alloc();
     let mut output = Counted::new(Vec::new(alloc));
     let mut console = Console::new(alloc, Counted::new(Vec::new(alloc)), false, COLUMNS);
@@ -47,14 +41,12 @@ fn code_in_memory<R: AllocGlobal>(rt: &R, film: &[u8]) -> Answered
     }
 }
 
-/// `jlsrec play` of a recording in memory: with status 0, exactly the images of its frames were written.
+/// `jlsrec play` of a recording in memory.
 fn play_in_memory<R: AllocGlobal + Threads + Sync>(
     rt: &R,
     recording: &[u8],
     workers: u8,
-) -> Answered
-    ensures { result.status ≡ DONE → (count : ℕ) × IsShownOf recording.now result.output.items count }
-{
+) -> Answered {
     let alloc = rt.alloc();
     let mut output = Counted::new(Vec::new(alloc));
     let mut console = Console::new(alloc, Counted::new(Vec::new(alloc)), false, COLUMNS);

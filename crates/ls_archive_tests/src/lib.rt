@@ -1,5 +1,5 @@
 //! The tests of `ls_archive` and of `ls_salvage`, through what they make public; and commands of `ls_reading` over a file
-//! in memory (`commands`), where their contracts say exactly what was written.
+//! system in memory (`commands`).
 //!
 //! They stand in a crate of their own because a crate's tests are proved together with the whole crate.
 #![tactic(auto)]
