@@ -1,5 +1,4 @@
-//! The tests of `ls_archive` and of `ls_salvage`, through what they make public; and commands of `ls_reading` over a file
-//! system in memory (`commands`).
+//! The tests of `ls_archive` and of `ls_salvage`, through what they make public.
 //!
 //! They stand in a crate of their own because a crate's tests are proved together with the whole crate.
 #![tactic(auto)]
@@ -7,15 +6,11 @@
 #[cfg(test)]
 mod checking;
 #[cfg(test)]
-mod commands;
-#[cfg(test)]
 mod damage;
 #[cfg(test)]
 mod devices;
 #[cfg(test)]
 mod faults;
-#[cfg(test)]
-mod files;
 #[cfg(test)]
 mod following;
 #[cfg(test)]
