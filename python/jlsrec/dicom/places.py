@@ -79,8 +79,8 @@ class Source:
             named = os.lstat(self.path)
         except FileNotFoundError:
             raise Changed("it was removed while it was read") from None
-        for now in (os.fstat(self.number), named):
-            if identity(now) != identity(self.stat):
+        for stat in (os.fstat(self.number), named):
+            if identity(stat) != identity(self.stat):
                 raise Changed("it changed while it was read")
 
 
