@@ -3,7 +3,7 @@ complete -c jlsrec-dicom -n __fish_use_subcommand -f -a to-film -d 'DICOM files 
 complete -c jlsrec-dicom -n __fish_use_subcommand -f -a to-dicom -d 'A recording into the files of its film'
 complete -c jlsrec-dicom -n __fish_use_subcommand -f -a compress -d 'A tree of DICOM files to JPEG-LS'
 complete -c jlsrec-dicom -n __fish_use_subcommand -f -a restore -d 'A compressed tree back, byte for byte'
-complete -c jlsrec-dicom -n __fish_use_subcommand -f -a verify -d 'Say whether a compressed tree is right'
+complete -c jlsrec-dicom -n __fish_use_subcommand -f -a verify -d 'Check a compressed tree by its manifest'
 complete -c jlsrec-dicom -l help -d 'Print help'
 set -l trees compress restore verify
 complete -c jlsrec-dicom -n '__fish_seen_subcommand_from to-film' -l offset -d 'Add 2^(bits stored - 1) to signed values'

@@ -9,7 +9,9 @@ hold no lock of Python's while they code, so threads code side by side.
     assert (jlsrec.decode(data) == array).all()
 
 The library is the one in the package or below the same prefix, or that of the checkout, for this machine's processor.
-JLSREC_LIBRARY names another one, and JLSREC_CPU another level of processors, x86-64-v2 or x86-64-v3.
+JLSREC_LIBRARY names another one, and JLSREC_CPU another level of processors, x86-64-v2 or x86-64-v3. It is loaded by the
+first call that needs it, which raises ImportError if it can't be. Any libjlsrec.so.0 of this package's version or a later
+one serves. Python 3.9 or later and numpy are required.
 """
 
 from __future__ import annotations
@@ -32,6 +34,7 @@ from . import _library
 from ._files import NewFile, Reading, RecordingChanged
 from ._library import JlsrecError
 
+__version__ = "0.1.0"
 __all__ = [
     "Header",
     "JlsrecError",
@@ -62,7 +65,8 @@ BYTE, WORD = np.dtype(np.uint8), np.dtype(np.uint16)
 class Header:
     """What a codestream says of its picture before the samples.
 
-    width and height in pixels, components 1 or 3, maxval 1 to 65535, and the coding parameters in force (T.87 C.2.4).
+    width and height in pixels, 1 to 65535; components 1 or 3; maxval, the greatest value that a sample may have, 1 to
+    65535; preset, the coding parameters in force: T1, T2, T3 and RESET (T.87 C.2.4).
     """
 
     width: int
@@ -83,7 +87,7 @@ class Header:
 
 
 def library_version() -> str:
-    """The version of libjlsrec."""
+    """The version of the libjlsrec that is loaded, such as "0.1.0". `jlsrec.__version__` is that of this package."""
     number = _library.library().jlsrec_version()
     return f"{number // 10000}.{number // 100 % 100}.{number % 100}"
 
@@ -96,12 +100,12 @@ def encode(array: np.ndarray, maxval: Optional[int] = None, preset: Optional[Pre
     maxval: the greatest value that a sample may have; by default 255 for uint8 and 65535 for uint16.
     preset: T1, T2, T3 and RESET, each 0 for T.87's default; by default all are.
 
-    Raises TypeError for another type or shape, JlsrecError for a picture that can't be encoded (a sample over maxval,
-    say) or parameters out of range (a ValueError, whose text names them), MemoryError if an allocation fails.
+    Raises TypeError for another type or shape; JlsrecError, a ValueError whose text says what is wrong, for a picture
+    that can't be encoded (a sample over maxval, say) or parameters out of range; MemoryError if an allocation fails.
     """
     array = np.asarray(array)
     if array.dtype.kind != "u" or array.dtype.itemsize > 2:
-        raise TypeError(f"samples are to be uint8 or uint16, and these are {array.dtype}")
+        raise TypeError(f"samples must be uint8 or uint16, and these are {array.dtype}")
     if array.ndim != 2 and not (array.ndim == 3 and array.shape[2] == 3):
         raise TypeError(f"a picture is (height, width) or (height, width, 3), and this is {array.shape}")
     t1, t2, t3, reset = _preset(preset)
@@ -140,12 +144,13 @@ def encode(array: np.ndarray, maxval: Optional[int] = None, preset: Optional[Pre
 def decode(data: Data, out: Optional[np.ndarray] = None) -> np.ndarray:
     """The picture of the codestream at the front of data: uint8 where its maxval is at most 255, else uint16.
 
-    data: bytes, or what has a buffer of bytes; what follows the codestream is ignored.
-    out: an array that the picture goes into, of its shape, contiguous and writable: uint16, or uint8 where maxval is at
-    most 255. Without it a new one is made.
+    data: bytes, or an object with a buffer of bytes: bytearray, memoryview, mmap, or a contiguous array of uint8 with
+    one dimension. Bytes after the codestream are ignored.
+    out: the array that the picture is decoded into, of its shape, contiguous and writable: uint16, or uint8 where maxval
+    is at most 255. Without it a new one is made. It is what is returned.
 
-    Raises JlsrecError with the first fault of the data, ValueError if out doesn't fit, MemoryError if an allocation
-    fails. After an error the contents of out are unspecified.
+    Raises JlsrecError with the first fault of the data, TypeError for other data, ValueError if out doesn't fit,
+    MemoryError if an allocation fails. After an error the contents of out are unspecified.
     """
     return _decode(_bytes_of(data), out)[0]
 
@@ -153,7 +158,9 @@ def decode(data: Data, out: Optional[np.ndarray] = None) -> np.ndarray:
 def read_header(data: Data) -> Header:
     """What the codestream at the front of data says of its picture. No sample is decoded.
 
-    Raises JlsrecError with the first fault before the samples.
+    data: as for decode. The headers suffice: the bytes may end after the header of the first scan.
+
+    Raises JlsrecError with the first fault before the samples, TypeError for other data.
     """
     return _header(_bytes_of(data))
 
@@ -165,9 +172,10 @@ class Recording(Sequence):
             for array in film: ...
             last = film[-1]
 
-    len() and indices find codestreams by their markers, and read no more of the file than they need. A slice is a list
-    of arrays. header(i) and data(i) are of frame i, without decoding it. A frame that can't be decoded raises
-    JlsrecError, whose text begins with "frame N: "; the other frames can still be read.
+    len() and indices find codestreams by their markers, and read no more of the file than they need. Frames are arrays
+    as `decode` returns them, numbered from 0, or by negative numbers from the end; another number raises IndexError. A
+    slice is a list of arrays. header(i), data(i) and size(i) are of frame i, without decoding it. A frame that can't be
+    decoded raises JlsrecError, whose text begins with "frame N: "; the other frames can still be read.
 
     Threads may share a recording. It is the file as it was when it was opened: frames appended later aren't seen, and
     of a file that is replaced, as by `write`, the earlier one is still read. If the file has shrunk since, or was
@@ -296,17 +304,17 @@ class Recording(Sequence):
             yield self._frame(place, index)
 
     def data(self, index: int) -> bytes:
-        """The codestream of a frame."""
+        """The codestream of the frame of this number, as it stands in the file. Raises IndexError if there is none."""
         file, start, end = self._span(index)
         return file.read(start, end)
 
     def size(self, index: int) -> int:
-        """How many bytes the codestream of a frame has."""
+        """The number of bytes of a frame's codestream. Raises IndexError if there is no such frame."""
         _, start, end = self._span(index)
         return end - start
 
     def header(self, index: int) -> Header:
-        """What the codestream of a frame says of it."""
+        """What a frame's codestream says of it. Raises IndexError if there is none, JlsrecError if it is malformed."""
         file, start, end = self._span(index)
         front = min(HEAD, end - start)
         try:
@@ -342,11 +350,12 @@ def write(
 ) -> int:
     """Writes a recording, the joined codestreams of arrays, and returns how many there were.
 
+    path: the recording's file, PATH below.
     arrays: an iterable of pictures, such as a list or a generator, or an array (frames, height, width) or (frames,
     height, width, 3). One picture is refused; so is an array (frames, height, 3), which may be one: pass list(array)
     instead.
-    maxval and preset: as for encode. An existing file is replaced only if replace is true, else FileExistsError is
-    raised, also if it came meanwhile.
+    maxval and preset: as for encode.
+    replace: whether an existing file is replaced; otherwise it raises FileExistsError, also if it was created meanwhile.
 
     The recording is written to PATH.part (or PATH.part.1, .. if there is one), is synced, and then takes its place; so
     the folder has to be writable. Until then the earlier file stays at PATH, unchanged; programs that have it open can
@@ -354,6 +363,9 @@ def write(
     it was; PATH.part has the codestreams of the arrays before, which a note of the error says (`__notes__`), and is
     removed if there were none. Without arrays the recording has no frame; it doesn't replace one that has bytes: that
     is a ValueError.
+
+    Raises what encode raises for an array, TypeError for what isn't frames, and OSError if the file can't be written:
+    BlockingIOError if another program holds a lock of it.
     """
     shape = getattr(arrays, "shape", None)
     if isinstance(shape, tuple) and (len(shape) < 3 or (len(shape) == 3 and shape[2] == 3)):
@@ -436,7 +448,7 @@ def _bytes_of(data: Data) -> Bytes:
         return data
     if isinstance(data, np.ndarray):
         if data.dtype != np.uint8 or data.ndim != 1 or not data.flags.c_contiguous:
-            raise TypeError("data in an array is to be bytes in a row")
+            raise TypeError("data in an array must be contiguous uint8 of one dimension")
         return data
     return np.frombuffer(data, np.uint8) if len(data) > 0 else b""
 
@@ -473,9 +485,9 @@ def _decode(data: Bytes, out: Optional[np.ndarray]) -> tuple[np.ndarray, int]:
     if out is None:
         out = np.empty(shape, kind)
     elif out.shape != shape or out.dtype not in (WORD, kind):
-        raise ValueError(f"out is to be {shape} of {kind}, and is {out.shape} of {out.dtype}")
+        raise ValueError(f"out must be {shape} of {kind}, and is {out.shape} of {out.dtype}")
     elif not (out.flags.c_contiguous and out.flags.writeable and out.flags.aligned):
-        raise ValueError("out is to be contiguous and writable")
+        raise ValueError("out must be contiguous and writable")
     fault, used, library = _library.Fault(), ctypes.c_size_t(), _library.library()
     status = (library.jlsrec_decode_8 if out.dtype.itemsize == 1 else library.jlsrec_decode_16)(
         _address(data),

@@ -16,7 +16,7 @@ def main() -> int:
     sheet = commands.add_parser("sheet", help="a PNG page of a recording's frames, with the bits that each takes")
     sheet.add_argument("file", metavar="FILE", help="a recording")
     sheet.add_argument("-o", "--output", required=True, metavar="SHEET", help="the PNG file that is written")
-    sheet.add_argument("--replace", action="store_true", help="replace a SHEET that is there; never FILE itself")
+    sheet.add_argument("--replace", action="store_true", help="replace an existing SHEET; never FILE itself")
     words = parser.parse_args()
     try:
         if words.command == "sheet":

@@ -46,7 +46,8 @@ class Fault(ctypes.Structure):
 class JlsrecError(ValueError):
     """A picture that can't be encoded, or bytes that can't be decoded. Its text says why.
 
-    status: the library's number for it. component, marker, number: what a codestream's fault names, else 0.
+    status: the status that the library returned, as jlsrec.h lists them. component, marker, number: the details of a
+    codestream's fault, as its jlsrec_fault has them; 0 where they don't apply.
     """
 
     def __init__(self, status: int, fault: Fault) -> None:

@@ -8,6 +8,9 @@
 
 A recording's frames are its images, each of uint8 or uint16 as it was; `array.meta["maxval"]` is the greatest value that it
 may have. What is written may have one frame or several, with `maxval` and `preset` as jlsrec.encode takes them.
+
+A frame that can't be decoded or encoded raises JlsrecError, and so does asking for the number of frames if a recording is
+cut off or damaged between them. imageio 2.4 was tried.
 """
 
 from __future__ import annotations

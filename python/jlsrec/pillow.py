@@ -7,11 +7,13 @@
     image.save("again.jls", maxval=4095)        # or format="JPEG-LS"
 
 A picture with a maxval of at most 255 opens as "L" or "RGB", gray of more as "I;16"; its values stay as they are, and
-`image.info["maxval"]` is their greatest. Of a recording this is the first frame; jlsrec.Recording has all. Pillow has no
-mode for colour of over 8 bits: that is refused.
+`image.info["maxval"]` is the greatest value that they may have. Of a recording this is the first frame; jlsrec.Recording
+has all. Pillow has no mode for colour of over 8 bits: opening such a picture raises OSError. A damaged one raises OSError
+when its samples are first asked for.
 
 "L", "RGB", "I;16" and "I" of values from 0 to 65535 are saved, with `maxval` (by default that of the opened file, or 255 or
-65535) and `preset` as jlsrec.encode takes them.
+65535) and `preset` as jlsrec.encode takes them; other modes and values raise OSError, and what jlsrec.encode refuses
+JlsrecError. Pillow 9.4 was tried.
 """
 
 from __future__ import annotations

@@ -1,4 +1,4 @@
-"""A pixel data handler for pydicom 2: lossless JPEG-LS is decoded by jlsrec, in its place before all others.
+"""A pixel data handler for pydicom 2, which it asks before all others: lossless JPEG-LS is decoded by jlsrec.
 
     import pydicom, jlsrec.pydicom
     jlsrec.pydicom.register()
@@ -7,7 +7,7 @@
 It decodes files of transfer syntax 1.2.840.10008.1.2.4.80, JPEG-LS lossless, and those of .81 that are lossless: gray and
 colour, signed or not, of one or several frames. What jlsrec doesn't decode (colour interleaved in one scan, losses) goes
 on to pydicom's next handler without a word. A file that is damaged, or whose codestreams aren't what its attributes say,
-goes on with a warning, or, after `register(strict=True)`, raises DamagedPixelData.
+goes on with a warning, or, after `register(strict=True)`, raises DamagedPixelData. pydicom 2.3.1 was tried.
 """
 
 from __future__ import annotations
@@ -34,7 +34,10 @@ _strict = False
 
 
 class DamagedPixelData(BaseException):
-    """Why a file's codestreams aren't what they are to be. Not an Exception: of these pydicom asks the next handler."""
+    """The codestreams of a file are damaged, or aren't what its attributes say.
+
+    This isn't an Exception, since after each of those pydicom asks the next handler.
+    """
 
 
 def register(strict: bool = False) -> None:
@@ -48,7 +51,7 @@ def register(strict: bool = False) -> None:
 
 
 def unregister() -> None:
-    """Has pydicom do without jlsrec again."""
+    """Has pydicom no longer ask jlsrec."""
     handlers = pydicom.config.pixel_data_handlers
     handlers[:] = [handler for handler in handlers if handler is not _this()]
 
@@ -127,7 +130,7 @@ def _decode(data: bytes, values: np.ndarray, name: str) -> int:
     try:
         header = read_header(data)
         if header.shape != values.shape or header.maxval >= 1 << 8 * values.itemsize:
-            raise ValueError(f"{name} is {header.shape} with maxval {header.maxval}, and is to be {values.shape} of {values.dtype}")
+            raise ValueError(f"{name} is {header.shape} with maxval {header.maxval}, and must be {values.shape} of {values.dtype}")
         decode(data, values)
     except JlsrecError as error:
         if error.status in _library.UNSUPPORTED:
@@ -137,7 +140,7 @@ def _decode(data: bytes, values: np.ndarray, name: str) -> int:
 
 
 def _extend(values: np.ndarray, bits: int) -> None:
-    """Extends the sign of samples of so many bits to whole words."""
+    """Extends the sign of samples of this number of bits to all bits of their words."""
     sign = values.dtype.type(1 << bits - 1)
     values ^= sign
     values -= sign

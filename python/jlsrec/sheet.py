@@ -11,6 +11,8 @@ from . import JlsrecError, Recording
 from ._files import NewFile, is_same
 from .shown import colored, fitted, png_of, put_number, windowed
 
+__all__ = ["bits_a_sample", "make_sheet", "sheet_of"]
+
 CELL = 160
 GAP = 8
 PLOT = 120
@@ -22,10 +24,13 @@ FAULT = (220, 60, 60)
 
 
 def sheet_of(recording: Recording, columns: int = 8, most: int = 64) -> np.ndarray:
-    """The page of a recording, (height, width, 3): at most so many of its frames, evenly taken, and the plot of all.
+    """The page of a recording, uint8 of (height, width, 3): small pictures of frames, and a plot of all frames' bits.
 
-    A frame is windowed from the least to the greatest sample of it. One that is at fault is a red field. Raises
-    ValueError if the recording has no frame.
+    columns: the number of pictures in a row.
+    most: the greatest number of pictures; of more frames evenly spaced ones are shown, from the first one on.
+
+    Each picture goes from black, the frame's least sample, to white, its greatest. A frame that can't be decoded is a
+    red field. Raises ValueError if the recording has no frame.
     """
     frames = len(recording)
     if frames == 0:
@@ -52,7 +57,7 @@ def sheet_of(recording: Recording, columns: int = 8, most: int = 64) -> np.ndarr
 
 
 def bits_a_sample(recording: Recording) -> np.ndarray:
-    """How many bits of its codestream each frame takes a sample; 0 where its header can't be read."""
+    """For each frame the bits of its codestream per sample; 0 where its header can't be read."""
     bits = []
     for number in range(len(recording)):
         try:
@@ -78,9 +83,13 @@ def _plot(field: np.ndarray, values: np.ndarray) -> None:
 
 
 def make_sheet(path: Union[str, Path], png: Union[str, Path], replace: bool = False) -> None:
-    """Writes the page of a recording as a PNG file. An existing file is replaced only if that is asked for.
+    """Writes the page of a recording as a PNG file.
 
-    Raises FileExistsError otherwise, and ValueError if there is no frame, or if the PNG file would be the recording.
+    path: the recording. png: the file to write.
+    replace: whether an existing file is replaced; otherwise it raises FileExistsError.
+
+    Raises ValueError if there is no frame, or if the PNG file would be the recording, and OSError if the recording can't
+    be read or the file can't be written.
     """
     if is_same(path, png):
         raise ValueError(f"{png}: this is the recording itself")

@@ -33,7 +33,7 @@ def windowed(array: np.ndarray, low: float, high: float) -> np.ndarray:
 
 
 def fitted(picture: np.ndarray, width: int, height: int) -> np.ndarray:
-    """A picture in at most so many pixels: made smaller by means of blocks, or larger by whole factors."""
+    """A picture of at most width by height pixels: made smaller by means of blocks, or larger by whole factors."""
     rows, columns = picture.shape[:2]
     step = max(-(-rows // height), -(-columns // width))
     if step > 1:

@@ -1,4 +1,7 @@
-"""A window on recordings: side by side, frame by frame, with window and level, zoom, and the sample under the pointer."""
+"""A window on recordings: side by side, frame by frame, with window and level, zoom, and the sample under the pointer.
+
+It requires tkinter, which on Debian is a package of its own: python3-tk.
+"""
 
 from __future__ import annotations
 
@@ -13,6 +16,8 @@ import numpy as np
 from . import JlsrecError, Recording
 from .sheet import bits_a_sample
 from .shown import fitted, portable, windowed
+
+__all__ = ["Pane", "Window", "show"]
 
 PLOT = 70
 KEYS = "arrows: frame · Home, End · space: play · + -: zoom · f: fit · a: window by the samples · r: whole range"
@@ -278,7 +283,12 @@ class Window:
 
 
 def show(paths: Sequence[str], rate: float) -> None:
-    """Opens the window on recordings and returns when it is closed. Raises OSError where one can't be opened."""
+    """Opens the window on recordings and returns when it is closed.
+
+    paths: the recordings, one or more. rate: frames a second when they play.
+
+    Raises OSError if a recording can't be opened, or if there is no display.
+    """
     for path in paths:
         Recording(path).close()
     try:

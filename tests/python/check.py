@@ -2,6 +2,8 @@
 
 from __future__ import annotations
 
+import inspect
+import pydoc
 import re
 import shutil
 import subprocess
@@ -58,6 +60,14 @@ header = jlsrec.read_header(EXAMPLE_CODED)
 case("its header", header == jlsrec.Header(4, 4, 1, 255, (3, 7, 21, 64)))
 case("its shape and type", header.shape == (4, 4) and header.dtype == np.uint8)
 case("a version", re.fullmatch(r"\d+\.\d+\.\d+", jlsrec.library_version()) is not None)
+case("and the package's is the same", jlsrec.__version__ == jlsrec.library_version())
+page = pydoc.plain(pydoc.render_doc(jlsrec))
+for name in jlsrec.__all__:
+    told = getattr(jlsrec, name)
+    case(f"pydoc has {name}", inspect.getdoc(told).splitlines()[0] in page)
+    if inspect.isfunction(told):
+        for each in inspect.signature(told).parameters:
+            case(f"{name} tells of {each}", re.search(rf"^ *(\w+ and )?{each}( and \w+)?: ", told.__doc__, re.MULTILINE))
 
 for path in sorted(films.glob("*.p?m")):
     images = images_of(path)
@@ -110,7 +120,7 @@ refuses("no bytes", jlsrec.JlsrecError, "truncated", jlsrec.decode, b"")
 refuses("no codestream", jlsrec.JlsrecError, "SOI", jlsrec.decode, b"P5 1 1 255 x")
 refuses("a codestream cut off", jlsrec.JlsrecError, "truncated", jlsrec.decode, EXAMPLE_CODED[:-9])
 refuses("a header cut off", jlsrec.JlsrecError, "truncated", jlsrec.read_header, EXAMPLE_CODED[:20])
-refuses("an array of another shape", ValueError, "out is to be", jlsrec.decode, EXAMPLE_CODED, np.zeros((4, 5), np.uint8))
+refuses("an array of another shape", ValueError, "out must be", jlsrec.decode, EXAMPLE_CODED, np.zeros((4, 5), np.uint8))
 refuses("an array that isn't whole", ValueError, "contiguous", jlsrec.decode, EXAMPLE_CODED, np.zeros((4, 8), np.uint8)[:, ::2])
 
 for number in (2**32 + 255, 2**64 + 255, 65536, 0, -1, -(2**32) + 255):

@@ -199,7 +199,7 @@ def check_pydicom() -> None:
         "a codestream that breaks off": (coded(plain, [source[0], source[1][:300]]), "frame 2: truncated"),
         "a frame too few": (coded(plain, source[:1]), "there are 1 of 2 frames"),
         "a frame too many": (coded(plain, [*source, source[0]]), "more than 2 frames"),
-        "other rows": (wrong, "is to be (30, 46)"),
+        "other rows": (wrong, "must be (30, 46)"),
         "other bits": (large, "maxval 4095"),
         "no codestream": (coded(plain, [b"P5 1 1 255 x", source[0]]), "frame 1: no SOI"),
     }

@@ -89,9 +89,9 @@ def _add_trees(commands: argparse._SubParsersAction) -> None:
     compress = commands.add_parser(
         "compress",
         help="a tree of DICOM files to JPEG-LS, each compared with its source",
-        description="Makes of each DICOM file of TREE one of OUT in JPEG-LS lossless, and compares it byte for byte "
-        "with what it was made of. What can't be coded is copied. TREE is only read. The same command goes on where it "
-        "was ended.",
+        description="Codes each DICOM file of TREE into a file of OUT, in JPEG-LS lossless, restores the source from "
+        "it, and compares that with TREE's, byte for byte. A file that can't be coded is copied. TREE is only read. The "
+        "same command continues a run that was interrupted.",
     )
     compress.add_argument("tree", metavar="TREE", help="a folder, which is only read")
     compress.add_argument("out", metavar="OUT", help="an empty folder, or that of an earlier run")
@@ -101,19 +101,19 @@ def _add_trees(commands: argparse._SubParsersAction) -> None:
     restore = commands.add_parser(
         "restore",
         help="a compressed tree back, byte for byte",
-        description="Makes of each file of OUT the one that it was made of, byte for byte. The same command goes on "
-        "where it was ended. No file is replaced.",
+        description="Restores the source of each file of OUT, byte for byte. No file is replaced. The same command "
+        "continues a run that was interrupted.",
     )
     restore.add_argument("out", metavar="OUT", help="a folder that a tree was compressed into")
     restore.add_argument("tree", metavar="TREE", help="the folder that gets the files")
     verify = commands.add_parser(
         "verify",
-        help="whether a compressed tree is what its manifest says",
-        description="Looks at the sums of each file of OUT, of its values and of its source, and compares it with "
-        "TREE's file if TREE is named. The same command goes on where it was ended.",
+        help="a compressed tree compared with its manifest",
+        description="Compares each file of OUT, its values and its source with the sums in the manifest, and with "
+        "TREE's file if TREE is named. The same command continues a run that was interrupted.",
     )
     verify.add_argument("out", metavar="OUT", help="a folder that a tree was compressed into")
-    verify.add_argument("tree", metavar="TREE", nargs="?", help="the tree that it was compressed of")
+    verify.add_argument("tree", metavar="TREE", nargs="?", help="the tree that was compressed")
     for command in (compress, restore, verify):
         workers = command.add_mutually_exclusive_group()
         workers.add_argument(
@@ -121,16 +121,16 @@ def _add_trees(commands: argparse._SubParsersAction) -> None:
             type=_count,
             default=len(os.sched_getaffinity(0)),
             metavar="N",
-            help="how many processes work at it; by default as many as there are processors",
+            help="the number of processes, 1 to 1024; by default the number of processors",
         )
-        workers.add_argument("--dask", metavar="ADDRESS", help="have the workers of this dask scheduler do it")
-        command.add_argument("--report", metavar="FILE", help="write what came of it as JSON")
+        workers.add_argument("--dask", metavar="ADDRESS", help="have the workers of this dask scheduler do the work")
+        command.add_argument("--report", metavar="FILE", help="write counts, sizes, speed and failures as JSON")
 
 
 def _count(word: str) -> int:
     number = int(word)
     if not 1 <= number <= 1024:
-        raise argparse.ArgumentTypeError("it is to be 1 to 1024")
+        raise argparse.ArgumentTypeError("not 1 to 1024")
     return number
 
 

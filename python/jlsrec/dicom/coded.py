@@ -66,7 +66,7 @@ class Reads(Protocol):
     size: int
 
     def read(self, at: int, count: int) -> bytes:
-        """Exactly so many bytes."""
+        """Exactly this number of bytes."""
 
 
 @dataclass(frozen=True)

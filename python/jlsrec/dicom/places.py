@@ -55,7 +55,7 @@ class Source:
             os.close(number)
 
     def read(self, at: int, count: int) -> bytes:
-        """Exactly so many bytes from a place on. Raises Changed if there are fewer."""
+        """Exactly this number of bytes from a place on. Raises Changed if there are fewer."""
         data = os.pread(self.number, min(count, 1 << 30), at)
         if len(data) == count:
             return data

@@ -206,7 +206,7 @@ def _silence() -> None:
 
 
 def _begin(parent: int) -> None:
-    """What a process of ours does first: it dies with its parent, which alone is told of Ctrl-C."""
+    """What a process of ours does first: it dies with its parent, which alone gets Ctrl-C."""
     signal.signal(signal.SIGINT, signal.SIG_IGN)
     signal.signal(signal.SIGTERM, signal.SIG_DFL)
     ctypes.CDLL(None).prctl(DEATH_SIGNAL, signal.SIGKILL)
