@@ -1,11 +1,9 @@
 /* Lossless JPEG-LS (ITU-T T.87) for C99 and C++17: pictures of one or three components, of 1 to 16 bits per sample,
  * with one scan per component. What each call returns and what it leaves in memory is proved, as described here, except
- * for three things, which are tested: how much a call allocates, that NO_MEMORY comes only if an allocation fails, and
- * which text jlsrec_text writes, of at most 64 bytes.
+ * that NO_MEMORY is returned if an allocation fails, and only then, which is tested.
  *
- * What a call returns and writes depends on its arguments alone. Calls keep no state, and may be made from any thread
- * at any time, also at the same time as others. Encoding, decoding and jlsrec_extent call malloc, realloc and free, and
- * return JLSREC_NO_MEMORY if an allocation fails.
+ * Calls keep no state, and may be made from any thread at any time, also at the same time as others. Encoding, decoding
+ * and jlsrec_extent call malloc, realloc and free; the other calls don't.
  *
  * The caller guarantees, for every call:
  *   - each pointer is valid, non-null and aligned for its type, even if the count beside it is 0 (it may then point
@@ -105,10 +103,7 @@ uint64_t jlsrec_bound(uint32_t components, uint32_t width, uint32_t height, uint
  *   bytes    the buffer for the codestream, of `room` bytes; jlsrec_bound bytes are always enough
  *   written  receives the codestream's size, in bytes
  *
- * Samples between rows, and after the last row, aren't read and may have any value.
- *
- * Allocates memory for two rows; for all samples, if there are other samples between rows; and, if jlsrec_bound is at
- * most 2^25 or over `room`, for about jlsrec_bound bytes, of which it writes as many as the codestream has.
+ * Samples between rows, and after the last row, may have any value.
  *
  * JLSREC_OK: the first *written bytes are T.87's codestream of this picture with these parameters; those after them are
  * unchanged. A buffer of exactly *written bytes is enough.
@@ -123,13 +118,13 @@ uint32_t jlsrec_encode_16(const jlsrec_form *form, const uint16_t *samples, size
                           size_t room, size_t *written);
 
 /* Reads the headers at the front of `count` bytes: SOI, the frame header, the coding parameters and the first scan's
- * header. Decodes no sample.
+ * header.
  *
  *   form     receives the form of the picture, with the coding parameters in force
  *   fault    receives the details of the fault
  *
- * JLSREC_OK: all of these are there and valid. It is always returned if the bytes begin with a codestream of a picture,
- * and *form is then that picture's. *fault is all 0.
+ * JLSREC_OK: all of these are there and valid, and *form is the one that they give. It is always returned if the bytes
+ * begin with a codestream of a picture, and *form is then that picture's. *fault is all 0.
  * 20 and above: the first fault, with its details in *fault; *form is all 0. No other status is returned. */
 uint32_t jlsrec_read_form(const uint8_t *bytes, size_t count, jlsrec_form *form, jlsrec_fault *fault);
 
@@ -145,10 +140,12 @@ uint32_t jlsrec_read_form(const uint8_t *bytes, size_t count, jlsrec_form *form,
  * JLSREC_OK: the first *used bytes are a codestream of exactly one picture, which *form and the samples are; samples
  * after these are unchanged. If the bytes begin with a codestream of a picture, this is returned, or NO_MEMORY, or one
  * of the next two.
- * JLSREC_NOT_8_BITS (jlsrec_decode_8 alone) and JLSREC_NO_ROOM: everything before the data of the first scan is valid,
- * and describes a picture of *form, whose maxval is over 255, or which has more than `room` samples; the data isn't
- * examined. *used is 0, and `samples` is unchanged.
- * JLSREC_NO_MEMORY: only if everything before the data of the first scan is valid. `samples` is unchanged.
+ * JLSREC_NOT_8_BITS (jlsrec_decode_8 alone): everything before the data of the first scan is valid, and describes a
+ * picture of *form, whose maxval is over 255.
+ * JLSREC_NO_ROOM: the same, but the maxval fits, and the picture has more than `room` samples. With both statuses the
+ * data may be faulty, *used is 0, and `samples` is unchanged.
+ * JLSREC_NO_MEMORY: only if everything before the data of the first scan is valid, and describes a picture that fits in
+ * `samples`, which is unchanged.
  * 20 and above: the first fault, with its details in *fault (for other statuses *fault is all 0). The first samples, as
  * many as the picture has, are unspecified; those after them are unchanged.
  * After JLSREC_NO_MEMORY, and after 20 and above, *used is 0 and *form is all 0. */
@@ -159,23 +156,21 @@ uint32_t jlsrec_decode_16(const uint8_t *bytes, size_t count, uint16_t *samples,
 
 /* Finds the size of the next codestream by its markers alone, where codestreams follow one another: the bytes up to and
  * including EOI; or up to and including the byte that shows that the markers are malformed; or all bytes, if they end
- * before either. Decoding this number of bytes gives the same result as decoding all of them. Bytes after these don't
- * affect the result, but may be read.
- *
- * Allocates 64 KiB, and somewhat more than the codestream's size, since it copies the codestream.
+ * before either. If the bytes begin with a codestream of a picture, these are it; otherwise they have the same first
+ * fault as all bytes. Bytes after these don't affect the result, but may be read.
  *
  * JLSREC_OK: *extent is that size. It is 0 only if `count` is.
- * JLSREC_NO_MEMORY, or JLSREC_TOO_LARGE if there are 4,294,967,295 bytes that show neither EOI nor malformed markers:
- * *extent is 0. */
+ * JLSREC_NO_MEMORY: only if `count` isn't 0. *extent is 0.
+ * JLSREC_TOO_LARGE: the first 4,294,967,295 bytes show neither EOI nor malformed markers. *extent is 0. */
 uint32_t jlsrec_extent(const uint8_t *bytes, size_t count, size_t *extent);
 
-/* Writes the English text of a status, as the command jlsrec says it: "bad code in component 1"; for a number that is
- * no status, "unknown status". `fault` is what the call wrote; for a call that has none, all 0.
+/* Writes the English text of a status: "bad code in component 1"; for a number that is no status, "unknown status".
+ * `fault` is what the call wrote; for a call that has none, all 0.
  *
  *   text     the buffer for the text, which is cut to `room` - 1 bytes and followed by a 0; nothing is written if
  *            `room` is 0. Bytes after that 0 are unchanged
  *
- * Returns the length of the uncut text in bytes, without the 0: at most 64. */
+ * Returns the length of the uncut text in bytes, without the 0: at most 64. The text has no byte 0. */
 size_t jlsrec_text(uint32_t status, const jlsrec_fault *fault, char *text, size_t room);
 
 /* Returns the version of the library: 10000 times its first number, plus 100 times the second, plus the third. */

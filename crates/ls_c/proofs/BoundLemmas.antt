@@ -1,5 +1,6 @@
 -- How long a codestream of a form may be.
-use Rattle.std.proofs.Common.{◌≡◌, ℕ, ◌+◌, ◌*◌, ◌/◌, ◌≤◌, Bool, true, false, cond, length, refl, sym, ◌∙◌, ap, arith}
+use Rattle.std.proofs.Common.{◌≡◌, ℕ, ◌+◌, ◌*◌, ◌/◌, ◌^◌, ◌<◌, ◌≤◌, Bool, true, false, cond, length, refl, sym, ◌∙◌, ap, div-mul-le_self, arith}
+use Rattle.std.proofs.lemmas.Nat.{mul-le}
 use Rattle.ls_frame.specs.declared.frame.Kind.{Kind}
 use Rattle.ls_frame.specs.declared.frame.Kind.TheVariants.{Gray, Color}
 use Rattle.ls_frame.specs.Picture.{Picture, IsFrame, components}
@@ -35,3 +36,14 @@ within_most f p form frame legal same is =
 pub at_most : (form : JlsrecForm) (count limit w h n : ℕ) → count ≡ components (kind_of form.components) → limit ≡ limit_of form.maxval → w ≡ form.width → h ≡ form.height
     → n ≤ most_bytes_of form → n ≤ 29 + 13 * count + count * (limit * (w * h) / 7 + 1)
 at_most form count limit w h n e1 e2 e3 e4 within = rw e1 (rw e2 (rw e3 (rw e4 within)))
+
+-- LIMIT bits for each sample, seven to a byte, and a little more
+pub most_small : (count limit w h : ℕ) → count ≤ 3 → limit ≤ 64 → w * h * count ≤ 2 ^ 28 → 29 + 13 * count + count * (limit * (w * h) / 7 + 1) < 2 ^ 32
+most_small count limit w h three small few =
+    let bits = limit * (w * h) in
+    let all : count * bits ≡ limit * (w * h * count) = omega arith in
+    let most : limit * (w * h * count) ≤ 64 * 2 ^ 28 = mul-le limit (w * h * count) 64 (2 ^ 28) small few in
+    let sevenths : count * (bits / 7 * 7) ≤ count * bits = mul-le count (bits / 7 * 7) count bits (omega arith) (div-mul-le_self bits 7) in
+    let split : count * (bits / 7 + 1) ≡ count * (bits / 7) + count = omega arith in
+    let turned : count * (bits / 7 * 7) ≡ 7 * (count * (bits / 7)) = omega arith in
+    omega arith

@@ -4,8 +4,7 @@ use Rattle.std.proofs.lemmas.Bool.Decides.{nat_tests}
 use Rattle.ls_frame.specs.Picture.{Picture, IsFrame}
 use Rattle.ls_stream.specs.declared.faults.StreamFault.{StreamFault}
 use Rattle.ls_stream.specs.declared.faults.StreamFault.TheVariants as stream
-use Rattle.ls_stream.specs.Grammar.{Spells, most_bytes}
-use Rattle.ls_stream.specs.Faults.{BeginsWithOpening}
+use Rattle.ls_stream.specs.Grammar.{Spells}
 use Rattle.ls_stream.specs.View.Outlines.{IsFirstFault}
 use Rattle.ls_c.specs.declared.form.JlsrecForm.{JlsrecForm}
 use Rattle.ls_c.specs.declared.form.JlsrecFault.{JlsrecFault}
@@ -13,7 +12,7 @@ use Rattle.ls_c.specs.declared.refusal.Refusal.{Refusal}
 use Rattle.ls_c.specs.declared.refusal.Refusal.TheVariants as refusal
 use Rattle.ls_c.specs.Forms.{no_form, IsOfForm}
 use Rattle.ls_c.specs.Refusals.{fault_number, number_of, status_by, details_of, no_details}
-use Rattle.ls_c.specs.Calls.{HaveForm, SaysForm, samples_of, KeepsBeyond, same, IsUnopened, too_deep, too_large, at_fault, IsDecoding, within, laid}
+use Rattle.ls_c.specs.Calls.{HaveForm, SaysForm, samples_of, HaveFitting, KeepsBeyond, same, IsUnopened, too_deep, too_large, at_fault, IsDecoding, within, laid}
 use Rattle.ls_c.proofs.NumberLemmas.{fault_above, fault_some, fault_not_two}
 
 -- ---- a frame and its form
@@ -81,7 +80,7 @@ first_in bytes first high found = elim found [ inl memory ↦ absurd (not_memory
 -- a fault: of the opening, or after it, where an allocation may fail too
 pub stopped : (most : ℕ) (bytes old new : List ℕ) (form : JlsrecForm) (used : ℕ) (fault : JlsrecFault) (first : StreamFault)
     → ((front rest : List ℕ) (f : Picture) → bytes ≡ front ++ rest → Spells front f → first ≡ stream.NoMemory)
-    → (first ≡ stream.NoMemory) ⊎ IsFirstFault bytes first → (first ≡ stream.NoMemory → BeginsWithOpening (take most_bytes bytes))
+    → (first ≡ stream.NoMemory) ⊎ IsFirstFault bytes first → (first ≡ stream.NoMemory → HaveFitting most (length old) bytes)
     → (first ≡ stream.NoMemory → new ≡ old) → KeepsBeyond bytes old new → fault ≡ details_of first → used ≡ 0 → form ≡ no_form
     → IsDecoding most bytes old new form used fault (fault_number first)
 stopped most bytes old new form used fault first only found memory kept beyond says unused formless = record {

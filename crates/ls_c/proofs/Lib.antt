@@ -3,6 +3,8 @@ mod DecodingLemmas
 mod EncodingLemmas
 mod ExtentLemmas
 mod NumberLemmas
+mod OneOpeningLemmas
 mod OpeningLemmas
 mod PresetLemmas
 mod RowLemmas
+mod TextLemmas

@@ -11,7 +11,7 @@ use Rattle.ls_c.specs.declared.form.JlsrecForm.{JlsrecForm}
 use Rattle.ls_c.specs.declared.form.JlsrecFault.{JlsrecFault}
 use Rattle.ls_c.specs.Forms.{IsOfForm}
 use Rattle.ls_c.specs.Refusals.{no_details}
-use Rattle.ls_c.specs.Calls.{HaveForm, SaysForm, form_by, samples_of, IsDecoding, laid}
+use Rattle.ls_c.specs.Calls.{HaveForm, SaysForm, form_by, samples_of, HaveFitting, IsDecoding, laid}
 use Rattle.ls_c.proofs.DecodingLemmas.{decoded}
 
 -- a frame of the form of an opening has the form that is given for it
@@ -48,6 +48,16 @@ decoded_of most bytes old new form used fault o places same_bytes fits has says 
     decoded most bytes old new form used fault f fits.0 (omega (arith, whole.1.frame.formed.count, fits.1)) says
     (told o form f has.1 (record { kind = refl; width = refl; height = refl; maxval = refl })) has.0 whole.0 whole.1 none
     (λ front rest g e s. only front rest g (same_bytes ∙ e) s) laid_is
+
+-- the opening is of a picture that fits
+pub fitting : (most room : ℕ) (bytes : List ℕ) (form : JlsrecForm) (o : Opened) → (o.parameters.maxval ≤ most) × (sample_count o.kind o.width o.height ≤ room)
+    → HaveForm bytes form × (form ≡ form_by o) → HaveFitting most room bytes
+fitting most room bytes form o fits has = (
+  form,
+  has.0,
+  subst (λ (x : JlsrecForm). x.maxval ≤ most) (sym has.1) fits.0,
+  subst (λ (x : JlsrecForm). samples_of x ≤ room) (sym has.1) fits.1,
+)
 
 -- the number of samples that an opening gives
 pub form_samples : (o : Opened) (form : JlsrecForm) → form ≡ form_by o → samples_of form ≡ sample_count o.kind o.width o.height

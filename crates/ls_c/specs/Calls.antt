@@ -1,13 +1,12 @@
 -- What the exported calls promise.
-use Rattle.std.specs.Prelude.{◌≡◌, ◌≢◌, ◌⊎◌, ℕ, ◌<◌, ◌≤◌, nat_le, List, [], ◌∷◌, ◌++◌, length, take, drop, Option, None, ◌*◌}
+use Rattle.std.specs.Prelude.{◌≡◌, ◌≢◌, ◌⊎◌, ◌↔◌, ℕ, ◌<◌, ◌≤◌, nat_le, List, [], ◌∷◌, ◌++◌, length, take, drop, Option, None, ◌*◌}
 use Rattle.ls_frame.specs.Picture.{Picture, IsFrame, components}
 use Rattle.ls_stream.specs.declared.faults.StreamFault.{StreamFault}
 use Rattle.ls_stream.specs.declared.faults.StreamFault.TheVariants.{NoMemory}
-use Rattle.ls_stream.specs.Grammar.{Spells, most_bytes}
-use Rattle.ls_stream.specs.Faults.{BeginsWithOpening}
+use Rattle.ls_stream.specs.Grammar.{Spells}
 use Rattle.ls_stream.specs.View.Outlines.{IsFirstFault}
 use Rattle.ls_stream.specs.View.Openings.{Opened, SaysSo}
-use Rattle.ls_stream.specs.View.Extents.{IsNext}
+use Rattle.ls_stream.specs.View.Extents.{IsNext, BeginsEndless}
 use Rattle.ls_c.specs.declared.form.JlsrecForm.{JlsrecForm}
 use Rattle.ls_c.specs.declared.form.JlsrecFault.{JlsrecFault}
 use Rattle.ls_c.specs.declared.refusal.Refusal.{Refusal}
@@ -48,6 +47,8 @@ pub record HaveForm (bytes : List ℕ) (form : JlsrecForm) : Type 0 where
   pub of_bytes : opened.bytes ≡ bytes
   pub says : SaysSo opened
   pub form_is : form ≡ form_by opened
+  -- there is one form: however the opening is read, it gives this one
+  pub only : (other : Opened) → other.bytes ≡ bytes → SaysSo other → form_by other ≡ form
 
 -- the form is that of each frame whose codestream the bytes begin with
 abbrev pub SaysForm : List ℕ → JlsrecForm → Type 0
@@ -56,6 +57,10 @@ SaysForm bytes form = (front rest : List ℕ) (f : Picture) → bytes ≡ front 
 -- the number of samples of a picture of this form
 abbrev pub samples_of : JlsrecForm → ℕ
 samples_of form = form.width * form.height * form.components
+
+-- the bytes begin with a complete legal opening, and its picture fits in `room` samples of at most `most`
+abbrev pub HaveFitting : ℕ → ℕ → List ℕ → Type 0
+HaveFitting most room bytes = (form : JlsrecForm) × HaveForm bytes form × (form.maxval ≤ most) × (samples_of form ≤ room)
 
 -- Samples are unchanged; or all are but the first ones, as many as the form that the bytes give has.
 pub data KeepsBeyond (bytes old new : List ℕ) : Type 0 where
@@ -94,8 +99,8 @@ pub record IsDecoding (most : ℕ) (bytes old new : List ℕ) (form : JlsrecForm
   -- no room, or not 8 bits: the form is given, and it is the one that doesn't fit, whatever the data
   pub no_room : status ≡ 2 → HaveForm bytes form × (form.maxval ≤ most) × (length old < samples_of form)
   pub too_deep : status ≡ 14 → HaveForm bytes form × (most < form.maxval)
-  -- an allocation is tried only after a complete legal opening
-  pub memory : status ≡ 1 → BeginsWithOpening (take most_bytes bytes)
+  -- an allocation is tried only after a complete legal opening, of a picture that fits
+  pub memory : status ≡ 1 → HaveFitting most (length old) bytes
   -- there is no other status; and what the caller's memory holds after each
   pub statuses : (status ≡ 0) ⊎ (status ≡ 1) ⊎ (status ≡ 2) ⊎ (status ≡ 14) ⊎ (20 ≤ status)
   pub kept : status ≢ 0 → status < 20 → new ≡ old
@@ -120,8 +125,10 @@ pub record IsExtent (bytes : List ℕ) (extent status : ℕ) : Type 0 where
   pub within : extent ≤ length bytes
   pub next : status ≡ 0 → bytes ≢ [] → IsNext (take extent bytes) (drop extent bytes)
   pub complete : (front rest : List ℕ) (f : Picture) → bytes ≡ front ++ rest → Spells front f → (status ≡ 1) ⊎ ((status ≡ 0) × (extent ≡ length front))
+  -- they have the first fault of all bytes
+  pub fault : status ≡ 0 → (cause : StreamFault) → IsFirstFault (take extent bytes) cause ↔ IsFirstFault bytes cause
   pub memory : status ≡ 1 → 0 < length bytes
-  pub too_large : status ≡ 39 → most_bytes ≤ length bytes
+  pub too_large : status ≡ 39 → BeginsEndless bytes
   pub none : status ≢ 0 → extent ≡ 0
 
 -- A buffer to which a text was written, cut to fit, with a 0 after it; the rest is unchanged.

@@ -2,3 +2,4 @@ pub mod Calls
 pub mod Forms
 pub mod Refusals
 pub mod Requests
+pub mod Texts

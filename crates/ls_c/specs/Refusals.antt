@@ -1,5 +1,5 @@
 -- The statuses: 0 if a call did what it was asked to do, and a number for each refusal.
-use Rattle.std.specs.Prelude.{◌≡◌, ℕ, Option, None, Some, Result, Ok, Err}
+use Rattle.std.specs.Prelude.{ℕ, Option, None, Some, Result, Ok, Err}
 use Rattle.ls_frame.specs.declared.presets.PresetFault.{PresetFault}
 use Rattle.ls_frame.specs.declared.presets.PresetFault.TheVariants.{MaxvalRange, T1Range, T2Range, T3Range, ResetRange}
 use Rattle.ls_stream.specs.declared.faults.StreamFault.{StreamFault}
@@ -104,41 +104,3 @@ details_of (BadPresets fault) = no_details
 details_of TooLarge = no_details
 details_of (BadCode component) = details component 0 0
 details_of (LeftoverBits component) = details component 0 0
-
--- the details agree with what a refusal says beside its status; the other details may be anything
-abbrev pub IsNamedWhat : What → JlsrecFault → Type 0
-IsNamedWhat (what.Marker code) d = code ≡ d.marker
-IsNamedWhat (what.Components count) d = count ≡ d.number
-IsNamedWhat what.HeightZero d = Unit {0}
-IsNamedWhat what.Sampling d = Unit {0}
-IsNamedWhat what.Mapping d = Unit {0}
-IsNamedWhat what.Near d = Unit {0}
-IsNamedWhat what.Interleave d = Unit {0}
-IsNamedWhat what.PointTransform d = Unit {0}
-IsNamedWhat (what.LseId id) d = id ≡ d.number
-IsNamedWhat what.LseLate d = Unit {0}
-IsNamedWhat what.ScanOrder d = Unit {0}
-
-abbrev pub IsNamedFault : StreamFault → JlsrecFault → Type 0
-IsNamedFault NoMemory d = Unit {0}
-IsNamedFault Truncated d = Unit {0}
-IsNamedFault NotSoi d = Unit {0}
-IsNamedFault BadSegment d = Unit {0}
-IsNamedFault (Unsupported what) d = IsNamedWhat what d
-IsNamedFault (BadPresets fault) d = Unit {0}
-IsNamedFault TooLarge d = Unit {0}
-IsNamedFault (BadCode component) d = component ≡ d.component
-IsNamedFault (LeftoverBits component) d = component ≡ d.component
-
-abbrev pub IsNamed : Refusal → JlsrecFault → Type 0
-IsNamed refusal.NoRoom d = Unit {0}
-IsNamed refusal.Components d = Unit {0}
-IsNamed refusal.Side d = Unit {0}
-IsNamed refusal.TooManySamples d = Unit {0}
-IsNamed refusal.Maxval d = Unit {0}
-IsNamed refusal.Stride d = Unit {0}
-IsNamed refusal.TooFewSamples d = Unit {0}
-IsNamed refusal.SampleTooLarge d = Unit {0}
-IsNamed (refusal.Preset fault) d = Unit {0}
-IsNamed refusal.NotEightBits d = Unit {0}
-IsNamed (refusal.Stream fault) d = IsNamedFault fault d

@@ -6,8 +6,6 @@ ghost use Rattle.ls_frame.specs.Parameters.{IsLegal};
 ghost use Rattle.ls_frame.specs.View.Numbers.{numbers, most_of};
 ghost use Rattle.ls_stream.specs.Grammar.{Spells};
 ghost use Rattle.ls_stream.specs.Layout.{codestream};
-ghost use Rattle.ls_stream.specs.Grammar.{most_bytes};
-ghost use Rattle.ls_stream.specs.Faults.{BeginsWithOpening};
 ghost use Rattle.ls_stream.specs.View.Outlines.{IsFirstFault};
 ghost use Rattle.ls_stream.specs.View.Openings.{opened_form};
 ghost use Rattle.ls_c.specs.Forms.{coding_refusal, no_form};
@@ -15,7 +13,7 @@ ghost use Rattle.ls_c.specs.Refusals.{status_by, status_of, details_of, no_detai
 ghost use Rattle.ls_c.specs.Calls.{IsEncoding, IsDecoding, IsUnopened, HaveForm, SaysForm, form_by, laid};
 
 use crate::form::{JlsrecFault, JlsrecForm, details_of, form_by, no_details, no_form};
-use crate::refusal::{NO_MEMORY, Refusal};
+use crate::refusal::Refusal;
 use crate::request::{Request, adjacent, joined, request_of};
 use ls_frame::{FrameView, PictureView, Presets, Sample, Samples};
 use ls_stream::laws::codestreams_spell_their_frames;
@@ -62,8 +60,7 @@ pub fn encode(
 }
 
 /// Encodes the samples of a picture, whose rows have no gaps, to the front of `bytes`, and sets `written` to the number
-/// of bytes of its codestream. If its bound is small, or `bytes` may be too small, this encodes into a buffer of its
-/// own, which checks samples while they are coded; else it checks all samples first, and encodes into `bytes`.
+/// of bytes of its codestream.
 fn encode_joined(
     alloc: Global,
     request: Request,
@@ -94,6 +91,7 @@ fn encode_joined(
     let presets = &request.presets;
     let picture = PictureView::from_parts(request.form, samples);
     let bound = picture_bound(&picture, presets);
+    // In a buffer of their own samples are checked while they are coded; in the caller's all are checked before.
     if bound <= MOST_HANDED_OUT_AGAIN || bound > bytes.len() as u64 {
         return encode_apart(alloc, &picture, presets, bytes, written);
     }
@@ -141,7 +139,8 @@ fn encode_apart(
 /// Decodes the codestream at the front of `bytes` to the front of `samples`; sets `form`, and `used` to the number of
 /// bytes of the codestream. If `samples` is too small (`NoRoom`) or can't hold maxval (`NotEightBits`), `form` is set
 /// all the same. If the bytes can't be decoded, `fault` has the details, and the samples of the frame may have been
-/// overwritten. After any other refusal, `samples` is unchanged.
+/// overwritten. After any other refusal, `samples` is unchanged. `NoMemory` comes only if all before the data of the
+/// first scan is legal and its frame fits.
 pub fn decode<S: Sample>(
     alloc: Global,
     bytes: &[u8],
@@ -171,8 +170,8 @@ pub fn decode<S: Sample>(
     }
 }
 
-/// Opens the codestream at the front of `bytes`, if its frame fits in `room` samples of at most `most`. Sets `form` if
-/// the bytes begin with a legal opening, else sets `fault` to the details of the first fault.
+/// Opens the codestream at the front of `bytes`, if its frame fits in `room` samples of at most `most`. Sets `form` to
+/// the one that its opening gives, or sets `fault` to the details of the first fault.
 fn open<'a>(
     bytes: &'a [u8],
     most: u16,
@@ -181,7 +180,6 @@ fn open<'a>(
     fault: &mut JlsrecFault,
 ) -> Result<Opening<'a>, Refusal>
     ensures bytes { IfOk result (λ opening. opening.bytes ≡ bytes.now) }
-    ensures begins { IfOk result (λ opening. BeginsWithOpening (take most_bytes bytes.now)) }
     ensures fits { IfOk result (λ opening. (opening.parameters.maxval ≤ most) × (sample_count opening.kind opening.width opening.height ≤ room)) }
     ensures form { IfOk result (λ opening. HaveForm bytes.now form.new × (form.new ≡ form_by opening)) }
     ensures spelled { IfOk result (λ opening. SaysForm bytes.now form.new) }

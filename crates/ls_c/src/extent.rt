@@ -1,5 +1,5 @@
 //! The length of the next codestream, and a bound on the length of one of a given form.
-ghost use Rattle.std.specs.Prelude.{◌≡◌, ◌<◌, ◌≤◌, List, ℕ, length};
+ghost use Rattle.std.specs.Prelude.{◌≡◌, ◌^◌, ◌<◌, ◌≤◌, List, ℕ, length};
 ghost use Rattle.ls_frame.specs.Picture.{Picture, IsFrame};
 ghost use Rattle.ls_frame.specs.Parameters.{Parameters, IsLegal};
 ghost use Rattle.ls_stream.specs.Layout.{codestream};
@@ -38,10 +38,11 @@ pub fn next_extent(alloc: Global, bytes: &[u8], extent: &mut usize) -> Result<()
     }
 }
 
-/// Returns an upper bound on the bytes of a codestream of this form, with any coding parameters; 0 if there is no
-/// picture of it.
+/// Returns an upper bound on the bytes of a codestream of this form, with any coding parameters, which is less than
+/// 2^32; 0 if there is no picture of it.
 pub fn bound(form: &JlsrecForm) -> u64
     ensures value { result ≡ bound_of form.now }
+    ensures small { result < 2 ^ 32 }
     ensures enough { (f : Picture) (p : Parameters) → IsFrame f → IsLegal p → p.maxval ≡ f.maxval → IsOfForm f form.now
         → length (codestream f p) ≤ result }
 {

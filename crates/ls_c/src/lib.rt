@@ -2,9 +2,9 @@
 //!
 //! Its interface is the exported functions. `library/include/jlsrec.h` declares them for C and says what each returns
 //! and leaves in memory; `specs/Calls.antt` says the same, call by call (`IsEncoding`, `IsDecoding`, `IsReading`,
-//! `IsExtent`), in terms of the forms and rows of `specs/Forms.antt` and the statuses of `specs/Refusals.antt`, except
-//! how much is allocated, that NO_MEMORY comes only if an allocation fails, and which words a text has. In C a slice is
-//! a pointer followed by a count, and `alloc` is no parameter: it stands for the malloc, realloc and free of the
+//! `IsExtent`), in terms of the forms and rows of `specs/Forms.antt`, the statuses of `specs/Refusals.antt` and the
+//! texts of `specs/Texts.antt`, except that NO_MEMORY is returned if an allocation fails, and only then. In C a slice
+//! is a pointer followed by a count, and `alloc` is no parameter: it stands for the malloc, realloc and free of the
 //! process.
 //!
 //! In reading order: `form` (the structs shared with C), `refusal` (why a call refuses, and the statuses), `request`
@@ -21,12 +21,14 @@ mod refusal;
 mod request;
 mod text;
 
-ghost use Rattle.std.specs.Prelude.{◌≡◌, ◌≤◌, ℕ, List, length};
+ghost use Rattle.std.specs.Prelude.{◌≡◌, ◌^◌, ◌<◌, ◌≤◌, length};
+ghost use Rattle.std.specs.List.{AllByRecursion};
 ghost use Rattle.ls_frame.specs.Picture.{Picture, IsFrame};
 ghost use Rattle.ls_frame.specs.Parameters.{Parameters, IsLegal};
 ghost use Rattle.ls_stream.specs.Layout.{codestream};
 ghost use Rattle.ls_c.specs.Calls.{IsEncoding, IsDecoding, IsReading, IsExtent, printed};
 ghost use Rattle.ls_c.specs.Forms.{bound_of, plain_form, IsOfForm};
+ghost use Rattle.ls_c.specs.Texts.{text_of};
 
 use coding::{decode, encode};
 use extent::{bound, next_extent};
@@ -101,8 +103,8 @@ pub extern "C" fn jlsrec_decode_8(
     status_of(decode(alloc, bytes, samples, form, used, fault))
 }
 
-/// Sets `form` to that of the codestream at the front of `bytes`, read from its headers alone, or `fault` to the
-/// details of its first fault. Returns the status.
+/// Sets `form` to the one that the headers at the front of `bytes` give, or `fault` to the details of the first fault.
+/// Returns the status.
 #[unsafe(no_mangle)]
 pub extern "C" fn jlsrec_read_form(
     bytes: &[u8],
@@ -122,21 +124,26 @@ pub extern "C" fn jlsrec_extent(alloc: Global, bytes: &[u8], extent: &mut usize)
     status_of(next_extent(alloc, bytes, extent))
 }
 
-/// Returns an upper bound on the bytes of a codestream of a picture of this form, with any coding parameters; 0 if
-/// there is no such picture.
+/// Returns an upper bound on the bytes of a codestream of a picture of this form, with any coding parameters, which is
+/// less than 2^32; 0 if there is no such picture.
 #[unsafe(no_mangle)]
 pub extern "C" fn jlsrec_bound(components: u32, width: u32, height: u32, maxval: u32) -> u64
     ensures value { result ≡ bound_of (plain_form components width height maxval) }
+    ensures small { result < 2 ^ 32 }
     ensures enough { (f : Picture) (p : Parameters) → IsFrame f → IsLegal p → p.maxval ≡ f.maxval
         → IsOfForm f (plain_form components width height maxval) → length (codestream f p) ≤ result }
 {
     bound(&plain_form(components, width, height, maxval))
 }
 
-/// Writes the text of a status to `text`, cut to fit, with a 0 after it. Returns the length of the uncut text.
+/// Writes the text of a status to `text`, cut to fit, with a 0 after it. Returns the length of the uncut text, which is
+/// at most 64 and has no 0.
 #[unsafe(no_mangle)]
 pub extern "C" fn jlsrec_text(status: u32, fault: &JlsrecFault, text: &mut [u8]) -> usize
-    ensures { (said : List ℕ) × (result ≡ length said) × (text.new ≡ printed said text.old) }
+    ensures text { text.new ≡ printed (text_of status fault.now) text.old }
+    ensures count { result ≡ length (text_of status fault.now) }
+    ensures short { result ≤ 64 }
+    ensures no_zero { AllByRecursion (λ byte. 0 < byte) (text_of status fault.now) }
 {
     print(status, fault, text)
 }

@@ -7,7 +7,7 @@ use crate::form::{JlsrecFault, JlsrecForm, details_of, form_by, no_details, no_f
 use crate::refusal::Refusal;
 use ls_stream::Opening;
 
-/// Sets `form` to that of the codestream at the front of `bytes`, or sets `fault` to the details of the first fault.
+/// Sets `form` to the one that the headers at the front of `bytes` give, or `fault` to the details of the first fault.
 pub fn read_form(
     bytes: &[u8],
     form: &mut JlsrecForm,

@@ -1,5 +1,5 @@
 //! A request to encode: a form, its coding parameters, and the layout of its rows.
-ghost use Rattle.std.specs.Prelude.{◌≡◌, ◌*◌, ◌<◌, ◌≤◌, true, false, None, Some, IfOk, IfSome, MatchOption, MatchResult, take, drop};
+ghost use Rattle.std.specs.Prelude.{◌≡◌, ◌≢◌, ◌*◌, ◌<◌, ◌≤◌, true, false, None, Some, IfOk, MatchOption, MatchResult, take, drop};
 ghost use Rattle.ls_frame.specs.Picture.{components, sample_count, most_samples};
 ghost use Rattle.ls_frame.specs.Parameters.{preset_fault, IsLegal};
 ghost use Rattle.ls_frame.specs.Tuning.{or_default};
@@ -187,7 +187,7 @@ pub fn joined<T: Copy>(alloc: Global, rows: &Rows, samples: &[T]) -> Result<Vec<
 
 /// Returns the samples of a picture whose rows have no gaps; `None` if they have.
 pub fn adjacent<'a>(request: &Request, samples: Samples<'a>) -> Option<Samples<'a>>
-    ensures { IfSome result (λ front. (request.now.rows.stride ≡ request.now.rows.row)
+    ensures { MatchOption result (request.now.rows.stride ≢ request.now.rows.row) (λ front. (request.now.rows.stride ≡ request.now.rows.row)
         × (numbers front ≡ take (sample_count request.now.form.kind request.now.form.width request.now.form.height) (numbers samples.entry))) }
 {
     if request.rows.stride != request.rows.row {

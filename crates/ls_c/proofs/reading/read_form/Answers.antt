@@ -1,25 +1,21 @@
-use Rattle.std.proofs.Common.{◌≤◌, inl, inr, refl, sym, ap, ◌∙◌, arith}
-use Rattle.ls_frame.specs.Picture.{components}
-use Rattle.ls_c.specs.declared.form.JlsrecForm.{JlsrecForm}
+use Rattle.std.proofs.Common.{ℕ, List, ◌≤◌, get_or, Fits, w8, inl, inr, refl, arith}
+use Rattle.ls_bits.specs.Bits.{AreBytes}
+use Rattle.ls_stream.proofs.FrameReadingLemmas.{are_bytes}
 use Rattle.ls_c.specs.Refusals.{fault_number}
 use Rattle.ls_c.proofs.NumberLemmas.{fault_above}
+use Rattle.ls_c.proofs.OneOpeningLemmas.{has_form}
+use Rattle.ls_c.proofs.OpeningLemmas.{told}
 use Rattle.ls_c.proofs.reading.read_form.Goals as goal
 
 pub returns-in-Ok : goal.returns-in-Ok
-returns-in-Ok c = record {
-  done = λ _. (record { opened = c.in-Ok.opening; of_bytes = c.in-Ok.ensures.bytes; says = c.in-Ok.ensures.says; form_is = c.form_by.ensures }, c.no_details.ensures);
-  complete = λ front rest f e spelled.
-      let is = c.in-Ok.ensures.form front rest f e spelled in (
-        refl,
-        record {
-          components = ap components is.kind ∙ sym (ap (λ (form : JlsrecForm). form.components) c.form_by.ensures);
-          width = is.width ∙ sym (ap (λ (form : JlsrecForm). form.width) c.form_by.ensures);
-          height = is.height ∙ sym (ap (λ (form : JlsrecForm). form.height) c.form_by.ensures);
-          maxval = is.maxval ∙ sym (ap (λ (form : JlsrecForm). form.maxval) c.form_by.ensures);
-        },
-      );
-  faulty = λ some. absurd (some refl);
-}
+returns-in-Ok c =
+    let bytes : List ℕ = c.args.bytes.now in
+    let are : AreBytes bytes = are_bytes bytes (λ i. let fits : Fits w8 (get_or bytes i 0) = c.type_inv.bytes i in omega arith) in
+    record {
+      done = λ _. (has_form bytes c.in-Ok.opening c.form_by.result are c.in-Ok.ensures.bytes c.in-Ok.ensures.says c.form_by.ensures, c.no_details.ensures);
+      complete = λ front rest f e spelled. (refl, told c.in-Ok.opening c.form_by.result f c.form_by.ensures (c.in-Ok.ensures.form front rest f e spelled));
+      faulty = λ some. absurd (some refl);
+    }
 
 pub returns-in-Err : goal.returns-in-Err
 returns-in-Err c =
