@@ -1,5 +1,5 @@
 //! Standard output, and the statuses that the program exits with.
-ghost use Rattle.std.specs.Prelude.{◌≡◌, ◌⊎◌, ◌==◌};
+ghost use Rattle.std.specs.Prelude.{◌≡◌, ◌≢◌, ◌⊎◌, ◌==◌};
 ghost use Rattle.std.specs.Io.KnownBytes.{Appends, Keeps};
 ghost use Rattle.ls_frame.specs.View.Devices.{wrapped, failed_calls, count_after};
 
@@ -31,7 +31,7 @@ pub fn write_text<W: Write, E: Outlet>(
 }
 
 /// Flushes `output`, unless a write to it has failed, and returns the status to exit with: `FAILED` if the flush
-/// fails.
+/// fails, or if a write had failed and the status is `DONE`.
 pub fn finish<W: Write, E: Outlet>(
     status: u8,
     output: &mut Counted<W>,
@@ -39,9 +39,10 @@ pub fn finish<W: Write, E: Outlet>(
 ) -> u8
     ensures status { (result ≡ status) ⊎ (result ≡ FAILED) }
     ensures bytes { Keeps (W.contents (wrapped output.old)) (W.contents (wrapped output.new)) }
+    ensures failures { result ≡ DONE → failed_calls output.new ≡ 0 }
 {
     if Outlet::failures(output) > 0 {
-        return status;
+        return after_failure(status, output.last_failure(), console);
     }
     match output.flush() {
         Ok(()) => status,
@@ -60,6 +61,17 @@ pub fn finish_lines<W: Write, E: Outlet>(
     let status = finish(status, &mut lines, console);
     // A buffer that is dropped would write again what couldn't be written.
     let (_output, _unwritten) = lines.into_inner().into_parts();
+    status
+}
+
+/// The status after a write has failed, which was said unless the status is `DONE`.
+fn after_failure<E: Outlet>(status: u8, failure: Option<Failed>, console: &mut Console<E>) -> u8
+    ensures status { (result ≡ status) ⊎ (result ≡ FAILED) }
+    ensures failed { result ≢ DONE }
+{
+    if status == DONE {
+        return say_unwritten(failure, console);
+    }
     status
 }
 

@@ -1,4 +1,7 @@
 //! Makes a file that isn't a recording's, and says how a file that was written ended.
+ghost use Rattle.std.specs.Prelude.{◌≡◌, ◌&&◌, not, is_some, is_ok, IfOk, IfErr};
+ghost use Rattle.ls_frame.specs.View.Devices.{wrapped};
+
 use crate::console::Console;
 use crate::output::FAILED;
 use crate::reader::Cause;
@@ -28,6 +31,8 @@ pub fn make_file<'a, O, E>(
 where
     O: Makes + Copy + Drop,
     E: Outlet,
+    ensures path { IfOk result (λ made. (made.path.now ≡ path.now) × (made.target.path.now ≡ path.now)) }
+    ensures status { IfErr result (λ status. status ≡ FAILED) }
 {
     match keeper.make(alloc, path, None) {
         Ok(targets) => {
@@ -64,6 +69,8 @@ where
     O: Opens,
     X: Display + Drop,
     E: Outlet,
+    ensures whole { result.is_whole ≡ (not (is_some broken) && is_ok synced) }
+    ensures target { result.target ≡ wrapped index.entry }
 {
     let written = index.last_failure();
     let target = index.into_inner();
@@ -103,7 +110,9 @@ where
 }
 
 /// Says why a file can't be made, and returns the status.
-pub fn say_unmade<E: Outlet>(path: &str, fault: io::Error, console: &mut Console<E>) -> u8 {
+pub fn say_unmade<E: Outlet>(path: &str, fault: io::Error, console: &mut Console<E>) -> u8
+    ensures { result ≡ FAILED }
+{
     if fault.kind() == io::ErrorKind::WouldBlock {
         let shown = Shown(path);
         console.say(format_args!("{shown}: another program is recording it"));

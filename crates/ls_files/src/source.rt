@@ -105,7 +105,9 @@ impl<'a, O: Opens> Source<'a, O> {
     }
 
     /// Sets the line to write on standard error once an awaited pipe is open.
-    pub fn announce(&mut self, notice: &'a str) {
+    pub fn announce(&mut self, notice: &'a str)
+        ensures { self.new.file ≡ self.old.file }
+    {
         self.notice = Some(notice);
     }
 

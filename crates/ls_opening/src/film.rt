@@ -1,4 +1,7 @@
 //! A film that is recorded, from the opening of its file until its recording has ended.
+ghost use Rattle.std.specs.Prelude.{◌≡◌, IfOk, string_bytes};
+ghost use Rattle.ls_files.specs.View.Files.{path_of_target};
+
 use crate::found::Found;
 use crate::names::Names;
 use crate::refusal::Refusal;
@@ -42,7 +45,9 @@ impl<'a, O: Makes + Copy + Drop> Film<'a, O> {
         found: &Found<'a>,
         has_index: bool,
         replace: bool,
-    ) -> Result<Film<'a, O>, Refusal<'a>> {
+    ) -> Result<Film<'a, O>, Refusal<'a>>
+        ensures { IfOk result (λ film. film.names.now ≡ found.now.names.now) }
+    {
         let names = found.names;
         let index = if has_index { Some(&found.index) } else { None };
         match Keeper::claim(alloc, opener, &found.place, index, replace) {
@@ -65,7 +70,10 @@ impl<'a, O: Makes + Copy + Drop> Film<'a, O> {
         &mut self,
         alloc: Global,
         console: &mut Console<E>,
-    ) -> Result<Targets<'a, O>, Refusal<'a>> {
+    ) -> Result<Targets<'a, O>, Refusal<'a>>
+        ensures path { IfOk result (λ targets. path_of_target targets.recording ≡ string_bytes self.old.names.now.recording) }
+        ensures names { self.new.names.now ≡ self.old.names.now }
+    {
         let names = self.names;
         let index = if names.is_indexed {
             Some(names.index.as_str())

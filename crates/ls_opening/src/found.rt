@@ -1,4 +1,6 @@
 //! Where films and the places of their files are, and which of them are duplicates, whatever they are called.
+ghost use Rattle.std.specs.Prelude.{◌≡◌};
+
 use crate::names::Names;
 use ls_files::{Identity, Place, Spot};
 use std::rt::Files;
@@ -21,7 +23,9 @@ impl<'a> Found<'a> {
         rt: &R,
         names: &'a Names<'a>,
         identity: Option<Identity>,
-    ) -> Found<'a> {
+    ) -> Found<'a>
+        ensures { result.names.now ≡ names.now }
+    {
         Found {
             names,
             identity,

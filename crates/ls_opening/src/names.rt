@@ -1,4 +1,7 @@
 //! The names of a film and of the files of its recording, and which of them are duplicates.
+ghost use Rattle.std.specs.Prelude.{◌≡◌, ◌<◌, IfOk, length, slice_index_or};
+ghost use Rattle.std.specs.List.{AllZip};
+
 use crate::refusal::Refusal;
 use ls_command::RecordRequest;
 use ls_console::{Shown, cleared};
@@ -25,15 +28,26 @@ pub fn names_once<'a>(
     alloc: Global,
     asked: &RecordRequest<'a>,
     columns: usize,
-) -> Result<Vec<Names<'a>>, Refusal<'a>> {
+) -> Result<Vec<Names<'a>>, Refusal<'a>>
+    ensures { IfOk result (λ names. AllZip (λ file film. film.file.now ≡ file.now) asked.now.files.items names.items) }
+{
     let mut names = Vec::new(alloc);
-    for file in &asked.files {
-        names.push(film_names(alloc, *file, asked.into, asked.index, columns)?)?;
+    for place in 0..asked.files.len() {
+        let file = file_at(&asked.files, place);
+        names.push(film_names(alloc, file, asked.into, asked.index, columns)?)?;
     }
     match named_twice(&names, asked.report) {
         Some(name) => Err(Refusal::Twice(name)),
         None => Ok(names),
     }
+}
+
+/// The film at this place among those that are asked for.
+fn file_at<'a>(files: &[&'a str], place: usize) -> &'a str
+    requires { place < length files.now }
+    ensures { result.now ≡ (slice_index_or files.now place result).now }
+{
+    files[place]
 }
 
 /// The names of a film.
@@ -43,7 +57,9 @@ fn film_names<'a>(
     into: Option<&str>,
     is_indexed: bool,
     columns: usize,
-) -> Result<Names<'a>, AllocError> {
+) -> Result<Names<'a>, AllocError>
+    ensures { IfOk result (λ names. names.file.now ≡ file.now) }
+{
     let recording = recording_name(alloc, file, into)?;
     let index = format!(in alloc; "{recording}{INDEX}")?;
     // It goes over the progress line that may be shown by then.

@@ -1,5 +1,11 @@
 //! Opens the films of `record`, and makes the files for their recordings, for the indexes of those and for a report,
 //! of which none may be a duplicate.
+ghost use Rattle.std.specs.Prelude.{◌≡◌, IfOk, string_bytes};
+ghost use Rattle.std.specs.List.{AllZip};
+ghost use Rattle.ls_files.specs.View.Files.{ReadsFileAt, left_in_source};
+ghost use Rattle.ls_console.specs.View.Readers.{unread};
+ghost use Rattle.ls_opening.specs.View.Devices.{AreDevicesOf, IsWriterFor, target_of};
+
 use crate::film::Film;
 use crate::found::{Found, has_index, has_index_at, is_met, written_twice};
 use crate::names::Names;
@@ -36,7 +42,7 @@ const TRIES: u32 = 100;
 const PAUSE: u64 = 10;
 
 /// Opens each film but the named pipes. Only then, if no file is a duplicate or is being made by another program,
-/// makes the files of the report and of each recording.
+/// makes the files of the report and of each recording. The devices are those of the films, in the order of the names.
 pub fn open_films<'a, R, O, E>(
     rt: &R,
     opener: O,
@@ -48,6 +54,7 @@ where
     R: Files + AllocGlobal + Wait,
     O: Makes<File = R::File> + Copy + Drop,
     E: Outlet,
+    ensures { IfOk result (λ opened. AllZip (AreDevicesOf O.holds R.File.remaining opener asked.now.tuning) names.now opened.devices.items) }
 {
     let opening = Opening {
         rt,
@@ -106,7 +113,9 @@ where
     O: Makes<File = R::File> + Copy + Drop,
 {
     /// Opens the films' files.
-    fn open_sources(&self) -> Result<Vec<Source<'a, O>>, Refusal<'a>> {
+    fn open_sources(&self) -> Result<Vec<Source<'a, O>>, Refusal<'a>>
+        ensures { IfOk result (λ sources. AllZip (λ names source. ReadsFileAt O.holds R.File.remaining self.now.opener names.file.now source) self.now.names.now sources.items) }
+    {
         let mut sources = Vec::new(self.rt.alloc());
         for film in self.names {
             match Source::of(self.rt, self.opener, film.file) {
@@ -122,7 +131,9 @@ where
         &self,
         sources: &[Source<'a, O>],
         console: &mut Console<E>,
-    ) -> Result<Made<'a, O>, Refusal<'a>> {
+    ) -> Result<Made<'a, O>, Refusal<'a>>
+        ensures { IfOk result (λ made. AllZip IsWriterFor self.now.names.now made.writers.items) }
+    {
         let folders = self.lock_folders()?;
         let claimed = self.claim(sources)?;
         let made = make_claimed(self.rt.alloc(), claimed, console);
@@ -158,7 +169,9 @@ where
 
     /// Locks existing files at the places of the report, of recordings and of their indexes, unless one is a
     /// duplicate.
-    fn claim(&self, sources: &[Source<'a, O>]) -> Result<Claimed<'a, O>, Refusal<'a>> {
+    fn claim(&self, sources: &[Source<'a, O>]) -> Result<Claimed<'a, O>, Refusal<'a>>
+        ensures { IfOk result (λ claimed. AllZip (λ names film. film.names.now ≡ names) self.now.names.now claimed.films.items) }
+    {
         let found = self.look_at(sources)?;
         let place = self.report_place(&found)?;
         let report = match &place {
@@ -170,10 +183,16 @@ where
     }
 
     /// Looks at the films' files, and at the places of their recordings. Refused if one is a duplicate.
-    fn look_at(&self, sources: &[Source<'a, O>]) -> Result<Vec<Found<'a>>, Refusal<'a>> {
+    fn look_at(&self, sources: &[Source<'a, O>]) -> Result<Vec<Found<'a>>, Refusal<'a>>
+        ensures { IfOk result (λ found. AllZip (λ names film. film.names.now ≡ names) self.now.names.now found.items) }
+    {
         let mut films = Vec::new(self.rt.alloc());
-        for (names, source) in self.names.iter().zip(sources) {
-            films.push(Found::look(self.rt, names, source.identity()))?;
+        for names in self.names {
+            let identity = match (&*sources).get(films.len()) {
+                Some(source) => source.identity(),
+                None => None,
+            };
+            films.push(Found::look(self.rt, names, identity))?;
         }
         match written_twice(&films, self.asked.replace) {
             Some(file) => Err(Refusal::Twice(file)),
@@ -209,7 +228,9 @@ where
         &self,
         found: &[Found<'a>],
         report: Option<&Place<'_>>,
-    ) -> Result<Vec<Film<'a, O>>, Refusal<'a>> {
+    ) -> Result<Vec<Film<'a, O>>, Refusal<'a>>
+        ensures { IfOk result (λ films. AllZip (λ found film. film.names.now ≡ found.names.now) found.now films.items) }
+    {
         let alloc = self.rt.alloc();
         let mut films = Vec::new(alloc);
         for film in found {
@@ -219,16 +240,21 @@ where
         Ok(films)
     }
 
-    /// What each film's lane is given. The tuning is that of all films.
+    /// What each film's lane is given. The tuning is that of all films. Requires a source and a writer for each film.
     fn devices<E: Outlet>(
         &self,
-        sources: Vec<Source<'a, O>>,
-        writers: Vec<Writer<'a, O>>,
+        mut sources: Vec<Source<'a, O>>,
+        mut writers: Vec<Writer<'a, O>>,
         console: &mut Console<E>,
-    ) -> Result<Vec<Devices<'a, O>>, Refusal<'a>> {
+    ) -> Result<Vec<Devices<'a, O>>, Refusal<'a>>
+        requires sources { AllZip (λ names source. ReadsFileAt O.holds R.File.remaining self.now.opener names.file.now source) self.now.names.now sources.items }
+        requires writers { AllZip IsWriterFor self.now.names.now writers.items }
+        ensures { IfOk result (λ devices. AllZip (AreDevicesOf O.holds R.File.remaining self.now.opener self.now.asked.now.tuning) self.now.names.now devices.items) }
+    {
         let alloc = self.rt.alloc();
         let mut devices = Vec::new(alloc);
-        for ((film, source), writer) in self.names.iter().zip(sources).zip(writers) {
+        for film in self.names {
+            let (source, writer) = (sources.remove(0), writers.remove(0));
             let reader = reader_of(alloc, film, source, console)?;
             devices.push((reader, writer, self.asked.tuning))?;
         }
@@ -245,6 +271,7 @@ fn make_claimed<'a, O, E>(
 where
     O: Makes + Copy + Drop,
     E: Outlet,
+    ensures { IfOk result (λ made. AllZip (λ film writer. IsWriterFor film.names.now writer) claimed.entry.films.items made.writers.items) }
 {
     let Claimed { mut films, report } = claimed;
     let report = match report {
@@ -271,7 +298,7 @@ where
 {
     match make_file(alloc, claimed.path, claimed.keeper, console) {
         Ok(made) => Ok(made),
-        Err(status) => Err(Refusal::Said(status)),
+        Err(_said) => Err(Refusal::Said),
     }
 }
 
@@ -284,6 +311,7 @@ fn make_recordings<'a, O, E>(
 where
     O: Makes + Copy + Drop,
     E: Outlet,
+    ensures { IfOk result (λ writers. AllZip (λ film writer. IsWriterFor film.names.now writer) films.old writers.items) }
 {
     let mut writers = Vec::new(alloc);
     for film in films.iter_mut() {
@@ -294,7 +322,9 @@ where
 }
 
 /// The writer to the files of a recording.
-fn writer_of<'a, O: Opens + Drop>(alloc: Global, targets: Targets<'a, O>) -> Writer<'a, O> {
+fn writer_of<'a, O: Opens + Drop>(alloc: Global, targets: Targets<'a, O>) -> Writer<'a, O>
+    ensures { target_of result ≡ targets.entry.recording }
+{
     let Targets { recording, index } = targets;
     let follower = index.map(|target| Follower::new(alloc, Counted::new(target)));
     Indexing::new(Counted::new(recording), follower)
@@ -310,6 +340,7 @@ fn reader_of<'a, O, E>(
 where
     O: Opens + Copy,
     E: Outlet,
+    ensures { IfOk result (λ reader. unread O.File.remaining reader ≡ left_in_source O.File.remaining source.entry) }
 {
     if source.is_awaited() && console.is_terminal() {
         source.announce(names.notice.as_str());
@@ -318,6 +349,6 @@ where
     }
     match buffered(alloc, names.file, source, console) {
         Ok(reader) => Ok(reader),
-        Err(status) => Err(Refusal::Said(status)),
+        Err(_said) => Err(Refusal::Said),
     }
 }

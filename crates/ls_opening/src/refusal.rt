@@ -1,4 +1,6 @@
 //! Why no film is recorded.
+ghost use Rattle.std.specs.Prelude.{◌≡◌, ◌⊎◌};
+
 use ls_console::{Console, FAILED, Shown, USAGE, no_memory, say_unmade};
 use ls_frame::Outlet;
 use std::alloc::{AllocError, AllocFailed};
@@ -15,8 +17,8 @@ pub enum Refusal<'a> {
     Unopened(&'a str, io::Error),
     /// A file can't be made. `WouldBlock` means that another program is making it.
     Unmade(&'a str, io::Error),
-    /// The reason was said already; the status.
-    Said(u8),
+    /// The reason was said already.
+    Said,
 }
 
 impl From<AllocError> for Refusal<'_> {
@@ -33,7 +35,9 @@ impl<T: Drop> From<AllocFailed<T>> for Refusal<'_> {
 
 impl Refusal<'_> {
     /// Says the reason, unless that was done, and returns the status.
-    pub fn say<E: Outlet>(self, console: &mut Console<E>) -> u8 {
+    pub fn say<E: Outlet>(self, console: &mut Console<E>) -> u8
+        ensures { (result ≡ FAILED) ⊎ (result ≡ USAGE) }
+    {
         match self {
             Refusal::NoMemory => no_memory(console),
             Refusal::Twice(name) => {
@@ -46,7 +50,7 @@ impl Refusal<'_> {
                 FAILED
             }
             Refusal::Unmade(path, fault) => say_unmade(path, fault, console),
-            Refusal::Said(status) => status,
+            Refusal::Said => FAILED,
         }
     }
 }

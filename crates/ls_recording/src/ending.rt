@@ -2,8 +2,9 @@
 pub mod report;
 mod table;
 
-ghost use Rattle.std.specs.Prelude.{◌≡◌, ◌⊎◌, true, IfOk, IfErr};
-ghost use Rattle.ls_recording.specs.View.Films.{IsComplete, IsWhole};
+ghost use Rattle.std.specs.Prelude.{◌≡◌, ◌⊎◌, true, false, IfOk, IfSome, MatchResult};
+ghost use Rattle.std.specs.List.{AllZip};
+ghost use Rattle.ls_recording.specs.View.Films.{IsComplete, IsWhole, was_stopped};
 
 use crate::recording::{FilmTrack, Recorded};
 use crate::watching::Watch;
@@ -37,32 +38,45 @@ struct End<'a, O: Opens> {
 }
 
 /// Settles each film's files that aren't settled yet, says why it stopped, if it did and that wasn't said, and returns
-/// its files. If no recording began, or memory runs out, says so and returns the status.
+/// the films' files. If no recording began, or memory runs out, says so and returns none: then not all are recorded.
 pub fn end_films<'a, R, O, E>(
     alloc: Global,
     watch: &Watch<'_, R>,
     films: &mut [Film<'_, O>],
     recorded: Recorded<'a, O>,
     console: &mut Console<E>,
-) -> Result<Ends<'a, O>, u8>
+) -> Ends<'a, O>
 where
     R: Clock,
     O: Makes + Copy,
     E: Outlet,
-    ensures { IfErr result (λ status. status ≡ FAILED) }
+    ensures { result.are_whole ≡ true → MatchResult recorded.entry (λ recording. AllZip IsWhole recording.tracks.items result.files.items) (λ _. ⊥) }
 {
     match recorded {
         Ok(recording) => match end_tracks(alloc, watch, films, recording.tracks, console) {
-            Ok(ends) => Ok(ends),
-            Err(AllocError) => Err(no_memory(console)),
+            Ok(ends) => ends,
+            Err(AllocError) => {
+                no_memory(console);
+                no_files(alloc)
+            }
         },
         Err((fault, _devices)) => {
             console.say(fault);
             for film in films.iter_mut() {
                 film.give_back();
             }
-            Err(FAILED)
+            no_files(alloc)
         }
+    }
+}
+
+/// The ends of films of which not all are recorded, without files.
+fn no_files<'a, O: Opens>(alloc: Global) -> Ends<'a, O>
+    ensures { result.are_whole ≡ false }
+{
+    Ends {
+        files: Vec::new(alloc),
+        are_whole: false,
     }
 }
 
@@ -71,26 +85,33 @@ fn end_tracks<'a, R, O, E>(
     alloc: Global,
     watch: &Watch<'_, R>,
     films: &mut [Film<'_, O>],
-    tracks: Vec<FilmTrack<'a, O>>,
+    mut tracks: Vec<FilmTrack<'a, O>>,
     console: &mut Console<E>,
 ) -> Result<Ends<'a, O>, AllocError>
 where
     R: Clock,
     O: Makes + Copy,
     E: Outlet,
+    ensures { IfOk result (λ ends. ends.are_whole ≡ true → AllZip IsWhole tracks.entry.items ends.files.items) }
 {
     let mut told = [false; MOST_FILMS];
     watch.told(&mut told);
     let mut files = Vec::new(alloc);
     let mut are_whole = true;
-    for (film, track) in films.iter_mut().zip(tracks) {
-        let number = files.len();
-        let written = watch.written(number);
-        let end = say_end(film, track, written, is_told(&told, number), console);
-        are_whole = are_whole && end.is_whole;
-        files.push(end.files)?;
+    for film in films.iter_mut() {
+        if !tracks.is_empty() {
+            let track = tracks.remove(0);
+            let number = files.len();
+            let written = watch.written(number);
+            let end = say_end(film, track, written, is_told(&told, number), console);
+            are_whole = are_whole & end.is_whole;
+            files.push(end.files)?;
+        }
     }
-    Ok(Ends { files, are_whole })
+    Ok(Ends {
+        files,
+        are_whole: are_whole & tracks.is_empty(),
+    })
 }
 
 /// Says the number of frames of each complete recording, unless that was said. Returns the status: `FAILED` if a line
@@ -143,7 +164,8 @@ fn is_told(told: &[bool], film: usize) -> bool {
     }
 }
 
-/// Settles a film's files, if they aren't settled yet, and says why it stopped, if it did and that wasn't said.
+/// Settles a film's files, if they aren't settled yet, and says why it stopped, if it did and that wasn't said. Notes its
+/// number of frames only if its recording is complete.
 fn say_end<'a, O, E>(
     film: &mut Film<'_, O>,
     track: FilmTrack<'a, O>,
@@ -154,7 +176,8 @@ fn say_end<'a, O, E>(
 where
     O: Makes + Copy + Drop,
     E: Outlet,
-    ensures { result.is_whole ≡ true → IsWhole track.entry result.files }
+    ensures whole { result.is_whole ≡ true → IsWhole track.entry result.files }
+    ensures frames { IfSome film.new.frames (IsComplete track.entry.result (was_stopped track.entry.reader)) }
 {
     let Track {
         reader,
@@ -178,16 +201,13 @@ where
         }
     }
     let recording = writer.into_inner();
-    let is_recorded = match (result, synced.recording) {
-        (Ok(frames), Ok(())) => {
-            film.frames = Some(frames);
-            true
-        }
+    let frames = match (result, synced.recording) {
+        (Ok(frames), Ok(())) => Some(frames),
         (Ok(_), Err(failure)) => {
             say_unsynced(file, &recording, failure, console);
-            false
+            None
         }
-        (Err(_), _) => false,
+        (Err(_), _) => None,
     };
     if let Some(name) = film.left_over() {
         console.mention(names.recording.as_str(), name);
@@ -196,9 +216,10 @@ where
         Some(follower) => Some(end_index(film, follower, synced.index, broken, console)),
         None => None,
     };
+    film.frames = frames;
     End {
         files: Targets { recording, index },
-        is_whole: is_recorded && !film.is_index_broken,
+        is_whole: frames.is_some() && !film.is_index_broken,
     }
 }
 

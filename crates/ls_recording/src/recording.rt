@@ -1,12 +1,18 @@
 //! The command `record`: opens the films, records them, and says how each ended.
+ghost use Rattle.std.specs.Prelude.{◌≡◌, true, List, IfOk, MatchResult};
+ghost use Rattle.std.specs.List.{AllZip};
+ghost use Rattle.ls_console.specs.View.Readers.{unread};
+ghost use Rattle.ls_recording.specs.View.Films.{HasTrack, IsWhole, IsRecorded, held};
+ghost use Rattle.ls_files.specs.declared.keeper.Targets.{Targets};
+
 use crate::ending::report::{table_of, write_report};
-use crate::ending::{end_films, release, say_counts};
+use crate::ending::{Ends, end_films, release, say_counts};
 use crate::watching::Watch;
 use crate::watching::progress::Teller;
 use ls_command::RecordRequest;
-use ls_console::{FAILED, Host, Program, Reader, no_memory};
+use ls_console::{DONE, FAILED, Host, Program, Reader, no_memory};
 use ls_files::{Makes, Opens, Targets};
-use ls_frame::Outlet;
+use ls_frame::{Feed, Outlet, Tuning};
 use ls_opening::{Devices, Film, Opened, Writer, names_once, open_films};
 use ls_recorder::{RecordFault, Recording as Tracks, Track, record};
 use std::io::Write;
@@ -33,6 +39,9 @@ struct Finished<'a, O: Opens> {
 
 /// Records the films that are asked for, says how each ended, and returns the status. On a terminal progress is always
 /// shown.
+///
+/// Which files the films are read from and recorded to, `open_films` says; that with `DONE` each was recorded,
+/// `record_opened` does.
 pub fn record_films<R, O, W, E>(program: Program<'_, R, O, W, E>, asked: RecordRequest<'_>) -> u8
 where
     R: Host + Clock + Threads + Wait + Sync,
@@ -52,7 +61,8 @@ where
     }
 }
 
-/// Records films whose files are open, says how each ended, writes the report, and returns the status.
+/// Records films whose files are open, says how each ended, writes the report, and returns the status. With `DONE` each
+/// film was recorded to its end, or as far as it was read when the program was asked to stop.
 fn record_opened<'a, R, O, W, E>(
     program: Program<'_, R, O, W, E>,
     asked: &'a RecordRequest<'a>,
@@ -64,6 +74,7 @@ where
     O::File: Send,
     W: Write + Send,
     E: Outlet + Send,
+    ensures { result ≡ DONE → (files : List (Targets O O.File)) × AllZip (IsRecorded O.File.remaining O.File.contents) opened.entry.devices.items files }
 {
     let Program {
         rt,
@@ -107,7 +118,7 @@ where
             let table = table_of(rt.alloc(), &watch, &films, asked.workers);
             // The films' files are unlocked before the report is written, which may wait for what reads it.
             drop(films);
-            status.max(write_report(report, table, console))
+            worse(status, write_report(report, table, console))
         }
         None => status,
     }
@@ -127,19 +138,54 @@ where
     O::File: Send,
     W: Write + Send,
     E: Outlet + Send,
+    ensures { IfOk result (λ recording. AllZip (HasTrack (unread O.File.remaining) (held O.File.contents)) devices.entry.items recording.tracks.items) }
 {
-    let alloc = rt.alloc();
-    let (workers, capacity, window) = (asked.workers, asked.capacity, asked.window);
-    // The first of the two is called in a thread of its own, or else after the second: then it has nothing left to do.
+    record_beside(rt, asked, watch, move || teller.tell(), devices)
+}
+
+/// Records films while another call goes on in a thread of its own, or comes after the recording if no thread can be
+/// started for it. The call ends soon after the watch says that the recording has ended.
+fn record_beside<R, F, W, T>(
+    rt: &R,
+    asked: &RecordRequest<'_>,
+    watch: &Watch<'_, R>,
+    beside: T,
+    films: Vec<(F, W, Tuning)>,
+) -> Result<Tracks<F, W>, (RecordFault, Vec<(F, W, Tuning)>)>
+where
+    R: AllocGlobal + Clock + Threads + Wait + Sync,
+    F: Feed + Send + Drop,
+    W: Outlet + Send + Drop,
+    T: FnOnce() + Send,
+    requires { T.pre beside }
+    ensures { IfOk result (λ recording. AllZip (HasTrack F.remaining W.contents) films.items recording.tracks.items) }
+{
     let ((), recorded) = thread::join(
         rt,
-        move || teller.tell(),
-        || {
-            let recorded = record(rt, alloc, devices, workers, capacity, window, watch);
-            watch.end();
-            recorded
-        },
+        beside,
+        move || -> Result<Tracks<F, W>, (RecordFault, Vec<(F, W, Tuning)>)>
+            ensures { IfOk result (λ recording. AllZip (HasTrack F.remaining W.contents) films.items recording.tracks.items) }
+        { record_to_end(rt, asked, watch, films) },
     );
+    recorded
+}
+
+/// Records films, and marks the recording as ended.
+fn record_to_end<R, F, W>(
+    rt: &R,
+    asked: &RecordRequest<'_>,
+    watch: &Watch<'_, R>,
+    films: Vec<(F, W, Tuning)>,
+) -> Result<Tracks<F, W>, (RecordFault, Vec<(F, W, Tuning)>)>
+where
+    R: AllocGlobal + Clock + Threads + Wait + Sync,
+    F: Feed + Send + Drop,
+    W: Outlet + Send + Drop,
+    ensures { IfOk result (λ recording. AllZip (HasTrack F.remaining W.contents) films.items recording.tracks.items) }
+{
+    let (workers, capacity, window) = (asked.workers, asked.capacity, asked.window);
+    let recorded = record(rt, rt.alloc(), films, workers, capacity, window, watch);
+    watch.end();
     recorded
 }
 
@@ -156,6 +202,7 @@ where
     O: Makes + Copy,
     W: Write,
     E: Outlet,
+    ensures { result.status ≡ DONE → MatchResult recorded.entry (λ recording. AllZip IsWhole recording.tracks.items result.files.items) (λ _. ⊥) }
 {
     let Program {
         rt,
@@ -163,17 +210,24 @@ where
         console,
         ..
     } = program;
-    match end_films(rt.alloc(), watch, films, recorded, console) {
-        Ok(ends) => {
-            let said = say_counts(rt.alloc(), films, output, console);
-            Finished {
-                status: if ends.are_whole { said } else { FAILED },
-                files: ends.files,
-            }
-        }
-        Err(status) => Finished {
-            status,
-            files: Vec::new(rt.alloc()),
-        },
+    let Ends { files, are_whole } = end_films(rt.alloc(), watch, films, recorded, console);
+    let said = say_counts(rt.alloc(), films, output, console);
+    Finished {
+        status: status_of(are_whole, said),
+        files,
     }
+}
+
+/// The first status if it isn't `DONE`, else the other.
+fn worse(status: u8, other: u8) -> u8
+    ensures { result ≡ DONE → status ≡ DONE }
+{
+    if status == DONE { other } else { status }
+}
+
+/// The status: that of what was said, or `FAILED` unless all films are recorded.
+fn status_of(are_whole: bool, said: u8) -> u8
+    ensures { result ≡ DONE → are_whole ≡ true }
+{
+    if are_whole { said } else { FAILED }
 }
